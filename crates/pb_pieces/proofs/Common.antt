@@ -31,7 +31,7 @@ pub use Rattle.pb_text.specs.meaning.Limits.{largest, top_of}
 pub use Rattle.pb_text.specs.meaning.PullsInARow.{HasPulled, TookAll}
 pub use Rattle.pb_text.specs.meaning.Reading.{Answers, EndsAs, Reads}
 pub use Rattle.pb_text.specs.meaning.Spelling.{Item, place_after}
-pub use Rattle.pb_tool.proofs.lemmas.check.CheckerSteps.{onward_by, reported, running_at, so_many, texts_read, to_all, to_end, to_more}
+pub use Rattle.pb_tool.proofs.lemmas.check.CheckerSteps.{many, onward_by, reported, running_at, texts_read, to_all, to_end, to_more}
 pub use Rattle.pb_tool.proofs.lemmas.show.ShownStatements.{first_pull, rest_within}
 pub use Rattle.pb_tool.specs.contract.Checker.{Checking, CountsSoFar, IsAt, TextsAreRead}
 pub use Rattle.pb_tool.specs.contract.Checks.{Checks, EndsAfter, IsRefusedAt, Rejects}

@@ -1,7 +1,7 @@
 -- What a checker has accepted, and the first fault that a check finds in the same text.
 use Rattle.pb_pieces.proofs.Common.{ℕ, ◌++◌, ◌∙◌, ◌∷◌, ◌≡◌, [], ap, Bool, false, get_or, inl, inr, length, List, None, Ok, Option, refl, Result, Some}
 use Rattle.pb_pieces.proofs.Common.{subst, sym, append_cancel_left, Statement, Fault, Problem, first_state, State, place_after-offset, Limits, Place}
-use Rattle.pb_pieces.proofs.Common.{Stop, Answers, Reads, place_after, reported, running_at, so_many, Checking, CountsSoFar, TextsAreRead, Checks}
+use Rattle.pb_pieces.proofs.Common.{Stop, Answers, Reads, place_after, reported, many, running_at, Checking, CountsSoFar, TextsAreRead, Checks}
 use Rattle.pb_pieces.proofs.Common.{IsRefusedAt, Rejects, AllocatesAt, CountsAt, fault_of, is_whole, place_in, CheckFault, AsksInProofText}
 use Rattle.pb_pieces.proofs.Common.{IsProofText, ComesTo, InProof, IsAccepted, IsReported, HasFault}
 use Rattle.pb_text.specs.meaning.Stopping.{IsAsking}
@@ -72,7 +72,7 @@ module _ (limits : Limits) (longest : ℕ) (v : Problem) where
             };
             accepted = accepted;
           },
-          so_many limits longest v First fed c.feeder c.replay c.fault none n counts,
+          many read limits longest v First fed c.feeder c.replay c.fault none counts.0 n counts.1,
         ),
         reads.input_is,
         reads.place_is,

@@ -1,5 +1,5 @@
 -- What a feed says of a checker.
-use Rattle.std.specs.Prelude.{◌≡◌, ◌≢◌, ◌≤◌, ℕ, List, [], ◌∷◌, ◌+◌, ◌++◌, cond, take, Bool, true, false, Option, Some, None, Result, Ok, Err}
+use Rattle.std.specs.Prelude.{◌≡◌, ◌≢◌, ◌<◌, ◌≤◌, ℕ, List, [], ◌∷◌, ◌+◌, ◌++◌, cond, length, take, Bool, true, false, Option, Some, None, Result, Ok, Err}
 use Rattle.std.specs.List.{flat_map}
 use Rattle.pb_text.specs.contract.Feeding.{place_of, state_of, is_complete}
 use Rattle.pb_text.specs.meaning.Limits.{largest, top_of}
@@ -15,8 +15,10 @@ use Rattle.pb_proof.specs.declared.Statement.{Statement}
 use Rattle.pb_replay.specs.meaning.Problem.{Problem}
 use Rattle.pb_replay.specs.meaning.Replay.{State}
 use Rattle.pb_replay.specs.declared.fault.Fault.{Fault}
+use Rattle.pb_replay.specs.declared.fault.Fault.TheVariants.{NotTotal}
+use Rattle.pb_replay.specs.declared.verdict.Verdict.{Verdict}
 use Rattle.pb_tool.specs.contract.Checker.{Checking, ChecksSoFar, CountsSoFar}
-use Rattle.pb_tool.specs.contract.Checks.{Checks}
+use Rattle.pb_tool.specs.contract.Checks.{Checks, EndsAfter}
 use Rattle.pb_tool.specs.meaning.Files.{AsksInProofText}
 use Rattle.pb_tool.specs.declared.commands.check.checker.Went.{Went}
 use Rattle.pb_tool.specs.declared.commands.check.checker.CheckFault.{CheckFault}
@@ -71,6 +73,18 @@ CountsOnce old piece more new =
     MayGoOn old.fault → CountsAt limits longest v first input n old → CountsAt limits longest v first (input ++ piece) (n + more) new)
     × (MayGoOn old.fault → MayGoOn new.fault)
 
+-- what holds of each text that a checker without a fault was fed
+abbrev pub OfFed : Checking → (Limits → ℕ → Problem → Result State Fault → List ℕ → Type 0) → Type 0
+OfFed c Holds =
+    (limits : Limits) (longest : ℕ) (v : Problem) (first : Result State Fault) (input : List ℕ) →
+    fault_of c ≡ None → ChecksAt limits longest v first input c → Holds limits longest v first input
+
+-- The text ends with this result, at this position, after so many statements that were accepted.
+abbrev pub EndsCounted : Checking → Place → Result Verdict CheckFault → Type 0
+EndsCounted old place result =
+    (limits : Limits) (longest : ℕ) (v : Problem) (first : Result State Fault) (input : List ℕ) (n : ℕ) →
+    fault_of old ≡ None → CountsAt limits longest v first input n old → EndsAfter limits longest v first input n place result
+
 -- feeds in a row
 abbrev pub FeedsInTurn : Checking → List (List ℕ) → Checking → Type 0
 FeedsInTurn before [] after = before ≡ after
@@ -110,6 +124,11 @@ AllocatesAt limits input (Text s) = s.why ≡ Memory →
     (used : List ℕ) × (b : ℕ) × (more : List ℕ) × (input ≡ used ++ b ∷ more) × (s.place ≡ place_after used)
     × AsksInProofText limits used b
 AllocatesAt limits input (Step begins e) = Unit {0}
+
+-- The first fault gives by its number only a name that is there.
+abbrev pub ReportsKnown : {A : Type 0} → Checking → Result A CheckFault → Checking → Type 0
+ReportsKnown old result new =
+    (at : Place) (n : ℕ) → fault_of old ≡ None → result ≡ Err (Step at (NotTotal n)) → n < length new.replay.names
 
 -- the bytes of the piece that were consumed: if a statement ended, those through its last byte
 abbrev pub bytes_to : Bool → ℕ → List ℕ → List ℕ

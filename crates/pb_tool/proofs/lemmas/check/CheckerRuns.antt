@@ -3,27 +3,22 @@ use Rattle.pb_tool.proofs.Common.{ℕ, ◌++◌, ◌^◌, ◌∙◌, ◌∷◌, 
 use Rattle.pb_tool.proofs.Common.{Result, Some, subst, sym, true, ReadsProofs, ReadStatements, IsStatementValue, Statement, begin, ProofState}
 use Rattle.pb_tool.proofs.Common.{WholeProofsConclude, Replaying, StandsFor, verdict_in, Fault, Verdict, IsNamePrefix, Problem, State, length-bytes}
 use Rattle.pb_tool.proofs.Common.{end_limit, place_after-offset, halt_of, is_complete, place_of, StandsAt, stop_of, Limits, Place, Spanned, Stop}
-use Rattle.pb_tool.proofs.Common.{end_of, largest, top_of, OfGiven, Pulls, PullsOn, bytes, AsksAsText, Checking, ChecksSoFar, IsAt, IsSomewhere}
-use Rattle.pb_tool.proofs.Common.{ProofFeeder, StepsFrom, TextsAreRead, faults_of_text, SawText, Accepted, Call, Rejected, CheckFault, Begins, HasRun}
-use Rattle.pb_tool.proofs.Common.{HasShown, RunsTo}
+use Rattle.pb_tool.proofs.Common.{end_of, largest, top_of, OfGiven, Pulls, PullsOn, bytes, AsksAsText, Checking, ChecksSoFar, IsSomewhere, false}
+use Rattle.pb_tool.proofs.Common.{ProofFeeder, TextsAreRead, faults_of_text, SawText, Accepted, Call, Rejected, CheckFault, Begins, HasRun, HasShown}
+use Rattle.pb_tool.proofs.Common.{RunsTo}
 use Rattle.pb_text.specs.contract.Standing.{IsOpen as IsOpenText}
 use Rattle.pb_tool.specs.declared.commands.check.checker.CheckFault.TheVariants as check
 use Rattle.pb_tool.proofs.lemmas.check.CheckerSteps as checked
-use Rattle.pb_tool.proofs.lemmas.check.CheckerSteps.{ReportsOld, running_at}
-use Rattle.pb_tool.proofs.lemmas.check.GivenProof.{given_ended, given_step, given_stopped}
+use Rattle.pb_tool.proofs.lemmas.check.CheckerSteps.{Answers, ReportsOld, running_at}
 use Rattle.pb_tool.proofs.lemmas.check.ReplayRuns as replayed
-use Rattle.pb_tool.proofs.lemmas.check.WatchCalls.{shown_ended, shown_ended_given, shown_first, shown_next, shown_rejected, shown_rejected_given, shown_stopped, shown_stopped_given}
-use Rattle.pb_tool.proofs.lemmas.show.GivenStatements.{given_next, given_row, given_so_far}
+use Rattle.pb_tool.proofs.lemmas.check.WatchCalls.{shown_all, shown_first, shown_next, shown_rejected}
+use Rattle.pb_tool.proofs.lemmas.show.GivenStatements.{given_next, given_row}
 use Rattle.pb_tool.proofs.lemmas.show.ShownStatements.{first_pull}
 
 -- what a pull ensures, whatever the feeder was fed before
 abbrev pub PullsFrom : ProofFeeder → Option (List ℕ) → Result (Option (Spanned Statement)) Stop → ProofFeeder → Option (List ℕ) → List ℕ → List ℕ → Type 0
 PullsFrom f left result n rest given given' =
     (longest : ℕ) (start : ProofState) (input : List ℕ) (spans : List (Spanned Statement)) → IsOpenText (halt_of f) → StandsAt longest start input spans f → Pulls longest start input spans f left result n rest given given'
-
--- the result of a step, from any state of the replay
-abbrev Answers : Replaying → Spanned Statement → Result Unit CheckFault → Replaying → Type 0
-Answers old m result new = (before : Result State Fault) → IsAt old before → StepsFrom old.limits old.problem before m result new
 
 -- what was read ends within the limit on all bytes
 pub in_reach : (longest : ℕ) (start : ProofState) (input : List ℕ) (spans : List (Spanned Statement)) (f : ProofFeeder) → StandsAt longest start input spans f → (place_of f).offset ≤ 2 ^ 40
@@ -40,14 +35,14 @@ module _ (read : TextsAreRead) (f : ProofFeeder) (r : Replaying) (e : Option Che
   stopped_somewhere (limits, longest, v, first, input, asks, h) s pulls halts =
       let here = running_at limits longest v first input f r e none h in
       let p = pulls longest (begin (largest limits) (top_of limits)) input here.spans (subst IsOpenText (sym here.running) tt) here.stands in
-      (limits, longest, v, first, input ++ (p.taken ++ p.seen), asks, (checked.halted_on read limits longest v first input f r e none h (p.taken ++ p.seen) n s (rw append-nil at p.stands) halts).0)
+      (limits, longest, v, first, input ++ (p.taken ++ p.seen), asks, (checked.halted_on read limits longest v first input f r e none h _ refl (p.taken ++ p.seen) n s (rw append-nil at p.stands) halts).0)
 
   -- the proof has ended
   ended_so_far : (limits : Limits) (longest : ℕ) (v : Problem) (first : Result State Fault) (input : List ℕ) → ChecksSoFar limits longest v first input f r e → PullsFrom f left (Ok None) n rest given given' → halt_of n ≡ None → (more : List ℕ) × ChecksSoFar limits longest v first more n r e
   ended_so_far limits longest v first input h pulls running =
       let here = running_at limits longest v first input f r e none h in
       let p = pulls longest (begin (largest limits) (top_of limits)) input here.spans (subst IsOpenText (sym here.running) tt) here.stands in
-      (input ++ (p.taken ++ p.seen), (checked.quiet_on read limits longest v first input f r e none h (p.taken ++ p.seen) n (rw append-nil at p.stands) running).0)
+      (input ++ (p.taken ++ p.seen), (checked.quiet_on read limits longest v first input f r e none h _ refl (p.taken ++ p.seen) n (rw append-nil at p.stands) running).0)
 
   pub ended_somewhere : IsSomewhere f r e → PullsFrom f left (Ok None) n rest given given' → halt_of n ≡ None → IsSomewhere n r e
   ended_somewhere (limits, longest, v, first, input, asks, h) pulls running =
@@ -65,7 +60,7 @@ module _ (read : TextsAreRead) (f : ProofFeeder) (r : Replaying) (e : Option Che
     value_here (limits, longest, v, first, input, asks, h) values =
         let here = running_at limits longest v first input f r e none h in
         let p = pulls longest (begin (largest limits) (top_of limits)) input here.spans (subst IsOpenText (sym here.running) tt) here.stands in
-        checked.value_on read limits longest v first input f r e none h p.taken n m p.stands running values
+        checked.value_on read limits longest v first input f r e none h _ refl p.taken n m p.stands running values
 
     pub within_reach : IsSomewhere f r e → (place_of n).offset ≤ 2 ^ 40
     within_reach (limits, longest, v, first, input, asks, h) =
@@ -77,13 +72,13 @@ module _ (read : TextsAreRead) (f : ProofFeeder) (r : Replaying) (e : Option Che
     stepped_somewhere (limits, longest, v, first, input, asks, h) t steps limited problem =
         let here = running_at limits longest v first input f r e none h in
         let p = pulls longest (begin (largest limits) (top_of limits)) input here.spans (subst IsOpenText (sym here.running) tt) here.stands in
-        (limits, longest, v, first, input ++ p.taken, asks, (checked.stepped_on read limits longest v first input f r e none h p.taken n m p.stands running t steps limited problem).0)
+        (limits, longest, v, first, input ++ p.taken, asks, (checked.stepped_on read limits longest v first input f r e none h _ refl p.taken n m p.stands running t steps limited problem).0)
 
     pub refused_somewhere : m.past ≡ place_of n → IsSomewhere f r e → (t : Replaying) (x : CheckFault) → Answers r m (Err x) t → IsNamePrefix r.names t.names → ReportsOld r x → IsSomewhere n t (Some x)
     refused_somewhere past (limits, longest, v, first, input, asks, h) t x steps names reports =
         let here = running_at limits longest v first input f r e none h in
         let p = pulls longest (begin (largest limits) (top_of limits)) input here.spans (subst IsOpenText (sym here.running) tt) here.stands in
-        (limits, longest, v, first, (input ++ p.taken) ++ [], asks, (checked.refused_on read limits longest v first input f r e none h p.taken n m p.stands running past [] t x steps names reports).0)
+        (limits, longest, v, first, (input ++ p.taken) ++ [], asks, (checked.refused_on read limits longest v first input f r e none h _ refl p.taken n m p.stands running past [] t x steps names reports).0)
 
 -- ---- what a step says that needs no text
 
@@ -161,33 +156,33 @@ module _ (exact : ReadsProofs) (longest : ℕ) (began : Replaying) {V : Type 0} 
   pub runs_refused : (m : Spanned Statement) → PullsOn longest (start_of began) before i.spans (Ok (Some m)) n rest → PullsFrom f left (Ok (Some m)) n rest given given' → halt_of n ≡ None → ((k : Spanned Statement) → ◌≡◌ {A = Result (Option (Spanned Statement)) Stop} (Ok (Some m)) (Ok (Some k)) → k.past ≡ place_of n)
       → (t : Replaying) (x : CheckFault) → Answers r m (Err x) t → IsNamePrefix r.names t.names → ReportsOld r x → (new : V) → got mid (Rejected m t x) new → RunsTo longest began got before since old (Err x) t rest given' new
   runs_refused m row pulls running past t x steps names reports new call first at =
-      let so_far = given_so_far longest (start_of began) since given given' i.spans f n i.given left rest m (row_given (Ok (Some m)) pulls running (λ is. absurd (cc is)) past) in
+      let (taken, seen, are, (running_text, so_far)) = row_given (Ok (Some m)) pulls running (λ is. absurd (cc is)) past in
       record {
         runs = replayed.refused_run exact began.limits longest before rest began.problem first r i.spans (i.led first at) i.unspent t m i.limited i.problem x steps names reports row.1;
-        given = given_step exact began.limits longest since given' began.problem first r i.spans (i.led first at) t i.unspent m i.limited i.problem x steps names reports so_far;
+        given = (taken, seen, are, replayed.refused_run exact began.limits longest (Some (taken ++ seen)) (Some seen) began.problem first r i.spans (i.led first at) i.unspent t m i.limited i.problem x steps names reports so_far);
         shown = shown_rejected got old began i.spans mid r i.shown m t new i.unspent i.limited i.problem exact longest first at x before rest steps names reports call row.1;
-        shown_given = shown_rejected_given got old began i.spans mid r i.shown m t new i.unspent i.limited i.problem exact longest first at x since given' steps names reports call so_far;
+        shown_given = (taken, seen, are, shown_rejected got old began i.spans mid r i.shown m t new i.unspent i.limited i.problem exact longest first at x (Some (taken ++ seen)) (Some seen) steps names reports call so_far);
       }
 
   -- a text that stopped
   pub runs_stopped : AsksAsText began.limits → (s : Stop) → PullsOn longest (start_of began) before i.spans (Err s) n rest → PullsFrom f left (Err s) n rest given given' → halt_of n ≡ Some s → RunsTo longest began got before since old (Err (check.Text s)) r rest given' mid
   runs_stopped asks s row pulls halts first at =
-      let all = row_given (Err s) pulls halts (λ is. absurd (cc is)) (λ m is. absurd (cc is)) in
+      let (taken, seen, are, all) = row_given (Err s) pulls halts (λ is. absurd (cc is)) (λ m is. absurd (cc is)) in
       record {
         runs = replayed.stopped exact began.limits longest before rest began.problem first r i.spans (i.led first at) asks s row;
-        given = given_stopped exact began.limits longest since given' began.problem first r i.spans (i.led first at) r asks s all;
-        shown = shown_stopped got old began exact longest first at i.spans mid r i.shown before rest s row;
-        shown_given = shown_stopped_given got old began exact longest first at i.spans mid r i.shown since given' s all;
+        given = (taken, seen, are, replayed.stopped exact began.limits longest (Some (taken ++ seen)) (Some seen) began.problem first r i.spans (i.led first at) asks s all);
+        shown = shown_all got old began exact longest first at i.spans mid r i.shown before rest s.place false (Some s) row.0;
+        shown_given = (taken, seen, are, shown_all got old began exact longest first at i.spans mid r i.shown (Some (taken ++ seen)) (Some seen) s.place false (Some s) all.0);
       }
 
   -- a proof that has ended
   pub runs_ended : (w : Verdict) → Some w ≡ verdict_in r → PullsOn longest (start_of began) before i.spans (Ok None) n rest → PullsFrom f left (Ok None) n rest given given' → halt_of n ≡ None → is_complete n ≡ true
       → RunsTo longest began got before since old (Ok (w, place_of n)) r rest given' mid
   runs_ended w is row pulls running done first at =
-      let all = row_given (Ok None) pulls running (λ _. done) (λ m bad. absurd (cc bad)) in
+      let (taken, seen, are, all) = row_given (Ok None) pulls running (λ _. done) (λ m bad. absurd (cc bad)) in
       record {
         runs = replayed.ended exact began.limits longest before rest began.problem first r i.spans (i.led first at) i.unspent (place_of n) w row is;
-        given = given_ended exact began.limits longest since given' began.problem first r i.spans (i.led first at) r i.unspent (place_of n) (place_of n) w refl is all;
-        shown = shown_ended got old began exact longest first at i.spans mid r i.shown before rest (place_of n) (place_of n) w refl row;
-        shown_given = shown_ended_given got old began exact longest first at i.spans mid r i.shown since given' (place_of n) (place_of n) w refl all;
+        given = (taken, seen, are, replayed.ended exact began.limits longest (Some (taken ++ seen)) (Some seen) began.problem first r i.spans (i.led first at) i.unspent (place_of n) w all is);
+        shown = shown_all got old began exact longest first at i.spans mid r i.shown before rest (place_of n) true None row;
+        shown_given = (taken, seen, are, shown_all got old began exact longest first at i.spans mid r i.shown (Some (taken ++ seen)) (Some seen) (place_of n) true None all);
       }

@@ -27,6 +27,10 @@ failed x = Err x
 abbrev pub ReportsOld : Replaying → CheckFault → Type 0
 ReportsOld old x = (at : Place) (n : ℕ) → failed x ≡ failed (Step at (NotTotal n)) → n < length old.names
 
+-- the result of a step, from any state of the replay
+abbrev pub Answers : Replaying → Spanned Statement → Result Unit CheckFault → Replaying → Type 0
+Answers old m result new = (now : Result State Fault) → IsAt old now → StepsFrom old.limits old.problem now m result new
+
 -- a prefix of a prefix of a list of names is a prefix of it
 pub prefix_on : (a b c : List (List ℕ)) → IsNamePrefix a b → IsNamePrefix b c → IsNamePrefix a c
 prefix_on a b c (m, e) (n, f) = (m ++ n, f ∙ (ap (λ (x : List (List ℕ)). x ++ n) e ∙ append_assoc a m n))
@@ -140,9 +144,9 @@ pub running_at : (limits : Limits) (longest : ℕ) (v : Problem) (first : Result
 running_at limits longest v first input f r None e h = h
 running_at limits longest v first input f r (Some x) e h = absurd (cc e)
 
-counts_at : (limits : Limits) (longest : ℕ) (v : Problem) (first : Result State Fault) (input : List ℕ) (f : ProofFeeder) (r : Replaying) (e : Option CheckFault) → e ≡ None → (h : IsAccepting limits longest v first input f r) → CountsSoFar limits longest v first input (length h.spans) f r e
-counts_at limits longest v first input f r None e h = (h, refl)
-counts_at limits longest v first input f r (Some x) e h = absurd (cc e)
+counts_at : (limits : Limits) (longest : ℕ) (v : Problem) (first : Result State Fault) (input : List ℕ) (f : ProofFeeder) (r : Replaying) (e : Option CheckFault) → e ≡ None → (h : IsAccepting limits longest v first input f r) (k : ℕ) → length h.spans ≡ k → CountsSoFar limits longest v first input k f r e
+counts_at limits longest v first input f r None e h k many = (h, many)
+counts_at limits longest v first input f r (Some x) e h k many = absurd (cc e)
 
 counted_at : (limits : Limits) (longest : ℕ) (v : Problem) (first : Result State Fault) (input : List ℕ) (f : ProofFeeder) (r : Replaying) (e : Option CheckFault) (none : e ≡ None) (h : ChecksSoFar limits longest v first input f r e)
     → accepted_by limits longest v first input f r e h ≡ length (running_at limits longest v first input f r e none h).spans
@@ -170,251 +174,190 @@ module _ (read : TextsAreRead) (limits : Limits) (longest : ℕ) (v : Problem) (
   whole_text : is_complete f ≡ true → IsReplayed limits longest v first input (place_of f) true None now.now
   whole_text done = subst (λ (b : Bool). IsReplayed limits longest v first input (place_of f) b None now.now) done replayed
 
-  pub cut_text : is_complete f ≡ false → Checks limits longest v first input (place_of f) false (Some (Text (record { place = place_of f; why = reason.Ended })))
-  cut_text done =
-      let reads = subst (λ (b : Bool). IsReported reported.0 b) done reported.1 in (
-        now.now,
-        record {
-          used = reported.0;
-          spans = now.spans;
-          reads = record { left = reads.left; input_is = reads.input_is; place_is = reads.place_is; answer = (reads.answer.0, refl, reads.answer.1) };
-          accepted = now.accepted;
-        },
-      )
-
-  pub verdict_here : WholeProofsConclude → is_complete f ≡ true → (w : Verdict) → Some w ≡ verdict_in r → (t : State) × IsReplayed limits longest v first input (place_of f) true None (Ok t) × (verdict_at t.next t.concluded ≡ Some w)
-  verdict_here whole done w is =
-      let text = whole_text done in
-      let (t, same, some) = there whole limits longest v first input text.used text.spans (place_of f) now.now text.reads text.accepted in
-      (t, subst (λ (x : Result State Fault). IsReplayed limits longest v first input (place_of f) true None x) same text, sym (shown_at r t (subst (λ (x : Result State Fault). IsAt r x) same now.at)) ∙ sym is)
-
-  -- the same, with the number of the statements
-  abbrev CountedReplay : Bool → Result State Fault → Type 0
-  CountedReplay done x = (all : IsReplayed limits longest v first input (place_of f) done None x) × (length all.spans ≡ length now.spans)
-
-  counted_replay : CountedReplay (is_complete f) now.now
-  counted_replay = (record { used = reported.0; spans = now.spans; reads = reported.1; accepted = now.accepted }, refl)
-
-  pub verdict_after : WholeProofsConclude → is_complete f ≡ true → (w : Verdict) → Some w ≡ verdict_in r → EndsAfter limits longest v first input (length now.spans) (place_of f) (Ok w)
-  verdict_after whole done w is =
-      let text : CountedReplay true now.now = subst (λ (b : Bool). CountedReplay b now.now) done counted_replay in
-      let (t, same, some) = there whole limits longest v first input text.0.used text.0.spans (place_of f) now.now text.0.reads text.0.accepted in
-      let all : CountedReplay true (Ok t) = subst (λ (x : Result State Fault). CountedReplay true x) same text in
-      (t, all.0, sym (shown_at r t (subst (λ (x : Result State Fault). IsAt r x) same now.at)) ∙ sym is, all.1)
-
-  pub cut_after : is_complete f ≡ false → EndsAfter limits longest v first input (length now.spans) (place_of f) (Err (Text (record { place = place_of f; why = reason.Ended })))
-  cut_after done =
-      let reads = subst (λ (b : Bool). IsReported reported.0 b) done reported.1 in (
-        (
-          now.now,
-          record {
-            used = reported.0;
-            spans = now.spans;
-            reads = record { left = reads.left; input_is = reads.input_is; place_is = reads.place_is; answer = (reads.answer.0, refl, reads.answer.1) };
-            accepted = now.accepted;
-          },
-        ),
-        refl,
-      )
-
   pub no_verdict : WholeProofsConclude → is_complete f ≡ true → None ≡ verdict_in r → ⊥
   no_verdict whole done is =
       let text = whole_text done in
       let (t, same, some) = there whole limits longest v first input text.used text.spans (place_of f) now.now text.reads text.accepted in
       some (sym (shown_at r t (subst (λ (x : Result State Fault). IsAt r x) same now.at)) ∙ sym is)
 
-  -- ---- more bytes, and the statement that ended in them
-  module _ (more : List ℕ) (n : ProofFeeder) where
-    abbrev pub StandsOn : List (Spanned Statement) → Type 0
-    StandsOn spans = StandsAt longest (begin (largest limits) (top_of limits)) (input ++ more) spans n
+  -- ---- with the number of the statements
+  module _ (k : ℕ) (counts : accepted_by limits longest v first input f r e h ≡ k) where
+    pub many : length now.spans ≡ k
+    many = sym (counted_at limits longest v first input f r e none h) ∙ counts
 
-    pub quiet_on : StandsOn now.spans → halt_of n ≡ None → CountsSoFar limits longest v first (input ++ more) (length now.spans) n r e
-    quiet_on stands running =
-        counts_at limits longest v first (input ++ more) n r e none (record {
-          spans = now.spans;
-          stands = stands;
-          running = running;
-          limits_are = now.limits_are;
-          problem = now.problem;
-          now = now.now;
-          at = now.at;
-          accepted = now.accepted;
-        })
+    none_more : length now.spans ≡ k + 0
+    none_more = many ∙ sym (add-zero k)
 
-    pub halted_on : (s : Stop) → StandsOn now.spans → halt_of n ≡ Some s → CountsSoFar limits longest v first (input ++ more) (length now.spans) n r (Some (Text s))
-    halted_on s stands halts =
-        let (used, reads) = text_read read limits longest (input ++ more) now.spans n (Some s) stands halts in (
+    abbrev CountedReplay : Bool → Result State Fault → Type 0
+    CountedReplay done x = (all : IsReplayed limits longest v first input (place_of f) done None x) × (length all.spans ≡ k)
+
+    counted_replay : CountedReplay (is_complete f) now.now
+    counted_replay = (record { used = reported.0; spans = now.spans; reads = reported.1; accepted = now.accepted }, many)
+
+    pub verdict_after : WholeProofsConclude → is_complete f ≡ true → (w : Verdict) → Some w ≡ verdict_in r → EndsAfter limits longest v first input k (place_of f) (Ok w)
+    verdict_after whole done w is =
+        let text : CountedReplay true now.now = subst (λ (b : Bool). CountedReplay b now.now) done counted_replay in
+        let (t, same, some) = there whole limits longest v first input text.0.used text.0.spans (place_of f) now.now text.0.reads text.0.accepted in
+        let all : CountedReplay true (Ok t) = subst (λ (x : Result State Fault). CountedReplay true x) same text in
+        (t, all.0, sym (shown_at r t (subst (λ (x : Result State Fault). IsAt r x) same now.at)) ∙ sym is, all.1)
+
+    pub cut_after : is_complete f ≡ false → EndsAfter limits longest v first input k (place_of f) (Err (Text (record { place = place_of f; why = reason.Ended })))
+    cut_after done =
+        let reads = subst (λ (b : Bool). IsReported reported.0 b) done reported.1 in (
           (
             now.now,
             record {
-              used = used;
+              used = reported.0;
               spans = now.spans;
-              reads = stopped (largest limits) (top_of limits) longest (input ++ more) used now.spans (place_of n) (is_complete n) s reads;
+              reads = record { left = reads.left; input_is = reads.input_is; place_is = reads.place_is; answer = (reads.answer.0, refl, reads.answer.1) };
               accepted = now.accepted;
             },
           ),
-          refl,
+          many,
         )
 
-    module _ (m : Spanned Statement) (stands : StandsOn (now.spans ++ m ∷ [])) (running : halt_of n ≡ None) where
-      said : (u : List ℕ) × Reads (IsProof (largest limits) (top_of limits)) longest (input ++ more) u (now.spans ++ m ∷ []) (place_of n) (is_complete n) None
-      said = text_read read limits longest (input ++ more) (now.spans ++ m ∷ []) n None stands running
+    -- ---- more bytes, and the statement that ended in them
+    module _ (more : List ℕ) (n : ProofFeeder) where
+      abbrev pub StandsOn : List (Spanned Statement) → Type 0
+      StandsOn spans = StandsAt longest (begin (largest limits) (top_of limits)) (input ++ more) spans n
 
-      pub value_on : ReadStatements → IsStatementValue (largest r.limits) (top_of r.limits) m.event
-      value_on values = subst (λ (x : Limits). IsStatementValue (largest x) (top_of x) m.event) (sym now.limits_are) (last_is_value values (largest limits) (top_of limits) longest (input ++ more) said.0 now.spans m (place_of n) (is_complete n) said.1)
-
-      abbrev running_on : (t : Replaying) → StepsFrom r.limits r.problem now.now m (Ok tt) t → t.limits ≡ r.limits → t.problem ≡ r.problem → IsAccepting limits longest v first (input ++ more) n t
-      running_on t (s, at, takes) limited problem = record {
-        spans = now.spans ++ m ∷ [];
-        stands = stands;
-        running = running;
-        limits_are = limited ∙ now.limits_are;
-        problem = problem ∙ now.problem;
-        now = Ok s;
-        at = at;
-        accepted = leads_more limits v first now.spans m now.now s now.accepted (subst (λ (x : Problem). StepsTo limits x now.now m.event s) now.problem (subst (λ (x : Limits). StepsTo x r.problem now.now m.event s) now.limits_are takes));
-      }
-
-      pub stepped_on : (t : Replaying) → ((before : Result State Fault) → IsAt r before → StepsFrom r.limits r.problem before m (Ok tt) t) → t.limits ≡ r.limits → t.problem ≡ r.problem → CountsSoFar limits longest v first (input ++ more) (length (now.spans ++ m ∷ [])) n t e
-      stepped_on t steps limited problem = counts_at limits longest v first (input ++ more) n t e none (running_on t (steps now.now now.at) limited problem)
-
-      kept_by : (t : Replaying) (why : Fault) → IsNamePrefix r.names t.names → ((n : ℕ) → why ≡ NotTotal n → n < length r.names) → (x : Result State Fault) → IsAt r x → KeepsNamesOf x t.names why
-      kept_by t why prefix old (Ok s) at = subst (λ (y : List (List ℕ)). KeepsNames y t.names why) (sym at.1.names) (prefix, old)
-      kept_by t why prefix old (Err e) at = tt
-
-      refused_by : m.past ≡ place_of n → (rest : List ℕ) (t : Replaying) (why : Fault) → Rejects r.limits r.problem now.now m.event why → IsNamePrefix r.names t.names → ((n : ℕ) → why ≡ NotTotal n → n < length r.names) → CountsSoFar limits longest v first ((input ++ more) ++ rest) (length now.spans) n t (Some (Step m.first why))
-      refused_by past rest t why refuses prefix old = (
-        (
-          record {
-            used = said.0;
-            left = said.1.left ++ rest;
+      pub quiet_on : StandsOn now.spans → halt_of n ≡ None → CountsSoFar limits longest v first (input ++ more) (k + 0) n r e
+      quiet_on stands running =
+          counts_at limits longest v first (input ++ more) n r e none (record {
             spans = now.spans;
-            last = m;
-            before = now.now;
-            done = is_complete n;
-            input_is = ap (λ (x : List ℕ). x ++ rest) said.1.input_is ∙ append_assoc said.0 said.1.left rest;
-            reads = used_alone (largest limits) (top_of limits) longest (input ++ more) said.0 (now.spans ++ m ∷ []) (place_of n) (is_complete n) said.1;
-            begins_is = refl;
-            past_is = past;
+            stands = stands;
+            running = running;
+            limits_are = now.limits_are;
+            problem = now.problem;
+            now = now.now;
+            at = now.at;
             accepted = now.accepted;
-            refused = subst (λ (x : Problem). Rejects limits x now.now m.event why) now.problem (subst (λ (x : Limits). Rejects x r.problem now.now m.event why) now.limits_are refuses);
-          },
-          kept_by t why prefix old now.now now.at,
-        ),
-        refl,
-      )
+          }) (k + 0) none_more
 
-      abbrev pub Refusing : Replaying → CheckFault → Type 0
-      Refusing t x = (before : Result State Fault) → IsAt r before → StepsFrom r.limits r.problem before m (Err x) t
+      pub halted_on : (s : Stop) → StandsOn now.spans → halt_of n ≡ Some s → CountsSoFar limits longest v first (input ++ more) (k + 0) n r (Some (Text s))
+      halted_on s stands halts =
+          let (used, reads) = text_read read limits longest (input ++ more) now.spans n (Some s) stands halts in (
+            (
+              now.now,
+              record {
+                used = used;
+                spans = now.spans;
+                reads = stopped (largest limits) (top_of limits) longest (input ++ more) used now.spans (place_of n) (is_complete n) s reads;
+                accepted = now.accepted;
+              },
+            ),
+            none_more,
+          )
 
-      pub refused_on : m.past ≡ place_of n → (rest : List ℕ) (t : Replaying) (x : CheckFault) → Refusing t x → IsNamePrefix r.names t.names → ReportsOld r x → CountsSoFar limits longest v first ((input ++ more) ++ rest) (length now.spans) n t (Some x)
-      refused_on past rest t x steps prefix old =
-          let (why, is, refuses) = steps now.now now.at in
-          subst (λ (y : CheckFault). CountsSoFar limits longest v first ((input ++ more) ++ rest) (length now.spans) n t (Some y)) (sym is)
-          (refused_by past rest t why refuses prefix (λ k h. old m.first k (ap (λ (y : CheckFault). failed y) (is ∙ ap (λ (z : Fault). Step m.first z) h))))
+      module _ (m : Spanned Statement) (stands : StandsOn (now.spans ++ m ∷ [])) (running : halt_of n ≡ None) where
+        one_more : length (now.spans ++ m ∷ []) ≡ k + 1
+        one_more = length-append now.spans (m ∷ []) ∙ ap (λ (j : ℕ). j + 1) many
 
-  -- ---- a feed and a step
-  module _ (piece : List ℕ) (n : ProofFeeder) where
-    pub owed : IsOpenText f.stop
-    owed = subst IsOpenText (sym now.running) tt
+        said : (u : List ℕ) × Reads (IsProof (largest limits) (top_of limits)) longest (input ++ more) u (now.spans ++ m ∷ []) (place_of n) (is_complete n) None
+        said = text_read read limits longest (input ++ more) (now.spans ++ m ∷ []) n None stands running
 
-    stands_quiet : (fed : Fed Statement) → fed.event ≡ None → FeedsOnce f piece (Ok fed) n → StandsAt longest (begin (largest limits) (top_of limits)) (input ++ piece) now.spans n
-    stands_quiet fed event feeds =
-        let feeds : FeedsOnce f piece (Ok (record { used = fed.used; event = None })) n = subst (λ (x : Fed Statement). FeedsOnce f piece (Ok x) n) (fed_with fed None event) feeds in
-        rw append-nil at (feeds.0 longest (begin (largest limits) (top_of limits)) input now.spans owed now.stands)
+        pub value_on : ReadStatements → IsStatementValue (largest r.limits) (top_of r.limits) m.event
+        value_on values = subst (λ (x : Limits). IsStatementValue (largest x) (top_of x) m.event) (sym now.limits_are) (last_is_value values (largest limits) (top_of limits) longest (input ++ more) said.0 now.spans m (place_of n) (is_complete n) said.1)
 
-    pub quiet : (fed : Fed Statement) → fed.event ≡ None → FeedsOnce f piece (Ok fed) n → halt_of n ≡ None → CountsSoFar limits longest v first (input ++ piece) (length now.spans) n r e
-    quiet fed event feeds running = quiet_on piece n (stands_quiet fed event feeds) running
+        abbrev running_on : (t : Replaying) → StepsFrom r.limits r.problem now.now m (Ok tt) t → t.limits ≡ r.limits → t.problem ≡ r.problem → IsAccepting limits longest v first (input ++ more) n t
+        running_on t (s, at, takes) limited problem = record {
+          spans = now.spans ++ m ∷ [];
+          stands = stands;
+          running = running;
+          limits_are = limited ∙ now.limits_are;
+          problem = problem ∙ now.problem;
+          now = Ok s;
+          at = at;
+          accepted = leads_more limits v first now.spans m now.now s now.accepted (subst (λ (x : Problem). StepsTo limits x now.now m.event s) now.problem (subst (λ (x : Limits). StepsTo x r.problem now.now m.event s) now.limits_are takes));
+        }
 
-    stands_stopped : (s : Stop) → FeedsOnce f piece (Err s) n → StandsAt longest (begin (largest limits) (top_of limits)) (input ++ piece) now.spans n
-    stands_stopped s feeds = rw append-nil at (feeds.0 longest (begin (largest limits) (top_of limits)) input now.spans owed now.stands)
+        pub stepped_on : (t : Replaying) → Answers r m (Ok tt) t → t.limits ≡ r.limits → t.problem ≡ r.problem → CountsSoFar limits longest v first (input ++ more) (k + 1) n t e
+        stepped_on t steps limited problem = counts_at limits longest v first (input ++ more) n t e none (running_on t (steps now.now now.at) limited problem) (k + 1) one_more
 
-    pub halted : (s : Stop) → FeedsOnce f piece (Err s) n → halt_of n ≡ Some s → CountsSoFar limits longest v first (input ++ piece) (length now.spans) n r (Some (Text s))
-    halted s feeds halts = halted_on piece n s (stands_stopped s feeds) halts
+        kept_by : (t : Replaying) (why : Fault) → IsNamePrefix r.names t.names → ((n : ℕ) → why ≡ NotTotal n → n < length r.names) → (x : Result State Fault) → IsAt r x → KeepsNamesOf x t.names why
+        kept_by t why prefix old (Ok s) at = subst (λ (y : List (List ℕ)). KeepsNames y t.names why) (sym at.1.names) (prefix, old)
+        kept_by t why prefix old (Err e) at = tt
 
-    -- the byte at which memory ran out is one that may allocate
-    pub wanted : AsksAsText limits → (s : Stop) → FeedsOnce f piece (Err s) n → halt_of n ≡ Some s → AllocatesAt limits (input ++ piece) (Text s)
-    wanted may s feeds halts memory =
-        let k = (stands_stopped s feeds).1 in
-        let waits : Waits proofs n.machine (end_of longest n.first) k.letters k.left n.place (Some s) = subst (λ (x : Option Stop). Waits proofs n.machine (end_of longest n.first) k.letters k.left n.place x) halts k.waits in
-        let stops : Halts proofs n.machine (end_of longest n.first) k.letters k.left reason.Memory = subst (λ (x : Why). Halts proofs n.machine (end_of longest n.first) k.letters k.left x) memory waits.2 in
-        let (b, more, left, admits, asks, room) = stops in
-        (bytes k.letters, b, more, k.input_is ∙ ap (λ (x : List ℕ). bytes k.letters ++ x) left, waits.1 ∙ k.place_is, may (bytes k.letters) b (n.machine, k.leads, asks))
+        refused_by : m.past ≡ place_of n → (rest : List ℕ) (t : Replaying) (why : Fault) → Rejects r.limits r.problem now.now m.event why → IsNamePrefix r.names t.names → ((n : ℕ) → why ≡ NotTotal n → n < length r.names) → CountsSoFar limits longest v first ((input ++ more) ++ rest) (k + 0) n t (Some (Step m.first why))
+        refused_by past rest t why refuses prefix old = (
+          (
+            record {
+              used = said.0;
+              left = said.1.left ++ rest;
+              spans = now.spans;
+              last = m;
+              before = now.now;
+              done = is_complete n;
+              input_is = ap (λ (x : List ℕ). x ++ rest) said.1.input_is ∙ append_assoc said.0 said.1.left rest;
+              reads = used_alone (largest limits) (top_of limits) longest (input ++ more) said.0 (now.spans ++ m ∷ []) (place_of n) (is_complete n) said.1;
+              begins_is = refl;
+              past_is = past;
+              accepted = now.accepted;
+              refused = subst (λ (x : Problem). Rejects limits x now.now m.event why) now.problem (subst (λ (x : Limits). Rejects x r.problem now.now m.event why) now.limits_are refuses);
+            },
+            kept_by t why prefix old now.now now.at,
+          ),
+          none_more,
+        )
 
-    module _ (fed : Fed Statement) (m : Spanned Statement) (event : fed.event ≡ Some m) (fs : FeedsOnce f piece (Ok fed) n) (running : halt_of n ≡ None) where
-      feeds : FeedsOnce f piece (Ok (record { used = fed.used; event = Some m })) n
-      feeds = subst (λ (x : Fed Statement). FeedsOnce f piece (Ok x) n) (fed_with fed (Some m) event) fs
+        pub refused_on : m.past ≡ place_of n → (rest : List ℕ) (t : Replaying) (x : CheckFault) → Answers r m (Err x) t → IsNamePrefix r.names t.names → ReportsOld r x → CountsSoFar limits longest v first ((input ++ more) ++ rest) (k + 0) n t (Some x)
+        refused_on past rest t x steps prefix old =
+            let (why, is, refuses) = steps now.now now.at in
+            subst (λ (y : CheckFault). CountsSoFar limits longest v first ((input ++ more) ++ rest) (k + 0) n t (Some y)) (sym is)
+            (refused_by past rest t why refuses prefix (λ k h. old m.first k (ap (λ (y : CheckFault). failed y) (is ∙ ap (λ (z : Fault). Step m.first z) h))))
 
-      stands : StandsAt longest (begin (largest limits) (top_of limits)) (input ++ take fed.used piece) (now.spans ++ m ∷ []) n
-      stands = feeds.0 longest (begin (largest limits) (top_of limits)) input now.spans owed now.stands
+    -- ---- a feed and a step
+    module _ (piece : List ℕ) (n : ProofFeeder) where
+      pub owed : IsOpenText f.stop
+      owed = subst IsOpenText (sym now.running) tt
 
-      pub is_value : ReadStatements → IsStatementValue (largest r.limits) (top_of r.limits) m.event
-      is_value = value_on (take fed.used piece) n m stands running
+      stands_quiet : (fed : Fed Statement) → fed.event ≡ None → FeedsOnce f piece (Ok fed) n → StandsAt longest (begin (largest limits) (top_of limits)) (input ++ piece) now.spans n
+      stands_quiet fed event feeds =
+          let feeds : FeedsOnce f piece (Ok (record { used = fed.used; event = None })) n = subst (λ (x : Fed Statement). FeedsOnce f piece (Ok x) n) (fed_with fed None event) feeds in
+          rw append-nil at (feeds.0 longest (begin (largest limits) (top_of limits)) input now.spans owed now.stands)
 
-      pub stepped : (t : Replaying) → ((before : Result State Fault) → IsAt r before → StepsFrom r.limits r.problem before m (Ok tt) t) → t.limits ≡ r.limits → t.problem ≡ r.problem → CountsSoFar limits longest v first (input ++ take fed.used piece) (length (now.spans ++ m ∷ [])) n t e
-      stepped = stepped_on (take fed.used piece) n m stands running
+      pub quiet : (fed : Fed Statement) → fed.event ≡ None → FeedsOnce f piece (Ok fed) n → halt_of n ≡ None → CountsSoFar limits longest v first (input ++ piece) (k + 0) n r e
+      quiet fed event feeds running = quiet_on piece n (stands_quiet fed event feeds) running
 
-      abbrev Refuses : Replaying → CheckFault → Type 0
-      Refuses t x = (before : Result State Fault) → IsAt r before → StepsFrom r.limits r.problem before m (Err x) t
+      stands_stopped : (s : Stop) → FeedsOnce f piece (Err s) n → StandsAt longest (begin (largest limits) (top_of limits)) (input ++ piece) now.spans n
+      stands_stopped s feeds = rw append-nil at (feeds.0 longest (begin (largest limits) (top_of limits)) input now.spans owed now.stands)
 
-      pub refused : m.past ≡ place_of n → (t : Replaying) (x : CheckFault) → Refuses t x → IsNamePrefix r.names t.names → ReportsOld r x → CountsSoFar limits longest v first (input ++ piece) (length now.spans) n t (Some x)
-      refused past t x steps prefix old =
-          subst (λ (y : List ℕ). CountsSoFar limits longest v first y (length now.spans) n t (Some x))
-          (append_assoc input (take fed.used piece) (drop fed.used piece) ∙ ap (λ (y : List ℕ). input ++ y) (take-append-drop fed.used piece))
-          (refused_on (take fed.used piece) n m stands running past (drop fed.used piece) t x steps prefix old)
+      pub halted : (s : Stop) → FeedsOnce f piece (Err s) n → halt_of n ≡ Some s → CountsSoFar limits longest v first (input ++ piece) (k + 0) n r (Some (Text s))
+      halted s feeds halts = halted_on piece n s (stands_stopped s feeds) halts
 
-      pub unread_step : (t : Replaying) (x : CheckFault) → Refuses t x → IsNoReadFault x
-      unread_step t x steps = let (why, is, refuses) = steps now.now now.at in subst IsNoReadFault (sym is) tt
+      -- the byte at which memory ran out is one that may allocate
+      pub wanted : AsksAsText limits → (s : Stop) → FeedsOnce f piece (Err s) n → halt_of n ≡ Some s → AllocatesAt limits (input ++ piece) (Text s)
+      wanted may s feeds halts memory =
+          let k = (stands_stopped s feeds).1 in
+          let waits : Waits proofs n.machine (end_of longest n.first) k.letters k.left n.place (Some s) = subst (λ (x : Option Stop). Waits proofs n.machine (end_of longest n.first) k.letters k.left n.place x) halts k.waits in
+          let stops : Halts proofs n.machine (end_of longest n.first) k.letters k.left reason.Memory = subst (λ (x : Why). Halts proofs n.machine (end_of longest n.first) k.letters k.left x) memory waits.2 in
+          let (b, more, left, admits, asks, room) = stops in
+          (bytes k.letters, b, more, k.input_is ∙ ap (λ (x : List ℕ). bytes k.letters ++ x) left, waits.1 ∙ k.place_is, may (bytes k.letters) b (n.machine, k.leads, asks))
 
-      pub wanted_step : (t : Replaying) (x : CheckFault) → Refuses t x → AllocatesAt limits (input ++ piece) x
-      wanted_step t x steps = let (why, is, refuses) = steps now.now now.at in subst (AllocatesAt limits (input ++ piece)) (sym is) tt
+      module _ (fed : Fed Statement) (m : Spanned Statement) (event : fed.event ≡ Some m) (fs : FeedsOnce f piece (Ok fed) n) (running : halt_of n ≡ None) where
+        feeds : FeedsOnce f piece (Ok (record { used = fed.used; event = Some m })) n
+        feeds = subst (λ (x : Fed Statement). FeedsOnce f piece (Ok x) n) (fed_with fed (Some m) event) fs
 
--- ---- the same, with the number of the statements
-module _ (limits : Limits) (longest : ℕ) (v : Problem) (first : Result State Fault) (input : List ℕ) (f : ProofFeeder) (r : Replaying) (e : Option CheckFault) (none : e ≡ None) (k : ℕ) (given : CountsSoFar limits longest v first input k f r e) where
-  abbrev before : List (Spanned Statement)
-  before = (running_at limits longest v first input f r e none given.0).spans
+        stands : StandsAt longest (begin (largest limits) (top_of limits)) (input ++ take fed.used piece) (now.spans ++ m ∷ []) n
+        stands = feeds.0 longest (begin (largest limits) (top_of limits)) input now.spans owed now.stands
 
-  pub so_many : length before ≡ k
-  so_many = sym (counted_at limits longest v first input f r e none given.0) ∙ given.1
+        pub is_value : ReadStatements → IsStatementValue (largest r.limits) (top_of r.limits) m.event
+        is_value = value_on (take fed.used piece) n m stands running
 
-  none_more : length before ≡ k + 0
-  none_more = so_many ∙ sym (add-zero k)
+        pub stepped : (t : Replaying) → Answers r m (Ok tt) t → t.limits ≡ r.limits → t.problem ≡ r.problem → CountsSoFar limits longest v first (input ++ take fed.used piece) (k + 1) n t e
+        stepped = stepped_on (take fed.used piece) n m stands running
 
-module _ (read : TextsAreRead) (limits : Limits) (longest : ℕ) (v : Problem) (first : Result State Fault) (input : List ℕ) (f : ProofFeeder) (r : Replaying) (e : Option CheckFault) (none : e ≡ None) (k : ℕ) (given : CountsSoFar limits longest v first input k f r e) where
-  pub verdict_counted : WholeProofsConclude → is_complete f ≡ true → (w : Verdict) → Some w ≡ verdict_in r → EndsAfter limits longest v first input k (place_of f) (Ok w)
-  verdict_counted whole done w is =
-      let (t, all, shown, many) = verdict_after read limits longest v first input f r e none given.0 whole done w is in
-      (t, all, shown, many ∙ so_many limits longest v first input f r e none k given)
+        pub refused : m.past ≡ place_of n → (t : Replaying) (x : CheckFault) → Answers r m (Err x) t → IsNamePrefix r.names t.names → ReportsOld r x → CountsSoFar limits longest v first (input ++ piece) (k + 0) n t (Some x)
+        refused past t x steps prefix old =
+            subst (λ (y : List ℕ). CountsSoFar limits longest v first y (k + 0) n t (Some x))
+            (append_assoc input (take fed.used piece) (drop fed.used piece) ∙ ap (λ (y : List ℕ). input ++ y) (take-append-drop fed.used piece))
+            (refused_on (take fed.used piece) n m stands running past (drop fed.used piece) t x steps prefix old)
 
-  pub cut_counted : is_complete f ≡ false → EndsAfter limits longest v first input k (place_of f) (Err (Text (record { place = place_of f; why = reason.Ended })))
-  cut_counted done =
-      let (here, many) = cut_after read limits longest v first input f r e none given.0 done in
-      (here, many ∙ so_many limits longest v first input f r e none k given)
+        pub unread_step : (t : Replaying) (x : CheckFault) → Answers r m (Err x) t → IsNoReadFault x
+        unread_step t x steps = let (why, is, refuses) = steps now.now now.at in subst IsNoReadFault (sym is) tt
 
-module _ (read : TextsAreRead) (limits : Limits) (longest : ℕ) (v : Problem) (first : Result State Fault) (input : List ℕ) (f : ProofFeeder) (r : Replaying) (e : Option CheckFault) (none : e ≡ None) (k : ℕ) (given : CountsSoFar limits longest v first input k f r e) (piece : List ℕ) (n : ProofFeeder) where
-  abbrev no_more : length (before limits longest v first input f r e none k given) ≡ k + 0
-  no_more = none_more limits longest v first input f r e none k given
-
-  pub quiet_counted : (fed : Fed Statement) → fed.event ≡ None → FeedsOnce f piece (Ok fed) n → halt_of n ≡ None → CountsSoFar limits longest v first (input ++ piece) (k + 0) n r e
-  quiet_counted fed event feeds running =
-      let (c, many) = quiet read limits longest v first input f r e none given.0 piece n fed event feeds running in
-      (c, many ∙ no_more)
-
-  pub halted_counted : (s : Stop) → FeedsOnce f piece (Err s) n → halt_of n ≡ Some s → CountsSoFar limits longest v first (input ++ piece) (k + 0) n r (Some (Text s))
-  halted_counted s feeds halts =
-      let (c, many) = halted read limits longest v first input f r e none given.0 piece n s feeds halts in
-      (c, many ∙ no_more)
-
-  module _ (fed : Fed Statement) (m : Spanned Statement) (event : fed.event ≡ Some m) (feeds : FeedsOnce f piece (Ok fed) n) (running : halt_of n ≡ None) (t : Replaying) where
-    pub stepped_counted : ((before : Result State Fault) → IsAt r before → StepsFrom r.limits r.problem before m (Ok tt) t) → t.limits ≡ r.limits → t.problem ≡ r.problem → CountsSoFar limits longest v first (input ++ take fed.used piece) (k + 1) n t e
-    stepped_counted steps limited problem =
-        let (c, many) = stepped read limits longest v first input f r e none given.0 piece n fed m event feeds running t steps limited problem in
-        (c, many ∙ (length-append (before limits longest v first input f r e none k given) (m ∷ []) ∙ ap (λ (j : ℕ). j + 1) (so_many limits longest v first input f r e none k given)))
-
-    pub refused_counted : m.past ≡ place_of n → (x : CheckFault) → ((before : Result State Fault) → IsAt r before → StepsFrom r.limits r.problem before m (Err x) t) → IsNamePrefix r.names t.names → ReportsOld r x → CountsSoFar limits longest v first (input ++ piece) (k + 0) n t (Some x)
-    refused_counted past x steps prefix old =
-        let (c, many) = refused read limits longest v first input f r e none given.0 piece n fed m event feeds running past t x steps prefix old in
-        (c, many ∙ no_more)
+        pub wanted_step : (t : Replaying) (x : CheckFault) → Answers r m (Err x) t → AllocatesAt limits (input ++ piece) x
+        wanted_step t x steps = let (why, is, refuses) = steps now.now now.at in subst (AllocatesAt limits (input ++ piece)) (sym is) tt
 
 -- what a checker knows of the bytes that may allocate
 pub asks_here : (f : ProofFeeder) (r : Replaying) (e : Option CheckFault) → e ≡ None → IsSomewhere f r e → (limits : Limits) (longest : ℕ) (v : Problem) (first : Result State Fault) (input : List ℕ) → ChecksSoFar limits longest v first input f r e → AsksAsText limits
@@ -545,4 +488,4 @@ begun_counts longest r c b none first at =
       now = first;
       at = subst (λ (x : Replaying). IsAt x first) (sym b.replay) at;
       accepted = leads_none r.limits r.problem first;
-    })
+    }) 0 refl

@@ -16,10 +16,6 @@ module _ (limits : Limits) (longest : ℕ) (v : Problem) (first : State) where
   accepted_of : (used seen other : List ℕ) (place : Place) (last : State) → IsAccepted limits longest v first (Some (used ++ seen)) (Some seen) place true None last → IsAccepted limits longest v first (Some (used ++ other)) (Some other) place true None last
   accepted_of used seen other place last a = record { spans = a.spans; took = all_of (IsProofText limits) longest used seen other a.spans place a.took; accepted = a.accepted }
 
-  -- all that was accepted, with its last position given by an equal one
-  pub moved : (left rest : Option (List ℕ)) (place at : Place) (w : Verdict) → place ≡ at → (t : State) × IsAccepted limits longest v first left rest place true None t × (t.concluded ≡ Some w) → (t : State) × IsAccepted limits longest v first left rest at true None t × (t.concluded ≡ Some w)
-  moved left rest place at w same (last, accepted, claimed) = (last, subst (λ (p : Place). IsAccepted limits longest v first left rest p true None last) same accepted, claimed)
-
   module _ (before mid after : List ℕ) (new : Replaying) (ended : Verdict × Place) where
     -- a whole proof, and a blank rest
     pub given_whole : OfGiven (λ left rest. RunsProof limits longest v first left (Ok ended) rest new) before mid → OfGiven (λ left rest. ReadsBlank ended.1 left (Ok tt) rest) mid after → OfGiven (λ left rest. Replays limits longest v first left (Ok ended.0) rest) before after
@@ -53,19 +49,3 @@ module _ (limits : Limits) (longest : ℕ) (v : Problem) (first : State) where
     -- a rejected statement, with the name that the fault gives
     pub given_report : UnvaluedMayWant → (place : Place) (e : Fault) → IsReportedAs new.names place e f → OfGiven (λ left rest. RunsProof limits longest v first left (Err (check.Step place e)) rest new) before after → OfGiven (λ left rest. Replays limits longest v first left (Err f) rest) before after
     given_report law place e reported (given, seen, is, runs) = (given, seen, is, step_report limits longest v first (Some (given ++ seen)) law (Some seen) new place e f runs reported)
-
--- ---- a run through the statements
-
-module _ (exact : ReadsProofs) (limits : Limits) (longest : ℕ) (before after : List ℕ) (v : Problem) (first : State) (r : Replaying) (spans : List (Spanned Statement))
-    (led : (t : State) × StandsFor r t × Accepts (largest limits) (top_of limits) v first (events_at spans) t) (new : Replaying) where
-  pub given_stopped : ((used : List ℕ) (b : ℕ) → replayed.MayTake limits used b → AsksInProofText limits used b) → (s : Stop)
-      → OfGiven (λ left rest. (all : TookAll (replayed.Taken limits) longest left rest spans s.place false (Some s)) × IsAsking (replayed.MayTake limits) all.used all.seen s.why) before after → OfGiven (λ left rest. RunsProof limits longest v first left (Err (check.Text s)) rest new) before after
-  given_stopped asks s (given, seen, e, all) = (given, seen, e, replayed.stopped exact limits longest (Some (given ++ seen)) (Some seen) v first r spans led asks s all)
-
-  module _ (none : r.fault ≡ None) where
-    pub given_ended : (place at : Place) (w : Verdict) → place ≡ at → Some w ≡ verdict_in r → OfGiven (λ left rest. TookAll (replayed.Taken limits) longest left rest spans place true None) before after → OfGiven (λ left rest. RunsProof limits longest v first left (Ok (w, at)) rest new) before after
-    given_ended place at w same is (given, seen, e, all) = (given, seen, e, moved limits longest v first (Some (given ++ seen)) (Some seen) place at w same (replayed.ended exact limits longest (Some (given ++ seen)) (Some seen) v first r spans led none place w all is))
-
-    pub given_step : (m : Spanned Statement) → r.limits ≡ limits → r.problem ≡ v → (x : CheckFault) → ((now : Result State Fault) → IsAt r now → StepsFrom r.limits r.problem now m (Err x) new) → IsNamePrefix r.names new.names → ReportsOld r x
-        → OfGiven (λ left rest. TookSoFar (replayed.Taken limits) longest left rest (spans ++ m ∷ []) m.past) before after → OfGiven (λ left rest. RunsProof limits longest v first left (Err x) rest new) before after
-    given_step m limited problem x steps names old (given, seen, e, sofar) = (given, seen, e, replayed.refused_run exact limits longest (Some (given ++ seen)) (Some seen) v first r spans led none new m limited problem x steps names old sofar)

@@ -2,10 +2,10 @@
 use Rattle.pb_tool.proofs.Common.{ℕ, ◌++◌, ◌↔◌, ◌∙◌, ◌≡◌, ◌≢◌, [], ap, Err, List, Ok, Option, refl, Result, Some, string_bytes, subst, sym, String}
 use Rattle.pb_tool.proofs.Common.{same_Some, Instance, IsValueOf, Proof, Statement, IsProofOf, statements_of, Fault, Verdict, Opened, Problem}
 use Rattle.pb_tool.proofs.Common.{first_state, State, Accepts, ok_or_err, same_ok, Limits, Place, Spanned, Stop, largest, top_of, HasFixedSpans}
-use Rattle.pb_tool.proofs.Common.{IsSpelled, Item, events_at, events_of, IsRead, Keeping, Reading, IsSpelling, File, ToolFault, Memory, Open}
-use Rattle.pb_tool.proofs.Common.{Overflow, Step, Text, Write, AnswersExactly, AreVerified, IsDecided, IsOfText, IsOfTexts, IsSame, OneAnswer}
-use Rattle.pb_tool.proofs.Common.{IsProofFile, IsProofText, IsFile, IsInstanceFile, IsInstanceText, IsNoInstanceFile, InRest, InText, AfterProof}
-use Rattle.pb_tool.proofs.Common.{CheckCall, ChecksFiles, InProof, IsRefusedStep, IsRefusedText, IsVerified}
+use Rattle.pb_tool.proofs.Common.{IsSpelled, Item, events_at, events_of, IsRead, Keeping, Reading, IsSpelling, File, ToolFault, Overflow, Step, Text}
+use Rattle.pb_tool.proofs.Common.{AnswersExactly, AreVerified, IsDecided, IsOfText, IsOfTexts, IsSame, OneAnswer, IsProofFile, IsProofText, IsFile}
+use Rattle.pb_tool.proofs.Common.{IsInstanceFile, IsInstanceText, IsNoInstanceFile, InRest, InText, AfterProof, CheckCall, ChecksFiles, InProof}
+use Rattle.pb_tool.proofs.Common.{IsRefusedStep, IsRefusedText, IsVerified}
 use Rattle.std.specs.declared.alloc.Global.{Global}
 use Rattle.pb_replay.specs.declared.fault.Fault.TheVariants.{Memory as no_memory, Overflow as over}
 use Rattle.pb_opb.proofs.lemmas.instances.OneValue.{same_value}
@@ -162,11 +162,8 @@ module _ (laws : AllSingle) (limits : Limits) (longest : ℕ) (i : List ℕ) whe
           absurd (no_refusal (IsProofText limits) longest (one_proof_text laws limits longest p) (prefix_of_proof laws limits longest p) p s p1 g.spelled.spans
           (whole_of (IsProofText limits) IsProofOf longest p p1 q g) (proof_refusal laws limits longest p problem (first_state problem) p' s r) d)
       settled i1 p1 v q w f g h (Err (Text File s)) old new i' p' a d = absurd a
-      settled i1 p1 v q w f g h (Err (Overflow File)) old new i' p' a d = absurd a
-      settled i1 p1 v q w f g h (Err (Overflow of_proof)) old new i' p' a d = absurd a
-      settled i1 p1 v q w f g h (Err (Memory input)) old new i' p' a d = absurd d
-      settled i1 p1 v q w f g h (Err (Open input)) old new i' p' a d = absurd d
-      settled i1 p1 v q w f g h (Err Write) old new i' p' a d = absurd d
+      settled i1 p1 v q w f g h (Err (Overflow input)) old new i' p' a d = absurd a
+      settled i1 p1 v q w f g h (Err e) old new i' p' a d = absurd d
 
       verified_by : (w : Verdict) (old new : W) (i' p' : Option (List ℕ)) → Answers (Ok w) old i' p' new → AreVerified limits longest i p w
       verified_by w old new i' p' (v, f, q, g, h, wrote) = record { instance = v; first = taken (IsInstanceText limits) IsValueOf longest i i' v f; proof = q; second = taken (IsProofText limits) IsProofOf longest p p' q g; verified = h }
@@ -196,11 +193,8 @@ module _ (laws : AllSingle) (limits : Limits) (longest : ℕ) (i : List ℕ) whe
       shown (Err (Step place e name)) old new i' p' (v, f, problem, opened, r, x) d = NoStep v i' problem place e name p' refl f opened r d
       shown (Err (Text of_proof s)) old new i' p' (v, f, problem, opened, r, x) d = NoText v i' problem s p' refl f opened r d
       shown (Err (Text File s)) old new i' p' a d = absurd a
-      shown (Err (Overflow File)) old new i' p' a d = absurd a
-      shown (Err (Overflow of_proof)) old new i' p' a d = absurd a
-      shown (Err (Memory input)) old new i' p' a d = absurd d
-      shown (Err (Open input)) old new i' p' a d = absurd d
-      shown (Err Write) old new i' p' a d = absurd d
+      shown (Err (Overflow input)) old new i' p' a d = absurd a
+      shown (Err e) old new i' p' a d = absurd d
 
       to_same : (one other a b : Result Verdict ToolFault) → one ≡ a → other ≡ b → IsSame a b → IsSame one other
       to_same one other a b e f h = subst (λ (x : Result Verdict ToolFault). IsSame x other) (sym e) (subst (λ (y : Result Verdict ToolFault). IsSame a y) (sym f) h)
@@ -230,10 +224,6 @@ module _ (laws : AllSingle) (limits : Limits) (longest : ℕ) (i : List ℕ) whe
 
       same_refusals : (one other : Result Verdict ToolFault) → ((w : Verdict) → other ≡ Ok w → AreVerified limits longest i p w → one ≡ Ok w) → ((w : Verdict) → one ≡ Ok w → AreVerified limits longest i p w → other ≡ Ok w) → Shown one → Shown other → IsSame one other
       same_refusals one other to from (Accepted w e v) y = to_same one other (Ok w) (Ok w) e (from w e v) refl
-      same_refusals one other to from (NoInstance s i' e r d) (Accepted w f v) = to_same one other (Ok w) (Ok w) (to w f v) f refl
-      same_refusals one other to from (TooLarge v i' e f k) (Accepted w g h) = to_same one other (Ok w) (Ok w) (to w g h) g refl
-      same_refusals one other to from (NoStep v i' problem place x name p' e f k r d) (Accepted w g h) = to_same one other (Ok w) (Ok w) (to w g h) g refl
-      same_refusals one other to from (NoText v i' problem s p' e f k r d) (Accepted w g h) = to_same one other (Ok w) (Ok w) (to w g h) g refl
       same_refusals one other to from (NoInstance s i' e r d) (NoInstance t i'' e' r' d') = to_same one other (Err (Text of_instance s)) (Err (Text of_instance t)) e e' (ap (λ (x : Stop). Err (Text of_instance x)) (one_stop_of_instance i' i'' s t r d r' d'))
       same_refusals one other to from (NoInstance s i' e r d) (TooLarge v i'' e' f k) = absurd (no_instance i'' i' v s f r d)
       same_refusals one other to from (NoInstance s i' e r d) (NoStep v i'' problem place x name p' e' f k r' d') = absurd (no_instance i'' i' v s f r d)
@@ -252,6 +242,7 @@ module _ (laws : AllSingle) (limits : Limits) (longest : ℕ) (i : List ℕ) whe
       same_refusals one other to from (NoText v i' problem s p' e f k r d) (NoStep w i'' problem' place x name p'' e' g h r' d') = absurd (text_or_step v w i' i'' problem problem' s place x name p' p'' f k r d g h r' d')
       same_refusals one other to from (NoText v i' problem s p' e f k r d) (NoText w i'' problem' t p'' e' g h r' d') =
           to_same one other (Err (Text of_proof s)) (Err (Text of_proof t)) e e' (ap (λ (x : Stop). Err (Text of_proof x)) (two_texts v w i' i'' problem problem' s t p' p'' r d r' d'))
+      same_refusals one other to from x (Accepted w f v) = to_same one other (Ok w) (Ok w) (to w f v) f refl
 
       alike : (i' p' i'' p'' : Option (List ℕ)) (old new old' new' : W) (one other : Result Verdict ToolFault) → Answers one old i' p' new → IsDecided one → Answers other old' i'' p'' new' → IsDecided other → IsSame one other
       alike i' p' i'' p'' old new old' new' one other a d b d' =

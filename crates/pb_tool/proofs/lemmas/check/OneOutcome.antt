@@ -1,10 +1,9 @@
 -- Statements are accepted and rejected in one way.
 use Rattle.pb_tool.proofs.Common.{ℕ, ◌++◌, ◌∙◌, ◌∷◌, ◌≡◌, ◌≢◌, ◌⊎◌, [], ap, Bool, Err, inl, inr, List, None, Ok, Option, refl, Result, Some, subst}
-use Rattle.pb_tool.proofs.Common.{sym, Statement, OutcomesAreSingle, Fault, Conflict, FormulaCount, IdsSpent, NoObjective, NoSolution, NoSuchId}
-use Rattle.pb_tool.proofs.Common.{NotBound, NotContradiction, NotImplied, NotTotal, Order, SolutionLogged, Violates, Problem, State, Accepts, Outcome}
-use Rattle.pb_tool.proofs.Common.{ok_or_err, same_err, same_ok, Limits, Place, Spanned, largest, top_of, HasFixedSpans, Reads, events_at, IsProofText}
-use Rattle.pb_tool.proofs.Common.{ComesTo, IsRefusedStep, IsReported}
-use Rattle.pb_replay.specs.declared.fault.Fault.TheVariants.{Memory, Overflow}
+use Rattle.pb_tool.proofs.Common.{sym, Statement, OutcomesAreSingle, Fault, NotTotal, Problem, State, Accepts, Outcome, ok_or_err, same_err, same_ok}
+use Rattle.pb_tool.proofs.Common.{Limits, Place, Spanned, largest, top_of, HasFixedSpans, Reads, events_at, IsProofText, ComesTo, IsRefusedStep}
+use Rattle.pb_tool.proofs.Common.{IsReported}
+use Rattle.pb_replay.specs.declared.fault.Fault.TheVariants.{Memory}
 use Rattle.pb_tool.proofs.lemmas.check.Prefixes.{Compared, two_prefixes}
 use Rattle.pb_tool.proofs.lemmas.check.OneRead.{Begins, spans_begin, so_far_reached}
 
@@ -32,21 +31,8 @@ ends_at (z ∷ xs) (w ∷ ys) x y more e =
 -- ---- the name that a fault gives
 
 one_name : (names : List (List ℕ)) (e : Fault) (a b : List ℕ) → IsReported names e a → IsReported names e b → a ≡ b
-one_name names Memory a b reported reported' = reported ∙ sym reported'
-one_name names Overflow a b reported reported' = reported ∙ sym reported'
-one_name names (FormulaCount n) a b reported reported' = reported ∙ sym reported'
-one_name names (NoSuchId n) a b reported reported' = reported ∙ sym reported'
-one_name names NotImplied a b reported reported' = reported ∙ sym reported'
-one_name names Conflict a b reported reported' = reported ∙ sym reported'
 one_name names (NotTotal n) a b reported reported' = reported ∙ sym reported'
-one_name names (Violates n) a b reported reported' = reported ∙ sym reported'
-one_name names NoObjective a b reported reported' = reported ∙ sym reported'
-one_name names NotContradiction a b reported reported' = reported ∙ sym reported'
-one_name names SolutionLogged a b reported reported' = reported ∙ sym reported'
-one_name names NoSolution a b reported reported' = reported ∙ sym reported'
-one_name names NotBound a b reported reported' = reported ∙ sym reported'
-one_name names IdsSpent a b reported reported' = reported ∙ sym reported'
-one_name names Order a b reported reported' = reported ∙ sym reported'
+one_name names e a b reported reported' = reported ∙ sym reported'
 
 module _ (single : OutcomesAreSingle) (limits : Limits) (v : Problem) where
   abbrev Does : State → Statement → Result State Fault → Type 0

@@ -142,8 +142,7 @@ module _ {E : Type 0} (format : List (Item E) → Type 0) (longest : ℕ) where
     no_further TooLarge d (b, more, e, bad, digit, number) x m p = not_bad b more e bad x m p
     no_further TooLong d (some, full) x m p = not_full full x m p
     no_further Ended d e x m p = let k : [] ≡ x ∷ (m ++ left') = sym e ∙ next x m p in absurd cc
-    no_further Read d h x m p = d
-    no_further Memory d h x m p = d
+    no_further why d h x m p = d
 
     -- what was reached of the text begins the used bytes
     pub reached_before : (why : Why) → IsOfText why → Explains format longest used left why → (m : List ℕ) × (used ≡ used' ++ m)
@@ -177,16 +176,9 @@ module _ {E : Type 0} (format : List (Item E) → Type 0) (longest : ℕ) where
     one_why Ended TooLarge d d' none (c, more', e', bad', digit, ends) = absurd (no_byte c more' e' none)
     one_why Ended TooLong d d' none (some, full) = absurd (some none)
     one_why Ended Ended d d' h h' = refl
-    one_why Read why' d d' h h' = absurd d
-    one_why Memory why' d d' h h' = absurd d
-    one_why (Byte b) Read d d' h h' = absurd d'
-    one_why (Byte b) Memory d d' h h' = absurd d'
-    one_why TooLarge Read d d' h h' = absurd d'
-    one_why TooLarge Memory d d' h h' = absurd d'
-    one_why TooLong Read d d' h h' = absurd d'
-    one_why TooLong Memory d d' h h' = absurd d'
-    one_why Ended Read d d' h h' = absurd d'
-    one_why Ended Memory d d' h h' = absurd d'
+    one_why why Read d d' h h' = absurd d'
+    one_why why Memory d d' h h' = absurd d'
+    one_why why why' d d' h h' = absurd d
 
   pub one_stop : (used left used' left' : List ℕ) (spans spans' : List (Spanned E)) (why why' : Why) → used ++ left ≡ used' ++ left' → IsUnderWay format longest used spans → IsOfText why → Explains format longest used left why
       → IsUnderWay format longest used' spans' → IsOfText why' → Explains format longest used' left' why' → (used ≡ used') × (why ≡ why')

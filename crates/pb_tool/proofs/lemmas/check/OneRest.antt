@@ -17,8 +17,7 @@ module _ (place : Place) where
   not_stray used left TooLong blank within d (some, full) = omega (arith, within, full, some_left left some, length-append used left)
   not_stray used left TooLarge blank within d h = h
   not_stray used left Ended blank within d h = h
-  not_stray used left Read blank within d h = d
-  not_stray used left Memory blank within d h = d
+  not_stray used left why blank within d h = d
 
   -- no blank text continues after a stray byte
   no_more : (used left used' left' : List ℕ) (why : Why) → used ++ left ≡ used' ++ left' → IsBlank used' → place.offset + length used' ≤ byte_limit → IsOfText why → IsStray place used left why → (x : ℕ) (m : List ℕ) → used' ≡ used ++ x ∷ m → ⊥
@@ -29,16 +28,14 @@ module _ (place : Place) where
   no_more used left used' left' TooLong e blank within d (some, full) x m p = omega (arith, within, full, ap (λ (y : List ℕ). length y) p, length-append used (x ∷ m))
   no_more used left used' left' TooLarge e blank within d h x m p = h
   no_more used left used' left' Ended e blank within d h x m p = h
-  no_more used left used' left' Read e blank within d h x m p = d
-  no_more used left used' left' Memory e blank within d h x m p = d
+  no_more used left used' left' why e blank within d h x m p = d
 
   within_by : (used left : List ℕ) (why : Why) → IsOfText why → IsStray place used left why → place.offset + length used ≤ byte_limit
   within_by used left (Byte b) d (more, is, bad, room) = omega (arith, room)
   within_by used left TooLong d (some, full) = omega (arith, full)
   within_by used left TooLarge d h = absurd h
   within_by used left Ended d h = absurd h
-  within_by used left Read d h = absurd d
-  within_by used left Memory d h = absurd d
+  within_by used left why d h = absurd d
 
   one_why : (used left : List ℕ) (why why' : Why) → IsOfText why → IsOfText why' → IsStray place used left why → IsStray place used left why' → why ≡ why'
   one_why used left (Byte b) (Byte c) d d' (more, e, bad, room) (more', e', bad', room') =
@@ -50,16 +47,11 @@ module _ (place : Place) where
   one_why used left TooLong TooLong d d' h h' = refl
   one_why used left TooLarge why' d d' h h' = absurd h
   one_why used left Ended why' d d' h h' = absurd h
-  one_why used left Read why' d d' h h' = absurd d
-  one_why used left Memory why' d d' h h' = absurd d
-  one_why used left (Byte b) TooLarge d d' h h' = absurd h'
-  one_why used left (Byte b) Ended d d' h h' = absurd h'
-  one_why used left (Byte b) Read d d' h h' = absurd d'
-  one_why used left (Byte b) Memory d d' h h' = absurd d'
-  one_why used left TooLong TooLarge d d' h h' = absurd h'
-  one_why used left TooLong Ended d d' h h' = absurd h'
-  one_why used left TooLong Read d d' h h' = absurd d'
-  one_why used left TooLong Memory d d' h h' = absurd d'
+  one_why used left why TooLarge d d' h h' = absurd h'
+  one_why used left why Ended d d' h h' = absurd h'
+  one_why used left why Read d d' h h' = absurd d'
+  one_why used left why Memory d d' h h' = absurd d'
+  one_why used left why why' d d' h h' = absurd d
 
   -- there is one first stray byte
   pub one_stray : (used left used' left' : List ℕ) (why why' : Why) → used ++ left ≡ used' ++ left' → IsBlank used → IsBlank used' → IsOfText why → IsOfText why' → IsStray place used left why → IsStray place used' left' why' → (used ≡ used') × (why ≡ why')

@@ -1,6 +1,6 @@
 -- What the last peeks of a check have shown.
 use Rattle.pb_tool.proofs.Common.{ℕ, ◌≡◌, Bool, Err, List, Option, true, Fault, Problem, State, Limits, Place, faults_of_proof, IsNoReplay}
-use Rattle.pb_tool.proofs.Common.{IsReportedAs, Replays, SawNoInstance, SawNoProof, File, ToolFault, Memory, Open, Overflow, Step, Text, Write}
+use Rattle.pb_tool.proofs.Common.{IsReportedAs, Replays, SawNoInstance, SawNoProof, ToolFault, Step, Text, Write}
 use Rattle.pb_tool.specs.declared.fault.Input.TheVariants.{Instance as of_instance, Proof as of_proof}
 
 module _ (shown : Option ℕ) (ended : Bool) where
@@ -8,39 +8,20 @@ module _ (shown : Option ℕ) (ended : Bool) where
     -- if there is no replay, the reason is not the text of the proof
     pub opening_unseen : (f : ToolFault) → IsNoReplay limits longest before after f → SawNoProof shown ended f
     opening_unseen (Text of_proof s) h = absurd h
-    opening_unseen (Text of_instance s) h = tt
-    opening_unseen (Text File s) h = tt
-    opening_unseen (Open input) h = tt
-    opening_unseen (Overflow input) h = tt
-    opening_unseen (Memory input) h = tt
     opening_unseen Write h = absurd h
-    opening_unseen (Step place e name) h = tt
+    opening_unseen f h = tt
 
     -- a proof is not rejected for the text of the instance, which was read to its end
     pub replay_unseen : ended ≡ true → (v : Problem) (first : State) (f : ToolFault) → Replays limits longest v first before (Err f) after → SawNoInstance shown ended f
     replay_unseen end v first (Text of_instance s) h = absurd h
-    replay_unseen end v first (Text of_proof s) h = end
-    replay_unseen end v first (Text File s) h = end
-    replay_unseen end v first (Open input) h = end
-    replay_unseen end v first (Overflow input) h = end
-    replay_unseen end v first (Memory input) h = end
-    replay_unseen end v first Write h = end
-    replay_unseen end v first (Step place e name) h = end
+    replay_unseen end v first f h = end
 
   -- a rejected statement is not a text that stopped the reader
   pub report_unseen : (names : List (List ℕ)) (place : Place) (e : Fault) (f : ToolFault) → IsReportedAs names place e f → SawNoProof shown ended f
   report_unseen names place e (Step at x name) h = tt
-  report_unseen names place e (Text i s) h = absurd h
-  report_unseen names place e (Open i) h = absurd h
-  report_unseen names place e (Overflow i) h = absurd h
-  report_unseen names place e (Memory i) h = absurd h
-  report_unseen names place e Write h = absurd h
+  report_unseen names place e f h = absurd h
 
 -- for a rejected statement the source has not failed
 pub report_faults : (A : Type 0) (names : List (List ℕ)) (place : Place) (e : Fault) (f : ToolFault) → IsReportedAs names place e f → (k n : ℕ) → k ≡ n → k ≡ faults_of_proof {A = A} (Err f) n
 report_faults A names place e (Step at x name) h k n same = same
-report_faults A names place e (Text i s) h k n same = absurd h
-report_faults A names place e (Open i) h k n same = absurd h
-report_faults A names place e (Overflow i) h k n same = absurd h
-report_faults A names place e (Memory i) h k n same = absurd h
-report_faults A names place e Write h k n same = absurd h
+report_faults A names place e f h k n same = absurd h

@@ -2,26 +2,18 @@
 use Rattle.pb_tool.proofs.Common.{ℕ, ◌++◌, ◌∙◌, ◌∷◌, ◌≡◌, ◌⊎◌, [], ap, Bool, Err, false, inl, inr, List, None, Ok, Option, refl, Result, Some, subst}
 use Rattle.pb_tool.proofs.Common.{sym, true, ReadsProofs, Stage, Statement, begin, proofs, WholeProofsConclude, Replaying, StandsFor, verdict_at}
 use Rattle.pb_tool.proofs.Common.{verdict_in, Fault, Verdict, IsNamePrefix, Problem, State, Accepts, MayWantAt, Outcome, asking_to, MayAsk, Limits}
-use Rattle.pb_tool.proofs.Common.{Place, Spanned, Stop, largest, top_of, TookAll, TookSoFar, Reads, Item, IsAsking, events_at, IsAt, StepsFrom}
-use Rattle.pb_tool.proofs.Common.{KeepsNames, Rejects, StepsTo, RunsProof, CheckFault, AsksInProofText, IsProofText, IsAccepted}
+use Rattle.pb_tool.proofs.Common.{Place, Spanned, Stop, largest, top_of, TookAll, TookSoFar, Reads, Item, IsAsking, events_at, IsAt, KeepsNames}
+use Rattle.pb_tool.proofs.Common.{Rejects, StepsTo, RunsProof, CheckFault, AsksInProofText, IsProofText, IsAccepted}
 use Rattle.pb_text.specs.contract.Automaton.{AcceptsItems as AcceptsBytes}
-use Rattle.pb_proof.specs.declared.Stage.TheVariants.{Opening, Formula, Steps, Concluding, Closing, Complete}
+use Rattle.pb_proof.specs.declared.Stage.TheVariants.{Complete}
 use Rattle.pb_replay.specs.declared.fault.Fault.TheVariants as fault
 use Rattle.pb_tool.specs.declared.commands.check.checker.CheckFault.TheVariants as check
-use Rattle.pb_tool.proofs.lemmas.check.CheckerSteps.{ReportsOld, accepts_more, failed, proofs_read, shown_at, there}
+use Rattle.pb_tool.proofs.lemmas.check.CheckerSteps.{Answers, ReportsOld, accepts_more, failed, proofs_read, shown_at, there}
 use Rattle.pb_tool.proofs.lemmas.show.ShownStatements.{all_to, so_far_to}
-
--- the result of a step, from any state of the replay
-abbrev Answers : Replaying → Spanned Statement → Result Unit CheckFault → Replaying → Type 0
-Answers old m result new = (now : Result State Fault) → IsAt old now → StepsFrom old.limits old.problem now m result new
 
 claimed : (p : Stage) (c : Option Verdict) (w : Verdict) → verdict_at p c ≡ Some w → c ≡ Some w
 claimed Complete c w h = h
-claimed Opening c w h = absurd (cc h)
-claimed Formula c w h = absurd (cc h)
-claimed Steps c w h = absurd (cc h)
-claimed Concluding c w h = absurd (cc h)
-claimed Closing c w h = absurd (cc h)
+claimed p c w h = absurd (cc h)
 
 -- what the machine of proofs accepts
 abbrev pub Taken : Limits → List (Item Statement) → Type 0

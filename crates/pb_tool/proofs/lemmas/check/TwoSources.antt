@@ -3,8 +3,8 @@ use Rattle.pb_tool.proofs.Common.{ℕ, ◌++◌, ◌<◌, ◌∙◌, ◌≡◌, 
 use Rattle.pb_tool.proofs.Common.{string_bytes, subst, sym, true, get_or_append_left, Proof, Statement, IsProofOf, statements_of, UnvaluedMayWant}
 use Rattle.pb_tool.proofs.Common.{Replaying, Fault, NotTotal, Verdict, Problem, first_state, State, Accepts, MayWantAt, Outcome, Limits, Place}
 use Rattle.pb_tool.proofs.Common.{Spanned, ReadsBlank, largest, top_of, place_after, IsRead, Broke, Wrote, KeepsNames, faults_of_instance, IsNoReplay}
-use Rattle.pb_tool.proofs.Common.{IsReplayOf, IsReportedAs, Replays, RunsProof, File, ToolFault, Memory, Open, Overflow, Step, Text, Write}
-use Rattle.pb_tool.proofs.Common.{IsProofText, CheckCall, ChecksFiles, IsAccepted, IsReported, IsVerified, verdict_line}
+use Rattle.pb_tool.proofs.Common.{IsReplayOf, IsReportedAs, Replays, RunsProof, ToolFault, Memory, Overflow, Step, Text, Write, IsProofText}
+use Rattle.pb_tool.proofs.Common.{CheckCall, ChecksFiles, IsAccepted, IsReported, IsVerified, verdict_line}
 use Rattle.pb_replay.specs.declared.fault.Fault.TheVariants.{Memory as no_memory}
 use Rattle.pb_replay.specs.declared.fault.Fault.TheVariants as why
 use Rattle.pb_tool.specs.declared.commands.check.checker.CheckFault.TheVariants as check
@@ -17,21 +17,8 @@ names_prefix : (names all more : List (List ℕ)) (n : ℕ) → all ≡ names ++
 names_prefix names all more n is lt = ap (λ (x : List (List ℕ)). get_or x n []) is ∙ get_or_append_left names more [] n lt
 
 reported_before : (names all : List (List ℕ)) (e : Fault) (name : List ℕ) → KeepsNames names all e → IsReported all e name → IsReported names e name
-reported_before names all why.Memory name kept h = h
-reported_before names all why.Overflow name kept h = h
-reported_before names all (why.FormulaCount n) name kept h = h
-reported_before names all (why.NoSuchId n) name kept h = h
-reported_before names all why.NotImplied name kept h = h
-reported_before names all why.Conflict name kept h = h
 reported_before names all (why.NotTotal n) name ((more, is), old) h = h ∙ names_prefix names all more n is (old n refl)
-reported_before names all (why.Violates n) name kept h = h
-reported_before names all why.NoObjective name kept h = h
-reported_before names all why.NotContradiction name kept h = h
-reported_before names all why.SolutionLogged name kept h = h
-reported_before names all why.NoSolution name kept h = h
-reported_before names all why.NotBound name kept h = h
-reported_before names all why.IdsSpent name kept h = h
-reported_before names all why.Order name kept h = h
+reported_before names all e name kept h = h
 
 module _ (limits : Limits) (longest : ℕ) (v : Problem) (first : State) (before : Option (List ℕ)) where
   -- a whole proof, and a blank rest
@@ -67,11 +54,7 @@ module _ (limits : Limits) (longest : ℕ) (v : Problem) (first : State) (before
       reason (inr (same, h)) (inl m) = inl (same ∙ m.0, m.1)
       reason (inr (same, h)) (inr (out, kept)) =
           inr (subst (λ (y : Fault). Outcome (largest limits) (top_of limits) v state st (Err y) × IsReported state.names y (string_bytes name)) (sym same) (out, reported_before state.names new.names e (string_bytes name) kept h))
-  step_report law after new place e (Text i s) h reported = absurd reported
-  step_report law after new place e (Open i) h reported = absurd reported
-  step_report law after new place e (Overflow i) h reported = absurd reported
-  step_report law after new place e (Memory i) h reported = absurd reported
-  step_report law after new place e Write h reported = absurd reported
+  step_report law after new place e f h reported = absurd reported
 
 module _ (limits : Limits) (longest n : ℕ) (is : longest ≡ n) {W : Type 0} (contents : W → Option (List ℕ)) (faults : W → ℕ) (i i' p p' : Option (List ℕ)) (old new : W) where
   abbrev call : Result Verdict ToolFault → CheckCall (Option (List ℕ)) W
@@ -86,17 +69,9 @@ module _ (limits : Limits) (longest n : ℕ) (is : longest ≡ n) {W : Type 0} (
     where
       by : (f : ToolFault) → IsNoReplay limits longest i i' f → ChecksFiles limits longest contents faults (call (Err f))
       by (Text of_instance s) h = (h, (kept, same))
-      by (Text File s) h = absurd h
-      by (Text of_proof s) h = absurd h
       by (Overflow of_instance) h = (h.0, h.1, h.2, (kept, same))
-      by (Overflow File) h = absurd h
-      by (Overflow of_proof) h = absurd h
       by (Memory of_instance) h = (h.0, h.1, h.2, (kept, same))
-      by (Memory File) h = absurd h
-      by (Memory of_proof) h = absurd h
-      by (Open input) h = absurd h
-      by Write h = absurd h
-      by (Step place e name) h = absurd h
+      by f h = absurd h
 
   module _ (r : Replaying) (h : IsReplayOf limits longest i i' r) where
     abbrev Owes : Result Verdict ToolFault → Type 0
@@ -126,20 +101,9 @@ module _ (limits : Limits) (longest n : ℕ) (is : longest ≡ n) {W : Type 0} (
         by : (f : ToolFault) → Replays limits longest r.problem (first_state r.problem) p (Err f) p' → ChecksFiles limits longest contents faults (call (Err f))
         by (Step place e name) x = (h.instance, h.file, r.problem, h.opened, x, same)
         by (Text of_proof s) x = (h.instance, h.file, r.problem, h.opened, x, same)
-        by (Text File s) x = absurd x
-        by (Text of_instance s) x = absurd x
-        by (Overflow input) x = absurd x
-        by (Memory input) x = absurd x
-        by (Open input) x = absurd x
-        by Write x = absurd x
+        by f x = absurd x
 
     -- the source of the instance did not fail then
     pub instance_read : (f : ToolFault) → Owes (Err f) → (k m : ℕ) → k ≡ m → k ≡ faults_of_instance {A = Verdict} (Err f) m
     instance_read (Text of_instance s) x k m h = absurd x
-    instance_read (Text File s) x k m h = h
-    instance_read (Text of_proof s) x k m h = h
-    instance_read (Step place e name) x k m h = h
-    instance_read (Overflow input) x k m h = h
-    instance_read (Memory input) x k m h = h
-    instance_read (Open input) x k m h = h
-    instance_read Write x k m h = h
+    instance_read f x k m h = h

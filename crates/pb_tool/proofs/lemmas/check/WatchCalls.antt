@@ -1,21 +1,17 @@
 -- The calls that a watch gets for the statements of a proof.
-use Rattle.pb_tool.proofs.Common.{ℕ, ◌++◌, ◌∙◌, ◌∷◌, ◌≡◌, ◌⊎◌, [], ap, append_assoc, Bool, Err, false, inl, inr, List, None, Ok, Option, refl, Result}
-use Rattle.pb_tool.proofs.Common.{Some, string_bytes, subst, sym, true, ReadsProofs, Statement, Replaying, StandsFor, Fault, NotTotal, Verdict}
+use Rattle.pb_tool.proofs.Common.{ℕ, ◌++◌, ◌∙◌, ◌∷◌, ◌≡◌, ◌⊎◌, [], ap, append_assoc, Bool, Err, inl, inr, List, None, Ok, Option, refl, Result, Some}
+use Rattle.pb_tool.proofs.Common.{string_bytes, subst, sym, true, ReadsProofs, Statement, Replaying, StandsFor, Fault, NotTotal, Verdict}
 use Rattle.pb_tool.proofs.Common.{IsNamePrefix, Problem, first_state, State, Outcome, given_both, Limits, Place, Spanned, Stop, largest, top_of}
-use Rattle.pb_tool.proofs.Common.{OfGiven, TookAll, TookSoFar, IsAsking, IsAt, StepsFrom, KeepsNames, StepsTo, IsNoReplay, IsReplayOf, IsReportedAs}
-use Rattle.pb_tool.proofs.Common.{Accepted, Call, GotEach, HasSeen, HasSeenUpTo, HasSeenWhole, IsWatched, Rejected, ShowsEach, ShowsProof, ShowsRun}
-use Rattle.pb_tool.proofs.Common.{CheckFault, File, ToolFault, Memory, Open, Overflow, Step, Text, Write, HasShown, IsProofText, IsReported}
+use Rattle.pb_tool.proofs.Common.{OfGiven, TookAll, TookSoFar, KeepsNames, StepsTo, IsNoReplay, IsReplayOf, IsReportedAs, Accepted, Call, GotEach}
+use Rattle.pb_tool.proofs.Common.{HasSeen, HasSeenUpTo, HasSeenWhole, IsWatched, Rejected, ShowsEach, ShowsProof, ShowsRun, CheckFault, ToolFault}
+use Rattle.pb_tool.proofs.Common.{Memory, Overflow, Step, Text, Write, HasShown, IsProofText, IsReported}
 use Rattle.pb_replay.specs.declared.fault.Fault.TheVariants.{Memory as no_memory}
 use Rattle.pb_tool.specs.declared.commands.check.checker.CheckFault.TheVariants as check
 use Rattle.pb_tool.specs.declared.fault.Input.TheVariants.{Instance as of_instance, Proof as of_proof}
-use Rattle.pb_tool.proofs.lemmas.check.CheckerSteps.{ReportsOld, failed}
+use Rattle.pb_tool.proofs.lemmas.check.CheckerSteps.{Answers, ReportsOld, failed}
 use Rattle.pb_tool.proofs.lemmas.show.GivenStatements.{all_of}
-use Rattle.pb_tool.proofs.lemmas.check.ReplayRuns.{MayTake, Taken, to_proof}
+use Rattle.pb_tool.proofs.lemmas.check.ReplayRuns.{Taken, to_proof}
 use Rattle.pb_tool.proofs.lemmas.show.ShownStatements.{all_to, so_far_to}
-
--- the result of a step, from any state of the replay
-abbrev Answers : Replaying → Spanned Statement → Result Unit CheckFault → Replaying → Type 0
-Answers old m result new = (now : Result State Fault) → IsAt old now → StepsFrom old.limits old.problem now m result new
 
 module _ {V : Type 0} (got : V → Call → V → Type 0) where
   -- one call more
@@ -29,11 +25,9 @@ module _ (limits : Limits) (v : Problem) where
       → ShowsEach limits v s spans calls t → Outcome (largest limits) (top_of limits) v t m.event (Ok u) → StandsFor r u → r.fault ≡ None
       → ShowsEach limits v s (spans ++ m ∷ []) (calls ++ Accepted m r ∷ []) u
   shows_more s [] [] t m r u h out at none = (refl, u, subst (λ (x : State). Outcome (largest limits) (top_of limits) v x m.event (Ok u)) (sym h) out, at, none, refl)
-  shows_more s [] (c ∷ calls) t m r u h out at none = absurd h
-  shows_more s (n ∷ spans) [] t m r u h out at none = absurd h
-  shows_more s (n ∷ spans) (Rejected k q f ∷ calls) t m r u h out at none = absurd h
   shows_more s (n ∷ spans) (Accepted k q ∷ calls) t m r u (same, a, does, is, runs, rest) out at none =
       (same, a, does, is, runs, shows_more a spans calls t m r u rest out at none)
+  shows_more s spans calls t m r u h out at none = absurd h
 
 module _ {V : Type 0} (got : V → Call → V → Type 0) (old : V) (began : Replaying) where
   pub shown_first : HasShown got old began [] old began
@@ -71,14 +65,9 @@ module _ {V : Type 0} (got : V → Call → V → Type 0) (old : V) (began : Rep
             got_are = subst (λ (y : CheckFault). GotEach got old (h.0 ++ Rejected m new y ∷ []) after) is (got_more got old h.0 mid (Rejected m new x) after h.1 call);
           })
 
-      pub shown_rejected_given : (before rest : List ℕ) → Answers r m (Err x) new → IsNamePrefix r.names new.names → ReportsOld r x → got mid (Rejected m new x) after
-          → OfGiven (λ left others. TookSoFar (Taken began.limits) longest left others (spans ++ m ∷ []) m.past) before rest
-          → OfGiven (λ left others. ShowsRun began.limits longest got began.problem first left old (Err x) others after) before rest
-      shown_rejected_given before rest steps names reports call (given, seen, e, t) = (given, seen, e, shown_rejected (Some (given ++ seen)) (Some seen) steps names reports call t)
-
   module _ (exact : ReadsProofs) (longest : ℕ) (first : State) (at : StandsFor began first) (spans : List (Spanned Statement)) (new : V) (r : Replaying) (h : HasShown got old began spans new r) where
     -- all that was read
-    shown_all : (before rest : Option (List ℕ)) (place : Place) (done : Bool) (stop : Option Stop) → TookAll (Taken began.limits) longest before rest spans place done stop → HasSeen began.limits longest got began.problem first before old rest place done stop new
+    pub shown_all : (before rest : Option (List ℕ)) (place : Place) (done : Bool) (stop : Option Stop) → TookAll (Taken began.limits) longest before rest spans place done stop → HasSeen began.limits longest got began.problem first before old rest place done stop new
     shown_all before rest place done stop t =
         let (last, stands, shows) = h.2 first at in
         record {
@@ -89,23 +78,6 @@ module _ {V : Type 0} (got : V → Call → V → Type 0) (old : V) (began : Rep
           shows = shows;
           got_are = h.1;
         }
-
-    pub shown_stopped : (before rest : Option (List ℕ)) (s : Stop) → (all : TookAll (Taken began.limits) longest before rest spans s.place false (Some s)) × IsAsking (MayTake began.limits) all.used all.seen s.why
-        → ShowsRun began.limits longest got began.problem first before old (Err (check.Text s)) rest new
-    shown_stopped before rest s (all, asking) = shown_all before rest s.place false (Some s) all
-
-    pub shown_stopped_given : (before rest : List ℕ) (s : Stop)
-        → OfGiven (λ left others. (all : TookAll (Taken began.limits) longest left others spans s.place false (Some s)) × IsAsking (MayTake began.limits) all.used all.seen s.why) before rest
-        → OfGiven (λ left others. ShowsRun began.limits longest got began.problem first left old (Err (check.Text s)) others new) before rest
-    shown_stopped_given before rest s (given, seen, e, all) = (given, seen, e, shown_stopped (Some (given ++ seen)) (Some seen) s all)
-
-    pub shown_ended : (before rest : Option (List ℕ)) (place at : Place) (w : Verdict) → place ≡ at → TookAll (Taken began.limits) longest before rest spans place true None
-        → ShowsRun began.limits longest got began.problem first before old (Ok (w, at)) rest new
-    shown_ended before rest place at w same all = subst (λ (p : Place). HasSeen began.limits longest got began.problem first before old rest p true None new) same (shown_all before rest place true None all)
-
-    pub shown_ended_given : (before rest : List ℕ) (place at : Place) (w : Verdict) → place ≡ at → OfGiven (λ left others. TookAll (Taken began.limits) longest left others spans place true None) before rest
-        → OfGiven (λ left others. ShowsRun began.limits longest got began.problem first left old (Ok (w, at)) others new) before rest
-    shown_ended_given before rest place at w same (given, seen, e, all) = (given, seen, e, shown_ended (Some (given ++ seen)) (Some seen) place at w same all)
 
 -- ---- a proof, with the rest after it
 
@@ -128,11 +100,7 @@ module _ (limits : Limits) (longest : ℕ) {V : Type 0} (got : V → Call → V 
       by : ((x ≡ no_memory) × ((n : ℕ) × (e ≡ NotTotal n))) ⊎ ((x ≡ e) × IsReported names e (string_bytes name)) → (x ≡ e) ⊎ ((x ≡ no_memory) × (n : ℕ) × (e ≡ NotTotal n))
       by (inl (k, (n, reported))) = inr (k, n, reported)
       by (inr (k, reported)) = inl k
-  proof_rejected before after names place e (Text i s) reported h = absurd reported
-  proof_rejected before after names place e (Open i) reported h = absurd reported
-  proof_rejected before after names place e (Overflow i) reported h = absurd reported
-  proof_rejected before after names place e (Memory i) reported h = absurd reported
-  proof_rejected before after names place e Write reported h = absurd reported
+  proof_rejected before after names place e f reported h = absurd reported
 
   -- a whole proof; a blank rest follows, or one that is not blank
   pub proof_ended : (before mid after : Option (List ℕ)) (ended : Verdict × Place) → Run (Ok ended) before mid → Whole (Ok ended.0) before after
@@ -192,17 +160,9 @@ module _ (limits : Limits) (longest n : ℕ) (is : longest ≡ n) {V : Type 0} (
   -- there is no replay
   pub watched_none : (f : ToolFault) → IsNoReplay limits longest i i' f → new ≡ old → Watches (Err f)
   watched_none (Text of_instance s) h same = same
-  watched_none (Text File s) h same = absurd h
-  watched_none (Text of_proof s) h same = absurd h
   watched_none (Overflow of_instance) h same = same
-  watched_none (Overflow File) h same = absurd h
-  watched_none (Overflow of_proof) h same = absurd h
   watched_none (Memory of_instance) h same = same
-  watched_none (Memory File) h same = absurd h
-  watched_none (Memory of_proof) h same = absurd h
-  watched_none (Open input) h same = absurd h
-  watched_none Write h same = absurd h
-  watched_none (Step place e name) h same = absurd h
+  watched_none f h same = absurd h
 
   module _ (r : Replaying) (h : IsReplayOf limits longest i i' r) where
     abbrev Owes : Result Verdict ToolFault → Type 0
@@ -224,9 +184,5 @@ module _ (limits : Limits) (longest n : ℕ) (is : longest ≡ n) {V : Type 0} (
         by : (f : ToolFault) → ShowsProof limits longest got r.problem (first_state r.problem) p old (Err f) p' new → IsWatched limits longest got i p old (Err f) i' p' new
         by (Step place e name) x = (h.instance, h.file, r.problem, h.opened, x)
         by (Text of_proof s) x = (h.instance, h.file, r.problem, h.opened, x)
-        by (Text File s) x = absurd x
-        by (Text of_instance s) x = absurd x
-        by (Overflow input) x = absurd x
-        by (Memory input) x = absurd x
-        by (Open input) x = absurd x
         by Write x = (h.instance, h.file, r.problem, h.opened, x)
+        by f x = absurd x

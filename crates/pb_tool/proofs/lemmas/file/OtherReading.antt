@@ -1,7 +1,6 @@
 -- What was written and why, if each reading is also a reading of another kind.
-use Rattle.pb_tool.proofs.Common.{ℕ, ◌≡◌, Err, List, Ok, Option, Result, subst, Stop, Broke, Wrote, File, ToolFault, Memory, Open, Overflow, Step}
-use Rattle.pb_tool.proofs.Common.{Text, Write, IsStopped, WritesText}
-use Rattle.pb_tool.specs.declared.fault.Input.TheVariants.{Instance, Proof}
+use Rattle.pb_tool.proofs.Common.{ℕ, ◌≡◌, Err, List, Ok, Option, Result, subst, Stop, Broke, Wrote, File, ToolFault, Text, Write, IsStopped}
+use Rattle.pb_tool.proofs.Common.{WritesText}
 
 module _ {V : Type 0} (Has : V → Type 0) (text : V → List ℕ) (No : Stop → Type 0) {W : Type 0} (contents : W → Option (List ℕ)) (faults : W → ℕ) where
   pub written_so : {U : Type 0} (Shows : U → Type 0) (spelling : U → List ℕ) (Not : Stop → Type 0) → ((v : V) → Has v → (u : U) × Shows u × (text v ≡ spelling u)) → ((s : Stop) → No s → Not s)
@@ -9,9 +8,4 @@ module _ {V : Type 0} (Has : V → Type 0) (text : V → List ℕ) (No : Stop �
   written_so Shows spelling Not has deny old (Ok u) new (v, h, w) = let (x, is, same) = has v h in (x, is, subst (λ (y : List ℕ). Wrote contents faults old y new) same w)
   written_so Shows spelling Not has deny old (Err Write) new (v, h, w) = let (x, is, same) = has v h in (x, is, subst (λ (y : List ℕ). Broke contents faults old y new) same w)
   written_so Shows spelling Not has deny old (Err (Text File s)) new (h, e) = (deny s h, e)
-  written_so Shows spelling Not has deny old (Err (Text Instance s)) new h = h
-  written_so Shows spelling Not has deny old (Err (Text Proof s)) new h = h
-  written_so Shows spelling Not has deny old (Err (Open i)) new h = h
-  written_so Shows spelling Not has deny old (Err (Overflow i)) new h = h
-  written_so Shows spelling Not has deny old (Err (Memory i)) new h = h
-  written_so Shows spelling Not has deny old (Err (Step place e name)) new h = h
+  written_so Shows spelling Not has deny old (Err e) new h = h

@@ -3,9 +3,8 @@ use Rattle.pb_tool.proofs.Common.{ℕ, ◌++◌, ◌+◌, ◌-◌, ◌<◌, ◌^
 use Rattle.pb_tool.proofs.Common.{List, None, Ok, Option, refl, Result, Some, subst, sym, true, flat_map-append, took_join, asking_to}
 use Rattle.pb_tool.proofs.Common.{place_after-offset, halt_of, place_of, StandsAt, Feeder, Ghosts, Place, Spanned, Stop, ReadsBlank, Took, HasPulled}
 use Rattle.pb_tool.proofs.Common.{TookAll, TookSoFar, byte_limit, IsSpelled, Reads, Item, place_after, Wrote, EndsAt, IsRefusedAfter, IsSpelling}
-use Rattle.pb_tool.proofs.Common.{shown, shown_line, ShowsLines, File, ToolFault, Memory, Open, Overflow, Step, Text, Write}
+use Rattle.pb_tool.proofs.Common.{shown, shown_line, ShowsLines, File, ToolFault, Text, Write}
 use Rattle.pb_tool.specs.contract.Show.{InText, InRest}
-use Rattle.pb_tool.specs.declared.fault.Input.TheVariants.{Instance, Proof}
 use Rattle.pb_tool.proofs.lemmas.check.OneRead.{so_far_reached}
 
 -- a text and the blank rest after it are no longer than an input may be
@@ -61,13 +60,7 @@ module _ {E : Type 0} (format : List (Item E) → Type 0) (longest : ℕ) where
         → EndsAt place mid result after → Wrote contents faults old (shown text spans) new → ShowsLines format longest May text contents faults before old result after new
     shows_end before mid after spans place old new (Ok u) t e w = (spans, spelling before mid after spans place t e, w)
     shows_end before mid after spans place old new (Err (Text File s)) t e w = (spans, stray May before mid after spans place s t e, w)
-    shows_end before mid after spans place old new (Err (Text Instance s)) t e w = e
-    shows_end before mid after spans place old new (Err (Text Proof s)) t e w = e
-    shows_end before mid after spans place old new (Err (Open i)) t e w = e
-    shows_end before mid after spans place old new (Err (Overflow i)) t e w = e
-    shows_end before mid after spans place old new (Err (Memory i)) t e w = e
-    shows_end before mid after spans place old new (Err Write) t e w = absurd e
-    shows_end before mid after spans place old new (Err (Step begins fault name)) t e w = absurd e
+    shows_end before mid after spans place old new (Err f) t e w = absurd e
 
 -- what is shown for a format, if each read under it is one under another format
 module _ {E : Type 0} (one other : List (Item E) → Type 0) (longest : ℕ)
@@ -93,9 +86,4 @@ module _ {E : Type 0} (one other : List (Item E) → Type 0) (longest : ℕ)
     shows_to before old (Ok u) after new (spans, i, w) = (spans, spelling_to before after spans i, w)
     shows_to before old (Err (Text File s)) after new (spans, i, w) = (spans, refused_to May Other asks before after spans s i, w)
     shows_to before old (Err Write) after new (spans, last, mid, t, w, b) = (spans, last, mid, so_far_to before after (spans ++ last ∷ []) last.past t, w, b)
-    shows_to before old (Err (Text Instance s)) after new h = h
-    shows_to before old (Err (Text Proof s)) after new h = h
-    shows_to before old (Err (Open i)) after new h = h
-    shows_to before old (Err (Overflow i)) after new h = h
-    shows_to before old (Err (Memory i)) after new h = h
-    shows_to before old (Err (Step place e name)) after new h = h
+    shows_to before old (Err e) after new h = h

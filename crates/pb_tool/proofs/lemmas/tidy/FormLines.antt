@@ -18,10 +18,9 @@ named_at old names new ts i t lt e before k =
 -- the lines of forms, over more names
 lines_alike : (names more : List (List ℕ)) (sides : List (Side × Linear)) (forms : List Form) → AreFormsOf names sides forms → form_lines (names ++ more) forms ≡ form_lines names forms
 lines_alike names more [] [] h = refl
-lines_alike names more [] (f ∷ forms) h = absurd h
-lines_alike names more (side ∷ sides) [] h = absurd h
 lines_alike names more (side ∷ sides) (f ∷ forms) h =
     ap₂ (λ (l : Linear) (rest : List ℕ). line (Constraint l) ++ rest) (written_alike names more f h.0.named) (lines_alike names more sides forms h.1)
+lines_alike names more sides forms h = absurd h
 
 has_both : (names xs ys : List (List ℕ)) → HasNames names xs → HasNames names ys → HasNames names (xs ++ ys)
 has_both names [] ys h k = k

@@ -37,17 +37,13 @@ module _ (limit : ℕ) where
 
   kept_lines : (may : Bool) (n : ℕ) (items : List (Item OpbEvent)) (t : InstanceText) → IsCounted limit may n items → (may ≡ true → t.objective ≡ None) → text_of (gathered with t (events_of items)) ≡ gathered line_more (text_of t) (events_of items)
   kept_lines may zero [] t h none = refl
-  kept_lines may zero (i ∷ rest) t h none = absurd h
-  kept_lines may (suc n) [] t h none = absurd h
   kept_lines may (suc n) (i ∷ rest) t h none = kept-entry may n i.text i.event rest (λ m k u b o. kept_lines m k rest u b o) t h.1 none
+  kept_lines may n items t h none = absurd h
 
 -- ---- the text of an instance
 
 module _ (limit top : ℕ) (empty : InstanceText) (no_page : empty.page.text ≡ []) (no_objective : empty.objective ≡ None) where
   begun_text : (i : Item OpbEvent) (rest : List (Item OpbEvent)) (e : OpbEvent) → IsBegun limit top i rest e → IsInstanceTextOf (e ∷ events_of rest) (gathered with empty (e ∷ events_of rest))
-  begun_text i rest (Comment t) h = absurd h
-  begun_text i rest (Objective t) h = absurd h
-  begun_text i rest (Constraint l) h = absurd h
   begun_text i rest (Header n m tail) h =
       let first : List ℕ = line (Header n m tail) in
       let alone : text_of (with empty (Header n m tail)) ≡ first = ap₂ (λ (x : List ℕ) (o : Option OpbEvent). first ++ (x ++ line_if o)) no_page no_objective ∙ append-nil first in (
@@ -56,6 +52,7 @@ module _ (limit top : ℕ) (empty : InstanceText) (no_page : empty.page.text ≡
         kept_lines limit true m rest (with empty (Header n m tail)) (counted limit m rest h.3) (λ i. no_objective)
             ∙ (ap (λ (x : List ℕ). gathered line_more x (events_of rest)) alone ∙ text_added limit top n m tail rest (counted limit m rest h.3)),
       )
+  begun_text i rest e h = absurd h
 
   instance_text : (items : List (Item OpbEvent)) → IsInstance limit top items → IsInstanceTextOf (events_of items) (gathered with empty (events_of items))
   instance_text [] h = absurd h

@@ -2,14 +2,13 @@
 use Rattle.pb_tool.proofs.Common.{ℕ, ◌++◌, ◌+◌, ◌↔◌, ◌∙◌, ◌∷◌, ◌≡◌, [], ap, append-nil, append_assoc, ap₂, Bool, Err, false, IsTrue, length, List}
 use Rattle.pb_tool.proofs.Common.{map, None, Ok, Option, refl, Result, Some, subst, sym, true, length-map, flat_map, AreFormsOf, constraint_names}
 use Rattle.pb_tool.proofs.Common.{sides_in, with_names, linear_of, names_of, counted, body_events, constraint_events, header_bytes, in_order}
-use Rattle.pb_tool.proofs.Common.{instance_bytes, lines, objective_events, Instance, OpbEvent, Comment, Constraint, Header, Objective, MayKeep}
-use Rattle.pb_tool.proofs.Common.{IsBegun, constraints_in, IsValueOf, last_or, objectives_in, names_in, objective_of, Linear, Term, Limits, Stop}
-use Rattle.pb_tool.proofs.Common.{largest, top_of, Item, events_of, gathered, faults_reported, IsNormalised, SomePasses, SawFile, Forms, File}
-use Rattle.pb_tool.proofs.Common.{ToolFault, Memory, Open, Overflow, Step, Text, Write, IsGathered, IsNotGathered, line, line_if, AreLines}
-use Rattle.pb_tool.proofs.Common.{as_statement, IsNoted, names_at, names_on, NamesInOrder, noted, AsksInInstanceText, HasNormalForm, is_bare}
-use Rattle.pb_tool.proofs.Common.{IsInstanceFile, IsInstanceText, IsNoInstanceFile, IsNoNormalFile, IsNormalFile, LacksNormalForm, tidied, WritesText}
+use Rattle.pb_tool.proofs.Common.{instance_bytes, lines, objective_events, Instance, OpbEvent, Constraint, Header, Objective, MayKeep, IsBegun}
+use Rattle.pb_tool.proofs.Common.{constraints_in, IsValueOf, last_or, objectives_in, names_in, objective_of, Linear, Term, Limits, Stop, largest}
+use Rattle.pb_tool.proofs.Common.{top_of, Item, events_of, gathered, faults_reported, IsNormalised, SomePasses, SawFile, Forms, File, ToolFault}
+use Rattle.pb_tool.proofs.Common.{Memory, Overflow, Text, Write, IsGathered, IsNotGathered, line, line_if, AreLines, as_statement, IsNoted, names_at}
+use Rattle.pb_tool.proofs.Common.{names_on, NamesInOrder, noted, AsksInInstanceText, HasNormalForm, is_bare, IsInstanceFile, IsInstanceText}
+use Rattle.pb_tool.proofs.Common.{IsNoInstanceFile, IsNoNormalFile, IsNormalFile, LacksNormalForm, tidied, WritesText}
 use Rattle.std.proofs.lemmas.List.Folds.{flat_map-map}
-use Rattle.pb_tool.specs.declared.fault.Input.TheVariants.{Instance as of_instance, Proof as of_proof}
 use Rattle.pb_tool.specs.declared.commands.tidy.normal_text.Standing.TheVariants.{Stored}
 use Rattle.pb_tool.proofs.lemmas.tidy.LastByte.{tidied_bare}
 use Rattle.pb_tool.proofs.lemmas.tidy.StatementOrder.{Follows, follows, headed, is_value, mains_in, value_of}
@@ -94,10 +93,9 @@ module _ (events : List OpbEvent) (n : ℕ) (o : Option OpbEvent) (t : Forms) (h
 
 names_of_mains : (events : List OpbEvent) → names_on events ≡ names_on (mains_in events)
 names_of_mains [] = refl
-names_of_mains (Header n m t ∷ events) = names_of_mains events
-names_of_mains (Comment t ∷ events) = names_of_mains events
 names_of_mains (Objective t ∷ events) = ap (λ (ns : List (List ℕ)). names_of t ++ ns) (names_of_mains events)
 names_of_mains (Constraint l ∷ events) = ap (λ (ns : List (List ℕ)). names_of l.terms ++ ns) (names_of_mains events)
+names_of_mains (e ∷ events) = names_of_mains events
 
 names_of_both : (o : Option (List Term)) (cs : List Linear) → names_on (objective_events o ++ constraint_events cs) ≡ names_of (objective_of o) ++ constraint_names cs
 names_of_both None cs = flat_map-map names_at Constraint cs
@@ -113,9 +111,6 @@ IsNotedOf limits t v = (t.0 ≡ limits) × NamesInOrder t.1 v
 
 module _ (limits : Limits) where
   value_begun : (i : Item OpbEvent) (rest : List (Item OpbEvent)) (e : OpbEvent) → IsBegun (largest limits) (top_of limits) i rest e → (v : Instance) × NamesInOrder (e ∷ events_of rest) v
-  value_begun i rest (Comment t) h = absurd h
-  value_begun i rest (Objective t) h = absurd h
-  value_begun i rest (Constraint l) h = absurd h
   value_begun i rest (Header n m tail) h =
       let r : Follows true m (events_of rest) = follows (largest limits) true m rest (counted (largest limits) m rest h.3) in (
         value_of n tail (events_of rest),
@@ -124,6 +119,7 @@ module _ (limits : Limits) where
           names_of_mains (events_of rest) ∙ (ap names_on r.mains ∙ names_of_both (last_or None (objectives_in (events_of rest))) (constraints_in (events_of rest))),
         ),
       )
+  value_begun i rest e h = absurd h
 
   value_there : (items : List (Item OpbEvent)) → IsInstanceText limits items → (v : Instance) × NamesInOrder (events_of items) v
   value_there [] h = absurd h
@@ -157,25 +153,16 @@ module _ (limits : Limits) where
       by_fault : (v : Instance) → IsInstanceFile limits longest before after v → (e : ToolFault) → LacksNormalForm (largest limits) v e → IsNoNormalFile limits longest before after e
       by_fault v file (Overflow File) d = (v, file, d)
       by_fault v file (Memory File) d = (v, file, d)
-      by_fault v file (Overflow of_instance) d = absurd d
-      by_fault v file (Overflow of_proof) d = absurd d
-      by_fault v file (Memory of_instance) d = absurd d
-      by_fault v file (Memory of_proof) d = absurd d
-      by_fault v file (Text i s) d = absurd d
-      by_fault v file (Open i) d = absurd d
-      by_fault v file Write d = absurd d
-      by_fault v file (Step place fault name) d = absurd d
+      by_fault v file f d = absurd d
 
       by_result : (v : Instance) → IsInstanceFile limits longest before after v → (result : Result (Unit {0}) ToolFault) (new : W)
           → WritesText (HasNormalForm (largest limits) v) (LacksNormalForm (largest limits) v) tidied contents faults old result new
           → WritesText (IsNormalFile limits longest before after) (IsNoNormalFile limits longest before after) tidied contents faults old result new
       by_result v file (Ok u) new (w, asked, wrote) = (w, (v, file, asked), wrote)
       by_result v file (Err Write) new (w, asked, broke) = (w, (v, file, asked), broke)
-      by_result v file (Err (Text i s)) new (d, e) = absurd d
-      by_result v file (Err (Open i)) new (d, e) = absurd d
       by_result v file (Err (Overflow i)) new (d, e) = (by_fault v file (Overflow i) d, e)
       by_result v file (Err (Memory i)) new (d, e) = (by_fault v file (Memory i) d, e)
-      by_result v file (Err (Step place fault name)) new (d, e) = absurd d
+      by_result v file (Err e) new h = absurd h.0
 
       -- what was written is what the file requires
       pub reported_file : (result : Result (Unit {0}) ToolFault) (new : W) → Reported result new → WritesText (IsNormalFile limits longest before after) (IsNoNormalFile limits longest before after) tidied contents faults old result new
@@ -184,26 +171,16 @@ module _ (limits : Limits) where
           by_result v file result new (subst (λ (l : Limits). WritesText (HasNormalForm (largest l) v) (LacksNormalForm (largest l) v) tidied contents faults old result new) under (reported v order))
 
       by_seen : (shown : Option ℕ) (ended : Bool) → ended ≡ true → (v : Instance) (result : Result (Unit {0}) ToolFault) (new : W) → WritesText (HasNormalForm (largest t.0) v) (LacksNormalForm (largest t.0) v) tidied contents faults old result new → SawFile shown ended result
-      by_seen shown ended end v (Ok u) new h = end
-      by_seen shown ended end v (Err Write) new h = end
       by_seen shown ended end v (Err (Text i s)) new (d, e) = absurd d
-      by_seen shown ended end v (Err (Open i)) new h = end
-      by_seen shown ended end v (Err (Overflow i)) new h = end
-      by_seen shown ended end v (Err (Memory i)) new h = end
-      by_seen shown ended end v (Err (Step place fault name)) new h = end
+      by_seen shown ended end v result new h = end
 
       -- the text did not stop its reader
       pub reported_on : (shown : Option ℕ) (ended : Bool) → ended ≡ true → (result : Result (Unit {0}) ToolFault) (new : W) → Reported result new → SawFile shown ended result
       reported_on shown ended end result new reported = let (v, file, (under, order)) = noted_file t f in by_seen shown ended end v result new (reported v order)
 
       by_count : (v : Instance) (result : Result (Unit {0}) ToolFault) (new : W) (n : ℕ) → WritesText (HasNormalForm (largest t.0) v) (LacksNormalForm (largest t.0) v) tidied contents faults old result new → n ≡ faults_reported result n
-      by_count v (Ok u) new n h = refl
-      by_count v (Err Write) new n h = refl
       by_count v (Err (Text i s)) new n (d, e) = absurd d
-      by_count v (Err (Open i)) new n h = refl
-      by_count v (Err (Overflow i)) new n h = refl
-      by_count v (Err (Memory i)) new n h = refl
-      by_count v (Err (Step place fault name)) new n h = refl
+      by_count v result new n h = refl
 
       pub reported_faults : (result : Result (Unit {0}) ToolFault) (new : W) (n : ℕ) → Reported result new → n ≡ faults_reported result n
       reported_faults result new n reported = let (v, file, (under, order)) = noted_file t f in by_count v result new n (reported v order)

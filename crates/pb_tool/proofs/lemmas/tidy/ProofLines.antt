@@ -22,16 +22,12 @@ abbrev with_text : ProofText → List ℕ → ProofText
 with_text t text = record t { steps = record t.steps { text = t.steps.text ++ text } }
 
 step_added : (t : ProofText) (s : Statement) → IsStep s → with t s ≡ with_text t (line s)
-step_added t Header h = absurd h
-step_added t (F count) h = absurd h
 step_added t (Pol ws) h = refl
 step_added t (Rup c) h = refl
 step_added t (Soli ls) h = refl
 step_added t (Solx ls) h = refl
 step_added t (Delete ids) h = refl
-step_added t Output h = absurd h
-step_added t (Conclude c) h = absurd h
-step_added t End h = absurd h
+step_added t s h = absurd h
 
 steps_added : (steps rest : List Statement) (t : ProofText) → All IsStep steps → gathered with t (steps ++ rest) ≡ gathered with (with_text t (flat_map line steps)) rest
 steps_added [] rest t h = ap (λ (x : List ℕ). gathered with (record t { steps = record t.steps { text = x } }) rest) (sym (append-nil t.steps.text))

@@ -1,10 +1,9 @@
 -- What is read of a canonical text, with or without a line feed after it.
 use Rattle.pb_tool.proofs.Common.{ℕ, ◌++◌, ◌<◌, ◌^◌, ◌∙◌, ◌∷◌, ◌≡◌, ◌≢◌, ◌≤◌, ◌⊎◌, [], ap, append-nil, append_assoc, arith, Bool, cond, Err, false}
 use Rattle.pb_tool.proofs.Common.{inl, inr, length, length-append, List, Option, refl, Some, subst, sym, true, instance_bytes, Instance}
-use Rattle.pb_tool.proofs.Common.{place_after-offset, Place, Spanned, Stop, Why, Byte, Ended, Read, TooLarge, TooLong, IsStray, passes, ReadsBlank}
-use Rattle.pb_tool.proofs.Common.{Took, byte_limit, Explains, IsBad, IsFull, IsUnderWay, Overruns, Reads, bytes_of, Item, place_after, spans_of}
-use Rattle.pb_tool.proofs.Common.{IsRead, Keeping, Reading, ReadsValue, IsOutside, ends_in_feed, IsFile, IsRefused, tidied, InRest, InText}
-use Rattle.pb_text.specs.declared.Why.TheVariants.{Memory}
+use Rattle.pb_tool.proofs.Common.{place_after-offset, Place, Spanned, Stop, Why, Byte, Ended, TooLarge, TooLong, IsStray, passes, ReadsBlank, Took}
+use Rattle.pb_tool.proofs.Common.{byte_limit, Explains, IsBad, IsFull, IsUnderWay, Overruns, Reads, bytes_of, Item, place_after, spans_of, IsRead}
+use Rattle.pb_tool.proofs.Common.{Keeping, Reading, ReadsValue, IsOutside, ends_in_feed, IsFile, IsRefused, tidied, InRest, InText}
 use Rattle.pb_tool.proofs.lemmas.check.Prefixes.{Compared, after_prefix, same_rest, some_left, two_prefixes}
 use Rattle.pb_tool.proofs.lemmas.check.OneRead.{NoneGoesOn, one_spelt}
 
@@ -45,10 +44,9 @@ strays used more left rest place (Byte b) feed e o (next, is, p, bound) = passes
 strays used more left rest place TooLong feed e o (some, h) =
     let most : byte_limit ≤ length (used ++ more) = omega (arith, h, o, length-append used more) in
     subst (λ (t : List ℕ). byte_limit < length t) (append_assoc used more left) (longer (used ++ more) left some most)
-strays used more left rest place Read feed e o h = tt
 strays used more left rest place TooLarge feed e o h = h
 strays used more left rest place Ended feed e o h = h
-strays used more left rest place Memory feed e o h = tt
+strays used more left rest place why feed e o h = tt
 
 -- a format, and one text of it; no text of the format is a prefix of another
 module _ {E : Type 0} (format : List (Item E) → Type 0) (text : List ℕ) (own : List (Item E)) (spells : format own) (bytes : bytes_of own ≡ text)
@@ -93,8 +91,7 @@ module _ {E : Type 0} (format : List (Item E) → Type 0) (text : List ℕ) (own
   explained used left rest spans TooLarge u (b, more, e, bad, digit, number) k = not_bad used more rest b spans u bad (ap (λ (x : List ℕ). used ++ x) (sym e) ∙ k)
   explained used left rest spans TooLong u (some, h) k = longer used left some (full used left rest spans u h k)
   explained used left rest spans Ended u e k = not_ended used rest spans u (ap (λ (x : List ℕ). used ++ x) (sym e) ∙ k)
-  explained used left rest spans Read u h k = tt
-  explained used left rest spans Memory u h k = tt
+  explained used left rest spans why u h k = tt
 
   -- a stop in the text is not a fault of the text itself
   in_text : (used seen rest : List ℕ) (spans : List (Spanned E)) (s : Stop) → Reads format (2 ^ 40) (used ++ seen) used spans s.place false (Some s) → used ++ seen ≡ text ++ rest

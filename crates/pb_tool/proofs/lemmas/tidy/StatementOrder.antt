@@ -12,10 +12,9 @@ use Rattle.pb_tool.proofs.lemmas.tidy.LastByte.{tidied_bare, tidied_more}
 -- the objectives and the constraints
 abbrev pub mains_in : List OpbEvent → List OpbEvent
 mains_in [] = []
-mains_in (Header n m t ∷ events) = mains_in events
-mains_in (Comment t ∷ events) = mains_in events
 mains_in (Objective t ∷ events) = Objective t ∷ mains_in events
 mains_in (Constraint l ∷ events) = Constraint l ∷ mains_in events
+mains_in (e ∷ events) = mains_in events
 
 -- a comment that is due comes first
 comment_first : (k : ℕ) (t : List ℕ) (cs : List comment.Comment) (e : OpbEvent) (ms : List OpbEvent) → in_order k (comment_at k t ∷ cs) (e ∷ ms) ≡ Comment t ∷ in_order k cs (e ∷ ms)
@@ -96,9 +95,8 @@ module _ (limit : ℕ) where
 
   pub follows : (may : Bool) (n : ℕ) (items : List (Item OpbEvent)) → IsCounted limit may n items → Follows may n (events_of items)
   follows may zero [] h = record { some = λ i. absurd (let j : 1 ≤ 0 = i in omega arith); in_place = λ k. refl; only_constraints = λ e. (refl, refl); mains = refl }
-  follows may zero (i ∷ rest) h = absurd h
-  follows may (suc n) [] h = absurd h
   follows may (suc n) (i ∷ rest) h = follows-entry may n i.text i.event rest (λ m k b. follows m k rest b) h.1
+  follows may n items h = absurd h
 
 abbrev pub line_more : List ℕ → OpbEvent → List ℕ
 line_more text e = text ++ line e
@@ -140,8 +138,6 @@ module _ (limit top : ℕ) where
 
   pub text_added : (n m : ℕ) (tail : List ℕ) (rest : List (Item OpbEvent)) → IsCounted limit true m rest → gathered line_more [] (Header n m tail ∷ events_of rest) ≡ tidied (value_of n tail (events_of rest))
   text_added n zero tail [] h = sym (tidied_bare (value_of n tail []) refl)
-  text_added n zero tail (i ∷ rest) h = absurd h
-  text_added n (suc m) tail [] h = absurd h
   text_added n (suc m) tail (i ∷ rest) h =
       let events : List OpbEvent = i.event ∷ events_of rest in
       let r : Follows true (suc m) events = follows limit true (suc m) (i ∷ rest) h in
@@ -152,3 +148,4 @@ module _ (limit top : ℕ) where
       let head : List ℕ = header_bytes n (suc m) tail in
       let bytes : instance_bytes v ≡ head ++ (10 ∷ lines events) = ap₂ (λ (x : ℕ) (y : List OpbEvent). header_bytes n x tail ++ (10 ∷ lines y)) (reported limit true (suc m) (i ∷ rest) h).count body in
       ended events (head ++ 10 ∷ []) ∙ headed v head i.event (events_of rest) bytes full
+  text_added n m tail items h = absurd h

@@ -10,23 +10,17 @@ last_more x y (z ∷ xs) = last_more z y xs
 variables_more : (events : List OpbEvent) (e : OpbEvent) → variables_in (events ++ e ∷ []) ≡ variables_in events ++ variables_in (e ∷ [])
 variables_more [] e = refl
 variables_more (Header n m t ∷ events) e = ap (λ (xs : List ℕ). n ∷ xs) (variables_more events e)
-variables_more (Comment t ∷ events) e = variables_more events e
-variables_more (Objective t ∷ events) e = variables_more events e
-variables_more (Constraint l ∷ events) e = variables_more events e
+variables_more (d ∷ events) e = variables_more events e
 
 objectives_more : (events : List OpbEvent) (e : OpbEvent) → objectives_in (events ++ e ∷ []) ≡ objectives_in events ++ objectives_in (e ∷ [])
 objectives_more [] e = refl
-objectives_more (Header n m t ∷ events) e = objectives_more events e
-objectives_more (Comment t ∷ events) e = objectives_more events e
 objectives_more (Objective t ∷ events) e = ap (λ (xs : List (Option (List Term))). Some t ∷ xs) (objectives_more events e)
-objectives_more (Constraint l ∷ events) e = objectives_more events e
+objectives_more (d ∷ events) e = objectives_more events e
 
 constraints_more : (events : List OpbEvent) (e : OpbEvent) → constraints_in (events ++ e ∷ []) ≡ constraints_in events ++ constraints_in (e ∷ [])
 constraints_more [] e = refl
-constraints_more (Header n m t ∷ events) e = constraints_more events e
-constraints_more (Comment t ∷ events) e = constraints_more events e
-constraints_more (Objective t ∷ events) e = constraints_more events e
 constraints_more (Constraint l ∷ events) e = ap (λ (xs : List Linear). l ∷ xs) (constraints_more events e)
+constraints_more (d ∷ events) e = constraints_more events e
 
 names_more : (events : List OpbEvent) (e : OpbEvent) → names_on (events ++ e ∷ []) ≡ names_on events ++ names_at e
 names_more events e = flat_map-append names_at events (e ∷ []) ∙ ap (λ (ns : List (List ℕ)). names_on events ++ ns) (append-nil (names_at e))

@@ -2,12 +2,10 @@
 use Rattle.pb_tool.proofs.Common.{ℕ, ◌++◌, ◌^◌, ◌∙◌, ◌≡◌, [], ap, Err, false, inl, inr, length, List, None, Ok, Option, Result, Some, subst, sym}
 use Rattle.pb_tool.proofs.Common.{Appends, Instance, ReadsInstance, IsValueOf, ProofValues, Proof, IsProofOf, Limits, Spanned, Stop, Why, largest}
 use Rattle.pb_tool.proofs.Common.{top_of, IsRead, Broke, Wrote, HasNoFault, IsInstanceWithin, IsOutside, IsProofWithin, IsReadAsInstance}
-use Rattle.pb_tool.proofs.Common.{IsReadAsProof, ProofHasNoFault, ProofStaysAsIs, StaysAsIs, WroteAgain, File, ToolFault, Memory, Open, Overflow}
-use Rattle.pb_tool.proofs.Common.{Step, Text, Write, IsProofFile, IsProofText, tidied_proof, TidiesFile, IsFile, IsInstanceFile, IsInstanceText}
-use Rattle.pb_tool.proofs.Common.{IsRefused, tidied, TidiesAs}
+use Rattle.pb_tool.proofs.Common.{IsReadAsProof, ProofHasNoFault, ProofStaysAsIs, StaysAsIs, WroteAgain, File, ToolFault, Text, Write, IsProofFile}
+use Rattle.pb_tool.proofs.Common.{IsProofText, tidied_proof, TidiesFile, IsFile, IsInstanceFile, IsInstanceText, IsRefused, tidied, TidiesAs}
 use Rattle.pb_opb.specs.contract.Laws.{InstanceValues}
 use Rattle.pb_proof.specs.meaning.Reading.{ReadsProof}
-use Rattle.pb_tool.specs.declared.fault.Input.TheVariants.{Instance as of_instance, Proof as of_proof}
 
 -- what was written into an empty sink is its contents
 written_text : (old new : Option (List ℕ)) (text wrote : List ℕ) → old ≡ Some [] → new ≡ Some text → Appends old new wrote → text ≡ wrote
@@ -25,12 +23,7 @@ again_as : {V W : Type 0} (IsReadOf : List ℕ → Spanned V → Type 0) (Reads 
 again_as IsReadOf Reads text_of contents faults before rest v MayStop same stops old (Ok u) new (w, file, wrote) = subst (λ (x : _). Wrote contents faults old (text_of x) new) (same w file) wrote
 again_as IsReadOf Reads text_of contents faults before rest v MayStop same stops old (Err Write) new (w, file, broke) = subst (λ (x : _). Broke contents faults old (text_of x) new) (same w file) broke
 again_as IsReadOf Reads text_of contents faults before rest v MayStop same stops old (Err (Text File s)) new (refused, e) = (stops s refused, e)
-again_as IsReadOf Reads text_of contents faults before rest v MayStop same stops old (Err (Text of_instance s)) new (h, e) = h
-again_as IsReadOf Reads text_of contents faults before rest v MayStop same stops old (Err (Text of_proof s)) new (h, e) = h
-again_as IsReadOf Reads text_of contents faults before rest v MayStop same stops old (Err (Open i)) new (h, e) = h
-again_as IsReadOf Reads text_of contents faults before rest v MayStop same stops old (Err (Overflow i)) new (h, e) = h
-again_as IsReadOf Reads text_of contents faults before rest v MayStop same stops old (Err (Memory i)) new (h, e) = h
-again_as IsReadOf Reads text_of contents faults before rest v MayStop same stops old (Err (Step place fault name)) new (h, e) = h
+again_as IsReadOf Reads text_of contents faults before rest v MayStop same stops old (Err f) new h = h.0
 
 module _ (instances : InstanceValues) (proofs : ProofValues) (limits : Limits) (longest : ℕ) (before after : Option (List ℕ)) where
   -- what was read meets the rules

@@ -83,8 +83,8 @@ impl Checker {
     ghost use Rattle.pb_text.specs.declared.Limits.{Limits};
     ghost use Rattle.pb_replay.specs.contract.ReplayModel.{Replaying};
     ghost use Rattle.pb_replay.specs.meaning.Problem.{Problem};
-    ghost use Rattle.pb_tool.specs.contract.Checks.{Ends, EndsAfter};
-    ghost use Rattle.pb_tool.specs.contract.Pieces.{ChecksAt, ChecksOnce, CountsAt, CountsOnce, EndsStatement, HoldsOpen, MayGoOn, IsNoReadFault, AllocatesAt, bytes_gone, fault_in, fault_of, held_in, is_whole, place_in, statements_in};
+    ghost use Rattle.pb_tool.specs.contract.Checks.{Ends};
+    ghost use Rattle.pb_tool.specs.contract.Pieces.{AllocatesAt, ChecksAt, ChecksOnce, CountsAt, CountsOnce, EndsCounted, EndsStatement, HoldsOpen, MayGoOn, IsNoReadFault, OfFed, ReportsKnown, bytes_gone, fault_in, fault_of, held_in, is_whole, place_in, statements_in};
     ghost use Rattle.pb_tool.specs.contract.Runs.{faults_of_text};
     ghost use Rattle.pb_tool.specs.engine.Running.{Begins, HasRun, RunsOn};
     ghost use Rattle.pb_tool.specs.declared.commands.check.checker.CheckFault.{CheckFault as ACheckFault};
@@ -138,18 +138,11 @@ impl Checker {
     /// How much of the current statement is stored.
     pub fn held(&self) -> usize
         ensures kept { result ≡ held_in self.now }
-        ensures few { (limits : Limits) (longest : ℕ) (v : Problem) (first : Result State AFault)
-            (input : List ℕ)
-            → fault_of self.now ≡ None
-            → ChecksAt limits longest v first input self.now
-            → HoldsOpen limits input (place_in self.now) result }
+        ensures few { OfFed self.now (λ limits longest v first input.
+            HoldsOpen limits input (place_in self.now) result) }
         // After the last byte of a statement nothing is stored.
-        ensures none { (limits : Limits) (longest : ℕ) (v : Problem) (first : Result State AFault)
-            (input : List ℕ)
-            → fault_of self.now ≡ None
-            → ChecksAt limits longest v first input self.now
-            → EndsStatement limits input
-            → result ≡ 0 }
+        ensures none { OfFed self.now (λ limits longest v first input.
+            EndsStatement limits input → result ≡ 0) }
     {
         proofs_are_exact();
         prefix_free();
@@ -171,17 +164,12 @@ impl Checker {
             (self.new ≡ self.old) }
         // No name is forgotten, whatever the result is. A name that a rejection gives by its number is there.
         ensures names { IsNamePrefix self.old.replay.names self.new.replay.names }
-        ensures reported { (at : Place) (n : ℕ) → fault_of self.old ≡ None →
-            result ≡ Err (ACheckFault.Step at (AFault.NotTotal n)) →
-            n < length self.new.replay.names }
+        ensures reported { ReportsKnown self.old result self.new }
         // There is no reader that could fail.
         ensures unread { fault_of self.old ≡ None → IfErr result IsNoReadFault }
         // Memory for the text runs out only at a byte that may allocate.
-        ensures memory { (limits : Limits) (longest : ℕ) (v : Problem) (first : Result State AFault)
-            (input : List ℕ)
-            → fault_of self.old ≡ None
-            → ChecksAt limits longest v first input self.old
-            → IfErr result (AllocatesAt limits (input ++ piece.now)) }
+        ensures memory { OfFed self.old (λ limits longest v first input.
+            IfErr result (AllocatesAt limits (input ++ piece.now))) }
     {
         if let Some(fault) = self.fault {
             return Err(fault);
@@ -215,15 +203,10 @@ impl Checker {
         ensures again { (e : ACheckFault) → fault_of self.old ≡ Some e → (result ≡ Err e) ×
             (self.new ≡ self.old) }
         ensures names { IsNamePrefix self.old.replay.names self.new.replay.names }
-        ensures reported { (at : Place) (n : ℕ) → fault_of self.old ≡ None →
-            result ≡ Err (ACheckFault.Step at (AFault.NotTotal n)) →
-            n < length self.new.replay.names }
+        ensures reported { ReportsKnown self.old result self.new }
         ensures unread { fault_of self.old ≡ None → IfErr result IsNoReadFault }
-        ensures memory { (limits : Limits) (longest : ℕ) (v : Problem) (first : Result State AFault)
-            (input : List ℕ)
-            → fault_of self.old ≡ None
-            → ChecksAt limits longest v first input self.old
-            → IfErr result (AllocatesAt limits (input ++ piece.now)) }
+        ensures memory { OfFed self.old (λ limits longest v first input.
+            IfErr result (AllocatesAt limits (input ++ piece.now))) }
     {
         if let Some(fault) = self.fault {
             return Err(fault);
@@ -248,19 +231,15 @@ impl Checker {
             (n + statements_in result) self.new }
         ensures open { MayGoOn (fault_of self.new) }
         ensures names { IsNamePrefix self.old.replay.names self.new.replay.names }
-        ensures reported { (at : Place) (n : ℕ) →
-            result ≡ Err (ACheckFault.Step at (AFault.NotTotal n)) →
-            n < length self.new.replay.names }
+        ensures reported { ReportsKnown self.old result self.new }
         ensures fault { fault_of self.new ≡ fault_in result }
         ensures used { IfOk result (λ w.
             ((place_in self.new).offset ≡ (place_in self.old).offset + w.used) ×
             (w.used ≤ length piece.now)) }
         ensures onward { IfOk result (λ w. w.accepted ≡ true → 0 < w.used) }
         ensures unread { IfErr result IsNoReadFault }
-        ensures memory { (limits : Limits) (longest : ℕ) (v : Problem) (first : Result State AFault)
-            (input : List ℕ)
-            → ChecksAt limits longest v first input self.old
-            → IfErr result (AllocatesAt limits (input ++ piece.now)) }
+        ensures memory { OfFed self.old (λ limits longest v first input.
+            IfErr result (AllocatesAt limits (input ++ piece.now))) }
     {
         texts_are_read();
         reads_are_of_proofs();
@@ -338,16 +317,9 @@ impl Checker {
 
     /// Call this at the end of the text: it returns what the proof has shown, or why it is rejected.
     pub fn finish(&mut self) -> Result<Verdict, CheckFault>
-        ensures ends { (limits : Limits) (longest : ℕ) (v : Problem) (first : Result State AFault)
-            (input : List ℕ)
-            → fault_of self.old ≡ None
-            → ChecksAt limits longest v first input self.old
-            → Ends limits longest v first input (place_in self.new) result }
-        ensures counts { (limits : Limits) (longest : ℕ) (v : Problem) (first : Result State AFault)
-            (input : List ℕ) (n : ℕ)
-            → fault_of self.old ≡ None
-            → CountsAt limits longest v first input n self.old
-            → EndsAfter limits longest v first input n (place_in self.new) result }
+        ensures ends { OfFed self.old (λ limits longest v first input.
+            Ends limits longest v first input (place_in self.new) result) }
+        ensures counts { EndsCounted self.old (place_in self.new) result }
         ensures fault { fault_of self.new ≡ fault_in result }
         ensures place { place_in self.new ≡ place_in self.old }
         // A success changes nothing, and the replay never changes.

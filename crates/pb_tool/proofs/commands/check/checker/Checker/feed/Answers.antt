@@ -60,4 +60,4 @@ pub returns-in-Err-clause-memory : goal.returns-in-Err-clause-memory
 returns-in-Err-clause-memory c limits longest v first input none h =
     let t = rw c.in-Err.is at c.advance.ensures in
     subst (λ (x : List ℕ). AllocatesAt limits x c.in-Err.fault) (checked.to_end input c.args.piece.now c.loop-went.used)
-    (t.memory limits longest v first (input ++ take c.loop-went.used c.args.piece.now) (c.loop-went.invariant.stands limits longest v first input h))
+    (t.memory limits longest v first (input ++ take c.loop-went.used c.args.piece.now) c.loop-went.invariant.running (c.loop-went.invariant.stands limits longest v first input h))

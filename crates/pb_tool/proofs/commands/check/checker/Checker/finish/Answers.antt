@@ -1,4 +1,4 @@
-use Rattle.pb_tool.proofs.Common.{◌∙◌, Err, rules, subst, sym, place_of, Place, Ended, EndsAfter}
+use Rattle.pb_tool.proofs.Common.{◌∙◌, Err, refl, rules, subst, sym, place_of, Place, Ended, EndsAfter}
 use Rattle.pb_tool.specs.declared.commands.check.checker.CheckFault.TheVariants.{Text}
 use Rattle.pb_tool.proofs.lemmas.check.CheckerSteps as checked
 use Rattle.pb_tool.proofs.commands.check.checker.Checker.finish.Goals as goal
@@ -18,32 +18,31 @@ invariant_of-self c =
       first,
       input,
       asks,
-      rw c.place.ensures.place (checked.cut_text c.texts_are_read.ensures limits longest v first input c.self.inside.feeder c.self.inside.replay c.self.inside.fault c.in_default.is h
-          (sym c.is_done.ensures.done ∙ c.if-is_done.false)),
+      rw c.place.ensures.place (checked.cut_after c.texts_are_read.ensures limits longest v first input c.self.inside.feeder c.self.inside.replay c.self.inside.fault c.in_default.is h _ refl
+          (sym c.is_done.ensures.done ∙ c.if-is_done.false)).0,
     )
-
-pub returns-in-Some-verdict-clause-ends : goal.returns-in-Some-verdict-clause-ends
-returns-in-Some-verdict-clause-ends c limits longest v first input none given =
-    rw (← c.self.view_is) (checked.verdict_here c.texts_are_read.ensures limits longest v first input c.self.inside.feeder c.self.inside.replay c.self.inside.fault c.in_default.is (rw (← c.self.view_is) at given)
-    c.whole_proofs_conclude.ensures (sym c.is_done.ensures.done ∙ c.if-is_done.true) c.in-Some-verdict.verdict
-    (sym c.in-Some-verdict.is ∙ c.verdict.ensures.verdict))
-
-pub returns-else-is_done-clause-ends : goal.returns-else-is_done-clause-ends
-returns-else-is_done-clause-ends c limits longest v first input none given =
-    rw c.place.ensures.place (checked.cut_text c.texts_are_read.ensures limits longest v first input c.self.inside.feeder c.self.inside.replay c.self.inside.fault c.in_default.is (rw (← c.self.view_is) at given)
-    (sym c.is_done.ensures.done ∙ c.if-is_done.false))
-
-pub returns-else-is_done-clause-replay : goal.returns-else-is_done-clause-replay
-returns-else-is_done-clause-replay c = search rules
 
 pub returns-in-Some-verdict-clause-counts : goal.returns-in-Some-verdict-clause-counts
 returns-in-Some-verdict-clause-counts c limits longest v first input n none given =
-    rw (← c.self.view_is) (checked.verdict_counted c.texts_are_read.ensures limits longest v first input c.self.inside.feeder c.self.inside.replay c.self.inside.fault c.in_default.is n (rw (← c.self.view_is) at given)
+    let (here, many) = rw (← c.self.view_is) at given in
+    rw (← c.self.view_is) (checked.verdict_after c.texts_are_read.ensures limits longest v first input c.self.inside.feeder c.self.inside.replay c.self.inside.fault c.in_default.is here n many
     c.whole_proofs_conclude.ensures (sym c.is_done.ensures.done ∙ c.if-is_done.true) c.in-Some-verdict.verdict
     (sym c.in-Some-verdict.is ∙ c.verdict.ensures.verdict))
 
+pub returns-in-Some-verdict-clause-ends : goal.returns-in-Some-verdict-clause-ends
+returns-in-Some-verdict-clause-ends c limits longest v first input none given =
+    let (t, all, shown, many) = returns-in-Some-verdict-clause-counts c limits longest v first input _ none (given, refl) in
+    (t, all, shown)
+
 pub returns-else-is_done-clause-counts : goal.returns-else-is_done-clause-counts
 returns-else-is_done-clause-counts c limits longest v first input n none given =
+    let (here, many) = rw (← c.self.view_is) at given in
     subst (λ (p : Place). EndsAfter limits longest v first input n (place_of c.self.inside.feeder) (Err (Text (record { place = p; why = Ended })))) (sym c.place.ensures.place)
-    (checked.cut_counted c.texts_are_read.ensures limits longest v first input c.self.inside.feeder c.self.inside.replay c.self.inside.fault c.in_default.is n (rw (← c.self.view_is) at given)
+    (checked.cut_after c.texts_are_read.ensures limits longest v first input c.self.inside.feeder c.self.inside.replay c.self.inside.fault c.in_default.is here n many
     (sym c.is_done.ensures.done ∙ c.if-is_done.false))
+
+pub returns-else-is_done-clause-ends : goal.returns-else-is_done-clause-ends
+returns-else-is_done-clause-ends c limits longest v first input none given = (returns-else-is_done-clause-counts c limits longest v first input _ none (given, refl)).0
+
+pub returns-else-is_done-clause-replay : goal.returns-else-is_done-clause-replay
+returns-else-is_done-clause-replay c = search rules

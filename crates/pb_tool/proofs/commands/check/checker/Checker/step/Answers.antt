@@ -12,4 +12,4 @@ returns-clause-counts c = (
 )
 
 pub returns-clause-memory : goal.returns-clause-memory
-returns-clause-memory c limits longest v first input none h = c.advance.ensures.memory limits longest v first input h
+returns-clause-memory c = c.advance.ensures.memory
