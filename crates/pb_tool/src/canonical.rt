@@ -20,8 +20,8 @@ pub trait Canonical {
     fn write_text<W: Sink>(&self, out: &mut W) -> Result<(), Failed>
         ensures { Writes W.contents W.faults out.old (text self.now) result out.new };
 
-    /// Prepends its canonical text if it surely fits, and returns whether it did. If it did not, the piece may have a part
-    /// of it.
+    /// Prepends its canonical text if it surely fits, and returns whether it did. If it did not,
+    /// the piece may have a part of it.
     fn put_text(&self, piece: &mut Piece) -> bool
         ensures { IsTrue result → piece.new ≡ text self.now ++ piece.old };
 }
@@ -50,7 +50,8 @@ impl Canonical for Statement {
     }
 }
 
-/// Prepends the canonical text of a statement and a line feed to an empty piece, and returns whether it did.
+/// Prepends the canonical text of a statement and a line feed to an empty piece, and returns
+/// whether it did.
 pub(crate) fn put_line<E: Canonical>(statement: &E, piece: &mut Piece) -> bool
     requires { piece.old ≡ [] }
     ensures { IsTrue result → piece.new ≡ line_of E.text statement.now }

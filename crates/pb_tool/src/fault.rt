@@ -46,8 +46,8 @@ pub enum ToolFault {
     /// The output could not be written.
     #[error("the output could not be written")]
     Write,
-    /// The statement of the proof that begins at the position was rejected. `name` is the name without a value if that
-    /// is the reason, and empty otherwise.
+    /// The statement of the proof that begins at the position was rejected. `name` is the name
+    /// without a value if that is the reason, and empty otherwise.
     #[error("a statement was refused")]
     Step {
         place: Place,
@@ -56,8 +56,8 @@ pub enum ToolFault {
     },
 }
 
-/// The exit status of a fault. It is 1 if the input was rejected. It is 3 if a file could not be opened, read or
-/// written, or memory ran out.
+/// The exit status of a fault. It is 1 if the input was rejected. It is 3 if a file could not be
+/// opened, read or written, or memory ran out.
 pub fn status(fault: &ToolFault) -> u8
     ensures { result ≡ exit_status fault.now }
 {
@@ -82,7 +82,8 @@ pub(crate) fn text_fault(input: Input, stop: Stop) -> ToolFault
     ToolFault::Text { stop, input }
 }
 
-/// Writes the line of a fault, with its line feed. It fails if the sink fails; a prefix of the line was then written.
+/// Writes the line of a fault, with its line feed. It fails if the sink fails; a prefix of the line
+/// was then written.
 pub fn write_fault<S: Sink>(fault: &ToolFault, out: &mut S) -> Result<(), Failed>
     ensures { Writes S.contents S.faults out.old (fault_line fault.now) result out.new }
 {
@@ -126,7 +127,8 @@ fn prefix(input: Input) -> &'static [u8]
     }
 }
 
-/// The start of a fault line: the word for the input and a position in it, through the colon and the space.
+/// The start of a fault line: the word for the input and a position in it, through the colon and
+/// the space.
 pub(crate) fn write_place<S: Sink>(input: Input, place: Place, out: &mut S) -> Result<(), Failed>
     ensures { Writes S.contents S.faults out.old
         (prefix_of input ++ place_text place) result out.new }

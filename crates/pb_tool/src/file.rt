@@ -26,7 +26,8 @@ pub(crate) enum Format {
     Proof,
 }
 
-/// The format of a file: a proof if its first byte is `p`, and an instance otherwise. It consumes no byte.
+/// The format of a file: a proof if its first byte is `p`, and an instance otherwise. It consumes
+/// no byte.
 pub(crate) fn format_of<S: Source>(input: &mut S) -> Result<Format, Failed>
     ensures format { IfOk result (IsReadAs (S.left input.old)) }
     ensures left { Keeps (S.left input.old) (S.left input.new) }
@@ -52,8 +53,8 @@ pub(crate) fn unread_file(alloc: Global, limits: Limits) -> ToolFault
     text_fault(Input::File, stop)
 }
 
-/// Reads a text with a machine and gathers its statements, beginning with `empty`. Only white space and comments may
-/// follow the text.
+/// Reads a text with a machine and gathers its statements, beginning with `empty`. Only white space
+/// and comments may follow the text.
 pub(crate) fn read_file<S: Source, M: Machine + Drop, G: Gather<Event = M::Event> + Drop>(
     input: &mut S,
     machine: M,

@@ -26,9 +26,9 @@ pub fn one_normal_form()
     pb_normal::laws::forms_are_unique();
 }
 
-/// `tidy` leaves the text that it wrote for an instance as it is. It treats the text as an instance and reads it as
-/// that instance alone, so it writes the same. With no limit on statements, `tidy` rejects the text only if the source
-/// fails, memory runs out, or the text has over `2^40` bytes.
+/// `tidy` leaves the text that it wrote for an instance as it is. It treats the text as an instance
+/// and reads it as that instance alone, so it writes the same. With no limit on statements, `tidy`
+/// rejects the text only if the source fails, memory runs out, or the text has over `2^40` bytes.
 pub fn tidied_text_stays()
     ensures taken { IsReadAsInstance }
     ensures same { StaysAsIs }
@@ -50,9 +50,9 @@ pub fn tidied_proof_stays()
     pb_proof::laws::values::written_proof_reads_back();
 }
 
-/// `tidy` is idempotent under the same limits. If a run wrote a text, a run over that text writes it again or fails in
-/// writing it. With no limit on statements, `tidy` rejects that text only if the source fails, memory runs out, or the
-/// text has over `2^40` bytes.
+/// `tidy` is idempotent under the same limits. If a run wrote a text, a run over that text writes
+/// it again or fails in writing it. With no limit on statements, `tidy` rejects that text only if
+/// the source fails, memory runs out, or the text has over `2^40` bytes.
 pub fn tidied_files_stay<W: Sink>()
     ensures { TidiesAgain W.contents W.faults }
 {

@@ -5,7 +5,8 @@ ghost use Rattle.pb_text.specs.meaning.Limits.{bits_of, top_of};
 
 use pb_text::Limits;
 
-/// The limits with `bits` bits, 31 to 127, and the greatest top: the lesser of `2^63 - 1` and `2^bits - 1`.
+/// The limits with `bits` bits, 31 to 127, and the greatest top: the lesser of `2^63 - 1` and
+/// `2^bits - 1`.
 pub fn limits_of(bits: u32) -> Limits
     requires least { 31 ≤ bits }
     requires most { bits ≤ 127 }

@@ -28,13 +28,13 @@ use pb_replay::Verdict;
 use pb_text::{BYTE_LIMIT, Failed, Limits, Sink, Source};
 use std::alloc::Global;
 
-/// Reads an instance and then a proof of it, and checks each statement of the proof as soon as it is complete. Then it
-/// writes what the proof shows: `verified UNSAT`, `verified SAT`, `verified NONE` or `verified BOUNDS l u`, as one
-/// line. Only white space and comments may follow the instance and the proof. Nothing is written before both were
-/// accepted.
+/// Reads an instance and then a proof of it, and checks each statement of the proof as soon as it
+/// is complete. Then it writes what the proof shows: `verified UNSAT`, `verified SAT`,
+/// `verified NONE` or `verified BOUNDS l u`, as one line. Only white space and comments may follow
+/// the instance and the proof. Nothing is written before both were accepted.
 ///
-/// `longest` is the maximum number of bytes of a statement, if there is such a limit. Names are hashed with fixed keys:
-/// use `check_with_hasher` for files from untrusted sources.
+/// `longest` is the maximum number of bytes of a statement, if there is such a limit. Names are
+/// hashed with fixed keys: use `check_with_hasher` for files from untrusted sources.
 pub fn check<I: Source, P: Source, W: Sink>(
     alloc: Global,
     instance: &mut I,
@@ -53,7 +53,8 @@ pub fn check<I: Source, P: Source, W: Sink>(
       proof_after = P.left proof.new;
       out_after = out.new;
     } }
-    // For any sources, files included: the result is right for the bytes that their calls have given.
+    // For any sources, files included: the result is right for the bytes that their calls have
+    // given.
     ensures given { ChecksGiven limits (unwrap_or longest (2 ^ 40)) W.contents W.faults record {
       instance = I.history instance.old;
       proof = P.history proof.old;
@@ -63,7 +64,8 @@ pub fn check<I: Source, P: Source, W: Sink>(
       proof_after = P.history proof.new;
       out_after = out.new;
     } }
-    // What a verdict says is true of the instance that was read. For UNSAT, no assignment solves that instance.
+    // What a verdict says is true of the instance that was read. For UNSAT, no assignment solves
+    // that instance.
     ensures unsat { result ≡ Ok Verdict.Unsat →
         UnsatOf limits (unwrap_or longest (2 ^ 40)) (I.left instance.old) (I.left instance.new) }
     ensures true_verdict { IfOk result (λ w. TrueOf limits (unwrap_or longest (2 ^ 40)) w
@@ -73,7 +75,8 @@ pub fn check<I: Source, P: Source, W: Sink>(
         (I.history instance.new) }
     ensures true_given { IfOk result (λ w. OfGiven (TrueOf limits (unwrap_or longest (2 ^ 40)) w)
         (I.history instance.old) (I.history instance.new)) }
-    // A rejected byte is the one that its source has shown. A text ends only if its source has shown its end.
+    // A rejected byte is the one that its source has shown. A text ends only if its source has
+    // shown its end.
     ensures seen_instance { SawInstance (I.shown instance.new) (I.ended instance.new) result }
     ensures seen_proof { SawProof (P.shown proof.new) (P.ended proof.new) result }
     // `Read` comes only if the source of that input failed.
@@ -131,8 +134,8 @@ pub fn check_watched<I: Source, P: Source, W: Sink, V: Watch>(
     requires { IfSome longest (λ n. 0 < n) }
     ensures checked { Checked I.Source P.Source W.Sink limits (unwrap_or longest (2 ^ 40))
         instance.old proof.old out.old result instance.new proof.new out.new }
-    // The watch got a call for each statement that was taken, in order, with its span and the replay after it. If a
-    // statement was rejected, the last call says so. It got no other call.
+    // The watch got a call for each statement that was taken, in order, with its span and the
+    // replay after it. If a statement was rejected, the last call says so. It got no other call.
     ensures watched { IsWatched limits (unwrap_or longest (2 ^ 40)) V.got (I.left instance.old)
         (P.left proof.old) watch.old
         result (I.left instance.new) (P.left proof.new) watch.new }

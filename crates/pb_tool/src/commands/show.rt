@@ -27,10 +27,11 @@ use pb_text::{
 };
 use std::alloc::Global;
 
-/// Writes a line for each statement as soon as it is complete. The line begins with the line and column of the first
-/// byte of the statement. Its canonical text follows, as in `2:1 +1 x1 >= 1 ;`. A file whose first byte is `p` is read
-/// as a proof, any other as an instance. Only white space and comments may follow. If the text is rejected, the lines
-/// of all statements before that position were written.
+/// Writes a line for each statement as soon as it is complete. The line begins with the line and
+/// column of the first byte of the statement. Its canonical text follows, as in `2:1 +1 x1 >= 1 ;`.
+/// A file whose first byte is `p` is read as a proof, any other as an instance. Only white space
+/// and comments may follow. If the text is rejected, the lines of all statements before that
+/// position were written.
 ///
 /// `longest` is the maximum number of bytes of a statement, if there is such a limit.
 pub fn show<S: Source, W: Sink>(
@@ -46,7 +47,8 @@ pub fn show<S: Source, W: Sink>(
     // For any source, files included: the result is right for the bytes that its calls have given.
     ensures given { ShowsGiven limits (unwrap_or longest (2 ^ 40)) W.contents W.faults
         (S.history input.old) out.old result (S.history input.new) out.new }
-    // A rejected byte is the one that the source has shown. The text ends only if the source has shown its end.
+    // A rejected byte is the one that the source has shown. The text ends only if the source has
+    // shown its end.
     ensures seen { SawStatements (S.shown input.new) (S.ended input.new) result }
     // `Read` comes only if the source failed.
     ensures faults { S.faults input.new ≡ faults_reported result (S.faults input.old) }

@@ -29,17 +29,18 @@ use pb_proof::ProofMachine;
 use pb_text::{BYTE_LIMIT, Failed, Gather, Limits, Machine, Sink, Source};
 use std::alloc::Global;
 
-/// Reads a file and writes its canonical text, with a line feed if the text does not end in one. Only white space and
-/// comments may follow the text of the file. A file whose first byte is `p` is read as a proof, any other as an
-/// instance. Nothing is written before the whole input was accepted.
+/// Reads a file and writes its canonical text, with a line feed if the text does not end in one.
+/// Only white space and comments may follow the text of the file. A file whose first byte is `p` is
+/// read as a proof, any other as an instance. Nothing is written before the whole input was
+/// accepted.
 ///
-/// With `normal` every file is read as an instance and written in normal form. Each constraint `>=` becomes its form,
-/// each `=` its two forms. The variables and the objective of the instance stay; its tail and comments are left out.
-/// Nothing is written before each constraint was normalised. The result is `Overflow` if a constraint exceeds the
-/// limit.
+/// With `normal` every file is read as an instance and written in normal form. Each constraint `>=`
+/// becomes its form, each `=` its two forms. The variables and the objective of the instance stay;
+/// its tail and comments are left out. Nothing is written before each constraint was normalised.
+/// The result is `Overflow` if a constraint exceeds the limit.
 ///
-/// `longest` is the maximum number of bytes of a statement, if there is such a limit. The names of an instance are
-/// hashed with fixed keys: use `tidy_with_hasher` for files from untrusted sources.
+/// `longest` is the maximum number of bytes of a statement, if there is such a limit. The names of
+/// an instance are hashed with fixed keys: use `tidy_with_hasher` for files from untrusted sources.
 pub fn tidy<S: Source, W: Sink>(
     alloc: Global,
     input: &mut S,
@@ -54,7 +55,8 @@ pub fn tidy<S: Source, W: Sink>(
     // For any source, files included: the result is right for the bytes that its calls have given.
     ensures given { TidiesGiven limits (unwrap_or longest (2 ^ 40)) W.contents W.faults normal
         (S.history input.old) out.old result (S.history input.new) out.new }
-    // A rejected byte is the one that the source has shown. The text ends only if the source has shown its end.
+    // A rejected byte is the one that the source has shown. The text ends only if the source has
+    // shown its end.
     ensures seen { SawFile (S.shown input.new) (S.ended input.new) result }
     // `Read` comes only if the source failed.
     ensures faults { S.faults input.new ≡ faults_reported result (S.faults input.old) }
@@ -78,7 +80,8 @@ pub fn tidy_with_hasher<S: Source, W: Sink>(
     // For any source, files included: the result is right for the bytes that its calls have given.
     ensures given { TidiesGiven limits (unwrap_or longest (2 ^ 40)) W.contents W.faults normal
         (S.history input.old) out.old result (S.history input.new) out.new }
-    // A rejected byte is the one that the source has shown. The text ends only if the source has shown its end.
+    // A rejected byte is the one that the source has shown. The text ends only if the source has
+    // shown its end.
     ensures seen { SawFile (S.shown input.new) (S.ended input.new) result }
     // `Read` comes only if the source failed.
     ensures faults { S.faults input.new ≡ faults_reported result (S.faults input.old) }
@@ -146,8 +149,8 @@ fn tidy_instance<S: Source, W: Sink>(
     )
 }
 
-/// The same for any machine: the text of its statements gathered, beginning with `empty`. Nothing is written before the
-/// whole input was accepted.
+/// The same for any machine: the text of its statements gathered, beginning with `empty`. Nothing
+/// is written before the whole input was accepted.
 fn tidy_each<S: Source, W: Sink, M: Machine + Drop, G: Gather<Event = M::Event> + Canonical + Drop>(
     machine: M,
     empty: G,
@@ -177,8 +180,8 @@ fn tidy_each<S: Source, W: Sink, M: Machine + Drop, G: Gather<Event = M::Event> 
     }
 }
 
-/// Reads an instance and writes its normal form, with a line feed if the text does not end in one. Only white space and
-/// comments may follow the instance.
+/// Reads an instance and writes its normal form, with a line feed if the text does not end in one.
+/// Only white space and comments may follow the instance.
 fn tidy_normal<S: Source, W: Sink>(
     alloc: Global,
     keys: HashKeys,

@@ -11,7 +11,8 @@ use itoa::Buffer;
 use pb_replay::Fault;
 use pb_text::{Failed, Place, Sink, write_bytes};
 
-/// Writes the line of a rejected statement of the proof that begins at a position. `name` is the name of a `NotTotal`.
+/// Writes the line of a rejected statement of the proof that begins at a position. `name` is the
+/// name of a `NotTotal`.
 pub(crate) fn write_step<S: Sink>(
     place: Place,
     fault: Fault,

@@ -26,7 +26,8 @@ pub fn verified_is_true()
     proofs_are_values();
 }
 
-/// If `check` returns that UNSAT is verified, the first input is an instance that no assignment of its names solves.
+/// If `check` returns that UNSAT is verified, the first input is an instance that no assignment of
+/// its names solves.
 pub fn unsat_is_true<W: Sink>()
     ensures { UnsatIsTrue W.contents W.faults }
 {
@@ -34,18 +35,18 @@ pub fn unsat_is_true<W: Sink>()
     proofs_are_values();
 }
 
-/// Two inputs have known bytes, no reader or writer failed, and memory did not run out. Then `check` returns a verdict
-/// if and only if two things hold. The first input is an instance and the second a proof. The rules accept the
-/// statements of the proof with that verdict.
+/// Two inputs have known bytes, no reader or writer failed, and memory did not run out. Then
+/// `check` returns a verdict if and only if two things hold. The first input is an instance and the
+/// second a proof. The rules accept the statements of the proof with that verdict.
 pub fn answers_are_exact<W: Sink>()
     ensures { AnswersExactly W.contents W.faults }
 {
     all_is_single();
 }
 
-/// Two inputs have known bytes, and I/O and allocation succeed. Then `check` returns `verified UNSAT` if and only if
-/// the bytes are an instance and a proof of UNSAT that the rules accept. In that case no assignment of its names solves
-/// that instance.
+/// Two inputs have known bytes, and I/O and allocation succeed. Then `check` returns
+/// `verified UNSAT` if and only if the bytes are an instance and a proof of UNSAT that the rules
+/// accept. In that case no assignment of its names solves that instance.
 pub fn unsat_is_exact<W: Sink>()
     ensures { UnsatIsExact W.contents W.faults }
 {
@@ -53,15 +54,16 @@ pub fn unsat_is_exact<W: Sink>()
     verified_is_true();
 }
 
-/// The bytes of two inputs decide the result of `check`, unless a reader or a writer failed or memory ran out.
+/// The bytes of two inputs decide the result of `check`, unless a reader or a writer failed or
+/// memory ran out.
 pub fn one_answer<W: Sink>()
     ensures { OneAnswer W.contents W.faults }
 {
     all_is_single();
 }
 
-/// A checker consists of its feeder, its replay and its fault, as contracts see these. This says nothing about what the
-/// types of the fields hide.
+/// A checker consists of its feeder, its replay and its fault, as contracts see these. This says
+/// nothing about what the types of the fields hide.
 pub fn keeps_its_parts()
     ensures { KeepsItsParts }
 {}

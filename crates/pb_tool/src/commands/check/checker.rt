@@ -56,8 +56,8 @@ pub struct Went {
     pub accepted: bool,
 }
 
-/// Checks a proof whose text comes in pieces of any size. Each statement goes to the replay when its last byte has
-/// come.
+/// Checks a proof whose text comes in pieces of any size. Each statement goes to the replay when
+/// its last byte has come.
 #[derive(Drop)]
 pub struct Checker {
     feeder: Feeder<ProofMachine>,
@@ -89,8 +89,8 @@ impl Checker {
     ghost use Rattle.pb_tool.specs.engine.Running.{Begins, HasRun, RunsOn};
     ghost use Rattle.pb_tool.specs.declared.commands.check.checker.CheckFault.{CheckFault as ACheckFault};
 
-    /// A checker of a proof for the replay, in whatever state the replay is. It stops at a statement that has not ended
-    /// within its first `longest` bytes, if there is such a limit.
+    /// A checker of a proof for the replay, in whatever state the replay is. It stops at a
+    /// statement that has not ended within its first `longest` bytes, if there is such a limit.
     pub fn new(alloc: Global, replay: Replay, longest: Option<u64>) -> Checker
         requires { IfSome longest (λ n. 0 < n) }
         ensures stands { (first : Result State AFault) → IsAt replay first
@@ -150,11 +150,12 @@ impl Checker {
         self.feeder.held()
     }
 
-    /// Takes a piece of the text and steps through each statement that ends in it. Returns the number of bytes it used:
-    /// the whole piece, or the bytes through the last byte of the proof, and none after that. After a fault it returns
-    /// that fault again.
+    /// Takes a piece of the text and steps through each statement that ends in it. Returns the
+    /// number of bytes it used: the whole piece, or the bytes through the last byte of the proof,
+    /// and none after that. After a fault it returns that fault again.
     pub fn feed(&mut self, piece: &[u8]) -> Result<usize, CheckFault>
-        // What held of the checker for all the text before now holds for that text followed by this piece.
+        // What held of the checker for all the text before now holds for that text followed by this
+        // piece.
         ensures checks { ChecksOnce self.old piece.now self.new }
         ensures fault { fault_of self.new ≡ fault_in result }
         ensures used { IfOk result (λ n.
@@ -162,7 +163,8 @@ impl Checker {
             (n ≤ length piece.now)) }
         ensures again { (e : ACheckFault) → fault_of self.old ≡ Some e → (result ≡ Err e) ×
             (self.new ≡ self.old) }
-        // No name is forgotten, whatever the result is. A name that a rejection gives by its number is there.
+        // No name is forgotten, whatever the result is. A name that a rejection gives by its number
+        // is there.
         ensures names { IsNamePrefix self.old.replay.names self.new.replay.names }
         ensures reported { ReportsKnown self.old result self.new }
         // There is no reader that could fail.
@@ -188,11 +190,12 @@ impl Checker {
         }
     }
 
-    /// Takes a piece of the text up to the end of the next statement, and steps through that statement. If none ends in
-    /// the piece, it takes all bytes of the piece that belong to the proof. After a fault it returns that fault again.
+    /// Takes a piece of the text up to the end of the next statement, and steps through that
+    /// statement. If none ends in the piece, it takes all bytes of the piece that belong to the
+    /// proof. After a fault it returns that fault again.
     pub fn step(&mut self, piece: &[u8]) -> Result<Went, CheckFault>
-        // What held of the checker for all the text before now holds for that text followed by the bytes taken. One
-        // more statement was accepted if the result says so, and else none.
+        // What held of the checker for all the text before now holds for that text followed by the
+        // bytes taken. One more statement was accepted if the result says so, and else none.
         ensures counts { CountsOnce self.old (bytes_gone result piece.now)
             (statements_in result) self.new }
         ensures fault { fault_of self.new ≡ fault_in result }
@@ -270,8 +273,8 @@ impl Checker {
         }
     }
 
-    /// Steps through the next statement of a source, and shows it to the watch. After the last one it returns what the
-    /// proof has shown.
+    /// Steps through the next statement of a source, and shows it to the watch. After the last one
+    /// it returns what the proof has shown.
     pub(crate) fn pull<S: Source, V: Watch>(
         &mut self,
         input: &mut S,
@@ -315,7 +318,8 @@ impl Checker {
         }
     }
 
-    /// Call this at the end of the text: it returns what the proof has shown, or why it is rejected.
+    /// Call this at the end of the text: it returns what the proof has shown, or why it is
+    /// rejected.
     pub fn finish(&mut self) -> Result<Verdict, CheckFault>
         ensures ends { OfFed self.old (λ limits longest v first input.
             Ends limits longest v first input (place_in self.new) result) }
@@ -353,7 +357,8 @@ impl Checker {
     }
 }
 
-/// If `StandsAt` holds of a feeder of proofs and an input, the feeder has read that input (`Reads`).
+/// If `StandsAt` holds of a feeder of proofs and an input, the feeder has read that input
+/// (`Reads`).
 pub(crate) fn texts_are_read()
     ensures { TextsAreRead }
 {

@@ -63,8 +63,8 @@ fn run_checker<S: Source, V: Watch>(
     }
 }
 
-/// The fault of a rejected statement, with a copy of the name that it gives by its number. If there is no memory for
-/// the copy, the fault is that memory ran out.
+/// The fault of a rejected statement, with a copy of the name that it gives by its number. If there
+/// is no memory for the copy, the fault is that memory ran out.
 fn rejection(alloc: Global, checker: &Checker, place: Place, fault: Fault) -> ToolFault
     ensures { IsReportedAs checker.now.replay.names place fault result }
 {
@@ -100,8 +100,8 @@ fn copied_name(alloc: Global, checker: &Checker, number: usize) -> Result<String
     }
 }
 
-/// Steps a checker through the statements of a source until the proof ends. Returns what the proof shows, and the
-/// position after it.
+/// Steps a checker through the statements of a source until the proof ends. Returns what the proof
+/// shows, and the position after it.
 fn check_statements<S: Source, V: Watch>(
     checker: &mut Checker,
     input: &mut S,

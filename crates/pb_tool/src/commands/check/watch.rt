@@ -8,7 +8,8 @@ use pb_proof::Statement;
 use pb_replay::Replay;
 use pb_text::Spanned;
 
-/// Sees each statement of a check. It only observes, so the result of the check is the same with every watch.
+/// Sees each statement of a check. It only observes, so the result of the check is the same with
+/// every watch.
 pub trait Watch {
     /// What a call does to the watch: the watch before, the call, the watch after.
     ghost got: { Self → Call → Self → Type 0 };

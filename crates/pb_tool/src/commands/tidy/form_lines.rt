@@ -19,8 +19,8 @@ use pb_text::Limits;
 use std::alloc::{AllocError, Global};
 use std::slice;
 
-/// The lines of the forms so far, how many forms there are, and the names that have appeared. The number of a name is
-/// its position among these.
+/// The lines of the forms so far, how many forms there are, and the names that have appeared. The
+/// number of a name is its position among these.
 #[derive(Drop)]
 pub(crate) struct FormLines {
     alloc: Global,
@@ -68,8 +68,8 @@ impl FormLines {
         number_names(&mut self.names, terms)
     }
 
-    /// Adds the lines of a constraint's forms. For an equality these are the `at least` side and then the `at most`
-    /// side.
+    /// Adds the lines of a constraint's forms. For an equality these are the `at least` side and
+    /// then the `at most` side.
     pub(crate) fn add(&mut self, constraint: &Linear, limits: Limits) -> Result<(), AllocError>
         requires { Fits (largest limits) constraint.now }
         ensures names { OnOk result (self.new.names ≡ with_names self.old.names

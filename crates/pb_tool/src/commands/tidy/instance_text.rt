@@ -11,8 +11,8 @@ use pb_sums::piece::Piece;
 use pb_text::{Failed, Gather, Sink, write_bytes};
 use std::alloc::{AllocError, Global};
 
-/// The statements of an instance so far, as text. Two are stored as values, which allocates nothing: the header, and an
-/// objective until the next statement comes.
+/// The statements of an instance so far, as text. Two are stored as values, which allocates
+/// nothing: the header, and an objective until the next statement comes.
 #[derive(Drop)]
 pub(crate) struct InstanceText {
     header: Option<OpbEvent>,
@@ -36,7 +36,8 @@ impl InstanceText {
         }
     }
 
-    /// Adds a statement to the text, after the stored objective, if any. If memory ran out, the text is unchanged.
+    /// Adds a statement to the text, after the stored objective, if any. If memory ran out, the
+    /// text is unchanged.
     fn push(&mut self, event: &OpbEvent) -> Result<(), AllocError>
         ensures ok { OnOk result
             (self.new ≡ record

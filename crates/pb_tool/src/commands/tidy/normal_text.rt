@@ -76,8 +76,8 @@ impl Forms {
     }
 }
 
-/// The normal form of the statements so far. The number of variables and the objective are stored as they are, and the
-/// forms as lines. Contracts see the limits and the statements.
+/// The normal form of the statements so far. The number of variables and the objective are stored
+/// as they are, and the forms as lines. Contracts see the limits and the statements.
 #[derive(Drop)]
 pub(crate) struct NormalText {
     notes: Notes,

@@ -7,7 +7,8 @@ ghost use Rattle.pb_opb.specs.declared.OpbEvent.{OpbEvent as Event};
 use pb_opb::OpbEvent;
 use std::marker::{Model, PhantomData};
 
-/// The statements so far, seen by contracts only. It takes no memory, and its methods do nothing at run time.
+/// The statements so far, seen by contracts only. It takes no memory, and its methods do nothing at
+/// run time.
 #[derive(Drop)]
 pub(crate) struct Notes {
     marker: PhantomData<u8>,

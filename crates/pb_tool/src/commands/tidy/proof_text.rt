@@ -11,8 +11,8 @@ use pb_sums::piece::Piece;
 use pb_text::{Failed, Gather, Sink, write_bytes};
 use std::alloc::{AllocError, Global};
 
-/// The statements of a proof so far. The steps are stored as text. The count of `f` and the conclusion are stored as
-/// values, which allocates nothing.
+/// The statements of a proof so far. The steps are stored as text. The count of `f` and the
+/// conclusion are stored as values, which allocates nothing.
 #[derive(Drop)]
 pub(crate) struct ProofText {
     count: Option<u64>,
