@@ -60,19 +60,41 @@ pub fn pull<S: Source, M: Machine>(
     if feeder.is_done() {
         return Ok(None);
     }
-    // Each loop takes the available bytes, at most through the end of a statement. If none ends
-    // there, it also takes the next byte.
     loop {
-        match source.pour(feeder) {
-            Ok(None) => {}
-            Ok(Some(event)) => return Ok(Some(event)),
-            Err(Failed) => return Err(feeder.halt(Why::Read)),
-        }
-        match take_next(source, feeder) {
+        match draw(source, feeder) {
             Ok(None) => {}
             Ok(Some(event)) => return Ok(Some(event)),
             Err(stop) => return Err(stop),
         }
+    }
+}
+
+/// Takes available bytes, at most through the end of a statement. If none ends there, it also takes
+/// the next byte.
+fn draw<S: Source, M: Machine>(
+    source: &mut S,
+    feeder: &mut Feeder<M>,
+) -> Result<Option<Spanned<M::Event>>, Stop>
+    requires unfinished { is_complete feeder.old ≡ false }
+    requires running { halt_of feeder.old ≡ None }
+    requires state { IsState M.automaton (state_of feeder.old) }
+    ensures draws { Draws feeder.old (S.left source.old) (S.history source.old) result feeder.new
+        (S.left source.new) (S.history source.new) }
+    ensures stop { halt_of feeder.new ≡ stop_of result }
+    ensures unfinished { result ≡ Ok None → is_complete feeder.new ≡ false }
+    ensures onward { OnOk result ((place_of feeder.old).offset < (place_of feeder.new).offset) }
+    ensures past { (event : Spanned M.Event) → result ≡ Ok (Some event) →
+        event.past ≡ place_of feeder.new }
+    ensures faults { S.faults source.new ≡ faults_after None result (S.faults source.old) }
+    ensures memory { IfErr result (λ stop. (b : ℕ) × WantsMemory stop feeder.new b) }
+    ensures shown { IfErr result (λ stop.
+        IsShown (S.shown source.new) (S.ended source.new) stop.why) }
+    ensures state { IsState M.automaton (state_of feeder.new) }
+{
+    match source.pour(feeder) {
+        Ok(Some(event)) => Ok(Some(event)),
+        Ok(None) => take_next(source, feeder),
+        Err(Failed) => Err(feeder.halt(Why::Read)),
     }
 }
 

@@ -1,11 +1,10 @@
 //! A source over any buffered reader, and a sink over any writer.
 
-ghost use Rattle.std.specs.Prelude.{◌≡◌, [], None, false, OnOk, OnErr};
+ghost use Rattle.std.specs.Prelude.{◌≡◌, [], None, false};
 ghost use Rattle.pb_text.specs.contract.Automaton.{IsState};
 ghost use Rattle.pb_text.specs.contract.Feeding.{state_of, halt_of, is_complete};
 ghost use Rattle.pb_text.specs.contract.Over.{Shows, reported};
 ghost use Rattle.pb_text.specs.contract.Pouring.{Pours, brought};
-ghost use Rattle.pb_text.specs.meaning.Writing.{one_more};
 
 use crate::feeder::{Fed, Feeder};
 use crate::history::History;
@@ -93,12 +92,13 @@ impl<T: BufRead> Source for Over<T> {
         feeder: &mut Feeder<M>,
     ) -> Result<Option<Spanned<M::Event>>, Failed> {
         self.shown = None;
-        pour_from(
-            &mut self.inner,
-            &mut self.history,
-            &mut self.failures,
-            feeder,
-        )
+        match pour_from(&mut self.inner, &mut self.history, feeder) {
+            Ok(event) => Ok(event),
+            Err(Failed) => {
+                self.failures = self.failures.saturating_add(1);
+                Err(Failed)
+            }
+        }
     }
 
     fn failures(&self) -> u64 {
@@ -138,11 +138,10 @@ fn next_of<T: BufRead>(reader: &mut T) -> Result<Option<u8>, Failed>
 }
 
 /// Feeds the available bytes of a reader to a feeder, at most through the end of a statement, and
-/// takes them. It counts a failure.
+/// takes them.
 fn pour_from<T: BufRead, M: Machine>(
     reader: &mut T,
     history: &mut History,
-    failures: &mut u64,
     feeder: &mut Feeder<M>,
 ) -> Result<Option<Spanned<M::Event>>, Failed>
     requires unfinished { is_complete feeder.old ≡ false }
@@ -153,8 +152,6 @@ fn pour_from<T: BufRead, M: Machine>(
     ensures unfinished { brought result ≡ None → is_complete feeder.new ≡ false }
     ensures running { halt_of feeder.new ≡ None }
     ensures state { IsState M.automaton (state_of feeder.new) }
-    ensures ok { OnOk result (failures.new ≡ failures.old) }
-    ensures err { OnErr result (failures.new ≡ one_more failures.old) }
 {
     match reader.fill_buf() {
         Ok(bytes) => {
@@ -163,9 +160,6 @@ fn pour_from<T: BufRead, M: Machine>(
             reader.consume(used);
             Ok(event)
         }
-        Err(_) => {
-            *failures = failures.saturating_add(1);
-            Err(Failed)
-        }
+        Err(_) => Err(Failed),
     }
 }
