@@ -92,13 +92,11 @@ impl<T: BufRead> Source for Over<T> {
         feeder: &mut Feeder<M>,
     ) -> Result<Option<Spanned<M::Event>>, Failed> {
         self.shown = None;
-        match pour_from(&mut self.inner, &mut self.history, feeder) {
-            Ok(event) => Ok(event),
-            Err(Failed) => {
-                self.failures = self.failures.saturating_add(1);
-                Err(Failed)
-            }
+        let poured = pour_from(&mut self.inner, &mut self.history, feeder);
+        if poured.is_err() {
+            self.failures = self.failures.saturating_add(1);
         }
+        poured
     }
 
     fn failures(&self) -> u64 {

@@ -1,5 +1,5 @@
 -- What a feeder says of a prefix of a piece that it takes at once.
-use Rattle.std.specs.Prelude.{◌≡◌, ℕ, ◌+◌, ◌<◌, ◌≤◌, List, ◌++◌, length, take, false, Option, Some, None}
+use Rattle.std.specs.Prelude.{◌≡◌, ℕ, ◌+◌, ◌<◌, ◌≤◌, List, ◌++◌, length, take, false, Some, None}
 use Rattle.pb_text.specs.contract.Automaton.{IsState}
 use Rattle.pb_text.specs.contract.Feeding.{StandsAt, spans_in, state_of, place_of, halt_of, is_complete}
 use Rattle.pb_text.specs.declared.place.Spanned.{Spanned}
@@ -18,8 +18,3 @@ pub record TakesPrefix {M E : Type 0} {g : Ghosts M E} (old : Feeder M E g) (pie
   pub running : halt_of new ≡ None
   pub unfinished : fed.event ≡ None → is_complete new ≡ false
   pub state : IsState g.automaton (state_of new)
-
--- It took nothing, or this.
-abbrev pub taken : {E : Type 0} → Option (Fed E) → Fed E
-taken None = record { used = 0; event = None }
-taken (Some fed) = fed

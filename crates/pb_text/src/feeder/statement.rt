@@ -10,7 +10,7 @@ impl<M: Machine> Feeder<M> {
     ghost use Rattle.pb_text.specs.declared.place.Spanned.{Spanned};
     ghost use Rattle.pb_text.specs.contract.Automaton.{IsState};
     ghost use Rattle.pb_text.specs.contract.Feeding.{StandsAt, spans_in, state_of, place_of, halt_of, is_complete};
-    ghost use Rattle.pb_text.specs.engine.Prefixes.{TakesPrefix, taken};
+    ghost use Rattle.pb_text.specs.engine.Prefixes.{TakesPrefix};
 
     /// Takes a prefix of a piece that is fast to take, at most through the end of a statement.
     pub(crate) fn feed_statement(&mut self, piece: &[u8]) -> Fed<M::Event>
@@ -31,11 +31,9 @@ impl<M: Machine> Feeder<M> {
         ensures state { IsState M.automaton (state_of self.new) }
     {
         let skipped = self.skip_line_feed(piece);
-        let fed = self.feed_rest(&piece[skipped..]);
-        Fed {
-            used: skipped + fed.used,
-            event: fed.event,
-        }
+        let mut fed = self.feed_rest(&piece[skipped..]);
+        fed.used = skipped + fed.used;
+        fed
     }
 
     /// Takes a line feed before a statement, if there is one. It returns how many bytes it took.
@@ -60,32 +58,21 @@ impl<M: Machine> Feeder<M> {
         requires state { IsState M.automaton (state_of self.old) }
         ensures { TakesPrefix self.old piece.now result self.new }
     {
-        match self.feed_whole(piece) {
-            Some(whole) => whole,
-            None => self.feed_part(piece),
-        }
-    }
-
-    /// Takes a whole statement, if none has begun and that is fast.
-    #[inline(always)]
-    fn feed_whole(&mut self, piece: &[u8]) -> Option<Fed<M::Event>>
-        requires unfinished { is_complete self.old ≡ false }
-        requires running { halt_of self.old ≡ None }
-        requires state { IsState M.automaton (state_of self.old) }
-        ensures { TakesPrefix self.old piece.now (taken result) self.new }
-    {
         if self.first.is_some() {
-            return None;
+            return self.feed_part(piece);
         }
         let first = self.place;
         let room = (end_at(self.longest, Some(first)) - first.offset) as usize;
         let prefix = &piece[..piece.len().min(room)];
         let Some((last, event)) = self.machine.take_statement(prefix) else {
-            return None;
+            return self.feed_part(piece);
         };
         let past = first.past(&prefix[..last]).after(prefix[last]);
         self.place = past;
-        Some(Fed::with_event(last + 1, Spanned { event, first, past }))
+        Fed {
+            used: last + 1,
+            event: Some(Spanned { event, first, past }),
+        }
     }
 
     /// Takes a prefix of a piece in parts, at most through the end of a statement.
