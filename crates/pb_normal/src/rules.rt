@@ -173,16 +173,13 @@ impl Normal {
         ensures normal { IfOk result (λ r. IsNormal r) }
         ensures memory { IfErr result (λ e. e ≡ NormalFault.Memory) }
     {
-        let mut terms = Vec::with_capacity(alloc, 1)?;
-        terms.push(Entry {
+        let literal = Entry {
             variable,
             negated,
             coefficient: 1,
-        })?;
-        Ok(Normal {
-            terms: Terms::wide(terms),
-            degree: 0,
-        })
+        };
+        let terms = Terms::of(alloc, &[literal])?;
+        Ok(Normal { terms, degree: 0 })
     }
 
     /// The form that holds if and only if this one, of degree at least 1, does not.
