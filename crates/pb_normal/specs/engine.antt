@@ -6,3 +6,4 @@ pub mod Growing
 pub mod Keyed
 pub mod NameTable
 pub mod Raw
+pub mod Reading

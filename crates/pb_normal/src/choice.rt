@@ -7,7 +7,8 @@ ghost use Rattle.pb_normal.specs.meaning.Rules.{assignment, of_variable};
 
 use crate::entry::Entry;
 use crate::listed::Listed;
-use crate::terms::{Stored, Terms};
+use crate::reading::Reading;
+use crate::terms::Terms;
 
 /// Which literals count. Code over it is compiled for each choice.
 pub(crate) trait Choice {
@@ -86,10 +87,10 @@ pub(crate) fn total_of<C: Choice>(terms: &Terms, choice: &C) -> u128
     requires small { total each terms.now < 2 ^ 128 }
     ensures { result ≡ total (C.chosen choice.now) terms.now }
 {
-    match &terms.stored {
-        Stored::Codes(codes) => total_in(codes, choice),
-        Stored::Narrow(terms) => total_in(terms, choice),
-        Stored::Wide(terms) => total_in(terms, choice),
+    match terms.reading() {
+        Reading::Codes(codes) => total_in(&codes, choice),
+        Reading::Narrow(terms) => total_in(&terms, choice),
+        Reading::Wide(terms) => total_in(&terms, choice),
     }
 }
 

@@ -9,25 +9,24 @@ use crate::merge::merged;
 use crate::terms::Terms;
 use std::alloc::{AllocError, Global};
 
-// Adds up the terms of each variable and sorts them by variable. Also returns the total that
-// cancels, counted once for each pair of opposite literals. If the variables differ, a sort is
-// enough, which allocates nothing. If they rise already, nothing is sorted.
-pub(crate) fn collected(
-    alloc: Global,
-    mut raw: Vec<Entry>,
-) -> Result<(Vec<Entry>, u128), AllocError>
-    requires { total each raw.items < 2 ^ 127 }
-    ensures rising { IfOk result (λ r. IsRising 0 r.0.items) }
-    ensures adds { IfOk result (λ r. Adds raw.items [] r.0.items r.1) }
+// Adds up the terms of each variable and sorts them by variable, where they lie. Also returns the
+// total that cancels, counted once for each pair of opposite literals. If the variables differ, a
+// sort is enough, and one list at most is allocated. If they rise already, nothing is sorted.
+pub(crate) fn collected(alloc: Global, raw: &mut [Entry]) -> Result<(Terms, u128), AllocError>
+    requires { total each raw.old < 2 ^ 127 }
+    ensures rising { IfOk result (λ r. IsRising 0 r.0) }
+    ensures adds { IfOk result (λ r. Adds raw.old [] r.0 r.1) }
 {
-    if is_rising(raw.as_slice()) {
-        return Ok((raw, 0));
+    if is_rising(raw) {
+        return Ok((Terms::of(alloc, raw)?, 0));
     }
     raw.sort_unstable_by_key(|t| t.variable);
-    if is_rising(raw.as_slice()) {
-        return Ok((raw, 0));
+    if is_rising(raw) {
+        return Ok((Terms::of(alloc, raw)?, 0));
     }
-    added_up(alloc, raw.as_slice())
+    let (sum, gone) = added_up(alloc, raw)?;
+    let terms = Terms::wide(sum).compact()?;
+    Ok((terms, gone))
 }
 
 // Whether the variables rise and no coefficient is 0.

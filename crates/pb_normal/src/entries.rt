@@ -4,25 +4,27 @@ ghost use Rattle.std.specs.Prelude.{◌≡◌};
 ghost use Rattle.std.specs.Iterator.{YieldsFirst, item_count};
 
 use crate::entry::Entry;
+use crate::reading::Reading;
 use crate::terms::Terms;
 use std::marker::Model;
 
 /// The terms of a form by value, seen as the list of those that are left.
 #[derive(Drop)]
 pub struct Entries<'a> {
-    terms: &'a Terms,
+    terms: Reading<'a>,
     next: usize,
 }
 
 impl<'a> Model for Entries<'a> {
     ghost use Rattle.std.specs.Prelude.{List, ◌≤◌, drop, length};
     ghost use Rattle.pb_normal.specs.declared.entry.Entry.{Entry};
+    ghost use Rattle.pb_normal.specs.engine.Reading.{read_entries};
 
     ghost Value = { List Entry };
 
-    ghost view = { λ e. drop e.next e.terms.now };
+    ghost view = { λ e. drop e.next (read_entries e.terms) };
 
-    ghost invariant = { λ e. e.next ≤ length e.terms.now };
+    ghost invariant = { λ e. e.next ≤ length (read_entries e.terms) };
 }
 
 impl<'a> Entries<'a> {
@@ -31,7 +33,10 @@ impl<'a> Entries<'a> {
     pub(crate) fn of(terms: &'a Terms) -> Entries<'a>
         ensures all { result ≡ terms.now }
     {
-        Entries { terms, next: 0 }
+        Entries {
+            terms: terms.reading(),
+            next: 0,
+        }
     }
 }
 

@@ -7,7 +7,8 @@ ghost use Rattle.pb_normal.specs.meaning.Rules.{IsContradiction, assignment};
 use crate::choice::{Each, TrueAt, total_of};
 use crate::entries::Entries;
 use crate::fault::NormalFault;
-use crate::terms::{Stored, Terms};
+use crate::reading::Reading;
+use crate::terms::Terms;
 use std::alloc::AllocError;
 use std::marker::Model;
 
@@ -151,8 +152,8 @@ pub(crate) fn size_of(terms: &Terms) -> u128
     requires { total each terms.now < 2 ^ 128 }
     ensures { result ≡ total each terms.now }
 {
-    match &terms.stored {
-        Stored::Codes(codes) => codes.len() as u128,
+    match terms.reading() {
+        Reading::Codes(codes) => codes.len() as u128,
         _ => total_of(terms, &Each {}),
     }
 }

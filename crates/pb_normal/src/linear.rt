@@ -1,17 +1,19 @@
 //! The normal form of a written constraint.
 
-ghost use Rattle.std.specs.Prelude.{◌≡◌, ◌+◌, ◌<◌, ◌≤◌, ◌^◌, ◌↔◌, ◌+ℤ◌, pos, IfOk, OnOk, OnErr, IsTrue, map, Err};
+ghost use Rattle.std.specs.Prelude.{◌≡◌, ◌+◌, ◌<◌, ◌≤◌, ◌^◌, ◌↔◌, ◌+ℤ◌, pos, IfOk, OnOk, OnErr, IsTrue, length, map, [], Err};
 ghost use Rattle.std.specs.Int.RustNames.{unsigned_abs};
 ghost use Rattle.pb_text.specs.meaning.Limits.{largest};
 ghost use Rattle.pb_normal.specs.meaning.Constraints.{Fits};
-ghost use Rattle.pb_normal.specs.meaning.Form.{IsNormal, IsWithin};
+ghost use Rattle.pb_normal.specs.meaning.Form.{IsNormal, IsRising, IsWithin};
 ghost use Rattle.pb_normal.specs.meaning.Names.{AreDistinct, with_names, AfterPrefix, HasNames};
+ghost use Rattle.pb_normal.specs.engine.Adds.{Adds};
 ghost use Rattle.pb_normal.specs.engine.Raw.{entry_of, raw_of, shift};
 ghost use Rattle.pb_normal.specs.meaning.Written.{names_of, magnitude, side_terms, side_number, IsSideOf, SameSolutions};
 
 use crate::collect::collected;
 use crate::entry::Entry;
 use crate::fault::NormalFault;
+use crate::few_codes::FEW;
 use crate::form::Normal;
 use crate::names::Names;
 use crate::side::Side;
@@ -19,6 +21,13 @@ use crate::terms::Terms;
 use pb_sums::{Linear, Term};
 use pb_text::Limits;
 use std::alloc::{AllocError, Global};
+
+/// What room for a term has before one is written.
+const NOTHING: Entry = Entry {
+    variable: 0,
+    negated: false,
+    coefficient: 0,
+};
 
 impl Normal {
     /// The normal form of one side of a constraint, over the numbers of its names, whatever its
@@ -51,12 +60,13 @@ impl Normal {
         if !is_within(terms, linear.degree, limits.largest()) {
             return Err(NormalFault::Overflow);
         }
-        let raw = numbered(alloc, names, terms, side)?;
-        let (collected_terms, gone) = collected(alloc, raw)?;
+        let (collected_terms, gone) = side_terms(alloc, names, terms, side)?;
         let (up, down) = split(signed(linear.degree, side));
         let degree = (up + shift_of(terms, side)).saturating_sub(down + gone);
-        let terms = Terms::wide(collected_terms).compact()?;
-        Ok(Normal { terms, degree })
+        Ok(Normal {
+            terms: collected_terms,
+            degree,
+        })
     }
 }
 
@@ -103,29 +113,80 @@ fn signed(number: i128, side: Side) -> i128
     }
 }
 
-// The terms of that side as positive coefficients on literals, over the numbers of their names.
-fn numbered(
+// The terms of the form of that side, over the numbers of their names, and the total that cancels.
+// Up to `FEW` terms are collected without a list.
+fn side_terms(
     alloc: Global,
     names: &mut Names,
     terms: &[Term],
     side: Side,
-) -> Result<Vec<Entry>, AllocError>
+) -> Result<(Terms, u128), AllocError>
     requires small { magnitude terms.now < 2 ^ 127 }
     requires names_distinct { AreDistinct names.old }
     ensures names { OnOk result (names.new ≡ with_names names.old (names_of terms.now)) }
     ensures named { OnOk result (HasNames names.new (names_of terms.now)) }
-    ensures entries { IfOk result (λ v. v.items ≡ map (raw_of names.new)
+    ensures rising { IfOk result (λ r. IsRising 0 r.0) }
+    ensures adds { IfOk result (λ r. Adds
+        (map (raw_of names.new) (side_terms side terms.now)) [] r.0 r.1) }
+    ensures err { OnErr result (AfterPrefix names.old (names_of terms.now) names.new) }
+    ensures distinct { AreDistinct names.new }
+{
+    if terms.len() <= FEW {
+        let mut room = [NOTHING; FEW];
+        return side_terms_in(alloc, names, terms, side, &mut room[..terms.len()]);
+    }
+    let mut room = Vec::from_elem(alloc, NOTHING, terms.len())?;
+    side_terms_in(alloc, names, terms, side, room.as_mut_slice())
+}
+
+// The same in room for as many terms.
+fn side_terms_in(
+    alloc: Global,
+    names: &mut Names,
+    terms: &[Term],
+    side: Side,
+    room: &mut [Entry],
+) -> Result<(Terms, u128), AllocError>
+    requires room { length room.old ≡ length terms.now }
+    requires small { magnitude terms.now < 2 ^ 127 }
+    requires names_distinct { AreDistinct names.old }
+    ensures names { OnOk result (names.new ≡ with_names names.old (names_of terms.now)) }
+    ensures named { OnOk result (HasNames names.new (names_of terms.now)) }
+    ensures rising { IfOk result (λ r. IsRising 0 r.0) }
+    ensures adds { IfOk result (λ r. Adds
+        (map (raw_of names.new) (side_terms side terms.now)) [] r.0 r.1) }
+    ensures err { OnErr result (AfterPrefix names.old (names_of terms.now) names.new) }
+    ensures distinct { AreDistinct names.new }
+{
+    number(names, terms, side, room)?;
+    collected(alloc, room)
+}
+
+// Writes the terms of that side as positive coefficients on literals, over the numbers of their
+// names.
+fn number(
+    names: &mut Names,
+    terms: &[Term],
+    side: Side,
+    out: &mut [Entry],
+) -> Result<(), AllocError>
+    requires room { length out.old ≡ length terms.now }
+    requires small { magnitude terms.now < 2 ^ 127 }
+    requires names_distinct { AreDistinct names.old }
+    ensures names { OnOk result (names.new ≡ with_names names.old (names_of terms.now)) }
+    ensures named { OnOk result (HasNames names.new (names_of terms.now)) }
+    ensures entries { OnOk result (out.new ≡ map (raw_of names.new)
         (side_terms side terms.now)) }
     ensures err { OnErr result (AfterPrefix names.old (names_of terms.now) names.new) }
     ensures distinct { AreDistinct names.new }
 {
-    let mut out = Vec::with_capacity(alloc, terms.len())?;
-    for t in terms {
+    'terms: for i in 0..terms.len() {
+        let t = &terms[i];
         let variable = names.number(t.literal.name.as_str())?;
         let coefficient = signed(t.coefficient, side);
-        out.push(raw(variable, t.literal.negated, coefficient))?;
+        out[i] = raw(variable, t.literal.negated, coefficient);
     }
-    Ok(out)
+    Ok(())
 }
 
 // Moves a negative coefficient to the opposite literal.

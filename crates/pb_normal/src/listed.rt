@@ -28,8 +28,8 @@ pub(crate) trait Listed {
         ensures { IfOk result (λ _. out.new.items ≡ out.old.items ++ drop from (entries self.now)) };
 }
 
-impl<T: Coded + Copy> Listed for Vec<T> {
-    ghost entries = { λ codes. map T.term codes.items };
+impl<'a, T: Coded + Copy> Listed for &'a [T] {
+    ghost entries = { λ codes. map T.term codes.now };
 
     #[inline]
     fn count(&self) -> usize {
@@ -46,8 +46,8 @@ impl<T: Coded + Copy> Listed for Vec<T> {
     }
 }
 
-impl Listed for Vec<Entry> {
-    ghost entries = { λ terms. terms.items };
+impl<'a> Listed for &'a [Entry] {
+    ghost entries = { λ terms. terms.now };
 
     #[inline]
     fn count(&self) -> usize {

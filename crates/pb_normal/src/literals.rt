@@ -27,9 +27,9 @@ impl Normal {
         ensures normal { IfOk result (λ r. IsNormal r) }
         ensures memory { IfErr result (λ e. e ≡ NormalFault.Memory) }
     {
-        let raw = units(alloc, literals)?;
-        let (once, _) = collected(alloc, raw)?;
-        let counted = counted_once(alloc, once.as_slice())?;
+        let mut raw = units(alloc, literals)?;
+        let (once, _) = collected(alloc, raw.as_mut_slice())?;
+        let counted = counted_once(alloc, &once)?;
         let terms = Terms::wide(counted).compact()?;
         Ok(Normal { terms, degree })
     }
@@ -50,14 +50,14 @@ fn units(alloc: Global, literals: &[NumberedLiteral]) -> Result<Vec<Entry>, Allo
 }
 
 // The terms with coefficient 1.
-fn counted_once(alloc: Global, terms: &[Entry]) -> Result<Vec<Entry>, AllocError>
+fn counted_once(alloc: Global, terms: &Terms) -> Result<Vec<Entry>, AllocError>
     ensures { IfOk result (λ v. v.items ≡ map (λ t. with_coefficient t 1) terms.now) }
 {
     terms
         .iter()
         .map(|t| Entry {
             coefficient: 1,
-            ..*t
+            ..t
         })
         .collect(alloc)
 }

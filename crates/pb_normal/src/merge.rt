@@ -8,7 +8,8 @@ ghost use Rattle.pb_normal.specs.meaning.Rules.{with_coefficient};
 
 use crate::entry::Entry;
 use crate::listed::Listed;
-use crate::terms::{Stored, Terms};
+use crate::reading::Reading;
+use crate::terms::Terms;
 use std::alloc::{AllocError, Global};
 
 // The sum of two terms of one variable, and how much of each cancels.
@@ -58,10 +59,10 @@ pub(crate) fn merged(
     ensures rising { IfOk result (λ r. IsRising 0 r.0.items) }
     ensures adds { IfOk result (λ r. Adds left.now right.now r.0.items r.1) }
 {
-    match &left.stored {
-        Stored::Codes(codes) => merged_with(alloc, codes, right),
-        Stored::Narrow(terms) => merged_with(alloc, terms, right),
-        Stored::Wide(terms) => merged_with(alloc, terms, right),
+    match left.reading() {
+        Reading::Codes(codes) => merged_with(alloc, &codes, right),
+        Reading::Narrow(terms) => merged_with(alloc, &terms, right),
+        Reading::Wide(terms) => merged_with(alloc, &terms, right),
     }
 }
 
@@ -78,10 +79,10 @@ fn merged_with<L: Listed>(
     ensures rising { IfOk result (λ r. IsRising 0 r.0.items) }
     ensures adds { IfOk result (λ r. Adds (L.entries left.now) right.now r.0.items r.1) }
 {
-    match &right.stored {
-        Stored::Codes(codes) => merged_lists(alloc, left, codes),
-        Stored::Narrow(terms) => merged_lists(alloc, left, terms),
-        Stored::Wide(terms) => merged_lists(alloc, left, terms),
+    match right.reading() {
+        Reading::Codes(codes) => merged_lists(alloc, left, &codes),
+        Reading::Narrow(terms) => merged_lists(alloc, left, &terms),
+        Reading::Wide(terms) => merged_lists(alloc, left, &terms),
     }
 }
 
@@ -135,10 +136,10 @@ pub(crate) fn cancelled(left: &Terms, right: &Terms) -> u128
     requires right_size { total each right.now < 2 ^ 127 }
     ensures { Cancels left.now right.now result }
 {
-    match &left.stored {
-        Stored::Codes(codes) => cancelled_with(codes, right),
-        Stored::Narrow(terms) => cancelled_with(terms, right),
-        Stored::Wide(terms) => cancelled_with(terms, right),
+    match left.reading() {
+        Reading::Codes(codes) => cancelled_with(&codes, right),
+        Reading::Narrow(terms) => cancelled_with(&terms, right),
+        Reading::Wide(terms) => cancelled_with(&terms, right),
     }
 }
 
@@ -150,10 +151,10 @@ fn cancelled_with<L: Listed>(left: &L, right: &Terms) -> u128
     requires right_size { total each right.now < 2 ^ 127 }
     ensures { Cancels (L.entries left.now) right.now result }
 {
-    match &right.stored {
-        Stored::Codes(codes) => cancelled_in_lists(left, codes),
-        Stored::Narrow(terms) => cancelled_in_lists(left, terms),
-        Stored::Wide(terms) => cancelled_in_lists(left, terms),
+    match right.reading() {
+        Reading::Codes(codes) => cancelled_in_lists(left, &codes),
+        Reading::Narrow(terms) => cancelled_in_lists(left, &terms),
+        Reading::Wide(terms) => cancelled_in_lists(left, &terms),
     }
 }
 

@@ -14,7 +14,8 @@ use crate::fault::NormalFault;
 use crate::form::{Normal, size_of};
 use crate::listed::Listed;
 use crate::merge::{cancelled, merged};
-use crate::terms::{Stored, Terms};
+use crate::reading::Reading;
+use crate::terms::Terms;
 use pb_text::Limits;
 use std::alloc::{AllocError, Global};
 
@@ -172,16 +173,13 @@ impl Normal {
         ensures normal { IfOk result (λ r. IsNormal r) }
         ensures memory { IfErr result (λ e. e ≡ NormalFault.Memory) }
     {
-        let mut terms = Vec::with_capacity(alloc, 1)?;
-        terms.push(Entry {
+        let literal = Entry {
             variable,
             negated,
             coefficient: 1,
-        })?;
-        Ok(Normal {
-            terms: Terms::wide(terms),
-            degree: 0,
-        })
+        };
+        let terms = Terms::of(alloc, &[literal])?;
+        Ok(Normal { terms, degree: 0 })
     }
 
     /// The form that holds if and only if this one, of degree at least 1, does not.
@@ -227,10 +225,10 @@ fn multiplied_terms(alloc: Global, terms: &Terms, k: u128) -> Result<Vec<Entry>,
     ensures { IfOk result (λ v.
         v.items ≡ map (λ t. with_coefficient t (t.coefficient * k)) terms.now) }
 {
-    match &terms.stored {
-        Stored::Codes(codes) => multiplied_list(alloc, codes, k),
-        Stored::Narrow(terms) => multiplied_list(alloc, terms, k),
-        Stored::Wide(terms) => multiplied_list(alloc, terms, k),
+    match terms.reading() {
+        Reading::Codes(codes) => multiplied_list(alloc, &codes, k),
+        Reading::Narrow(terms) => multiplied_list(alloc, &terms, k),
+        Reading::Wide(terms) => multiplied_list(alloc, &terms, k),
     }
 }
 
@@ -302,10 +300,10 @@ fn saturate_all(terms: &mut Vec<Entry>, degree: u128)
 fn opposite_terms(alloc: Global, terms: &Terms) -> Result<Vec<Entry>, AllocError>
     ensures { IfOk result (λ v. v.items ≡ map opposite terms.now) }
 {
-    match &terms.stored {
-        Stored::Codes(codes) => opposite_list(alloc, codes),
-        Stored::Narrow(terms) => opposite_list(alloc, terms),
-        Stored::Wide(terms) => opposite_list(alloc, terms),
+    match terms.reading() {
+        Reading::Codes(codes) => opposite_list(alloc, &codes),
+        Reading::Narrow(terms) => opposite_list(alloc, &terms),
+        Reading::Wide(terms) => opposite_list(alloc, &terms),
     }
 }
 
@@ -326,10 +324,10 @@ fn opposite_list<L: Listed>(alloc: Global, terms: &L) -> Result<Vec<Entry>, Allo
 fn terms_without(alloc: Global, terms: &Terms, variable: usize) -> Result<Vec<Entry>, AllocError>
     ensures { IfOk result (λ v. v.items ≡ filter (λ t. not (t.variable == variable)) terms.now) }
 {
-    match &terms.stored {
-        Stored::Codes(codes) => list_without(alloc, codes, variable),
-        Stored::Narrow(terms) => list_without(alloc, terms, variable),
-        Stored::Wide(terms) => list_without(alloc, terms, variable),
+    match terms.reading() {
+        Reading::Codes(codes) => list_without(alloc, &codes, variable),
+        Reading::Narrow(terms) => list_without(alloc, &terms, variable),
+        Reading::Wide(terms) => list_without(alloc, &terms, variable),
     }
 }
 

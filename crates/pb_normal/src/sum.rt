@@ -17,7 +17,7 @@ use std::marker::Model;
 /// The fewest terms for which a form becomes a tree.
 const MANY: usize = 32;
 
-/// How many small changes in a row make the list anew, before the form becomes a tree. To make a
+/// How many small changes in a row make the list again, before the form becomes a tree. To make a
 /// tree takes about as long.
 const LISTED: usize = 16;
 

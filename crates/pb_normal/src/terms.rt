@@ -1,13 +1,15 @@
 //! The terms of a form. Where they allow it, they are stored in little memory.
 
-ghost use Rattle.std.specs.Prelude.{◌≡◌, ◌<◌, true, false, IfOk, length, get_or};
+ghost use Rattle.std.specs.Prelude.{◌≡◌, ◌<◌, true, false, IfOk, IfSome, length, get_or};
 ghost use Rattle.pb_normal.specs.engine.Compact.{entries_of};
+ghost use Rattle.pb_normal.specs.engine.Reading.{read_entries};
 
 use crate::code::{can_store_all, coded_all, decoded_all};
 use crate::coded_term::CodedTerm;
 use crate::entries::Entries;
 use crate::entry::Entry;
-use crate::listed::Listed;
+use crate::few_codes::{FEW, FewCodes};
+use crate::reading::{Reading, copied};
 use std::alloc::{AllocError, Global};
 use std::marker::Model;
 
@@ -17,6 +19,8 @@ pub(crate) enum Stored {
     /// The codes of the literals of terms with coefficient 1: twice the variable, and 1 more if it
     /// is negated.
     Codes(Vec<u32>),
+    /// The same codes, if they are few.
+    Few(FewCodes),
     /// The same codes, each with a coefficient that fits 64 bits.
     Narrow(Vec<CodedTerm>),
     /// Any terms.
@@ -40,6 +44,17 @@ impl Model for Terms {
 }
 
 impl Terms {
+    /// These terms, stored in as little memory as they allow. It allocates one list at most.
+    pub(crate) fn of(alloc: Global, terms: &[Entry]) -> Result<Terms, AllocError>
+        ensures same { IfOk result (λ r. r ≡ terms.now) }
+    {
+        let stored = match coded(alloc, terms)? {
+            Some(stored) => stored,
+            None => Stored::Wide(copied(alloc, terms)?),
+        };
+        Ok(Terms { stored })
+    }
+
     /// The same terms, stored as they are.
     pub(crate) fn wide(terms: Vec<Entry>) -> Terms
         ensures same { result ≡ terms.items }
@@ -53,8 +68,22 @@ impl Terms {
     pub(crate) fn allocator(&self) -> Global {
         match &self.stored {
             Stored::Codes(codes) => *codes.allocator(),
+            Stored::Few(codes) => codes.allocator(),
             Stored::Narrow(terms) => *terms.allocator(),
             Stored::Wide(terms) => *terms.allocator(),
+        }
+    }
+
+    /// The terms as they are read.
+    #[inline]
+    pub(crate) fn reading(&self) -> Reading<'_>
+        ensures same { read_entries result ≡ self.now }
+    {
+        match &self.stored {
+            Stored::Codes(codes) => Reading::Codes(codes.as_slice()),
+            Stored::Few(codes) => Reading::Codes(codes.as_slice()),
+            Stored::Narrow(terms) => Reading::Narrow(terms.as_slice()),
+            Stored::Wide(terms) => Reading::Wide(terms.as_slice()),
         }
     }
 
@@ -63,11 +92,7 @@ impl Terms {
     pub fn len(&self) -> usize
         ensures length { result ≡ length self.now }
     {
-        match &self.stored {
-            Stored::Codes(codes) => codes.len(),
-            Stored::Narrow(terms) => terms.len(),
-            Stored::Wide(terms) => terms.len(),
-        }
+        self.reading().len()
     }
 
     /// The term at an index.
@@ -76,11 +101,7 @@ impl Terms {
         requires { index < length self.now }
         ensures read { (d : Entry) → result ≡ get_or self.now index d }
     {
-        match &self.stored {
-            Stored::Codes(codes) => codes.at(index),
-            Stored::Narrow(terms) => terms.at(index),
-            Stored::Wide(terms) => terms.at(index),
-        }
+        self.reading().get(index)
     }
 
     /// The terms one after another.
@@ -94,11 +115,7 @@ impl Terms {
     pub(crate) fn to_entries(&self) -> Result<Vec<Entry>, AllocError>
         ensures same { IfOk result (λ r. r.items ≡ self.now) }
     {
-        match &self.stored {
-            Stored::Codes(codes) => decoded_all(*codes.allocator(), codes.as_slice()),
-            Stored::Narrow(terms) => decoded_all(*terms.allocator(), terms.as_slice()),
-            Stored::Wide(terms) => copied(terms),
-        }
+        self.reading().to_entries(self.allocator())
     }
 
     /// A list of the same terms. If they are stored in one, it is this.
@@ -107,6 +124,7 @@ impl Terms {
     {
         match self.stored {
             Stored::Codes(codes) => decoded_all(*codes.allocator(), codes.as_slice()),
+            Stored::Few(codes) => decoded_all(codes.allocator(), codes.as_slice()),
             Stored::Narrow(terms) => decoded_all(*terms.allocator(), terms.as_slice()),
             Stored::Wide(terms) => Ok(terms),
         }
@@ -116,10 +134,12 @@ impl Terms {
     pub(crate) fn copy(&self) -> Result<Terms, AllocError>
         ensures same { IfOk result (λ r. r ≡ self.now) }
     {
+        let alloc = self.allocator();
         let stored = match &self.stored {
-            Stored::Codes(codes) => Stored::Codes(copied(codes)?),
-            Stored::Narrow(terms) => Stored::Narrow(copied(terms)?),
-            Stored::Wide(terms) => Stored::Wide(copied(terms)?),
+            Stored::Codes(codes) => Stored::Codes(copied(alloc, codes.as_slice())?),
+            Stored::Few(codes) => Stored::Few(codes.copy()),
+            Stored::Narrow(terms) => Stored::Narrow(copied(alloc, terms.as_slice())?),
+            Stored::Wide(terms) => Stored::Wide(copied(alloc, terms.as_slice())?),
         };
         Ok(Terms { stored })
     }
@@ -148,9 +168,8 @@ impl Terms {
         ensures same { IfOk result (λ r. r ≡ self) }
     {
         let stored = match self.stored {
-            Stored::Codes(codes) => Stored::Codes(codes),
-            Stored::Narrow(terms) => Stored::Narrow(terms),
             Stored::Wide(terms) => compacted(terms)?,
+            stored => stored,
         };
         Ok(Terms { stored })
     }
@@ -164,27 +183,31 @@ fn are_same(left: Entry, right: Entry) -> bool
     left == right
 }
 
-// A copy of a list.
-fn copied<T: Copy>(list: &Vec<T>) -> Result<Vec<T>, AllocError>
-    ensures { IfOk result (λ r. r.items ≡ list.now.items) }
-{
-    let mut copy = Vec::new(*list.allocator());
-    copy.extend_from_slice(list.as_slice())?;
-    Ok(copy)
-}
-
 // The same terms, stored in as little memory as they allow.
 fn compacted(mut terms: Vec<Entry>) -> Result<Stored, AllocError>
     ensures same { IfOk result (λ r. entries_of r ≡ terms.items) }
 {
-    if can_store_all::<u32>(terms.as_slice()) {
-        let codes = coded_all(*terms.allocator(), terms.as_slice())?;
-        return Ok(Stored::Codes(codes));
+    match coded(*terms.allocator(), terms.as_slice())? {
+        Some(stored) => Ok(stored),
+        None => {
+            terms.shrink_to_fit();
+            Ok(Stored::Wide(terms))
+        }
     }
-    if can_store_all::<CodedTerm>(terms.as_slice()) {
-        let narrow = coded_all(*terms.allocator(), terms.as_slice())?;
-        return Ok(Stored::Narrow(narrow));
+}
+
+// The terms with codes of their literals, if they have such.
+fn coded(alloc: Global, terms: &[Entry]) -> Result<Option<Stored>, AllocError>
+    ensures same { IfOk result (λ r. IfSome r (λ s. entries_of s ≡ terms.now)) }
+{
+    if can_store_all::<u32>(terms) {
+        if terms.len() <= FEW {
+            return Ok(Some(Stored::Few(FewCodes::of(alloc, terms))));
+        }
+        return Ok(Some(Stored::Codes(coded_all(alloc, terms)?)));
     }
-    terms.shrink_to_fit();
-    Ok(Stored::Wide(terms))
+    if can_store_all::<CodedTerm>(terms) {
+        return Ok(Some(Stored::Narrow(coded_all(alloc, terms)?)));
+    }
+    Ok(None)
 }

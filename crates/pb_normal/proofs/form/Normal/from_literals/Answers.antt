@@ -1,16 +1,20 @@
-use Rattle.pb_normal.proofs.Common.{arith}
+use Rattle.pb_normal.proofs.Common.{◌∙◌, ap, arith, length, length-map, List, Entry, with_coefficient}
 use Rattle.pb_normal.proofs.lemmas.terms.Counts.{total-units, IsCountOf-ones, IsNormal-ones}
 use Rattle.pb_normal.proofs.form.Normal.from_literals.Goals as goal
 
 pub collected-requires : goal.collected-requires
-collected-requires c = rw (c.in_ok-raw.ensures, total-units) (omega arith)
+collected-requires c = rw (c.as_mut_slice.ensures.value, c.in_ok-raw.ensures, total-units) (omega arith)
 
 pub invariant_of-result : goal.invariant_of-result
-invariant_of-result c = rw (c.in_ok-terms.ensures.same, c.wide.ensures.same) (IsNormal-ones _ _ _ c.in_ok-once.ensures.rising (rw c.as_slice.ensures.value at c.in_ok-counted.ensures) (omega arith) c.requires.small)
+invariant_of-result c =
+    let long = ap (λ (xs : List Entry). length xs) c.in_ok-counted.ensures ∙ length-map c.in_ok-once.once (λ (t : Entry). with_coefficient t 1) in
+    rw (c.in_ok-terms.ensures.same, c.wide.ensures.same) (IsNormal-ones _ _ _ c.in_ok-once.ensures.rising c.in_ok-counted.ensures (omega (arith, long, c.in_ok-counted.counted.ok.0)) c.requires.small)
 
 pub returns-clause-normal : goal.returns-clause-normal
-returns-clause-normal c = rw (c.in_ok-terms.ensures.same, c.wide.ensures.same) (IsNormal-ones _ _ _ c.in_ok-once.ensures.rising (rw c.as_slice.ensures.value at c.in_ok-counted.ensures) (omega arith) c.requires.small)
+returns-clause-normal c =
+    let long = ap (λ (xs : List Entry). length xs) c.in_ok-counted.ensures ∙ length-map c.in_ok-once.once (λ (t : Entry). with_coefficient t 1) in
+    rw (c.in_ok-terms.ensures.same, c.wide.ensures.same) (IsNormal-ones _ _ _ c.in_ok-once.ensures.rising c.in_ok-counted.ensures (omega (arith, long, c.in_ok-counted.counted.ok.0)) c.requires.small)
 
 pub returns-clause-count : goal.returns-clause-count
 returns-clause-count c =
-    rw (c.in_ok-terms.ensures.same, c.wide.ensures.same) (IsCountOf-ones _ _ _ _ _ c.requires.apart c.in_ok-once.ensures.rising (rw c.in_ok-raw.ensures at c.in_ok-once.ensures.adds) (rw c.as_slice.ensures.value at c.in_ok-counted.ensures))
+    rw (c.in_ok-terms.ensures.same, c.wide.ensures.same) (IsCountOf-ones _ _ _ _ _ c.requires.apart c.in_ok-once.ensures.rising (rw (c.as_mut_slice.ensures.value, c.in_ok-raw.ensures) at c.in_ok-once.ensures.adds) c.in_ok-counted.ensures)

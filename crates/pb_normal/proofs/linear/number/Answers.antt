@@ -1,0 +1,31 @@
+use Rattle.pb_normal.proofs.Common.{◌<◌, ◌∙◌, ◌≡◌, arith, FitsSigned, length, of_z, rules, to_z, to_z-of_z, w128, take, take_read, AfterPrefix, names_of}
+use Rattle.std.proofs.lemmas.List.{take_more_set}
+use Rattle.pb_normal.proofs.lemmas.names.Numbering.{Numbering-push, AfterPrefix-from, OnErr-always}
+use Rattle.pb_normal.proofs.lemmas.names.WrittenForms.{magnitude-read}
+use Rattle.pb_normal.proofs.linear.number.Goals as goal
+
+pub returns-in_err-variable-clause-err : goal.returns-in_err-variable-clause-err
+returns-in_err-variable-clause-err c =
+    let before = AfterPrefix-from c.args.side c.args.names.now c.terms.names c.args.terms.now c.terms.i (take c.terms.i c.terms.out) c.terms.invariant.1 in
+    let after : AfterPrefix c.args.names.now (names_of c.args.terms.now) c.number.new.self = (before.0, c.in_err-variable.ensures.err ∙ before.1) in
+    OnErr-always _ _ after
+
+pub signed-coefficient-requires : goal.signed-coefficient-requires
+signed-coefficient-requires c =
+    let t = c.index-terms-i.result in
+    let fits : FitsSigned w128 t.coefficient = search rules in
+    let same : to_z w128 (of_z w128 t.coefficient) ≡ t.coefficient = to_z-of_z w128 t.coefficient fits in
+    rw same (omega (arith, magnitude-read c.args.terms.now c.terms.i t (omega arith) c.index-terms-i.is))
+
+pub terms-preserved : goal.terms-preserved
+terms-preserved c =
+    let t = c.index-terms-i.result in
+    let fits : FitsSigned w128 t.coefficient = search rules in
+    let same : to_z w128 (of_z w128 t.coefficient) ≡ t.coefficient = to_z-of_z w128 t.coefficient fits in
+    let signed = rw same at c.signed-coefficient.ensures in
+    let signed_fits : FitsSigned w128 c.signed-coefficient.result = search rules in
+    let signed_same : to_z w128 (of_z w128 c.signed-coefficient.result) ≡ c.signed-coefficient.result = to_z-of_z w128 c.signed-coefficient.result signed_fits in
+    let entry = rw (signed_same, signed) at c.raw.ensures in
+    let step = Numbering-push c.args.side _ _ _ _ t _ _ c.terms.invariant.1 (rw c.as_str.ensures at c.in_ok-variable.ensures.names) (rw c.as_str.ensures at c.in_ok-variable.ensures.number) in
+    let room : c.terms.i < length c.terms.out = omega (arith, c.terms.invariant.0, c.terms-test.true) in
+    (search rules, rw (take_read c.args.terms.now c.terms.i t t (omega arith) c.index-terms-i.is, take_more_set c.terms.out c.terms.i c.raw.result room, entry) step)

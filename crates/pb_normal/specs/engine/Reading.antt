@@ -1,0 +1,11 @@
+-- Terms as they are read
+use Rattle.std.specs.Prelude.{List, map}
+use Rattle.pb_normal.specs.declared.entry.Entry.{Entry}
+use Rattle.pb_normal.specs.declared.reading.Reading.{Reading}
+use Rattle.pb_normal.specs.declared.reading.Reading.TheVariants.{Codes, Narrow, Wide}
+use Rattle.pb_normal.specs.engine.Codes.{decoded, weighed}
+
+abbrev pub read_entries : Reading → List Entry
+read_entries (Codes codes) = map decoded codes.now
+read_entries (Narrow terms) = map weighed terms.now
+read_entries (Wide terms) = terms.now
