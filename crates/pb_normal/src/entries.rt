@@ -4,8 +4,8 @@ ghost use Rattle.std.specs.Prelude.{◌≡◌};
 ghost use Rattle.std.specs.Iterator.{YieldsFirst, item_count};
 
 use crate::entry::Entry;
-use crate::reading::Reading;
 use crate::terms::Terms;
+use crate::terms::reading::Reading;
 use std::marker::Model;
 
 /// The terms of a form by value, seen as the list of those that are left.

@@ -4,11 +4,11 @@ ghost use Rattle.std.specs.Prelude.{◌≡◌, ◌<◌, ◌^◌, ◌↔◌, [], 
 ghost use Rattle.pb_normal.specs.meaning.Form.{IsNormal, ReadsTerm, total, each, size, Holds};
 ghost use Rattle.pb_normal.specs.meaning.Rules.{IsContradiction, assignment};
 
-use crate::choice::{Each, TrueAt, total_of};
 use crate::entries::Entries;
 use crate::fault::NormalFault;
-use crate::reading::Reading;
 use crate::terms::Terms;
+use crate::terms::choice::{Each, TrueAt, total_of};
+use crate::terms::reading::Reading;
 use std::alloc::AllocError;
 use std::marker::Model;
 

@@ -3,7 +3,7 @@
 ghost use Rattle.std.specs.Prelude.{◌≡◌};
 ghost use Rattle.pb_normal.specs.contract.HashKeys.{hasher_by};
 
-use crate::name_hasher::NameHasher;
+use crate::names::hasher::NameHasher;
 use std::hash::{BuildHasher, DefaultHasher, RandomState};
 
 /// The keys by which names are hashed. No result depends on them, but the time that colliding names

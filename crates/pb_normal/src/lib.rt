@@ -1,31 +1,20 @@
 //! Normal forms of linear constraints, and the rules of cutting planes on them.
 #![tactic(auto)]
 
-mod choice;
-mod code;
-mod coded_term;
 mod collect;
 mod constraints;
 mod entries;
 mod entry;
 mod fault;
-mod few_codes;
 mod form;
 mod hash_keys;
 mod kind;
 pub mod laws;
 mod linear;
-mod listed;
 mod literals;
 mod merge;
-mod name_chains;
-mod name_entry;
-mod name_hasher;
-mod name_table;
-mod name_text;
 mod names;
 mod numbered;
-mod reading;
 mod rules;
 mod side;
 mod sum;
@@ -40,8 +29,8 @@ pub use fault::NormalFault;
 pub use form::Normal;
 pub use hash_keys::HashKeys;
 pub use linear::{fits, terms_fit};
-pub use name_hasher::NameHasher;
 pub use names::Names;
+pub use names::hasher::NameHasher;
 pub use numbered::NumberedLiteral;
 pub use side::Side;
 pub use sum::Sum;

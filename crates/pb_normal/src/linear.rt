@@ -13,11 +13,11 @@ ghost use Rattle.pb_normal.specs.meaning.Written.{names_of, magnitude, side_term
 use crate::collect::collected;
 use crate::entry::Entry;
 use crate::fault::NormalFault;
-use crate::few_codes::FEW;
 use crate::form::Normal;
 use crate::names::Names;
 use crate::side::Side;
 use crate::terms::Terms;
+use crate::terms::few_codes::FEW;
 use pb_sums::{Linear, Term};
 use pb_text::Limits;
 use std::alloc::{AllocError, Global};

@@ -7,9 +7,9 @@ ghost use Rattle.pb_normal.specs.meaning.Form.{total, each, IsRising};
 ghost use Rattle.pb_normal.specs.meaning.Rules.{with_coefficient};
 
 use crate::entry::Entry;
-use crate::listed::Listed;
-use crate::reading::Reading;
 use crate::terms::Terms;
+use crate::terms::listed::Listed;
+use crate::terms::reading::Reading;
 use std::alloc::{AllocError, Global};
 
 // The sum of two terms of one variable, and how much of each cancels.

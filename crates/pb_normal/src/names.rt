@@ -1,12 +1,18 @@
 //! Numbers for names.
 
+pub(crate) mod chains;
+pub(crate) mod entry;
+pub mod hasher;
+pub(crate) mod table;
+pub(crate) mod text;
+
 ghost use Rattle.std.specs.Prelude.{◌≡◌, ◌↔◌, ◌<◌, [], length, IsTrue, slice_get, Some, None, true, if◌then◌else◌, IfOk, IfSome, OnOk, OnErr};
 ghost use Rattle.std.specs.Option.{option_copied};
 ghost use Rattle.pb_normal.specs.meaning.Names.{AreDistinct, has_name, number_in, with_name};
 
 use crate::hash_keys::HashKeys;
-use crate::name_table::{NameTable, add, hash_of, number_of};
-use crate::name_text::name_at;
+use crate::names::table::{NameTable, add, hash_of, number_of};
+use crate::names::text::name_at;
 use std::alloc::{AllocError, Global};
 use std::hash::BuildHasher;
 use std::marker::Model;

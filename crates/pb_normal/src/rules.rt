@@ -8,14 +8,14 @@ ghost use Rattle.pb_normal.specs.engine.Adds.{SumFits};
 ghost use Rattle.pb_normal.specs.meaning.Form.{IsNormal, IsRising, IsWithin, Follows, FollowsBoth, IsOpposite};
 ghost use Rattle.pb_normal.specs.meaning.Rules.{IsSum, Passes, SumPasses, SumMeasures, SumIsContradiction, multiplied, divided, saturated, weakened, axiom_on, negation_of, with_coefficient, opposite};
 
-use crate::choice::{OnVariable, total_of};
 use crate::entry::Entry;
 use crate::fault::NormalFault;
 use crate::form::{Normal, size_of};
-use crate::listed::Listed;
 use crate::merge::{cancelled, merged};
-use crate::reading::Reading;
 use crate::terms::Terms;
+use crate::terms::choice::{OnVariable, total_of};
+use crate::terms::listed::Listed;
+use crate::terms::reading::Reading;
 use pb_text::Limits;
 use std::alloc::{AllocError, Global};
 

@@ -1,15 +1,22 @@
 //! The terms of a form. Where they allow it, they are stored in little memory.
 
+pub(crate) mod choice;
+pub(crate) mod code;
+pub(crate) mod coded_term;
+pub(crate) mod few_codes;
+pub(crate) mod listed;
+pub(crate) mod reading;
+
 ghost use Rattle.std.specs.Prelude.{◌≡◌, ◌<◌, true, false, IfOk, IfSome, length, get_or};
 ghost use Rattle.pb_normal.specs.engine.Compact.{entries_of};
 ghost use Rattle.pb_normal.specs.engine.Reading.{read_entries};
 
-use crate::code::{can_store_all, coded_all, decoded_all};
-use crate::coded_term::CodedTerm;
 use crate::entries::Entries;
 use crate::entry::Entry;
-use crate::few_codes::{FEW, FewCodes};
-use crate::reading::{Reading, copied};
+use crate::terms::code::{can_store_all, coded_all, decoded_all};
+use crate::terms::coded_term::CodedTerm;
+use crate::terms::few_codes::{FEW, FewCodes};
+use crate::terms::reading::{Reading, copied};
 use std::alloc::{AllocError, Global};
 use std::marker::Model;
 

@@ -5,7 +5,7 @@ use Rattle.std.specs.RandomState.{initial_hasher}
 use Rattle.pb_normal.specs.contract.NameHasher.{keyed}
 use Rattle.pb_normal.specs.declared.hash_keys.HashKeys.{HashKeys}
 use Rattle.pb_normal.specs.declared.hash_keys.HashKeys.TheVariants.{Fixed, Random}
-use Rattle.pb_normal.specs.declared.name_hasher.NameHasher.{NameHasher}
+use Rattle.pb_normal.specs.declared.names.hasher.NameHasher.{NameHasher}
 
 -- the SipHash that has these keys
 abbrev pub sip_by : HashKeys → DefaultHasher

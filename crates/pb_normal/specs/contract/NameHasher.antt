@@ -4,7 +4,7 @@ use Rattle.std.specs.Hash.DefaultHasher as sip
 use Rattle.std.specs.Hash.FoldHasher.{folded_multiply, shl}
 use Rattle.std.specs.Int.{from_le_bytes, w32, w64}
 use Rattle.std.specs.declared.hash.DefaultHasher.{DefaultHasher}
-use Rattle.pb_normal.specs.declared.name_hasher.NameHasher.{NameHasher}
+use Rattle.pb_normal.specs.declared.names.hasher.NameHasher.{NameHasher}
 
 -- its two secret words are what the SipHash answers at once, and after the byte 1
 unfoldable pub keyed : DefaultHasher → NameHasher

@@ -2,9 +2,9 @@
 use Rattle.std.specs.Prelude.{◌≡◌, ◌≢◌, ◌<◌, ◌≤◌, ℕ, suc, ◌-◌, ◌/◌, ◌^◌, List, [], ◌∷◌, All, drop, get_or, length, map, take, bit_and}
 use Rattle.std.specs.Str.{IsUtf8}
 use Rattle.pb_normal.specs.contract.NameHasher.{finish, write}
-use Rattle.pb_normal.specs.declared.name_entry.NameEntry.{NameEntry}
-use Rattle.pb_normal.specs.declared.name_hasher.NameHasher.{NameHasher}
-use Rattle.pb_normal.specs.declared.name_table.NameTable.{NameTable}
+use Rattle.pb_normal.specs.declared.names.entry.NameEntry.{NameEntry}
+use Rattle.pb_normal.specs.declared.names.hasher.NameHasher.{NameHasher}
+use Rattle.pb_normal.specs.declared.names.table.NameTable.{NameTable}
 use Rattle.pb_normal.specs.meaning.Names.{AreDistinct}
 
 abbrev pub ends_of : List NameEntry → List ℕ

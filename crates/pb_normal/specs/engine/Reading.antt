@@ -1,8 +1,8 @@
 -- Terms as they are read
 use Rattle.std.specs.Prelude.{List, map}
 use Rattle.pb_normal.specs.declared.entry.Entry.{Entry}
-use Rattle.pb_normal.specs.declared.reading.Reading.{Reading}
-use Rattle.pb_normal.specs.declared.reading.Reading.TheVariants.{Codes, Narrow, Wide}
+use Rattle.pb_normal.specs.declared.terms.reading.Reading.{Reading}
+use Rattle.pb_normal.specs.declared.terms.reading.Reading.TheVariants.{Codes, Narrow, Wide}
 use Rattle.pb_normal.specs.engine.Codes.{decoded, weighed}
 
 abbrev pub read_entries : Reading → List Entry

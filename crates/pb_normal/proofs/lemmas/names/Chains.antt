@@ -4,7 +4,7 @@ use Rattle.pb_normal.proofs.Common.{length, List, length-map, map-set, refl, sli
 use Rattle.std.proofs.lemmas.List.{get_or-replicate, length-replicate, get_or-set_other, get_or-set_same, length-set}
 use Rattle.std.proofs.Math.ListN.{replicate, set}
 use Rattle.std.proofs.Math.Seq.{map-set_same}
-use Rattle.pb_normal.specs.declared.name_entry.NameEntry.{NameEntry}
+use Rattle.pb_normal.specs.declared.names.entry.NameEntry.{NameEntry}
 use Rattle.pb_normal.proofs.lemmas.names.Texts.{hash_at, no_entry}
 
 -- a head of an empty chain

@@ -5,10 +5,10 @@ use Rattle.pb_normal.proofs.Common.{AreDistinct, ends_of, has_name, hash_by, has
 use Rattle.std.proofs.lemmas.List.{get_or-map}
 use Rattle.std.specs.Prelude.{IfNone}
 use Rattle.std.specs.Str.{IsUtf8}
-use Rattle.pb_normal.specs.declared.name_entry.NameEntry.{NameEntry}
+use Rattle.pb_normal.specs.declared.names.entry.NameEntry.{NameEntry}
 use Rattle.std.specs.declared.vec.Vec.{Vec}
-use Rattle.pb_normal.specs.declared.name_hasher.NameHasher.{NameHasher}
-use Rattle.pb_normal.specs.declared.name_table.NameTable.{NameTable}
+use Rattle.pb_normal.specs.declared.names.hasher.NameHasher.{NameHasher}
+use Rattle.pb_normal.specs.declared.names.table.NameTable.{NameTable}
 use Rattle.pb_normal.proofs.lemmas.names.Chains.{chained-more, unlinked}
 use Rattle.pb_normal.proofs.lemmas.names.Numbering.{AreDistinct-push, has_name-get, number_in-get, slice_get-number}
 use Rattle.pb_normal.proofs.lemmas.names.Texts.{AreEnds-push, length-texts, texts-push}

@@ -3,7 +3,7 @@ use Rattle.pb_normal.proofs.Common.{ℕ, ◌++◌, ◌+◌, ◌-◌, ◌<◌, �
 use Rattle.pb_normal.proofs.Common.{Some, suc, take, take_all, zero, AreEnds, ends_of, hashes_of, length-map, names_in, nexts_of, texts}
 use Rattle.std.proofs.lemmas.List.{drop-append-le, get_or-map, length-drop, take-append-le}
 use Rattle.std.proofs.Math.Seq.{drop-append_seam}
-use Rattle.pb_normal.specs.declared.name_entry.NameEntry.{NameEntry}
+use Rattle.pb_normal.specs.declared.names.entry.NameEntry.{NameEntry}
 
 pub text_within : (start : ℕ) (ends bytes : List ℕ) (i : ℕ) → i < length ends → slice_get (texts start ends bytes) i ≡ Some (take (get_or ends i 0 - get_or (start ∷ ends) i 0) (drop (get_or (start ∷ ends) i 0) bytes))
 text_within start [] bytes i lt = absurd (omega (arith, lt))

@@ -1,7 +1,0 @@
-use mathlib.Core.Path.{refl}
-use Rattle.std.specs.Hash.FoldHasher.{folded_multiply}
-use Rattle.pb_normal.proofs.name_hasher.folded_multiply.Goals as goal
-
-pub returns : goal.returns
-unfolding folded_multiply
-returns c = refl

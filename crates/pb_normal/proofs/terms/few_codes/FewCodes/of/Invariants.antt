@@ -1,0 +1,7 @@
+use Rattle.pb_normal.proofs.Common.{◌≡◌, length, map, take}
+use Rattle.pb_normal.specs.engine.Codes.{decoded}
+use Rattle.pb_normal.proofs.terms.few_codes.FewCodes.of.Given as goal
+
+-- the terms so far are stored
+abbrev pub invariant-terms : goal.invariant-terms
+invariant-terms l = (length l.codes ≡ 4) × (map decoded (take l.i l.codes) ≡ take l.i l.terms)
