@@ -27,6 +27,9 @@ pub(crate) enum Stored {
     Wide(Vec<Entry>),
 }
 
+// Codes in place make no form larger.
+const _: () = prove!(size_of::<Stored>() <= 32);
+
 /// The terms of a form, which contracts see as the list of them.
 #[derive(Drop)]
 pub struct Terms {
