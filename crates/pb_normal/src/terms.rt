@@ -7,7 +7,7 @@ pub(crate) mod few_codes;
 pub(crate) mod listed;
 pub(crate) mod reading;
 
-ghost use Rattle.std.specs.Prelude.{◌≡◌, ◌<◌, true, false, IfOk, IfSome, length, get_or};
+ghost use Rattle.std.specs.Prelude.{◌≡◌, ◌<◌, true, false, IfOk, length, get_or};
 ghost use Rattle.pb_normal.specs.engine.Compact.{entries_of};
 ghost use Rattle.pb_normal.specs.engine.Reading.{read_entries};
 
@@ -34,6 +34,9 @@ pub(crate) enum Stored {
     Wide(Vec<Entry>),
 }
 
+// Codes in place make no form larger.
+const _: () = prove!(size_of::<Stored>() <= 32);
+
 /// The terms of a form, which contracts see as the list of them.
 #[derive(Drop)]
 pub struct Terms {
@@ -52,13 +55,11 @@ impl Model for Terms {
 
 impl Terms {
     /// These terms, stored in as little memory as they allow. It allocates one list at most.
+    #[inline]
     pub(crate) fn of(alloc: Global, terms: &[Entry]) -> Result<Terms, AllocError>
         ensures same { IfOk result (λ r. r ≡ terms.now) }
     {
-        let stored = match coded(alloc, terms)? {
-            Some(stored) => stored,
-            None => Stored::Wide(copied(alloc, terms)?),
-        };
+        let stored = stored_of(alloc, terms)?;
         Ok(Terms { stored })
     }
 
@@ -190,31 +191,29 @@ fn are_same(left: Entry, right: Entry) -> bool
     left == right
 }
 
-// The same terms, stored in as little memory as they allow.
+// The same terms, stored in as little memory as they allow. If that is as entries, it is this list.
 fn compacted(mut terms: Vec<Entry>) -> Result<Stored, AllocError>
     ensures same { IfOk result (λ r. entries_of r ≡ terms.items) }
 {
-    match coded(*terms.allocator(), terms.as_slice())? {
-        Some(stored) => Ok(stored),
-        None => {
-            terms.shrink_to_fit();
-            Ok(Stored::Wide(terms))
-        }
+    if can_store_all::<CodedTerm>(terms.as_slice()) {
+        return stored_of(*terms.allocator(), terms.as_slice());
     }
+    terms.shrink_to_fit();
+    Ok(Stored::Wide(terms))
 }
 
-// The terms with codes of their literals, if they have such.
-fn coded(alloc: Global, terms: &[Entry]) -> Result<Option<Stored>, AllocError>
-    ensures same { IfOk result (λ r. IfSome r (λ s. entries_of s ≡ terms.now)) }
+// These terms, stored in as little memory as they allow.
+fn stored_of(alloc: Global, terms: &[Entry]) -> Result<Stored, AllocError>
+    ensures same { IfOk result (λ r. entries_of r ≡ terms.now) }
 {
     if can_store_all::<u32>(terms) {
         if terms.len() <= FEW {
-            return Ok(Some(Stored::Few(FewCodes::of(alloc, terms))));
+            return Ok(Stored::Few(FewCodes::of(alloc, terms)));
         }
-        return Ok(Some(Stored::Codes(coded_all(alloc, terms)?)));
+        return Ok(Stored::Codes(coded_all(alloc, terms)?));
     }
     if can_store_all::<CodedTerm>(terms) {
-        return Ok(Some(Stored::Narrow(coded_all(alloc, terms)?)));
+        return Ok(Stored::Narrow(coded_all(alloc, terms)?));
     }
-    Ok(None)
+    Ok(Stored::Wide(copied(alloc, terms)?))
 }

@@ -1,4 +1,4 @@
-use Rattle.pb_normal.proofs.Common.{◌+◌, ◌≤◌, arith, FitsSigned, refl, rules, unsigned_abs, w128, largest, magnitude}
+use Rattle.pb_normal.proofs.Common.{◌+◌, ◌≤◌, arith, FitsSigned, refl, rules, unsigned_abs, w128, magnitude}
 use Rattle.pb_normal.proofs.lemmas.names.WrittenForms.{shift-side-le, Collected, Collected-from, size-Collected, IsNormal-Collected, IsWithin-Collected, IsSideOf-Collected, SameSolutions-side}
 use Rattle.pb_normal.proofs.form.Normal.from_linear.Goals as goal
 
