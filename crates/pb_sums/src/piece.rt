@@ -51,6 +51,14 @@ impl Piece {
         &self.bytes[self.start..]
     }
 
+    /// Removes all bytes.
+    #[inline]
+    pub fn clear(&mut self)
+        ensures { self.new ≡ [] }
+    {
+        self.start = ROOM;
+    }
+
     /// How many more bytes the piece has room for.
     #[inline]
     pub fn room(&self) -> usize

@@ -10,6 +10,7 @@ pub mod NothingRead
 pub mod Over
 pub mod Parts
 pub mod Pouring
+pub mod Pulled
 pub mod Reasons
 pub mod Source
 pub mod Standing

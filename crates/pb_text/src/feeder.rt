@@ -1,6 +1,6 @@
 //! Reads a text in pieces.
 
-ghost use Rattle.std.specs.Prelude.{true, false, ◌≡◌, ◌≢◌, ℕ, Some, None, Ok, Err, ◌+◌, ◌-◌, ◌^◌, ◌<◌, ◌≤◌, List, [], ◌∷◌, ◌++◌, take, if◌then◌else◌, OnOk, OnErr, IfOk, IfErr, length, slice_get, is_some};
+ghost use Rattle.std.specs.Prelude.{true, false, ◌≡◌, ◌≢◌, ℕ, Some, None, Ok, Err, ◌+◌, ◌^◌, ◌<◌, ◌≤◌, List, [], ◌∷◌, ◌++◌, take, if◌then◌else◌, OnOk, OnErr, IfOk, IfErr, length, is_some};
 ghost use Rattle.pb_text.specs.engine.SpentBytes.{end_of};
 ghost use Rattle.pb_text.specs.meaning.Spelling.{place_next, place_or};
 ghost use Rattle.pb_text.specs.contract.Standing.{opened};
@@ -57,7 +57,7 @@ impl<M: Machine> Feeder<M> {
     ghost use Rattle.pb_text.specs.contract.Automaton.{AcceptsItems, IsState};
     ghost use Rattle.pb_text.specs.contract.Standing.{IsOpen};
     ghost use Rattle.pb_text.specs.meaning.Reading.{Reads, EndsAs};
-    ghost use Rattle.pb_text.specs.contract.Feeding.{StandsAt, FeedsOnce, HoldsFew, WantsMemory, stop_of, spans_in, spans_taken, state_of, place_of, halt_of, is_complete};
+    ghost use Rattle.pb_text.specs.contract.Feeding.{StandsAt, FeedsOnce, EndsEvent, HoldsFew, UsesOf, WantsMemory, WantsNext, stop_of, spans_in, spans_taken, state_of, place_of, halt_of, is_complete};
 
     /// A feeder for a machine that has begun no statement.
     pub fn new(machine: M) -> Self
@@ -153,9 +153,7 @@ impl<M: Machine> Feeder<M> {
         // bytes.
         ensures feeds { FeedsOnce self.old piece.now result self.new }
         ensures stop { halt_of self.new ≡ stop_of result }
-        ensures used { IfOk result (λ fed.
-            ((place_of self.new).offset ≡ (place_of self.old).offset + fed.used) ×
-            (fed.used ≤ length piece.now)) }
+        ensures used { IfOk result (UsesOf self.old piece.now self.new) }
         ensures again { (stop : Stop) → halt_of self.old ≡ Some stop → (result ≡ Err stop) ×
             (self.new ≡ self.old) }
         ensures done { is_complete self.old ≡ true → halt_of self.old ≡ None
@@ -164,16 +162,13 @@ impl<M: Machine> Feeder<M> {
         ensures whole { (fed : Fed M.Event) → result ≡ Ok fed → fed.event ≡ None →
             is_complete self.old ≡ false → fed.used ≡ length piece.now }
         // With an event, it takes the bytes through the last one of that event, and at least one.
-        ensures some { (fed : Fed M.Event) (event : Spanned M.Event) → result ≡ Ok fed →
-            fed.event ≡ Some event → 0 < fed.used }
         ensures past { (fed : Fed M.Event) (event : Spanned M.Event) → result ≡ Ok fed →
-            fed.event ≡ Some event → event.past ≡ place_of self.new }
+            fed.event ≡ Some event → EndsEvent fed event self.new }
         // There is no reader that can fail.
         ensures unread { halt_of self.old ≡ None → IfErr result (λ stop. stop.why ≢ Why.Read) }
         // `Memory` comes only at a byte that may allocate.
-        ensures memory { halt_of self.old ≡ None → IfErr result (λ stop. (b : ℕ)
-            × (slice_get piece.now ((place_of self.new).offset - (place_of self.old).offset) ≡ Some
-            b) × WantsMemory stop self.new b) }
+        ensures memory { halt_of self.old ≡ None →
+            IfErr result (WantsNext self.old piece.now self.new) }
     {
         if let Some(stop) = self.stop {
             return Err(stop);

@@ -1,14 +1,12 @@
 //! The next event of a source.
 
-ghost use Rattle.std.specs.Prelude.{true, false, ◌≡◌, ◌<◌, ℕ, List, [], Option, Some, None, Result, Ok, Err, OnOk, IfErr};
+ghost use Rattle.std.specs.Prelude.{true, false, ◌≡◌, ◌<◌, Some, None, Ok, OnOk, IfErr};
 ghost use Rattle.pb_text.specs.contract.Automaton.{IsState};
-ghost use Rattle.pb_text.specs.contract.Standing.{IsOpen};
-ghost use Rattle.pb_text.specs.contract.Feeding.{StandsAt, WantsMemory, stop_of, state_of, place_of, halt_of, is_complete};
-ghost use Rattle.pb_text.specs.meaning.Pulling.{Pulls, Draws, faults_after};
-ghost use Rattle.pb_text.specs.meaning.PullsInARow.{HasPulled, PullsOn};
+ghost use Rattle.pb_text.specs.contract.Feeding.{stop_of, state_of, place_of, halt_of, is_complete};
+ghost use Rattle.pb_text.specs.contract.Pulled.{IsPast, IsWanting, PullsInTurn, PullsOnce, StaysDone, StaysStopped};
+ghost use Rattle.pb_text.specs.meaning.Pulling.{Draws, faults_after};
 ghost use Rattle.pb_text.specs.meaning.Stopping.{IsShown};
 ghost use Rattle.pb_text.specs.declared.place.Spanned.{Spanned};
-ghost use Rattle.pb_text.specs.declared.place.Stop.{Stop};
 
 use crate::feeder::Feeder;
 use crate::machine::Machine;
@@ -22,36 +20,25 @@ pub fn pull<S: Source, M: Machine>(
     source: &mut S,
     feeder: &mut Feeder<M>,
 ) -> Result<Option<Spanned<M::Event>>, Stop>
-    ensures pulls { (longest : ℕ) (start : M) (input : List ℕ) (spans : List (Spanned M.Event))
-        → IsOpen (halt_of feeder.old)
-        → StandsAt longest start input spans feeder.old
-        → Pulls longest start input spans feeder.old (S.left source.old) result feeder.new
-        (S.left source.new) (S.history source.old) (S.history source.new) }
+    ensures pulls { PullsOnce feeder.old (S.left source.old) (S.history source.old) result
+        feeder.new (S.left source.new) (S.history source.new) }
     // Consecutive pulls are a read of what they have taken.
-    ensures row { (longest : ℕ) (start : M) (before : Option (List ℕ))
-        (spans : List (Spanned M.Event))
-        → HasPulled longest start before spans feeder.old (S.left source.old)
-        → PullsOn longest start before spans result feeder.new (S.left source.new) }
-    ensures again { (stop : Stop) → halt_of feeder.old ≡ Some stop
-        → (result ≡ Err stop) × (feeder.new ≡ feeder.old) × (source.new ≡ source.old) }
-    ensures done { is_complete feeder.old ≡ true → halt_of feeder.old ≡ None
-        → (result ≡ Ok None) × (feeder.new ≡ feeder.old) × (source.new ≡ source.old) }
+    ensures row { PullsInTurn feeder.old (S.left source.old) result feeder.new (S.left source.new) }
+    ensures again { StaysStopped feeder.old source.old result feeder.new source.new }
+    ensures done { StaysDone feeder.old source.old result feeder.new source.new }
     ensures stop { halt_of feeder.new ≡ stop_of result }
     ensures last { result ≡ Ok None → is_complete feeder.new ≡ true }
-    ensures onward { (event : Spanned M.Event) → result ≡ Ok (Some event) →
-        (place_of feeder.old).offset < (place_of feeder.new).offset }
     ensures past { (event : Spanned M.Event) → result ≡ Ok (Some event) →
-        event.past ≡ place_of feeder.new }
+        IsPast feeder.old event feeder.new }
     // `Read` is first returned only if the source failed in this call.
     ensures faults { S.faults source.new ≡ faults_after (halt_of feeder.old) result
         (S.faults source.old) }
     // `Memory` comes only at a byte that may allocate.
-    ensures memory { halt_of feeder.old ≡ None → IfErr result (λ stop. (b : ℕ) ×
-        WantsMemory stop feeder.new b) }
+    ensures memory { halt_of feeder.old ≡ None → IfErr result (IsWanting feeder.new) }
     // A rejected byte is the one that the source has shown. The input ends only if the source has
     // shown its end.
-    ensures shown { halt_of feeder.old ≡ None →
-        IfErr result (λ stop. IsShown (S.shown source.new) (S.ended source.new) stop.why) }
+    ensures shown { halt_of feeder.old ≡ None → IfErr result (λ stop.
+        IsShown (S.shown source.new) (S.ended source.new) stop.why) }
     ensures state { halt_of feeder.old ≡ None → IsState M.automaton (state_of feeder.new) }
 {
     if let Some(stop) = feeder.stopped() {
@@ -86,7 +73,7 @@ fn draw<S: Source, M: Machine>(
     ensures past { (event : Spanned M.Event) → result ≡ Ok (Some event) →
         event.past ≡ place_of feeder.new }
     ensures faults { S.faults source.new ≡ faults_after None result (S.faults source.old) }
-    ensures memory { IfErr result (λ stop. (b : ℕ) × WantsMemory stop feeder.new b) }
+    ensures memory { IfErr result (IsWanting feeder.new) }
     ensures shown { IfErr result (λ stop.
         IsShown (S.shown source.new) (S.ended source.new) stop.why) }
     ensures state { IsState M.automaton (state_of feeder.new) }
@@ -114,7 +101,7 @@ fn take_next<S: Source, M: Machine>(
     ensures past { (event : Spanned M.Event) → result ≡ Ok (Some event) →
         event.past ≡ place_of feeder.new }
     ensures faults { S.faults source.new ≡ faults_after None result (S.faults source.old) }
-    ensures memory { IfErr result (λ stop. (b : ℕ) × WantsMemory stop feeder.new b) }
+    ensures memory { IfErr result (IsWanting feeder.new) }
     ensures shown { IfErr result (λ stop.
         IsShown (S.shown source.new) (S.ended source.new) stop.why) }
     ensures state { IsState M.automaton (state_of feeder.new) }

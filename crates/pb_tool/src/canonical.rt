@@ -50,12 +50,12 @@ impl Canonical for Statement {
     }
 }
 
-/// Prepends the canonical text of a statement and a line feed to an empty piece, and returns
-/// whether it did.
+/// Replaces the text of a piece by the canonical text of a statement and a line feed if they surely
+/// fit, and returns whether it did.
 pub(crate) fn put_line<E: Canonical>(statement: &E, piece: &mut Piece) -> bool
-    requires { piece.old ≡ [] }
     ensures { IsTrue result → piece.new ≡ line_of E.text statement.now }
 {
+    piece.clear();
     piece.put(b'\n');
     statement.put_text(piece)
 }
@@ -68,6 +68,13 @@ pub(crate) fn write_line<W: Sink, E: Canonical>(statement: &E, out: &mut W) -> R
     if put_line(statement, &mut piece) {
         return write_bytes(piece.as_bytes(), out);
     }
+    write_parts(statement, out)
+}
+
+/// Writes the same in parts.
+pub(crate) fn write_parts<W: Sink, E: Canonical>(statement: &E, out: &mut W) -> Result<(), Failed>
+    ensures { Writes W.contents W.faults out.old (line_of E.text statement.now) result out.new }
+{
     statement.write_text(out)?;
     write_bytes(b"\n", out)
 }

@@ -1,5 +1,5 @@
 -- What a feed says about the whole input.
-use Rattle.std.specs.Prelude.{◌≡◌, ℕ, ◌+◌, ◌≤◌, List, [], ◌∷◌, ◌++◌, take, Bool, IsTrue, Option, Some, None, Result, Ok, Err}
+use Rattle.std.specs.Prelude.{◌≡◌, ℕ, ◌+◌, ◌-◌, ◌<◌, ◌≤◌, List, [], ◌∷◌, ◌++◌, length, slice_get, take, Bool, IsTrue, Option, Some, None, Result, Ok, Err}
 use Rattle.pb_text.specs.meaning.Spelling.{place_after}
 use Rattle.pb_text.specs.contract.Automaton.{AcceptsItems}
 use Rattle.pb_text.specs.meaning.Reading.{IsPrefix, HasOpen}
@@ -107,6 +107,20 @@ NoneStopped (f ∷ feeds) = (stop_of f.1 ≡ None) × NoneStopped feeds
 -- an out-of-memory stop comes only at a byte that may allocate
 abbrev pub WantsMemory : {M E : Type 0} {g : Ghosts M E} → Stop → Feeder M E g → ℕ → Type 0
 WantsMemory {g} stop f b = stop.why ≡ Memory → IsTrue (g.automaton.asks f.machine b)
+
+-- The position has advanced by the number of bytes used, which are at most those of the piece.
+abbrev pub UsesOf : {M E : Type 0} {g : Ghosts M E} → Feeder M E g → List ℕ → Feeder M E g → Fed E → Type 0
+UsesOf old piece new fed = ((place_of new).offset ≡ (place_of old).offset + fed.used) × (fed.used ≤ length piece)
+
+-- A feed used at least one byte, and the last one ends this event.
+pub record EndsEvent {M E : Type 0} {g : Ghosts M E} (fed : Fed E) (event : Spanned E) (new : Feeder M E g) : Type 0 where
+  pub some : 0 < fed.used
+  pub past : event.past ≡ place_of new
+
+-- an out-of-memory stop comes only at a byte of the piece that may allocate
+abbrev pub WantsNext : {M E : Type 0} {g : Ghosts M E} → Feeder M E g → List ℕ → Feeder M E g → Stop → Type 0
+WantsNext old piece new stop =
+    (b : ℕ) × (slice_get piece ((place_of new).offset - (place_of old).offset) ≡ Some b) × WantsMemory stop new b
 
 -- at most as much is held as the bytes used have bytes of a statement that they do not end
 abbrev pub HoldsFew : {M E : Type 0} {g : Ghosts M E} → M → List ℕ → Feeder M E g → ℕ → Type 0

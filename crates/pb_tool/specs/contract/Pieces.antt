@@ -66,7 +66,7 @@ ChecksOnce old piece new =
     MayGoOn old.fault → ChecksAt limits longest v first input old → ChecksAt limits longest v first (input ++ piece) new)
     × (MayGoOn old.fault → MayGoOn new.fault)
 
--- The same of one step, which accepted so many statements.
+-- The same of one step. `more` is the number of statements that it accepted.
 abbrev pub CountsOnce : Checking → List ℕ → ℕ → Checking → Type 0
 CountsOnce old piece more new =
     ((limits : Limits) (longest : ℕ) (v : Problem) (first : Result State Fault) (input : List ℕ) (n : ℕ) →
@@ -79,7 +79,7 @@ OfFed c Holds =
     (limits : Limits) (longest : ℕ) (v : Problem) (first : Result State Fault) (input : List ℕ) →
     fault_of c ≡ None → ChecksAt limits longest v first input c → Holds limits longest v first input
 
--- The text ends with this result, at this position, after so many statements that were accepted.
+-- The text ends with this result, at this position. The statements that `CountsAt` counts were accepted before.
 abbrev pub EndsCounted : Checking → Place → Result Verdict CheckFault → Type 0
 EndsCounted old place result =
     (limits : Limits) (longest : ℕ) (v : Problem) (first : Result State Fault) (input : List ℕ) (n : ℕ) →

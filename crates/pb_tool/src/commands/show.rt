@@ -122,9 +122,10 @@ fn show_each<S: Source, W: Sink, E: Canonical + Drop, M: Machine<Event = E> + Dr
     ensures faults { S.faults input.new ≡ faults_reported result (S.faults input.old) }
 {
     let mut feeder = Feeder::within(machine, longest);
+    let mut piece = Piece::new();
     loop {
         match pull(input, &mut feeder) {
-            Ok(Some(read)) => match show_statement(read, out) {
+            Ok(Some(read)) => match show_statement(read, &mut piece, out) {
                 Ok(()) => {}
                 Err(Failed) => return Err(ToolFault::Write),
             },
@@ -150,19 +151,27 @@ fn read_blank_rest<S: Source>(input: &mut S, place: Place) -> Result<(), ToolFau
     }
 }
 
-/// Writes the line of a statement, and drops the statement.
-fn show_statement<W: Sink, E: Canonical + Drop>(read: Spanned<E>, out: &mut W) -> Result<(), Failed>
+/// Writes the line of a statement, and drops the statement. A short line is made in the piece,
+/// whose text is replaced.
+fn show_statement<W: Sink, E: Canonical + Drop>(
+    read: Spanned<E>,
+    piece: &mut Piece,
+    out: &mut W,
+) -> Result<(), Failed>
     ensures { Writes W.contents W.faults out.old (shown_line E.text read) result out.new }
 {
-    write_spanned(&read, out)
+    write_spanned(&read, piece, out)
 }
 
-/// Writes the line of a statement.
-fn write_spanned<W: Sink, E: Canonical>(read: &Spanned<E>, out: &mut W) -> Result<(), Failed>
+/// Writes the line of a statement. A short line is made in the piece, whose text is replaced.
+fn write_spanned<W: Sink, E: Canonical>(
+    read: &Spanned<E>,
+    piece: &mut Piece,
+    out: &mut W,
+) -> Result<(), Failed>
     ensures { Writes W.contents W.faults out.old (shown_line E.text read.now) result out.new }
 {
-    let mut piece = Piece::new();
-    if put_line(&read.event, &mut piece) && put_place(read.first, &mut piece) {
+    if put_line(&read.event, piece) && put_place(read.first, piece) {
         return write_bytes(piece.as_bytes(), out);
     }
     write_place(read.first, out)?;

@@ -18,7 +18,7 @@ returns-in-Err-add-clause-reads g c =
     let t = rw (c.in-Ok-Some.is, c.in-Ok-Some.field-0-is) at c.pull.ensures in
     let p = t.pulls c.args.longest c.args.machine i.0 i.1 (rw c.loop-spanned.invariant.running tt) i.5 in
     rw c.place.ensures.place (whole_unkept {g = g.M.Machine} c.args.longest c.args.machine i.1 c.loop-spanned.feeder c.pull.new.feeder (g.S.Source.left c.args.source.now) (g.S.Source.left c.loop-spanned.source) (g.S.Source.left c.pull.new.source) i.0 i.2 i.3 g.G.Gather.with c.args.empty g.G.Gather.asks c.in-Ok-Some.spanned (g.S.Source.history c.args.source.now) (g.S.Source.history c.loop-spanned.source) (g.S.Source.history c.pull.new.source) i.6 p
-    t.stop (t.past c.in-Ok-Some.spanned refl) (subst (λ (v : _). IsTrue (g.G.Gather.asks v c.in-Ok-Some.spanned.event)) i.4 c.in-Err-add.ensures.asking)).0
+    t.stop (t.past c.in-Ok-Some.spanned refl).past (subst (λ (v : _). IsTrue (g.G.Gather.asks v c.in-Ok-Some.spanned.event)) i.4 c.in-Err-add.ensures.asking)).0
 
 pub returns-in-Err-add-clause-given : goal.returns-in-Err-add-clause-given
 returns-in-Err-add-clause-given g c =
@@ -26,7 +26,7 @@ returns-in-Err-add-clause-given g c =
     let t = rw (c.in-Ok-Some.is, c.in-Ok-Some.field-0-is) at c.pull.ensures in
     let p = t.pulls c.args.longest c.args.machine i.0 i.1 (rw c.loop-spanned.invariant.running tt) i.5 in
     rw c.place.ensures.place (whole_unkept {g = g.M.Machine} c.args.longest c.args.machine i.1 c.loop-spanned.feeder c.pull.new.feeder (g.S.Source.left c.args.source.now) (g.S.Source.left c.loop-spanned.source) (g.S.Source.left c.pull.new.source) i.0 i.2 i.3 g.G.Gather.with c.args.empty g.G.Gather.asks c.in-Ok-Some.spanned (g.S.Source.history c.args.source.now) (g.S.Source.history c.loop-spanned.source) (g.S.Source.history c.pull.new.source) i.6 p
-    t.stop (t.past c.in-Ok-Some.spanned refl) (subst (λ (v : _). IsTrue (g.G.Gather.asks v c.in-Ok-Some.spanned.event)) i.4 c.in-Err-add.ensures.asking)).1
+    t.stop (t.past c.in-Ok-Some.spanned refl).past (subst (λ (v : _). IsTrue (g.G.Gather.asks v c.in-Ok-Some.spanned.event)) i.4 c.in-Err-add.ensures.asking)).1
 
 less : (a b end longest : ℕ) (q : Option Place) → a < b → b ≤ end → end ≡ end_of longest q → 2 ^ 40 + 1 - b < 2 ^ 40 + 1 - a
 less a b end longest q h k e = omega (arith, end_limit longest q)
@@ -35,7 +35,7 @@ pub loop-spanned-smaller : goal.loop-spanned-smaller
 loop-spanned-smaller g c =
     let t = rw (c.in-Ok-Some.is, c.in-Ok-Some.field-0-is) at c.pull.ensures in
     let f = c.pull.new.feeder in
-    less _ f.place.offset f.end f.longest f.first (t.onward c.in-Ok-Some.spanned refl) f.offset_in_range f.end_is
+    less _ f.place.offset f.end f.longest f.first (t.past c.in-Ok-Some.spanned refl).onward f.offset_in_range f.end_is
 
 pub loop-spanned-preserved : goal.loop-spanned-preserved
 loop-spanned-preserved g c =

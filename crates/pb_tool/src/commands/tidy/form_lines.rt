@@ -10,7 +10,6 @@ ghost use Rattle.pb_opb.specs.declared.OpbEvent.TheVariants.{Constraint};
 ghost use Rattle.pb_tool.specs.engine.InstanceText.{line};
 ghost use Rattle.pb_tool.specs.engine.NormalText.{form_lines};
 
-use crate::canonical::write_line;
 use crate::commands::tidy::page::Page;
 use pb_normal::{HashKeys, Names, Normal, NormalFault, load};
 use pb_opb::OpbEvent;
@@ -112,7 +111,7 @@ impl FormLines {
         let Some(count) = self.count.checked_add(1) else {
             return Err(AllocError);
         };
-        match write_line(&OpbEvent::Constraint(linear), &mut self.page) {
+        match self.page.write_line(&OpbEvent::Constraint(linear)) {
             Ok(()) => {
                 self.count = count;
                 Ok(())

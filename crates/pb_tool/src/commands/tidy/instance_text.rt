@@ -3,6 +3,7 @@
 ghost use Rattle.std.specs.Prelude.{◌≡◌, ◌++◌, None, OnErr, OnOk};
 ghost use Rattle.pb_text.specs.meaning.Writing.{Writes};
 ghost use Rattle.pb_tool.specs.engine.InstanceText.{line, line_if, text_of};
+ghost use Rattle.pb_tool.specs.engine.Page.{WritesPage};
 
 use crate::canonical::{Canonical, write_line};
 use crate::commands::tidy::page::Page;
@@ -69,16 +70,11 @@ pub(crate) fn write_line_if<W: Sink>(event: &Option<OpbEvent>, out: &mut W) -> R
 }
 
 /// Writes the line of `before`, if there is one, and then the line of `event`.
-fn write_after<W: Sink>(
-    before: &Option<OpbEvent>,
-    event: &OpbEvent,
-    out: &mut W,
-) -> Result<(), Failed>
-    ensures { Writes W.contents W.faults out.old
-        (line_if before.now ++ line event.now) result out.new }
+fn write_after(before: &Option<OpbEvent>, event: &OpbEvent, page: &mut Page) -> Result<(), Failed>
+    ensures { WritesPage page.old (line_if before.now ++ line event.now) result page.new }
 {
-    write_line_if(before, out)?;
-    write_line(event, out)
+    write_line_if(before, page)?;
+    page.write_line(event)
 }
 
 impl Canonical for InstanceText {

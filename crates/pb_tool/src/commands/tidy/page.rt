@@ -1,15 +1,22 @@
 //! Text that is stored until it may be written.
 
-ghost use Rattle.std.specs.Prelude.{◌≡◌, [], length, take};
+ghost use Rattle.std.specs.Prelude.{◌≡◌, ◌++◌, [], IfOk, OnErr, if◌then◌else◌, length, take};
+ghost use Rattle.pb_text.specs.meaning.Writing.{one_more};
+ghost use Rattle.pb_tool.specs.contract.Show.{line_of};
+ghost use Rattle.pb_tool.specs.engine.Page.{WritesPage};
 
+use crate::canonical::{Canonical, put_line, write_parts};
+use pb_sums::piece::Piece;
 use pb_text::{Failed, Sink};
-use std::alloc::Global;
+use std::alloc::{AllocError, Global};
 use std::marker::Model;
 
-/// A text in memory, which contracts see as its bytes.
+/// A text in memory, and a piece in which its short lines are made. Contracts see the bytes of the
+/// text.
 #[derive(Drop)]
 pub(crate) struct Text {
     bytes: Vec<u8>,
+    piece: Piece,
 }
 
 impl Model for Text {
@@ -18,6 +25,23 @@ impl Model for Text {
     ghost Value = { List ℕ };
 
     ghost view = { λ t. t.bytes.items };
+}
+
+impl Text {
+    /// Adds the line of a statement if it surely fits in the piece, and returns whether it did.
+    fn add_short_line<E: Canonical>(&mut self, statement: &E) -> Result<bool, AllocError>
+        ensures ok { IfOk result (λ added. self.new ≡
+            (if added then self.old ++ line_of E.text statement.now else self.old)) }
+        ensures unchanged { OnErr result (self.new ≡ self.old) }
+    {
+        if !put_line(statement, &mut self.piece) {
+            return Ok(false);
+        }
+        match self.bytes.extend_from_slice(self.piece.as_bytes()) {
+            Ok(()) => Ok(true),
+            Err(_) => Err(AllocError),
+        }
+    }
 }
 
 /// A sink in memory. It fails if memory ran out.
@@ -42,8 +66,28 @@ impl Page {
     {
         let text = Text {
             bytes: Vec::new(alloc),
+            piece: Piece::new(),
         };
         Page { text, failures: 0 }
+    }
+
+    /// Writes the canonical text of a statement, and a line feed.
+    pub(crate) fn write_line<E: Canonical>(&mut self, statement: &E) -> Result<(), Failed>
+        ensures { WritesPage self.old (line_of E.text statement.now) result self.new }
+    {
+        match self.text.add_short_line(statement) {
+            Ok(true) => Ok(()),
+            Ok(false) => write_parts(statement, self),
+            Err(AllocError) => Err(self.fail()),
+        }
+    }
+
+    /// Counts a failure.
+    fn fail(&mut self) -> Failed
+        ensures { self.new ≡ record self.old { failures = one_more self.old.failures } }
+    {
+        self.failures = self.failures.saturating_add(1);
+        Failed
     }
 
     /// Its bytes.
@@ -83,8 +127,7 @@ impl Sink for Page {
 
     fn take(&mut self, piece: &[u8]) -> Result<usize, Failed> {
         if self.text.bytes.extend_from_slice(piece).is_err() {
-            self.failures = self.failures.saturating_add(1);
-            return Err(Failed);
+            return Err(self.fail());
         }
         Ok(piece.len())
     }

@@ -59,7 +59,7 @@ impl ProofText {
         ensures unchanged { OnErr result (self.new ≡ self.old) }
     {
         let mark = self.steps.mark();
-        match write_line(step, &mut self.steps) {
+        match self.steps.write_line(step) {
             Ok(()) => Ok(()),
             Err(Failed) => {
                 self.steps.back_to(mark);

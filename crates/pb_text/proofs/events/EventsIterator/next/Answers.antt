@@ -21,8 +21,8 @@ returns-clause-steps g c =
           subst (λ (r : _). PullsOn {g = g.M.Machine} longest start first spans r h (g.S.Source.left after)) (sym same) (c.pull.ensures.row longest start first spans p);
       stop = λ e. c.pull.ensures.stop ∙ sym (ap stop_of same);
       last = λ e n. c.pull.ensures.last (none_pulled c.pull.result (sym c.transpose.ensures ∙ n));
-      onward = λ event e. c.pull.ensures.onward event (event_pulled c.pull.result event (sym c.transpose.ensures ∙ e));
-      past = λ event e. c.pull.ensures.past event (event_pulled c.pull.result event (sym c.transpose.ensures ∙ e));
+      onward = λ event e. (c.pull.ensures.past event (event_pulled c.pull.result event (sym c.transpose.ensures ∙ e))).onward;
+      past = λ event e. (c.pull.ensures.past event (event_pulled c.pull.result event (sym c.transpose.ensures ∙ e))).past;
       faulty = c.pull.ensures.faults ∙ sym (ap (λ (r : _). faults_after f.stop r (g.S.Source.faults before)) same);
       seen = λ e. subst (λ (r : _). IfErr r (λ stop. IsShown (g.S.Source.shown after) (g.S.Source.ended after) stop.why)) (sym same) (c.pull.ensures.shown running);
       memory = λ e. subst (λ (r : _). IfErr r (λ stop. (b : ℕ) × WantsMemory {g = g.M.Machine} stop h b)) (sym same) (c.pull.ensures.memory running);

@@ -26,7 +26,7 @@ loop-read-smaller g c =
     let t = rw (c.in-Ok-Some.is, c.in-Ok-Some.field-0-is) at c.pull.ensures in
     let (more, sofar) = t.row c.args.longest c.args.machine (g.S.Source.left c.args.input.now) spans pulled in
     let within = so_far_within (AcceptsItems g.M.Machine.automaton c.args.machine) c.args.longest (g.S.Source.left c.args.input.now) (g.S.Source.left c.pull.new.source) (spans ++ c.in-Ok-Some.read ∷ []) c.in-Ok-Some.read.past sofar in
-    fewer _ _ (subst (λ (p : Place). p.offset ≤ 2 ^ 40) (t.past c.in-Ok-Some.read refl) within) (t.onward c.in-Ok-Some.read refl)
+    fewer _ _ (subst (λ (p : Place). p.offset ≤ 2 ^ 40) (t.past c.in-Ok-Some.read refl).past within) (t.past c.in-Ok-Some.read refl).onward
 
 pub loop-read-preserved : goal.loop-read-preserved
 loop-read-preserved g c =
@@ -71,7 +71,7 @@ returns-in-Err-show_statement-clause-given g c =
     let (spans, has, wrote) = c.loop-read.invariant.given in
     let t = rw (c.in-Ok-Some.is, c.in-Ok-Some.field-0-is) at c.pull.ensures in
     given_broken (AcceptsItems g.M.Machine.automaton c.args.machine) c.args.longest (MayAsk g.M.Machine.automaton c.args.machine) g.E.Canonical.text g.W.Sink.contents g.W.Sink.faults (g.S.Source.history c.args.input.now) (g.S.Source.history c.pull.new.source) spans c.in-Ok-Some.read c.args.out.now c.loop-read.out c.show_statement.new.out
-    (given_so_far {g = g.M.Machine} c.args.longest c.args.machine (g.S.Source.history c.args.input.now) (g.S.Source.history c.loop-read.input) (g.S.Source.history c.pull.new.source) spans c.loop-read.feeder c.pull.new.feeder has (g.S.Source.left c.loop-read.input) (g.S.Source.left c.pull.new.source) c.in-Ok-Some.read (given_row {g = g.M.Machine} c.args.longest c.args.machine (g.S.Source.history c.args.input.now) (g.S.Source.history c.loop-read.input) (g.S.Source.history c.pull.new.source) spans c.loop-read.feeder c.pull.new.feeder has (g.S.Source.left c.loop-read.input) (g.S.Source.left c.pull.new.source) (Ok (Some c.in-Ok-Some.read)) (t.pulls c.args.longest c.args.machine has.0 spans (rw has.4 tt) has.3) t.stop t.last t.past))
+    (given_so_far {g = g.M.Machine} c.args.longest c.args.machine (g.S.Source.history c.args.input.now) (g.S.Source.history c.loop-read.input) (g.S.Source.history c.pull.new.source) spans c.loop-read.feeder c.pull.new.feeder has (g.S.Source.left c.loop-read.input) (g.S.Source.left c.pull.new.source) c.in-Ok-Some.read (given_row {g = g.M.Machine} c.args.longest c.args.machine (g.S.Source.history c.args.input.now) (g.S.Source.history c.loop-read.input) (g.S.Source.history c.pull.new.source) spans c.loop-read.feeder c.pull.new.feeder has (g.S.Source.left c.loop-read.input) (g.S.Source.left c.pull.new.source) (Ok (Some c.in-Ok-Some.read)) (t.pulls c.args.longest c.args.machine has.0 spans (rw has.4 tt) has.3) t.stop t.last (λ m e. (t.past m e).past)))
     wrote c.in-Err-show_statement.ensures
 
 pub returns-in-Err-clause-given : goal.returns-in-Err-clause-given
@@ -79,7 +79,7 @@ returns-in-Err-clause-given g c =
     let (spans, has, wrote) = c.loop-read.invariant.given in
     let t = rw c.in-Err.is at c.pull.ensures in
     rw c.text_fault.ensures (given_refused (AcceptsItems g.M.Machine.automaton c.args.machine) c.args.longest (MayAsk g.M.Machine.automaton c.args.machine) g.E.Canonical.text g.W.Sink.contents g.W.Sink.faults (g.S.Source.history c.args.input.now) (g.S.Source.history c.pull.new.source) spans c.in-Err.stop c.args.out.now c.loop-read.out
-    (given_row {g = g.M.Machine} c.args.longest c.args.machine (g.S.Source.history c.args.input.now) (g.S.Source.history c.loop-read.input) (g.S.Source.history c.pull.new.source) spans c.loop-read.feeder c.pull.new.feeder has (g.S.Source.left c.loop-read.input) (g.S.Source.left c.pull.new.source) (Err c.in-Err.stop) (t.pulls c.args.longest c.args.machine has.0 spans (rw has.4 tt) has.3) t.stop t.last t.past)
+    (given_row {g = g.M.Machine} c.args.longest c.args.machine (g.S.Source.history c.args.input.now) (g.S.Source.history c.loop-read.input) (g.S.Source.history c.pull.new.source) spans c.loop-read.feeder c.pull.new.feeder has (g.S.Source.left c.loop-read.input) (g.S.Source.left c.pull.new.source) (Err c.in-Err.stop) (t.pulls c.args.longest c.args.machine has.0 spans (rw has.4 tt) has.3) t.stop t.last (λ m e. (t.past m e).past))
     wrote)
 
 pub returns-clause-given : goal.returns-clause-given
@@ -88,7 +88,7 @@ returns-clause-given g c =
     let t = rw (c.in-Ok-None.is, c.in-Ok-None.field-0-is) at c.pull.ensures in
     let ends = subst (λ (p : Place). OfGiven (λ left rest. EndsAt p left c.read_blank_rest.result rest) (g.S.Source.history c.pull.new.source) (g.S.Source.history c.read_blank_rest.new.input)) c.place.ensures.place c.read_blank_rest.ensures.given in
     given_shown (AcceptsItems g.M.Machine.automaton c.args.machine) c.args.longest (MayAsk g.M.Machine.automaton c.args.machine) g.E.Canonical.text g.W.Sink.contents g.W.Sink.faults (g.S.Source.history c.args.input.now) (g.S.Source.history c.pull.new.source) (g.S.Source.history c.read_blank_rest.new.input) spans (place_of c.pull.new.feeder) c.args.out.now c.loop-read.out c.read_blank_rest.result
-    (given_row {g = g.M.Machine} c.args.longest c.args.machine (g.S.Source.history c.args.input.now) (g.S.Source.history c.loop-read.input) (g.S.Source.history c.pull.new.source) spans c.loop-read.feeder c.pull.new.feeder has (g.S.Source.left c.loop-read.input) (g.S.Source.left c.pull.new.source) (Ok None) (t.pulls c.args.longest c.args.machine has.0 spans (rw has.4 tt) has.3) t.stop t.last t.past)
+    (given_row {g = g.M.Machine} c.args.longest c.args.machine (g.S.Source.history c.args.input.now) (g.S.Source.history c.loop-read.input) (g.S.Source.history c.pull.new.source) spans c.loop-read.feeder c.pull.new.feeder has (g.S.Source.left c.loop-read.input) (g.S.Source.left c.pull.new.source) (Ok None) (t.pulls c.args.longest c.args.machine has.0 spans (rw has.4 tt) has.3) t.stop t.last (λ m e. (t.past m e).past))
     ends wrote
 
 pub returns-in-Err-clause-seen : goal.returns-in-Err-clause-seen

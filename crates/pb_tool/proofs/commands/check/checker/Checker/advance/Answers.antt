@@ -48,7 +48,7 @@ invariant_of-self-in-Err-step_watched c =
     let (limits, longest, v, first, input, asks, h) = c.self.invariant in
     let t = rw c.in-Ok.is at c.feed.ensures in
     let u = rw (c.in-Err-step_watched.is, c.in-Some.is) at c.step_watched.ensures in
-    (limits, longest, v, first, _, asks, (checked.refused c.texts_are_read.ensures limits longest v first input c.self.inside.feeder c.self.inside.replay c.self.inside.fault (rw (← c.self.view_is) at c.requires) h _ refl c.args.piece.now c.feed.new.self c.in-Ok.fed c.in-Some.read c.in-Some.is t.feeds t.stop (c.feed.ensures.past c.in-Ok.fed c.in-Some.read c.in-Ok.is c.in-Some.is) c.step_watched.new.replay c.in-Err-step_watched.fault u.steps u.names u.unvalued).0)
+    (limits, longest, v, first, _, asks, (checked.refused c.texts_are_read.ensures limits longest v first input c.self.inside.feeder c.self.inside.replay c.self.inside.fault (rw (← c.self.view_is) at c.requires) h _ refl c.args.piece.now c.feed.new.self c.in-Ok.fed c.in-Some.read c.in-Some.is t.feeds t.stop (c.feed.ensures.past c.in-Ok.fed c.in-Some.read c.in-Ok.is c.in-Some.is).past c.step_watched.new.replay c.in-Err-step_watched.fault u.steps u.names u.unvalued).0)
 
 pub returns-in-Ok-step_watched-clause-counts : goal.returns-in-Ok-step_watched-clause-counts
 returns-in-Ok-step_watched-clause-counts c limits longest v first input k h =
@@ -62,7 +62,7 @@ returns-in-Err-step_watched-clause-counts c limits longest v first input k h =
     let t = rw c.in-Ok.is at c.feed.ensures in
     let u = rw (c.in-Err-step_watched.is, c.in-Some.is) at c.step_watched.ensures in
     let (here, many) = rw (← c.self.view_is) at h in
-    checked.refused c.texts_are_read.ensures limits longest v first input c.self.inside.feeder c.self.inside.replay c.self.inside.fault (rw (← c.self.view_is) at c.requires) here k many c.args.piece.now c.feed.new.self c.in-Ok.fed c.in-Some.read c.in-Some.is t.feeds t.stop (c.feed.ensures.past c.in-Ok.fed c.in-Some.read c.in-Ok.is c.in-Some.is) c.step_watched.new.replay c.in-Err-step_watched.fault u.steps u.names u.unvalued
+    checked.refused c.texts_are_read.ensures limits longest v first input c.self.inside.feeder c.self.inside.replay c.self.inside.fault (rw (← c.self.view_is) at c.requires) here k many c.args.piece.now c.feed.new.self c.in-Ok.fed c.in-Some.read c.in-Some.is t.feeds t.stop (c.feed.ensures.past c.in-Ok.fed c.in-Some.read c.in-Ok.is c.in-Some.is).past c.step_watched.new.replay c.in-Err-step_watched.fault u.steps u.names u.unvalued
 
 pub returns-in-Err-clause-unread : goal.returns-in-Err-clause-unread
 returns-in-Err-clause-unread c =
@@ -95,4 +95,4 @@ pub returns-in-Err-step_watched-clause-names : goal.returns-in-Err-step_watched-
 returns-in-Err-step_watched-clause-names c = search rules
 
 pub returns-in-Ok-step_watched-clause-onward : goal.returns-in-Ok-step_watched-clause-onward
-returns-in-Ok-step_watched-clause-onward c more = c.feed.ensures.some c.in-Ok.fed c.in-Some.read c.in-Ok.is c.in-Some.is
+returns-in-Ok-step_watched-clause-onward c more = (c.feed.ensures.past c.in-Ok.fed c.in-Some.read c.in-Ok.is c.in-Some.is).some

@@ -17,7 +17,7 @@ pub invariant_of-self-in-Err-step_watched : goal.invariant_of-self-in-Err-step_w
 invariant_of-self-in-Err-step_watched g c =
     let t = rw (c.in-Ok-Some.is, c.in-Ok-Some.field-0-is) at c.pull.ensures in
     let u = c.in-Err-step_watched.ensures in
-    runs.refused_somewhere c.texts_are_read.ensures c.self.inside.feeder c.self.inside.replay c.self.inside.fault (rw (← c.self.view_is) at c.requires) c.pull.new.feeder (g.S.Source.left c.args.input.now) (g.S.Source.left c.pull.new.source) (g.S.Source.history c.args.input.now) (g.S.Source.history c.pull.new.source) c.in-Ok-Some.read t.pulls t.stop (t.past c.in-Ok-Some.read refl) c.self.invariant c.step_watched.new.replay c.in-Err-step_watched.rejected u.steps u.names u.unvalued
+    runs.refused_somewhere c.texts_are_read.ensures c.self.inside.feeder c.self.inside.replay c.self.inside.fault (rw (← c.self.view_is) at c.requires) c.pull.new.feeder (g.S.Source.left c.args.input.now) (g.S.Source.left c.pull.new.source) (g.S.Source.history c.args.input.now) (g.S.Source.history c.pull.new.source) c.in-Ok-Some.read t.pulls t.stop (t.past c.in-Ok-Some.read refl).past c.self.invariant c.step_watched.new.replay c.in-Err-step_watched.rejected u.steps u.names u.unvalued
 
 pub unreachable-requires : goal.unreachable-requires
 unreachable-requires g c =
@@ -47,7 +47,7 @@ returns-in-Err-step_watched-clause-runs g c longest began before since unshown r
     let i = rw (← c.self.view_is) at run in
     let t = rw (c.in-Ok-Some.is, c.in-Ok-Some.field-0-is) at c.pull.ensures in
     let u = c.in-Err-step_watched.ensures in
-    runs.runs_refused c.proofs_are_exact.ensures longest began g.V.Watch.got before since unshown c.self.inside.feeder c.self.inside.replay c.self.inside.fault (g.S.Source.left c.args.input.now) (g.S.Source.history c.args.input.now) c.args.watch.now i c.pull.new.feeder (g.S.Source.left c.pull.new.source) (g.S.Source.history c.pull.new.source) c.in-Ok-Some.read (t.row longest _ before i.spans i.pulled) t.pulls t.stop t.past c.step_watched.new.replay c.in-Err-step_watched.rejected u.steps u.names u.unvalued c.step_watched.new.watch u.shown
+    runs.runs_refused c.proofs_are_exact.ensures longest began g.V.Watch.got before since unshown c.self.inside.feeder c.self.inside.replay c.self.inside.fault (g.S.Source.left c.args.input.now) (g.S.Source.history c.args.input.now) c.args.watch.now i c.pull.new.feeder (g.S.Source.left c.pull.new.source) (g.S.Source.history c.pull.new.source) c.in-Ok-Some.read (t.row longest _ before i.spans i.pulled) t.pulls t.stop (λ m e. (t.past m e).past) c.step_watched.new.replay c.in-Err-step_watched.rejected u.steps u.names u.unvalued c.step_watched.new.watch u.shown
 
 pub returns-in-Some-clause-runs : goal.returns-in-Some-clause-runs
 returns-in-Some-clause-runs g c longest began before since unshown run =
@@ -67,7 +67,7 @@ returns-in-Err-clause-runs g c longest began before since unshown run =
 pub returns-in-Ok-clause-onward : goal.returns-in-Ok-clause-onward
 returns-in-Ok-clause-onward g c is =
     let t = rw (c.in-Ok-Some.is, c.in-Ok-Some.field-0-is) at c.pull.ensures in
-    rw (← c.self.view_is) (t.onward c.in-Ok-Some.read refl)
+    rw (← c.self.view_is) (t.past c.in-Ok-Some.read refl).onward
 
 pub returns-in-Ok-clause-within : goal.returns-in-Ok-clause-within
 returns-in-Ok-clause-within g c is =

@@ -1,5 +1,5 @@
 use Rattle.pb_tool.proofs.Common.{refl, part_broke, part_then}
-use Rattle.pb_tool.proofs.canonical.write_line.Goals as goal
+use Rattle.pb_tool.proofs.canonical.write_parts.Goals as goal
 
 pub returns-in_err-write_text : goal.returns-in_err-write_text
 returns-in_err-write_text g c =
@@ -7,4 +7,4 @@ returns-in_err-write_text g c =
 
 pub returns : goal.returns
 returns g c =
-    part_then g.W.Sink.contents g.W.Sink.faults _ _ _ _ _ _ _ refl c.in_ok-write_text.ensures c.write_bytes-2.ensures
+    part_then g.W.Sink.contents g.W.Sink.faults _ _ _ _ _ _ _ refl c.in_ok-write_text.ensures c.write_bytes.ensures
