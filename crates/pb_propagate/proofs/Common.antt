@@ -45,6 +45,7 @@ pub use Rattle.pb_propagate.specs.declared.rests.Rests.{Rests}
 pub use Rattle.pb_propagate.specs.declared.run.Run.{Run}
 pub use Rattle.pb_propagate.specs.declared.store.Occurrence.{Occurrence}
 pub use Rattle.pb_propagate.specs.declared.store.Store.{Store}
+pub use Rattle.pb_propagate.specs.declared.store.spots.Spots.{Spots}
 pub use Rattle.pb_propagate.specs.declared.store.stored_form.StoredForm.{StoredForm}
 pub use Rattle.pb_propagate.specs.declared.term.Rank.{Rank}
 pub use Rattle.pb_propagate.specs.declared.term.Term.{Term}
@@ -87,6 +88,7 @@ pub use Rattle.pb_propagate.specs.engine.Engine.Root.{alone, HasForm, HasGained,
 pub use Rattle.pb_propagate.specs.engine.Engine.Root.{HasMet, HasUpdated, IsAnswered, IsAsked, IsConflict, IsFree, IsKeptConflict, IsMet}
 pub use Rattle.pb_propagate.specs.engine.Engine.Root.{IsNeedless, IsOtherUnit, IsRooted, IsVacant, posed, UpdateCosts}
 pub use Rattle.pb_propagate.specs.engine.Engine.Slots.{ArePlaced, form_at, numbered}
+pub use Rattle.pb_propagate.specs.engine.Engine.Spots.{spots_in}
 pub use Rattle.pb_propagate.specs.engine.Engine.Terms.{terms_of}
 pub use Rattle.pb_propagate.specs.engine.Engine.Waiting.{IsWithout}
 pub use Rattle.pb_propagate.specs.meaning.Propagation.{Derivation, HasConflict, IsCompletion, MayPropagate, MeetsConflict, opened, With}

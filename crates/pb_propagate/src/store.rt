@@ -5,6 +5,7 @@ pub mod opened;
 pub mod reasons;
 pub mod refresh;
 pub mod sorted_form;
+pub mod spots;
 pub mod stored_form;
 pub mod units;
 
@@ -15,6 +16,7 @@ ghost use Rattle.pb_propagate.specs.engine.Engine.Fields.{entry_at};
 
 use crate::engine::visits::Visits;
 use crate::store::sorted_form::SortedForm;
+use crate::store::spots::Spots;
 use crate::store::stored_form::StoredForm;
 use crate::term::Term;
 
@@ -38,7 +40,7 @@ pub struct Visited {
 pub struct Store {
     pub stored: Vec<StoredForm>,
     // For each form, the position of the entry of each of its terms in the list of its literal.
-    pub spots: Vec<Vec<usize>>,
+    pub spots: Vec<Spots>,
     pub occurrences: Vec<Vec<Occurrence>>,
     pub variables: usize,
 }

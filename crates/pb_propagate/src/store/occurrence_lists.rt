@@ -19,8 +19,10 @@ use crate::clauses::watched::Pair;
 use crate::run::{Run, place_of};
 use crate::shared::Shared;
 use crate::store::sorted_form::SortedForm;
+use crate::store::spots::Spots;
 use crate::store::stored_form::StoredForm;
 use crate::store::{Occurrence, Store};
+use crate::tight::append;
 use pb_normal::{Normal, NumberedLiteral};
 use std::alloc::{AllocError, Global};
 
@@ -101,18 +103,13 @@ fn link(
         let place = place_of(term.literal);
         let spot = lists[place].len();
         spots.push(spot)?;
-        lists[place].push(Occurrence { form, index: i })?;
+        append(&mut lists[place], Occurrence { form, index: i })?;
     }
     Ok(())
 }
 
 // Removes an entry from a list. The last entry of the list moves to its position.
-fn take_out(
-    lists: &mut Vec<Vec<Occurrence>>,
-    spots: &mut Vec<Vec<usize>>,
-    place: usize,
-    spot: usize,
-)
+fn take_out(lists: &mut Vec<Vec<Occurrence>>, spots: &mut Vec<Spots>, place: usize, spot: usize)
     requires place { place < length lists.old.items }
     requires spot { spot < length (slice_index_or (lists_of lists.old.items) place []) }
     requires named { (e : Occurrence) →
@@ -133,7 +130,7 @@ fn take_out(
         return;
     }
     let moved = lists[place][spot];
-    spots[moved.form][moved.index] = spot;
+    spots[moved.form].set(moved.index, spot);
 }
 
 // Removes the entries of a form from the lists, that of the last term first.
@@ -153,7 +150,7 @@ fn unlink(store: &mut Store, form: usize)
     'terms: while left > 0 {
         left -= 1;
         let term = store.stored[form].terms.term(left);
-        let spot = store.spots[form][left];
+        let spot = store.spots[form].get(left);
         let place = place_of(term.literal);
         take_out(&mut store.occurrences, &mut store.spots, place, spot);
     }
@@ -226,7 +223,7 @@ pub fn widen(store: &mut Store) -> Result<(), AllocError>
     ensures variables { store.new.variables ≡ store.old.variables }
 {
     let alloc = *store.stored.allocator();
-    store.spots.push(Vec::new(alloc))?;
+    store.spots.push(Spots::Empty)?;
     store.stored.push(empty_stored(alloc))?;
     Ok(())
 }
@@ -249,7 +246,8 @@ pub fn fill(store: &mut Store, slot: usize, form: Shared) -> Result<(), AllocErr
     let kept = stored_of(alloc, form)?;
     let mut spots = Vec::with_capacity(alloc, kept.terms.len())?;
     link(&kept.terms, slot, &mut store.occurrences, &mut spots)?;
-    store.spots[slot] = spots;
+    let seats = Spots::of(alloc, spots)?;
+    store.spots[slot] = seats;
     store.stored[slot] = kept;
     Ok(())
 }
@@ -319,5 +317,5 @@ pub fn vacate(store: &mut Store, form: usize)
     let alloc = *store.stored.allocator();
     unlink(store, form);
     store.stored[form] = empty_stored(alloc);
-    store.spots[form] = Vec::new(alloc);
+    store.spots[form] = Spots::Empty;
 }

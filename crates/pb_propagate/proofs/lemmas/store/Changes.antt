@@ -3,7 +3,7 @@ use Rattle.pb_propagate.proofs.Common.{ℕ, ◌++◌, ◌+◌, ◌<◌, ◌∙�
 use Rattle.pb_propagate.proofs.Common.{length, length-append, length-set, List, None, refl, set, subst, suc, sym, take, Vec, zero, Option}
 use Rattle.pb_propagate.proofs.Common.{set-append_seam, cases_eq, cases_lt, get_or-take, get_or_append_left, get_or_past, length-map, length-take-le}
 use Rattle.pb_propagate.proofs.Common.{map-append, map-set, set-set, take-map, take_all, take_more, All-push, All-set, All-take, Form, Occurrence}
-use Rattle.pb_propagate.proofs.Common.{StoredForm, Term, entries_of, forms_of, shapes_of, spots_of, stored_shape, cut, degree_at, IsLinked, IsStored}
+use Rattle.pb_propagate.proofs.Common.{Spots, spots_in, StoredForm, Term, entries_of, forms_of, shapes_of, spots_of, stored_shape, cut, degree_at, IsLinked, IsStored}
 use Rattle.pb_propagate.proofs.Common.{terms_at, AreInside, Shape, terms_of}
 use Rattle.pb_propagate.proofs.lemmas.store.Gets.{lt_of_apart, last-is}
 use Rattle.pb_propagate.proofs.lemmas.store.Places.{entries-length}
@@ -23,7 +23,7 @@ none_inside : (n : ℕ) (ts : List Term) → ts ≡ [] → AreInside n ts
 none_inside n ts h i d less = absurd (omega (arith, less, ap length h))
 
 -- an empty form after the others
-pub widened-forms : (keep : List StoredForm) (k : StoredForm) (sp : List (Vec ℕ Global)) (v : Vec ℕ Global) (occ : List (Vec Occurrence Global)) (n : ℕ) → (terms_of k.terms) ≡ [] → v.items ≡ [] →
+pub widened-forms : (keep : List StoredForm) (k : StoredForm) (sp : List Spots) (v : Spots) (occ : List (Vec Occurrence Global)) (n : ℕ) → (terms_of k.terms) ≡ [] → spots_in v ≡ [] →
     IsStored (shapes_of keep) (spots_of sp) (entries_of (shapes_of keep) occ) n → IsStored (shapes_of (keep ++ (k ∷ []))) (spots_of (sp ++ (v ∷ []))) (entries_of (shapes_of (keep ++ (k ∷ []))) occ) n
 widened-forms keep k sp v occ n empty no_spots old =
     let forms = shapes_of keep in
@@ -35,7 +35,7 @@ widened-forms keep k sp v occ n empty no_spots old =
     let with_end : IsLinked base (spots_of sp ++ ([] ∷ [])) (entries_of forms occ) = rw (cut-all base (length forms) 0 (omega (arith, ap length terms_here))) at (link-start forms (spots_of sp) (entries_of forms occ) x old.whole) in
     let whole : IsLinked base (spots_of sp ++ ([] ∷ [])) (entries_of base occ) = subst (IsLinked base (spots_of sp ++ ([] ∷ []))) (sym same) with_end in
     let forms_more : shapes_of (keep ++ (k ∷ [])) ≡ base = map-append stored_shape keep (k ∷ []) in
-    let spots_more : spots_of (sp ++ (v ∷ [])) ≡ spots_of sp ++ ([] ∷ []) = map-append (λ (w : Vec ℕ Global). w.items) sp (v ∷ []) ∙ ap (λ ys. spots_of sp ++ (ys ∷ [])) no_spots in
+    let spots_more : spots_of (sp ++ (v ∷ [])) ≡ spots_of sp ++ ([] ∷ []) = map-append spots_in sp (v ∷ []) ∙ ap (λ ys. spots_of sp ++ (ys ∷ [])) no_spots in
     rw (forms_more, spots_more) (record {
       whole = whole;
       named = linked-named base (spots_of sp ++ ([] ∷ [])) (entries_of base occ) whole;
@@ -54,9 +54,9 @@ widened-forms keep k sp v occ n empty no_spots old =
     })
 
 -- a form in the slot of an empty one
-pub filled-stored : (keep : List StoredForm) (k : StoredForm) (sp : List (Vec ℕ Global)) (v : Vec ℕ Global) (occ occ' : List (Vec Occurrence Global)) (n form : ℕ) (terms : List Term) →
-    form < length keep → terms_at (shapes_of keep) form ≡ [] → terms ≡ (terms_of k.terms) → length occ' ≡ length occ → length v.items ≡ length terms → AreInside n (terms_of k.terms) →
-    ((base : List Shape) (all : List (List ℕ)) → form < length base → terms_at base form ≡ terms → form < length all → IsLinked (cut base form 0) (set all form []) (entries_of base occ) → IsLinked (cut base form (length terms)) (set all form v.items) (entries_of base occ')) →
+pub filled-stored : (keep : List StoredForm) (k : StoredForm) (sp : List Spots) (v : Spots) (occ occ' : List (Vec Occurrence Global)) (n form : ℕ) (terms : List Term) →
+    form < length keep → terms_at (shapes_of keep) form ≡ [] → terms ≡ (terms_of k.terms) → length occ' ≡ length occ → length (spots_in v) ≡ length terms → AreInside n (terms_of k.terms) →
+    ((base : List Shape) (all : List (List ℕ)) → form < length base → terms_at base form ≡ terms → form < length all → IsLinked (cut base form 0) (set all form []) (entries_of base occ) → IsLinked (cut base form (length terms)) (set all form (spots_in v)) (entries_of base occ')) →
     IsStored (shapes_of keep) (spots_of sp) (entries_of (shapes_of keep) occ) n → IsStored (shapes_of (set keep form k)) (spots_of (set sp form v)) (entries_of (shapes_of (set keep form k)) occ') n
 filled-stored keep k sp v occ occ' n form terms room empty terms_is sizes count inside link old =
     let forms = shapes_of keep in
@@ -72,18 +72,18 @@ filled-stored keep k sp v occ occ' n form terms room empty terms_is sizes count 
     let same : entries_of base occ ≡ entries_of forms occ = entries-apart forms base occ form (λ j n. terms-set forms form x j n) (others-named forms (spots_of sp) occ form here bare) in
     let ready : IsLinked (cut base form 0) (set (spots_of sp) form []) (entries_of forms occ) = rw (set-set forms form x first) (link-vacant forms (spots_of sp) (entries_of forms occ) form first here refl bare) in
     let start : IsLinked (cut base form 0) (set (spots_of sp) form []) (entries_of base occ) = subst (IsLinked (cut base form 0) (set (spots_of sp) form [])) (sym same) ready in
-    let done : IsLinked (cut base form (length terms)) (set (spots_of sp) form v.items) (entries_of base occ') = link base (spots_of sp) form_in terms_here wide start in
-    let whole : IsLinked base (set (spots_of sp) form v.items) (entries_of base occ') = rw (cut-all base form (length terms) (omega (arith, ap length terms_here))) at done in
+    let done : IsLinked (cut base form (length terms)) (set (spots_of sp) form (spots_in v)) (entries_of base occ') = link base (spots_of sp) form_in terms_here wide start in
+    let whole : IsLinked base (set (spots_of sp) form (spots_in v)) (entries_of base occ') = rw (cut-all base form (length terms) (omega (arith, ap length terms_here))) at done in
     let forms_set : shapes_of (set keep form k) ≡ base = map-set stored_shape keep form k in
-    let spots_set : spots_of (set sp form v) ≡ set (spots_of sp) form v.items = map-set (λ (w : Vec ℕ Global). w.items) sp form v in
+    let spots_set : spots_of (set sp form v) ≡ set (spots_of sp) form (spots_in v) = map-set spots_in sp form v in
     rw (forms_set, spots_set) (record {
       whole = whole;
-      named = linked-named base (set (spots_of sp) form v.items) (entries_of base occ') whole;
+      named = linked-named base (set (spots_of sp) form (spots_in v)) (entries_of base occ') whole;
       places = omega (arith, old.places, sizes, entries-length forms occ, entries-length base occ');
       inside = All-set (λ (f : Shape). AreInside n f.terms) forms form x inside old.inside;
       rooms = λ s less. elim (cases_eq s form) [
-        | inl at ↦ rw at (ap length (get_or-set_same (spots_of sp) form v.items [] wide) ∙ count ∙ sym (ap length terms_here))
-        | inr other ↦ ap length (get_or-set_other (spots_of sp) form s v.items [] other) ∙ old.rooms s (omega (arith, less, length-set forms form x)) ∙ sym (ap (λ (f : Shape). length f.terms) (get_or-set_other forms form s x none other))
+        | inl at ↦ rw at (ap length (get_or-set_same (spots_of sp) form (spots_in v) [] wide) ∙ count ∙ sym (ap length terms_here))
+        | inr other ↦ ap length (get_or-set_other (spots_of sp) form s (spots_in v) [] other) ∙ old.rooms s (omega (arith, less, length-set forms form x)) ∙ sym (ap (λ (f : Shape). length f.terms) (get_or-set_other forms form s x none other))
       ];
     })
 
@@ -98,7 +98,7 @@ terms-taken forms n k size other =
       | inr more ↦ ap (λ (f : Shape). f.terms) (get_or_past (take n forms) k e (omega (arith, length-take-le n forms (omega (arith, size)), more)) ∙ sym (get_or_past forms k e (omega (arith, size, lt_of_apart n k more other))))
     ]
 
-pub left-stored : (keep : List StoredForm) (sp sp0 : List (Vec ℕ Global)) (occ occ0 : List (Vec Occurrence Global)) (n number : ℕ) → length keep ≡ number + 1 → length occ ≡ length occ0 →
+pub left-stored : (keep : List StoredForm) (sp sp0 : List Spots) (occ occ0 : List (Vec Occurrence Global)) (n number : ℕ) → length keep ≡ number + 1 → length occ ≡ length occ0 →
     ((s : ℕ) → length (get_or (spots_of sp) s []) ≡ length (get_or (spots_of sp0) s [])) → IsLinked (cut (shapes_of keep) number 0) (spots_of sp) (entries_of (shapes_of keep) occ) → IsStored (shapes_of keep) (spots_of sp0) (entries_of (shapes_of keep) occ0) n →
     IsStored (shapes_of (take number keep)) (spots_of (take number sp)) (entries_of (shapes_of (take number keep)) occ) n
 left-stored keep sp sp0 occ occ0 n number count sizes rooms linked old =
@@ -118,7 +118,7 @@ left-stored keep sp sp0 occ occ0 n number count sizes rooms linked old =
     let same : entries_of prefix occ ≡ entries_of forms occ = entries-apart forms prefix occ number (λ k n. terms-taken forms number k forms_size n) (others-named forms (spots_of sp) occ number (omega (arith, forms_size)) linked) in
     let whole : IsLinked prefix (take number (spots_of sp)) (entries_of prefix occ) = subst (IsLinked prefix (take number (spots_of sp))) (sym same) bare in
     let forms_less : shapes_of (take number keep) ≡ prefix = sym (take-map stored_shape number keep) in
-    let spots_less : spots_of (take number sp) ≡ take number (spots_of sp) = sym (take-map (λ (w : Vec ℕ Global). w.items) number sp) in
+    let spots_less : spots_of (take number sp) ≡ take number (spots_of sp) = sym (take-map spots_in number sp) in
     rw (forms_less, spots_less) (record {
       whole = whole;
       named = linked-named prefix (take number (spots_of sp)) (entries_of prefix occ) whole;
@@ -129,7 +129,7 @@ left-stored keep sp sp0 occ occ0 n number count sizes rooms linked old =
           ap length (get_or-take number (spots_of sp) s [] before) ∙ rooms s ∙ old.rooms s (omega (arith, before, forms_size)) ∙ sym (ap (λ (f : Shape). length f.terms) (get_or-take number forms s e before));
     })
 
-pub vacated-stored : (keep : List StoredForm) (k : StoredForm) (sp sp0 : List (Vec ℕ Global)) (v : Vec ℕ Global) (occ occ0 : List (Vec Occurrence Global)) (n form : ℕ) → form < length keep → (terms_of k.terms) ≡ [] → v.items ≡ [] → length occ ≡ length occ0 →
+pub vacated-stored : (keep : List StoredForm) (k : StoredForm) (sp sp0 : List Spots) (v : Spots) (occ occ0 : List (Vec Occurrence Global)) (n form : ℕ) → form < length keep → (terms_of k.terms) ≡ [] → spots_in v ≡ [] → length occ ≡ length occ0 →
     ((s : ℕ) → length (get_or (spots_of sp) s []) ≡ length (get_or (spots_of sp0) s [])) → IsLinked (cut (shapes_of keep) form 0) (spots_of sp) (entries_of (shapes_of keep) occ) → IsStored (shapes_of keep) (spots_of sp0) (entries_of (shapes_of keep) occ0) n →
     IsStored (shapes_of (set keep form k)) (spots_of (set sp form v)) (entries_of (shapes_of (set keep form k)) occ) n
 vacated-stored keep k sp sp0 v occ occ0 n form inside empty no_spots sizes rooms linked old =
@@ -139,7 +139,7 @@ vacated-stored keep k sp sp0 v occ occ0 n form inside empty no_spots sizes rooms
     let here : form < length forms = omega (arith, inside, forms_size) in
     let spots_size : length (spots_of sp) ≡ length forms = omega (arith, linked.sizes, cut-length forms form 0) in
     let forms_set : shapes_of (set keep form k) ≡ set forms form (stored_shape k) = map-set stored_shape keep form k in
-    let spots_set : spots_of (set sp form v) ≡ set (spots_of sp) form [] = map-set (λ (w : Vec ℕ Global). w.items) sp form v ∙ ap (λ xs. set (spots_of sp) form xs) no_spots in
+    let spots_set : spots_of (set sp form v) ≡ set (spots_of sp) form [] = map-set spots_in sp form v ∙ ap (λ xs. set (spots_of sp) form xs) no_spots in
     let base = set forms form (stored_shape k) in
     let same : entries_of base occ ≡ entries_of forms occ = entries-apart forms base occ form (λ j n. terms-set forms form (stored_shape k) j n) (others-named forms (spots_of sp) occ form here linked) in
     let bare : IsLinked base (set (spots_of sp) form []) (entries_of forms occ) = link-vacant forms (spots_of sp) (entries_of forms occ) form (stored_shape k) here empty linked in

@@ -4,10 +4,12 @@ use Rattle.std.specs.Global.{Global}
 use Rattle.pb_propagate.specs.declared.store.Occurrence.{Occurrence}
 use Rattle.pb_propagate.specs.declared.store.stored_form.StoredForm.{StoredForm}
 use Rattle.pb_propagate.specs.declared.store.Store.{Store}
+use Rattle.pb_propagate.specs.declared.store.spots.Spots.{Spots}
 use Rattle.pb_propagate.specs.declared.store.Visited.{Visited}
 use Rattle.pb_propagate.specs.engine.Engine.Lists.{Shape, Weighted}
 use Rattle.pb_normal.specs.meaning.Form.{Form}
 use Rattle.pb_propagate.specs.engine.Engine.Forms.{IsStoredAs}
+use Rattle.pb_propagate.specs.engine.Engine.Spots.{spots_in}
 use Rattle.pb_propagate.specs.engine.Engine.Terms.{terms_of}
 use Rattle.pb_propagate.specs.engine.Engine.Links.{IsStored, weighted}
 
@@ -36,8 +38,8 @@ entry_at v = record { form = v.form; index = v.index }
 abbrev pub entries_of : List Shape → List (Vec Occurrence Global) → List (List Weighted)
 entries_of forms lists = map (λ v. map (weighted forms) v.items) lists
 
-abbrev pub spots_of : List (Vec ℕ Global) → List (List ℕ)
-spots_of spots = map (λ v. v.items) spots
+abbrev pub spots_of : List Spots → List (List ℕ)
+spots_of spots = map spots_in spots
 
 -- the store's parts belong together
 abbrev pub IsSound : Store → Type 0
