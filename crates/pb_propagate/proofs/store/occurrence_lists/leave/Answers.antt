@@ -1,4 +1,4 @@
-use Rattle.pb_propagate.proofs.Common.{ℕ, ◌+◌, ◌-◌, ◌∙◌, ◌≡◌, ap, arith, Global, length, refl, take, Vec, length-map, StoredForm, shapes_of}
+use Rattle.pb_propagate.proofs.Common.{◌+◌, ◌-◌, ◌∙◌, ◌≡◌, ap, arith, Global, length, refl, take, Vec, length-map, StoredForm, shapes_of}
 use Rattle.pb_propagate.proofs.Common.{spots_in, stored_shape}
 use Rattle.pb_propagate.proofs.lemmas.store.Links.{cut-length}
 use Rattle.pb_propagate.proofs.lemmas.store.Changes.{left-stored, take-at}

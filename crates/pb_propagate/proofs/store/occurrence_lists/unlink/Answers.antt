@@ -1,4 +1,4 @@
-use Rattle.pb_propagate.proofs.Common.{ℕ, ◌-◌, ◌∙◌, [], ap, arith, get_or, Global, refl, Vec, length-map, StoredForm, place, lists_of, shapes_of}
+use Rattle.pb_propagate.proofs.Common.{◌-◌, ◌∙◌, [], ap, arith, get_or, Global, refl, Vec, length-map, StoredForm, place, lists_of, shapes_of}
 use Rattle.pb_propagate.proofs.Common.{spots_in, spots_of, stored_shape}
 use Rattle.pb_propagate.proofs.lemmas.store.Places.{unlink-read, moved-rooms, entries-length, taken-length}
 use Rattle.pb_propagate.proofs.store.occurrence_lists.unlink.Goals as goal

@@ -1,6 +1,6 @@
 use Rattle.pb_propagate.proofs.Common.{◌∙◌, arith, sym, terms_of}
 use Rattle.pb_propagate.proofs.lemmas.store.Sorted.{kept-size, degree-read}
-use Rattle.pb_propagate.proofs.store.occurrence_lists.stored_of.Goals as goal
+use Rattle.pb_propagate.proofs.store.occurrence_lists.counted_of.Goals as goal
 
 pub bound_of-bound-requires-clause-size : goal.bound_of-bound-requires-clause-size
 bound_of-bound-requires-clause-size c =
@@ -23,7 +23,7 @@ invariant_of-result c =
       small = omega (arith, size, normal.size_in);
       low = omega (arith, degree-read c.unsigned_abs-degree.result c.degree.result c.args.form.degree c.unsigned_abs-degree.ensures.value (rw c.form-normal.ensures at c.degree.ensures.degree) normal.degree_in, normal.degree_in);
       idle = c.bound_of-bound.ensures.calm;
-      alike = λ even i d h. omega (arith, c.bound_of-bound.ensures.first d (omega (arith, h)), c.is_even-even.ensures even i d h);
+      first = c.bound_of-bound.ensures.first;
     }
 
 pub returns-clause-is : goal.returns-clause-is

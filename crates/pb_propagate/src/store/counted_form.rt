@@ -1,0 +1,27 @@
+//! A form in the occurrence lists.
+
+ghost use Rattle.std.specs.Prelude.{◌≡◌, ℕ, ◌+◌, ◌<◌, ◌≤◌, ◌^◌, length, sum_by, slice_index_or};
+ghost use Rattle.pb_propagate.specs.declared.term.Term.{Term};
+ghost use Rattle.pb_propagate.specs.engine.Engine.Counts.{AreFalling, IsCalm};
+ghost use Rattle.pb_propagate.specs.engine.Engine.Terms.{terms_of};
+
+use crate::store::sorted_form::SortedForm;
+
+/// A form in the occurrence lists, with the sums that propagation reads.
+#[derive(Drop)]
+pub struct CountedForm {
+    pub terms: SortedForm,
+    pub degree: u128,
+    pub total: u128,
+    // The degree plus the largest coefficient. With an open sum of at least this size the form
+    // propagates nothing and is not falsified.
+    pub bound: u128,
+    pub ghost falling: { AreFalling (terms_of terms) },
+    pub ghost sum: { total ≡ sum_by (λ t. t.coefficient) (terms_of terms) },
+    pub ghost small: { sum_by (λ t. t.coefficient) (terms_of terms) < 2 ^ 127 },
+    pub ghost low: { degree < 2 ^ 127 },
+    pub ghost idle: { (opened c : ℕ) → bound ≤ opened →
+        IsCalm record { terms = terms_of terms; degree = degree } opened c },
+    pub ghost first: { (d : Term) → 0 < length (terms_of terms) →
+        bound ≡ degree + (slice_index_or (terms_of terms) 0 d).coefficient },
+}
