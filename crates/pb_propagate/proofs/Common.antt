@@ -47,6 +47,7 @@ pub use Rattle.pb_propagate.specs.declared.store.Occurrence.{Occurrence}
 pub use Rattle.pb_propagate.specs.declared.store.Store.{Store}
 pub use Rattle.pb_propagate.specs.declared.store.spots.Spots.{Spots}
 pub use Rattle.pb_propagate.specs.declared.store.stored_form.StoredForm.{StoredForm}
+pub use Rattle.pb_propagate.specs.declared.store.unit_form.UnitForm.{UnitForm}
 pub use Rattle.pb_propagate.specs.declared.term.Rank.{Rank}
 pub use Rattle.pb_propagate.specs.declared.term.Term.{Term}
 pub use Rattle.pb_propagate.specs.engine.Clauses.Blocks.{AreBlocks, AreKept, begun, Contents, contents, HasBlock, IsBare, IsBefore, IsRenewed, nowhere}
@@ -90,6 +91,6 @@ pub use Rattle.pb_propagate.specs.engine.Engine.Root.{IsNeedless, IsOtherUnit, I
 pub use Rattle.pb_propagate.specs.engine.Engine.Slots.{ArePlaced, form_at, numbered}
 pub use Rattle.pb_propagate.specs.engine.Engine.Spots.{spots_in}
 pub use Rattle.pb_propagate.specs.engine.Engine.Stored.{stored_bound, stored_degree, stored_form, stored_terms, stored_total}
-pub use Rattle.pb_propagate.specs.engine.Engine.Terms.{terms_of}
+pub use Rattle.pb_propagate.specs.engine.Engine.Terms.{terms_of, unit_terms}
 pub use Rattle.pb_propagate.specs.engine.Engine.Waiting.{IsWithout}
 pub use Rattle.pb_propagate.specs.meaning.Propagation.{Derivation, HasConflict, IsCompletion, MayPropagate, MeetsConflict, opened, With}

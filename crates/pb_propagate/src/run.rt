@@ -72,14 +72,15 @@ fn lower(store: &Store, rests: &Rests, run: &mut Run, entry: Visited) -> Result<
     ensures next { run.new.next ≡ run.old.next }
     ensures visits { run.new.visits ≡ run.old.visits }
 {
-    let kept = store.stored[entry.form].counted();
+    let kept = &store.stored[entry.form];
+    let sums = kept.sums();
     let opened = run.opens[entry.form];
-    let rest = rests.open(entry.form, kept.total);
+    let rest = rests.open(entry.form, sums.total);
     note(&mut run.trail, entry.form, opened, rest)?;
     let left = opened - weight_of(kept, &entry);
-    queue(&mut run.work, entry.form, left, kept.bound)?;
+    queue(&mut run.work, entry.form, left, sums.bound)?;
     run.opens[entry.form] = left;
-    Ok(is_below(left, kept.degree))
+    Ok(is_below(left, sums.degree))
 }
 
 /// The index of a literal's occurrence list.

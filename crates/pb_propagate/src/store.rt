@@ -8,16 +8,15 @@ pub mod refresh;
 pub mod sorted_form;
 pub mod spots;
 pub mod stored_form;
+pub mod unit_form;
 pub mod units;
 
 ghost use Rattle.std.specs.Prelude.{◌≡◌, ◌≤◌, ◌+◌, ◌-◌, ◌^◌, ◌<◌, length, min, slice_index_or};
 ghost use Rattle.pb_propagate.specs.declared.term.Term.{Term};
 ghost use Rattle.pb_propagate.specs.engine.Engine.Stored.{stored_terms};
-ghost use Rattle.pb_propagate.specs.engine.Engine.Terms.{terms_of};
 ghost use Rattle.pb_propagate.specs.engine.Engine.Fields.{entry_at};
 
 use crate::engine::visits::Visits;
-use crate::store::counted_form::CountedForm;
 use crate::store::spots::Spots;
 use crate::store::stored_form::StoredForm;
 use crate::term::Term;
@@ -63,17 +62,13 @@ pub fn visit(entries: &[Occurrence], i: usize, visits: &mut Visits) -> Visited
     }
 }
 
-/// The coefficient of a visited entry's term. If all are equal, the bound gives it, and the terms
-/// need not be read.
-pub fn weight_of(kept: &CountedForm, entry: &Visited) -> u128
-    requires { entry.now.index < length (terms_of kept.now.terms) }
+/// The coefficient of a visited entry's term.
+pub fn weight_of(kept: &StoredForm, entry: &Visited) -> u128
+    requires { entry.now.index < length (stored_terms kept.now) }
     ensures { (d : Term) →
-        result ≡ (slice_index_or (terms_of kept.now.terms) entry.now.index d).coefficient }
+        result ≡ (slice_index_or (stored_terms kept.now) entry.now.index d).coefficient }
 {
-    if kept.terms.is_even() {
-        return kept.bound - kept.degree;
-    }
-    kept.terms.term(entry.index).coefficient
+    kept.weight(entry.index)
 }
 
 /// Reads a candidate, and counts the visit.

@@ -25,3 +25,18 @@ pub struct CountedForm {
     pub ghost first: { (d : Term) → 0 < length (terms_of terms) →
         bound ≡ degree + (slice_index_or (terms_of terms) 0 d).coefficient },
 }
+
+impl CountedForm {
+    /// The coefficient of a term. If all are equal, the bound gives it.
+    #[inline]
+    pub(super) fn weight(&self, index: usize) -> u128
+        requires { index < length (terms_of self.now.terms) }
+        ensures { (d : Term) →
+            result ≡ (slice_index_or (terms_of self.now.terms) index d).coefficient }
+    {
+        if self.terms.is_even() {
+            return self.bound - self.degree;
+        }
+        self.terms.term(index).coefficient
+    }
+}

@@ -7,9 +7,9 @@ ghost use Rattle.pb_propagate.specs.declared.store.stored_form.StoredForm.{Store
 ghost use Rattle.pb_propagate.specs.engine.Engine.Lists.{Shape};
 ghost use Rattle.pb_propagate.specs.engine.Engine.Counts.{AreFalling, IsCalm, place};
 ghost use Rattle.pb_propagate.specs.engine.Engine.Forms.{IsStoredAs};
-ghost use Rattle.pb_propagate.specs.engine.Engine.Stored.{stored_form};
+ghost use Rattle.pb_propagate.specs.engine.Engine.Stored.{stored_form, stored_terms};
 ghost use Rattle.pb_propagate.specs.engine.Engine.Terms.{terms_of};
-ghost use Rattle.pb_propagate.specs.engine.Engine.Fields.{shapes_of, forms_of, spots_of, lists_of, entries_of, IsSound, HasEntered, HasFilled, IsEmpty, IsUnlisted, AreLonger};
+ghost use Rattle.pb_propagate.specs.engine.Engine.Fields.{stored_shape, shapes_of, forms_of, spots_of, lists_of, entries_of, IsSound, HasEntered, HasFilled, IsEmpty, IsUnlisted, AreLonger};
 ghost use Rattle.pb_propagate.specs.engine.Engine.Slots.{MayHold};
 ghost use Rattle.pb_propagate.specs.engine.Engine.Links.{IsLinked, Moved, cut, terms_at};
 ghost use Rattle.pb_propagate.specs.engine.Clauses.Runs.{AreReady, AreSet};
@@ -23,6 +23,7 @@ use crate::store::counted_form::CountedForm;
 use crate::store::sorted_form::SortedForm;
 use crate::store::spots::Spots;
 use crate::store::stored_form::StoredForm;
+use crate::store::unit_form::UnitForm;
 use crate::store::{Occurrence, Store};
 use crate::tight::append;
 use pb_normal::{Normal, NumberedLiteral};
@@ -65,26 +66,40 @@ fn counted_of(alloc: Global, form: Shared) -> Result<CountedForm, AllocError>
     })
 }
 
+// A form as the engine stores it.
+fn stored_of(alloc: Global, form: Shared) -> Result<StoredForm, AllocError>
+    ensures is { IfOk result (λ kept. IsStoredAs form (stored_shape kept)) }
+    ensures form { IfOk result (λ kept. stored_form kept ≡ Some form) }
+{
+    let normal = form.form();
+    if normal.terms().len() == 1 {
+        return Ok(StoredForm::Single(UnitForm::of(form)));
+    }
+    let counted = counted_of(alloc, form)?;
+    let kept = Box::new(alloc, counted)?;
+    Ok(StoredForm::Counted(kept))
+}
+
 // Adds the terms of a form to the lists of their literals, and records their positions.
 fn link(
-    terms: &SortedForm,
+    kept: &StoredForm,
     form: usize,
     lists: &mut Vec<Vec<Occurrence>>,
     spots: &mut Vec<usize>,
 ) -> Result<(), AllocError>
-    requires inside { All (λ t. place t.literal < length lists.old.items) (terms_of terms.now) }
+    requires inside { All (λ t. place t.literal < length lists.old.items) (stored_terms kept.now) }
     requires empty { spots.old.items ≡ [] }
     ensures sizes { length lists.new.items ≡ length lists.old.items }
     ensures longer { OnOk result (AreLonger lists.old.items lists.new.items) }
-    ensures count { OnOk result (length spots.new.items ≡ length (terms_of terms.now)) }
+    ensures count { OnOk result (length spots.new.items ≡ length (stored_terms kept.now)) }
     ensures linked { OnOk result ((base : List Shape) (all : List (List ℕ)) → form < length base →
-        terms_at base form ≡ terms_of terms.now → form < length all →
+        terms_at base form ≡ stored_terms kept.now → form < length all →
         IsLinked (cut base form 0) (slice_set all form []) (entries_of base lists.old.items) →
-        IsLinked (cut base form (length (terms_of terms.now))) (slice_set all form spots.new.items)
+        IsLinked (cut base form (length (stored_terms kept.now))) (slice_set all form spots.new.items)
         (entries_of base lists.new.items)) }
 {
-    'terms: for i in 0..terms.len() {
-        let term = terms.term(i);
+    'terms: for i in 0..kept.len() {
+        let term = kept.term(i);
         let place = place_of(term.literal);
         let spot = lists[place].len();
         spots.push(spot)?;
@@ -214,13 +229,12 @@ pub fn fill(store: &mut Store, slot: usize, form: Shared) -> Result<(), AllocErr
     ensures variables { store.new.variables ≡ store.old.variables }
 {
     let alloc = *store.stored.allocator();
-    let counted = counted_of(alloc, form)?;
-    let mut spots = Vec::with_capacity(alloc, counted.terms.len())?;
-    link(&counted.terms, slot, &mut store.occurrences, &mut spots)?;
+    let kept = stored_of(alloc, form)?;
+    let mut spots = Vec::with_capacity(alloc, kept.len())?;
+    link(&kept, slot, &mut store.occurrences, &mut spots)?;
     let seats = Spots::of(alloc, spots)?;
-    let kept = Box::new(alloc, counted)?;
     store.spots[slot] = seats;
-    store.stored[slot] = StoredForm::Counted(kept);
+    store.stored[slot] = kept;
     Ok(())
 }
 

@@ -4,6 +4,7 @@ ghost use Rattle.std.specs.Prelude.{◌≡◌, ◌<◌, ◌≤◌, false, true};
 
 use crate::shared::Shared;
 use crate::store::counted_form::CountedForm;
+use crate::store::unit_form::UnitForm;
 use crate::term::Term;
 use pb_normal::Normal;
 use std::alloc::AllocError;
@@ -16,15 +17,25 @@ pub enum StoredForm {
     Vacant,
     /// A form that is propagated by its watches. It has no entries in the occurrence lists.
     Watched(Shared),
-    /// A form in the occurrence lists.
+    /// A form of one term in the occurrence lists.
+    Single(UnitForm),
+    /// Another form in the occurrence lists.
     Counted(Box<CountedForm>),
+}
+
+/// The sums of a form in the occurrence lists: its degree, that of its coefficients, and with which
+/// open sum it propagates nothing and is not falsified.
+#[derive(Clone, Copy)]
+pub struct Sums {
+    pub degree: u128,
+    pub total: u128,
+    pub bound: u128,
 }
 
 impl StoredForm {
     ghost use Rattle.std.specs.Prelude.{◌≡◌, ◌<◌, Some, None, IfOk, IfSome, IfNone, is_some, length, slice_index_or};
     ghost use Rattle.pb_propagate.specs.declared.term.Term.{Term};
     ghost use Rattle.pb_propagate.specs.engine.Engine.Stored.{stored_form, stored_terms, stored_degree, stored_total, stored_bound};
-    ghost use Rattle.pb_propagate.specs.engine.Engine.Terms.{terms_of};
 
     /// Whether there is a form.
     pub fn has_form(&self) -> bool
@@ -33,6 +44,7 @@ impl StoredForm {
         match self {
             StoredForm::Vacant => false,
             StoredForm::Watched(_) => true,
+            StoredForm::Single(_) => true,
             StoredForm::Counted(_) => true,
         }
     }
@@ -45,6 +57,7 @@ impl StoredForm {
         match self {
             StoredForm::Vacant => None,
             StoredForm::Watched(form) => Some(form.form()),
+            StoredForm::Single(unit) => Some(unit.form()),
             StoredForm::Counted(kept) => Some(kept.as_ref().terms.form()),
         }
     }
@@ -56,6 +69,7 @@ impl StoredForm {
         match self {
             StoredForm::Vacant => Ok(None),
             StoredForm::Watched(form) => Ok(Some(form.share()?)),
+            StoredForm::Single(unit) => Ok(Some(unit.shared()?)),
             StoredForm::Counted(kept) => Ok(Some(kept.as_ref().terms.shared()?)),
         }
     }
@@ -67,6 +81,7 @@ impl StoredForm {
         match self {
             StoredForm::Vacant => 0,
             StoredForm::Watched(_) => 0,
+            StoredForm::Single(_) => 1,
             StoredForm::Counted(kept) => kept.as_ref().terms.len(),
         }
     }
@@ -79,6 +94,7 @@ impl StoredForm {
         match self {
             StoredForm::Vacant => unreachable!(),
             StoredForm::Watched(_) => unreachable!(),
+            StoredForm::Single(unit) => unit.term(),
             StoredForm::Counted(kept) => kept.as_ref().terms.term(index),
         }
     }
@@ -90,6 +106,7 @@ impl StoredForm {
         match self {
             StoredForm::Vacant => 0,
             StoredForm::Watched(_) => 0,
+            StoredForm::Single(unit) => unit.degree(),
             StoredForm::Counted(kept) => kept.as_ref().degree,
         }
     }
@@ -101,6 +118,7 @@ impl StoredForm {
         match self {
             StoredForm::Vacant => 0,
             StoredForm::Watched(_) => 0,
+            StoredForm::Single(unit) => unit.total(),
             StoredForm::Counted(kept) => kept.as_ref().total,
         }
     }
@@ -112,22 +130,38 @@ impl StoredForm {
         match self {
             StoredForm::Vacant => 0,
             StoredForm::Watched(_) => 0,
+            StoredForm::Single(unit) => unit.degree() + unit.total(),
             StoredForm::Counted(kept) => kept.as_ref().bound,
         }
     }
 
-    /// A form that has terms in the occurrence lists.
-    pub fn counted(&self) -> &CountedForm
-        requires { 0 < length (stored_terms self.now) }
-        ensures terms { terms_of result.now.terms ≡ stored_terms self.now }
-        ensures degree { result.now.degree ≡ stored_degree self.now }
-        ensures total { result.now.total ≡ stored_total self.now }
-        ensures bound { result.now.bound ≡ stored_bound self.now }
+    /// The sums that propagation reads.
+    #[inline]
+    pub fn sums(&self) -> Sums
+        ensures degree { result.degree ≡ stored_degree self.now }
+        ensures total { result.total ≡ stored_total self.now }
+        ensures bound { result.bound ≡ stored_bound self.now }
+    {
+        Sums {
+            degree: self.degree(),
+            total: self.total(),
+            bound: self.bound(),
+        }
+    }
+
+    /// The coefficient of a term in the occurrence lists. If all are equal, the bound gives it, and
+    /// the terms need not be read.
+    #[inline]
+    pub(super) fn weight(&self, index: usize) -> u128
+        requires { index < length (stored_terms self.now) }
+        ensures { (d : Term) →
+            result ≡ (slice_index_or (stored_terms self.now) index d).coefficient }
     {
         match self {
             StoredForm::Vacant => unreachable!(),
             StoredForm::Watched(_) => unreachable!(),
-            StoredForm::Counted(kept) => kept.as_ref(),
+            StoredForm::Single(unit) => unit.term().coefficient,
+            StoredForm::Counted(kept) => kept.as_ref().weight(index),
         }
     }
 }

@@ -6,13 +6,7 @@ use Rattle.pb_propagate.proofs.run.lower.Goals as goal
 pub weight_of-requires : goal.weight_of-requires
 weight_of-requires c =
     let e = c.args.entry in
-    let shape = shape-at c.args.store.now.stored.items e.form c.index.result.now c.requires.form c.index.ensures (record { terms = []; degree = 0 }) in
-    omega (arith, c.requires.index, ap (λ (f : Shape). length f.terms) shape, ap length c.counted-kept.ensures.terms)
-
-pub counted-kept-requires : goal.counted-kept-requires
-counted-kept-requires c =
-    let e = c.args.entry in
-    let shape = shape-at c.args.store.now.stored.items e.form c.index.result.now c.requires.form c.index.ensures (record { terms = []; degree = 0 }) in
+    let shape = shape-at c.args.store.now.stored.items e.form c.index-kept.result.now c.requires.form c.index-kept.ensures (record { terms = []; degree = 0 }) in
     omega (arith, c.requires.index, ap (λ (f : Shape). length f.terms) shape)
 
 pub returns-clause-lowers : goal.returns-clause-lowers
@@ -21,12 +15,12 @@ returns-clause-lowers c =
     let run = c.args.run.now in
     let opens = run.opens.items in
     let e = c.args.entry in
-    let k = c.index.result.now in
-    let weight = weight-read keep e.form e.index k c.weight_of.result c.requires.form c.index.ensures (rw c.counted-kept.ensures.terms at c.weight_of.ensures) in
+    let k = c.index-kept.result.now in
+    let weight = weight-read keep e.form e.index k c.weight_of.result c.requires.form c.index-kept.ensures c.weight_of.ensures in
     record {
       opens = ap (λ (o : ℕ). set opens e.form (o - c.weight_of.result)) (get_or_read opens e.form c.index-opened.result.now c.requires.inside c.index-opened.ensures 0) ∙ ap (λ (w : ℕ). set opens e.form (get_or opens e.form 0 - w)) weight;
-      work = grown-by e.form run.work.items _ (λ low d i. subst (λ (w : ℕ). IsCalm (get_or (shapes_of keep) e.form d) (get_or run.opens.items e.form 0 - w) i) weight (idle-at keep run.opens.items e.form k c.index-opened.result.now c.weight_of.result c.requires.form c.index.ensures c.requires.inside c.index-opened.ensures (omega (arith, low, c.counted-kept.ensures.bound)) d i)) c.in_ok-queue.ensures;
-      trail = grown-by e.form run.trail.items _ (λ other. changed-at c.args.rests.now keep run.opens.items e.form k c.index-opened.result.now c.requires.form c.index.ensures c.requires.inside c.index-opened.ensures (λ same. other (same ∙ sym (c.open-rest.ensures ∙ ap (get_or c.args.rests.now.opens.items e.form) c.counted-kept.ensures.total)))) c.in_ok-note.ensures;
+      work = grown-by e.form run.work.items _ (λ low d i. subst (λ (w : ℕ). IsCalm (get_or (shapes_of keep) e.form d) (get_or run.opens.items e.form 0 - w) i) weight (idle-at keep run.opens.items e.form k c.index-opened.result.now c.weight_of.result c.requires.form c.index-kept.ensures c.requires.inside c.index-opened.ensures (omega (arith, low, c.sums-sums.ensures.bound)) d i)) c.in_ok-queue.ensures;
+      trail = grown-by e.form run.trail.items _ (λ other. changed-at c.args.rests.now keep run.opens.items e.form k c.index-opened.result.now c.requires.form c.index-kept.ensures c.requires.inside c.index-opened.ensures (λ same. other (same ∙ sym (c.open-rest.ensures ∙ ap (get_or c.args.rests.now.opens.items e.form) c.sums-sums.ensures.total)))) c.in_ok-note.ensures;
       candidates = refl;
       list = refl;
       next = refl;
@@ -36,5 +30,5 @@ pub returns-clause-falsified : goal.returns-clause-falsified
 returns-clause-falsified c = λ found d.
     let opens = c.args.run.now.opens.items in
     let e = c.args.entry in
-    let shape = shape-at c.args.store.now.stored.items e.form c.index.result.now c.requires.form c.index.ensures d in
-    omega (arith, c.is_below.ensures.below found, ap (λ (f : Shape). f.degree) shape, c.counted-kept.ensures.degree, get_or-set_same opens e.form (c.index-opened.result.now - c.weight_of.result) 0 c.requires.inside)
+    let shape = shape-at c.args.store.now.stored.items e.form c.index-kept.result.now c.requires.form c.index-kept.ensures d in
+    omega (arith, c.is_below.ensures.below found, ap (λ (f : Shape). f.degree) shape, c.sums-sums.ensures.degree, get_or-set_same opens e.form (c.index-opened.result.now - c.weight_of.result) 0 c.requires.inside)

@@ -1,5 +1,5 @@
 use Rattle.pb_propagate.proofs.Common.{stored_terms}
-use Rattle.pb_propagate.proofs.lemmas.store.Stored.{stored-idle}
+use Rattle.pb_propagate.proofs.lemmas.store.Stored.{stored-idle, stored-small}
 use Rattle.pb_propagate.proofs.Common.{ℕ, ◌<◌, ◌∙◌, ap, arith, get_or, length, set, subst, sym, length-map, IsCalm, shapes_of, stored_shape}
 use Rattle.pb_propagate.proofs.Common.{AreInside, open_sum, says, Shape}
 use Rattle.pb_propagate.proofs.lemmas.engine.VisitSteps.{shape-at, grown-by}
@@ -32,3 +32,6 @@ returns-clause-work c =
     let shape = shape-at store.stored.items c.args.form k c.requires.form c.index-kept.ensures d in
     let same = sum ∙ ap (λ (f : Shape). open_sum run.assignment.list.items f.terms) (sym shape) in
     subst (λ (o : ℕ). IsCalm (get_or (shapes_of store.stored.items) c.args.form d) o i) same (subst (λ (f : Shape). IsCalm f c.open_under-opened.result i) (sym shape) (stored-idle k c.open_under-opened.result i (omega (arith, low, c.bound.ensures))))) c.in_ok-queue.ensures
+
+pub open_under-opened-requires-clause-small : goal.open_under-opened-requires-clause-small
+open_under-opened-requires-clause-small c = stored-small c.index-kept.result.now

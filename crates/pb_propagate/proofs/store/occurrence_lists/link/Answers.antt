@@ -1,4 +1,4 @@
-use Rattle.pb_propagate.proofs.Common.{◌<◌, ◌∙◌, ◌∷◌, ◌≡◌, [], ap, arith, get_or, length, length-append, length-set, refl, Term, place, terms_of}
+use Rattle.pb_propagate.proofs.Common.{◌<◌, ◌∙◌, ◌∷◌, ◌≡◌, [], ap, arith, get_or, length, length-append, length-set, refl, Term, place, stored_terms}
 use Rattle.pb_propagate.proofs.lemmas.store.Places.{link-by}
 use Rattle.pb_propagate.proofs.lemmas.store.Longer.{longer-push, longer-then}
 use Rattle.pb_propagate.proofs.store.occurrence_lists.link.Goals as goal
@@ -23,7 +23,7 @@ index_mut-requires c =
 
 pub terms-preserved : goal.terms-preserved
 terms-preserved c =
-    let ts = terms_of c.args.terms.now in
+    let ts = stored_terms c.args.kept.now in
     let t = c.term-term.result in
     let within : c.terms.i < length ts = omega (arith, c.terms-test.true, c.len-i-end.ensures) in
     let at : c.place_of-place.result ≡ place (get_or ts c.terms.i t).literal = c.place_of-place.ensures.place ∙ ap (λ (x : Term). place x.literal) (c.term-term.ensures t) in
@@ -38,5 +38,5 @@ terms-preserved c =
 
 pub returns-clause-linked : goal.returns-clause-linked
 returns-clause-linked c = λ base rows inside same wide old.
-    let all : c.terms.i ≡ length (terms_of c.args.terms.now) = omega (arith, c.terms-test.false, c.terms.auto.i-end, c.len-i-end.ensures) in
+    let all : c.terms.i ≡ length (stored_terms c.args.kept.now) = omega (arith, c.terms-test.false, c.terms.auto.i-end, c.len-i-end.ensures) in
     rw (← all) (c.terms.invariant.linked base rows inside same wide old)

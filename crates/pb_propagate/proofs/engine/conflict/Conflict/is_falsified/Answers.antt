@@ -1,3 +1,4 @@
+use Rattle.pb_propagate.proofs.lemmas.store.Stored.{stored-small}
 use Rattle.pb_propagate.proofs.Common.{stored_terms}
 use Rattle.pb_propagate.proofs.Common.{◌<◌, ◌∙◌, ap, arith, length, subst, sym, length-map, list_at, clauses_of, slot_shape, shapes_of, stored_shape}
 use Rattle.pb_propagate.proofs.Common.{AreInside, open_sum, says, Shape}
@@ -34,3 +35,6 @@ returns-in-Some c = λ found x at.
     let codes = list_at (clauses_of c.args.clauses.now) c.args.slot in
     let is = slot-is c.args.store.now c.args.clauses.now c.args.slot x c.requires.slot at ∙ shape-some _ codes (c.is_filled.ensures.yes c.if-not-is_filled.false) in
     free-met run.assignment.values.items run.assignment.list.items codes _ x run.assignment.agrees is c.in-Some.ensures.some
+
+pub open_under-opened-requires-clause-small : goal.open_under-opened-requires-clause-small
+open_under-opened-requires-clause-small c = stored-small c.index-kept.result.now
