@@ -8,6 +8,7 @@ pub mod refresh;
 pub mod sorted_form;
 pub mod spots;
 pub mod stored_form;
+pub mod sums;
 pub mod unit_form;
 pub mod units;
 

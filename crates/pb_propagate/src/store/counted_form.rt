@@ -6,6 +6,7 @@ ghost use Rattle.pb_propagate.specs.engine.Engine.Counts.{AreFalling, IsCalm};
 ghost use Rattle.pb_propagate.specs.engine.Engine.Terms.{terms_of};
 
 use crate::store::sorted_form::SortedForm;
+use crate::store::sums::Sums;
 
 /// A form in the occurrence lists, with the sums that propagation reads.
 #[derive(Drop)]
@@ -27,6 +28,20 @@ pub struct CountedForm {
 }
 
 impl CountedForm {
+    /// Its sums.
+    #[inline]
+    pub fn sums(&self) -> Sums
+        ensures degree { result.degree ≡ self.now.degree }
+        ensures total { result.total ≡ self.now.total }
+        ensures bound { result.bound ≡ self.now.bound }
+    {
+        Sums {
+            degree: self.degree,
+            total: self.total,
+            bound: self.bound,
+        }
+    }
+
     /// The coefficient of a term. If all are equal, the bound gives it.
     #[inline]
     pub(super) fn weight(&self, index: usize) -> u128

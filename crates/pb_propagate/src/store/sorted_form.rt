@@ -129,14 +129,14 @@ impl SortedForm {
     }
 
     /// The form.
-    pub fn form(&self) -> &Normal
+    pub(super) fn form(&self) -> &Normal
         ensures { result.now ≡ self.now.form }
     {
         self.form.form()
     }
 
     /// One more owner of the form.
-    pub fn shared(&self) -> Result<Shared, AllocError>
+    pub(super) fn shared(&self) -> Result<Shared, AllocError>
         ensures { IfOk result (λ f. f ≡ self.now.form) }
     {
         self.form.share()

@@ -4,6 +4,7 @@ ghost use Rattle.std.specs.Prelude.{◌≡◌, ◌<◌, ◌≤◌, false, true};
 
 use crate::shared::Shared;
 use crate::store::counted_form::CountedForm;
+use crate::store::sums::Sums;
 use crate::store::unit_form::UnitForm;
 use crate::term::Term;
 use pb_normal::Normal;
@@ -21,15 +22,6 @@ pub enum StoredForm {
     Single(UnitForm),
     /// Another form in the occurrence lists.
     Counted(Box<CountedForm>),
-}
-
-/// The sums of a form in the occurrence lists: its degree, that of its coefficients, and with which
-/// open sum it propagates nothing and is not falsified.
-#[derive(Clone, Copy)]
-pub struct Sums {
-    pub degree: u128,
-    pub total: u128,
-    pub bound: u128,
 }
 
 impl StoredForm {
@@ -99,54 +91,43 @@ impl StoredForm {
         }
     }
 
-    /// The degree of a form in the occurrence lists, else 0.
-    pub fn degree(&self) -> u128
-        ensures { result ≡ stored_degree self.now }
-    {
-        match self {
-            StoredForm::Vacant => 0,
-            StoredForm::Watched(_) => 0,
-            StoredForm::Single(unit) => unit.degree(),
-            StoredForm::Counted(kept) => kept.as_ref().degree,
-        }
-    }
-
-    /// The sum of the coefficients in the occurrence lists.
-    pub fn total(&self) -> u128
-        ensures { result ≡ stored_total self.now }
-    {
-        match self {
-            StoredForm::Vacant => 0,
-            StoredForm::Watched(_) => 0,
-            StoredForm::Single(unit) => unit.total(),
-            StoredForm::Counted(kept) => kept.as_ref().total,
-        }
-    }
-
-    /// With an open sum of at least this size a form propagates nothing and is not falsified.
-    pub fn bound(&self) -> u128
-        ensures { result ≡ stored_bound self.now }
-    {
-        match self {
-            StoredForm::Vacant => 0,
-            StoredForm::Watched(_) => 0,
-            StoredForm::Single(unit) => unit.degree() + unit.total(),
-            StoredForm::Counted(kept) => kept.as_ref().bound,
-        }
-    }
-
-    /// The sums that propagation reads.
+    /// The sums of a form in the occurrence lists, else 0.
     #[inline]
     pub fn sums(&self) -> Sums
         ensures degree { result.degree ≡ stored_degree self.now }
         ensures total { result.total ≡ stored_total self.now }
         ensures bound { result.bound ≡ stored_bound self.now }
     {
-        Sums {
-            degree: self.degree(),
-            total: self.total(),
-            bound: self.bound(),
+        match self {
+            StoredForm::Vacant => Sums::none(),
+            StoredForm::Watched(_) => Sums::none(),
+            StoredForm::Single(unit) => unit.sums(),
+            StoredForm::Counted(kept) => kept.as_ref().sums(),
         }
+    }
+
+    /// The degree of a form in the occurrence lists, else 0.
+    #[inline]
+    pub fn degree(&self) -> u128
+        ensures { result ≡ stored_degree self.now }
+    {
+        self.sums().degree
+    }
+
+    /// The sum of the coefficients in the occurrence lists.
+    #[inline]
+    pub fn total(&self) -> u128
+        ensures { result ≡ stored_total self.now }
+    {
+        self.sums().total
+    }
+
+    /// With an open sum of at least this size a form propagates nothing and is not falsified.
+    #[inline]
+    pub fn bound(&self) -> u128
+        ensures { result ≡ stored_bound self.now }
+    {
+        self.sums().bound
     }
 
     /// The coefficient of a term in the occurrence lists. If all are equal, the bound gives it, and

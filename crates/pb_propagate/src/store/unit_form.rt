@@ -5,6 +5,7 @@ ghost use Rattle.pb_normal.specs.meaning.Form.{size};
 
 use crate::shared::Shared;
 use crate::store::sorted_form::term_of;
+use crate::store::sums::Sums;
 use crate::term::Term;
 use pb_normal::Normal;
 use std::alloc::AllocError;
@@ -20,7 +21,7 @@ pub struct UnitForm {
 }
 
 impl UnitForm {
-    ghost use Rattle.std.specs.Prelude.{◌≡◌, length, slice_index_or, sum_by, IfOk};
+    ghost use Rattle.std.specs.Prelude.{◌≡◌, ◌+◌, length, slice_index_or, sum_by, IfOk};
     ghost use Rattle.pb_normal.specs.meaning.Form.{IsNormal};
     ghost use Rattle.pb_propagate.specs.declared.term.Term.{Term};
     ghost use Rattle.pb_propagate.specs.engine.Engine.Terms.{unit_terms};
@@ -35,14 +36,14 @@ impl UnitForm {
     }
 
     /// The form.
-    pub fn form(&self) -> &Normal
+    pub(super) fn form(&self) -> &Normal
         ensures { result.now ≡ self.now.form }
     {
         self.form.form()
     }
 
     /// One more owner of the form.
-    pub fn shared(&self) -> Result<Shared, AllocError>
+    pub(super) fn shared(&self) -> Result<Shared, AllocError>
         ensures { IfOk result (λ f. f ≡ self.now.form) }
     {
         self.form.share()
@@ -55,17 +56,33 @@ impl UnitForm {
         term_of(self.form.form().terms().get(0))
     }
 
-    /// The degree.
-    pub fn degree(&self) -> u128
+    // The degree.
+    fn degree(&self) -> u128
         ensures { result ≡ self.now.form.degree }
     {
         self.form.form().degree().unsigned_abs()
     }
 
-    /// The coefficient.
-    pub fn total(&self) -> u128
+    // The coefficient.
+    fn total(&self) -> u128
         ensures { result ≡ sum_by (λ t. t.coefficient) (unit_terms self.now) }
     {
         self.form.form().size()
+    }
+
+    /// Its sums.
+    pub fn sums(&self) -> Sums
+        ensures degree { result.degree ≡ self.now.form.degree }
+        ensures total { result.total ≡ sum_by (λ t. t.coefficient) (unit_terms self.now) }
+        ensures bound { result.bound ≡ result.degree + result.total }
+    {
+        let degree = self.degree();
+        let total = self.total();
+        let bound = degree + total;
+        Sums {
+            degree,
+            total,
+            bound,
+        }
     }
 }
