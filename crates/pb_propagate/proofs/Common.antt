@@ -45,7 +45,9 @@ pub use Rattle.pb_propagate.specs.declared.rests.Rests.{Rests}
 pub use Rattle.pb_propagate.specs.declared.run.Run.{Run}
 pub use Rattle.pb_propagate.specs.declared.store.Occurrence.{Occurrence}
 pub use Rattle.pb_propagate.specs.declared.store.Store.{Store}
+pub use Rattle.pb_propagate.specs.declared.store.spots.Spots.{Spots}
 pub use Rattle.pb_propagate.specs.declared.store.stored_form.StoredForm.{StoredForm}
+pub use Rattle.pb_propagate.specs.declared.store.unit_form.UnitForm.{UnitForm}
 pub use Rattle.pb_propagate.specs.declared.term.Rank.{Rank}
 pub use Rattle.pb_propagate.specs.declared.term.Term.{Term}
 pub use Rattle.pb_propagate.specs.engine.Clauses.Blocks.{AreBlocks, AreKept, begun, Contents, contents, HasBlock, IsBare, IsBefore, IsRenewed, nowhere}
@@ -63,13 +65,13 @@ pub use Rattle.pb_propagate.specs.engine.Clauses.Walked.{advanced, fallen, falsi
 pub use Rattle.pb_propagate.specs.engine.Clauses.Walked.{reached_codes}
 pub use Rattle.pb_propagate.specs.engine.Clauses.Marks.{AreMarks, HasListed, IsMark, IsWalkedTo, KeepsMarks}
 pub use Rattle.pb_propagate.specs.declared.heads.Walked.{Walked}
-pub use Rattle.pb_propagate.specs.engine.Engine.Counts.{added, Adopted, AreFalling, AreFound, AreSingle, Aside, beside, entry_weight, Grown, IsAbsent}
+pub use Rattle.pb_propagate.specs.engine.Engine.Counts.{added, Adopted, AreEven, AreFalling, AreFound, AreSingle, Aside, beside, entry_weight, Grown, IsAbsent}
 pub use Rattle.pb_propagate.specs.engine.Engine.Counts.{IsCalm, IsCounted, IsDone, IsTidy, IsUndone, kept, more, NameForms, none, place, pushed}
 pub use Rattle.pb_propagate.specs.engine.Engine.Counts.{rest_open, rest_start, spared, spent, term_weight, weight_in, weight_on}
 pub use Rattle.pb_propagate.specs.engine.Engine.Denial.{AreDenied, denial_of, IsDisjunction, IsHit, IsOne, RunRefutes}
 pub use Rattle.pb_propagate.specs.engine.Engine.Fields.{AreLonger, entries_of, forms_of, HasEntered, HasFilled, IsEmpty, IsSound, IsUnlisted}
 pub use Rattle.pb_propagate.specs.engine.Engine.Fields.{lists_of, shapes_of, spots_of, stored_shape}
-pub use Rattle.pb_propagate.specs.engine.Engine.Forms.{AreAll, as_term, entry_at_place, entry_of, IsPlaced, IsStoredAs, picked}
+pub use Rattle.pb_propagate.specs.engine.Engine.Forms.{as_term, entry_at_place, entry_of, in_order, IsPlaced, IsStoredAs, picked}
 pub use Rattle.pb_propagate.specs.engine.Engine.Links.{AreCrossed, coefficient_at, Cross, cut, degree_at, entry_at, entry_cross, IsLinked, IsStored}
 pub use Rattle.pb_propagate.specs.engine.Engine.Links.{last, Moved, term_at, term_cross, terms_at, weighted}
 pub use Rattle.pb_propagate.specs.engine.Engine.Lists.{AreInside, begin, broken, by_reason, Conflicts, Derives, Extends, from_given, has, HaveReasons}
@@ -87,6 +89,8 @@ pub use Rattle.pb_propagate.specs.engine.Engine.Root.{alone, HasForm, HasGained,
 pub use Rattle.pb_propagate.specs.engine.Engine.Root.{HasMet, HasUpdated, IsAnswered, IsAsked, IsConflict, IsFree, IsKeptConflict, IsMet}
 pub use Rattle.pb_propagate.specs.engine.Engine.Root.{IsNeedless, IsOtherUnit, IsRooted, IsVacant, posed, UpdateCosts}
 pub use Rattle.pb_propagate.specs.engine.Engine.Slots.{ArePlaced, form_at, numbered}
-pub use Rattle.pb_propagate.specs.engine.Engine.Terms.{terms_of}
+pub use Rattle.pb_propagate.specs.engine.Engine.Spots.{spots_in}
+pub use Rattle.pb_propagate.specs.engine.Engine.Stored.{stored_bound, stored_degree, stored_form, stored_terms, stored_total}
+pub use Rattle.pb_propagate.specs.engine.Engine.Terms.{terms_of, unit_terms}
 pub use Rattle.pb_propagate.specs.engine.Engine.Waiting.{IsWithout}
 pub use Rattle.pb_propagate.specs.meaning.Propagation.{Derivation, HasConflict, IsCompletion, MayPropagate, MeetsConflict, opened, With}

@@ -170,7 +170,7 @@ impl Engine {
         ensures none { IfNone result (slice_index_or self.now.forms number None ≡ None) }
     {
         match self.store.stored.get(self.places[number]) {
-            Some(kept) => kept.terms.form(),
+            Some(kept) => kept.form(),
             None => None,
         }
     }
@@ -181,7 +181,7 @@ impl Engine {
         ensures { IfOk result (λ f. f ≡ slice_index_or self.now.forms number None) }
     {
         match self.store.stored.get(self.places[number]) {
-            Some(kept) => kept.terms.shared(),
+            Some(kept) => kept.shared(),
             None => Ok(None),
         }
     }

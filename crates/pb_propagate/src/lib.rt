@@ -16,6 +16,7 @@ mod shared;
 mod slots;
 mod store;
 mod term;
+mod tight;
 mod walk;
 
 pub use engine::Engine;

@@ -73,13 +73,14 @@ fn lower(store: &Store, rests: &Rests, run: &mut Run, entry: Visited) -> Result<
     ensures visits { run.new.visits ≡ run.old.visits }
 {
     let kept = &store.stored[entry.form];
+    let sums = kept.sums();
     let opened = run.opens[entry.form];
-    let rest = rests.open(entry.form, kept.total);
+    let rest = rests.open(entry.form, sums.total);
     note(&mut run.trail, entry.form, opened, rest)?;
     let left = opened - weight_of(kept, &entry);
-    queue(&mut run.work, entry.form, left, kept.bound)?;
+    queue(&mut run.work, entry.form, left, sums.bound)?;
     run.opens[entry.form] = left;
-    Ok(is_below(left, kept.degree))
+    Ok(is_below(left, sums.degree))
 }
 
 /// The index of a literal's occurrence list.
@@ -180,18 +181,19 @@ fn visit_form(
         sum_by (λ f. length f.terms) (shapes_in store.now) }
 {
     let kept = &store.stored[form];
+    let degree = kept.degree();
     'terms: loop {
         let opened = run.opens[form];
-        let falsified = is_below(opened, kept.degree);
+        let falsified = is_below(opened, degree);
         if falsified {
             return Ok(true);
         }
         let candidate = run.candidates[form];
-        if candidate >= kept.terms.len() {
+        if candidate >= kept.len() {
             return Ok(false);
         }
-        let term = visit_term(&kept.terms, candidate, &mut run.visits);
-        let demands = is_below(opened, kept.degree + term.coefficient);
+        let term = visit_term(kept, candidate, &mut run.visits);
+        let demands = is_below(opened, degree + term.coefficient);
         if !demands {
             return Ok(false);
         }
@@ -277,7 +279,7 @@ pub fn undo_forms(store: &Store, rests: &Rests, run: &mut Run)
 {
     'forms: for i in 0..run.trail.len() {
         let form = run.trail[i];
-        let opened = rests.open(form, store.stored[form].total);
+        let opened = rests.open(form, store.stored[form].total());
         run.opens[form] = opened;
         run.candidates[form] = rests.start(form);
     }

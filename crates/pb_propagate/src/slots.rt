@@ -25,7 +25,7 @@ fn left_slot(kept: &[StoredForm], free: &mut Free, count: usize) -> Option<usize
 {
     let slot = free.take(count)?;
     let kept = kept.get(slot)?;
-    if kept.terms.has_form() {
+    if kept.has_form() {
         return None;
     }
     Some(slot)

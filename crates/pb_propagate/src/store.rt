@@ -1,20 +1,24 @@
 //! The stored forms and the occurrence lists.
 
+pub mod counted_form;
 pub mod occurrence_lists;
 pub mod opened;
 pub mod reasons;
 pub mod refresh;
 pub mod sorted_form;
+pub mod spots;
 pub mod stored_form;
+pub mod sums;
+pub mod unit_form;
 pub mod units;
 
 ghost use Rattle.std.specs.Prelude.{◌≡◌, ◌≤◌, ◌+◌, ◌-◌, ◌^◌, ◌<◌, length, min, slice_index_or};
 ghost use Rattle.pb_propagate.specs.declared.term.Term.{Term};
-ghost use Rattle.pb_propagate.specs.engine.Engine.Terms.{terms_of};
+ghost use Rattle.pb_propagate.specs.engine.Engine.Stored.{stored_terms};
 ghost use Rattle.pb_propagate.specs.engine.Engine.Fields.{entry_at};
 
 use crate::engine::visits::Visits;
-use crate::store::sorted_form::SortedForm;
+use crate::store::spots::Spots;
 use crate::store::stored_form::StoredForm;
 use crate::term::Term;
 
@@ -38,7 +42,7 @@ pub struct Visited {
 pub struct Store {
     pub stored: Vec<StoredForm>,
     // For each form, the position of the entry of each of its terms in the list of its literal.
-    pub spots: Vec<Vec<usize>>,
+    pub spots: Vec<Spots>,
     pub occurrences: Vec<Vec<Occurrence>>,
     pub variables: usize,
 }
@@ -59,26 +63,22 @@ pub fn visit(entries: &[Occurrence], i: usize, visits: &mut Visits) -> Visited
     }
 }
 
-/// The coefficient of a visited entry's term. If all are equal, the bound gives it, and the terms
-/// need not be read.
+/// The coefficient of a visited entry's term.
 pub fn weight_of(kept: &StoredForm, entry: &Visited) -> u128
-    requires { entry.now.index < length (terms_of kept.now.terms) }
+    requires { entry.now.index < length (stored_terms kept.now) }
     ensures { (d : Term) →
-        result ≡ (slice_index_or (terms_of kept.now.terms) entry.now.index d).coefficient }
+        result ≡ (slice_index_or (stored_terms kept.now) entry.now.index d).coefficient }
 {
-    if kept.even {
-        return kept.bound - kept.degree;
-    }
-    kept.terms.term(entry.index).coefficient
+    kept.weight(entry.index)
 }
 
 /// Reads a candidate, and counts the visit.
-pub fn visit_term(terms: &SortedForm, i: usize, visits: &mut Visits) -> Term
-    requires { i < length (terms_of terms.now) }
-    ensures item { (d : Term) → result ≡ slice_index_or (terms_of terms.now) i d }
+pub fn visit_term(kept: &StoredForm, i: usize, visits: &mut Visits) -> Term
+    requires { i < length (stored_terms kept.now) }
+    ensures item { (d : Term) → result ≡ slice_index_or (stored_terms kept.now) i d }
     ensures rising { visits.old ≤ visits.new }
     ensures count { visits.new ≡ min (visits.old + 1) (2 ^ 64 - 1) }
 {
     visits.count();
-    terms.term(i)
+    kept.term(i)
 }

@@ -9,6 +9,7 @@ pub mod Seats
 pub mod Slots
 pub mod Sorted
 pub mod Storages
+pub mod Stored
 pub mod Unlinks
 pub mod Weights
 pub mod Options

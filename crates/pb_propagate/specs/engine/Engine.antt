@@ -2,6 +2,8 @@
 pub mod Lists
 pub mod Counts
 pub mod Links
+pub mod Stored
+pub mod Spots
 pub mod Fields
 pub mod Forms
 pub mod Terms

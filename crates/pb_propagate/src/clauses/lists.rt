@@ -6,6 +6,7 @@ ghost use Rattle.pb_propagate.specs.engine.Clauses.Links.{watch_lists, list_at, 
 ghost use Rattle.pb_propagate.specs.engine.Clauses.Blocks.{HasBlock, rewatched};
 
 use crate::clauses::blocks::Blocks;
+use crate::tight::append;
 use std::alloc::AllocError;
 
 /// A watch: the literal that it watches, and its position in that literal's list.
@@ -76,7 +77,7 @@ fn push_entry(
 {
     let list = &mut lists[literal];
     let spot = list.len();
-    list.push(entry)?;
+    append(list, entry)?;
     Ok(spot)
 }
 

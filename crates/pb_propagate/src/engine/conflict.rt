@@ -74,8 +74,8 @@ impl Conflict {
     {
         if !clauses.is_filled(slot) {
             let kept = &store.stored[slot];
-            let opened = open_under(&kept.terms, self.assignment.values.as_slice());
-            return is_below(opened, kept.degree);
+            let opened = open_under(kept, self.assignment.values.as_slice());
+            return is_below(opened, kept.degree());
         }
         match clauses.free_literal(&self.assignment, slot) {
             Some(_) => false,

@@ -66,9 +66,9 @@ pub fn lay(store: &Store, run: &mut Run, form: usize) -> Result<(), AllocError>
     ensures visits { run.new.visits ≡ run.old.visits }
 {
     let kept = &store.stored[form];
-    let opened = open_under(&kept.terms, run.assignment.values.as_slice());
+    let opened = open_under(kept, run.assignment.values.as_slice());
     run.trail.push(form)?;
-    queue(&mut run.work, form, opened, kept.bound)?;
+    queue(&mut run.work, form, opened, kept.bound())?;
     run.opens[form] = opened;
     Ok(())
 }
@@ -159,7 +159,7 @@ impl Root {
         ensures { (self.new.run ≡ self.old.run) × (self.new.rests ≡ self.old.rests) ×
             (self.new.waiting ≡ self.old.waiting) × (self.new.walked ≡ self.old.walked) }
     {
-        let Some(literal) = only_literal(&store.stored[slot].terms) else {
+        let Some(literal) = only_literal(&store.stored[slot]) else {
             return;
         };
         if let Some(unit) = self.units.get_mut(place_of(literal)) {

@@ -7,6 +7,7 @@ ghost use Rattle.pb_propagate.specs.declared.store.stored_form.StoredForm.{Store
 ghost use Rattle.pb_propagate.specs.engine.Engine.Lists.{Shape};
 ghost use Rattle.pb_propagate.specs.engine.Engine.Counts.{AreFalling, IsCalm, place};
 ghost use Rattle.pb_propagate.specs.engine.Engine.Forms.{IsStoredAs};
+ghost use Rattle.pb_propagate.specs.engine.Engine.Stored.{stored_form, stored_terms};
 ghost use Rattle.pb_propagate.specs.engine.Engine.Terms.{terms_of};
 ghost use Rattle.pb_propagate.specs.engine.Engine.Fields.{stored_shape, shapes_of, forms_of, spots_of, lists_of, entries_of, IsSound, HasEntered, HasFilled, IsEmpty, IsUnlisted, AreLonger};
 ghost use Rattle.pb_propagate.specs.engine.Engine.Slots.{MayHold};
@@ -18,9 +19,13 @@ use crate::clauses::Clauses;
 use crate::clauses::watched::Pair;
 use crate::run::{Run, place_of};
 use crate::shared::Shared;
+use crate::store::counted_form::CountedForm;
 use crate::store::sorted_form::SortedForm;
+use crate::store::spots::Spots;
 use crate::store::stored_form::StoredForm;
+use crate::store::unit_form::UnitForm;
 use crate::store::{Occurrence, Store};
+use crate::tight::append;
 use pb_normal::{Normal, NumberedLiteral};
 use std::alloc::{AllocError, Global};
 
@@ -42,77 +47,69 @@ fn bound_of(terms: &SortedForm, degree: u128) -> u128
     degree + first.coefficient
 }
 
-// Whether all coefficients are equal.
-fn is_even(terms: &SortedForm) -> bool
-    requires { AreFalling (terms_of terms.now) }
-    ensures { result ≡ true → (i : ℕ) (d : Term) → i < length (terms_of terms.now) →
-        (slice_index_or (terms_of terms.now) i d).coefficient ≡ (slice_index_or
-        (terms_of terms.now) 0 d).coefficient }
-{
-    if terms.len() == 0 {
-        return true;
-    }
-    let last = terms.len() - 1;
-    let largest = terms.term(0);
-    let least = terms.term(last);
-    largest.coefficient == least.coefficient
-}
-
-// A form as the engine stores it.
-fn stored_of(alloc: Global, form: Shared) -> Result<StoredForm, AllocError>
-    ensures is { IfOk result (λ kept. IsStoredAs form (stored_shape kept)) }
-    ensures form { IfOk result (λ kept. kept.terms.form ≡ Some form) }
+// A form with its sums.
+fn counted_of(alloc: Global, form: Shared) -> Result<CountedForm, AllocError>
+    ensures is { IfOk result (λ kept.
+        IsStoredAs form record { terms = terms_of kept.terms; degree = kept.degree }) }
+    ensures form { IfOk result (λ kept. kept.terms.form ≡ form) }
 {
     let normal = form.form();
     let degree = normal.degree().unsigned_abs();
     let total = normal.size();
     let terms = SortedForm::new(alloc, form)?;
     let bound = bound_of(&terms, degree);
-    let even = is_even(&terms);
-    Ok(StoredForm {
+    Ok(CountedForm {
         terms,
         degree,
         total,
         bound,
-        even,
     })
+}
+
+// A form as the engine stores it.
+fn stored_of(alloc: Global, form: Shared) -> Result<StoredForm, AllocError>
+    ensures is { IfOk result (λ kept. IsStoredAs form (stored_shape kept)) }
+    ensures form { IfOk result (λ kept. stored_form kept ≡ Some form) }
+{
+    let normal = form.form();
+    if normal.terms().len() == 1 {
+        return Ok(StoredForm::Single(UnitForm::of(form)));
+    }
+    let counted = counted_of(alloc, form)?;
+    let kept = Box::new(alloc, counted)?;
+    Ok(StoredForm::Counted(kept))
 }
 
 // Adds the terms of a form to the lists of their literals, and records their positions.
 fn link(
-    terms: &SortedForm,
+    kept: &StoredForm,
     form: usize,
     lists: &mut Vec<Vec<Occurrence>>,
     spots: &mut Vec<usize>,
 ) -> Result<(), AllocError>
-    requires inside { All (λ t. place t.literal < length lists.old.items) (terms_of terms.now) }
+    requires inside { All (λ t. place t.literal < length lists.old.items) (stored_terms kept.now) }
     requires empty { spots.old.items ≡ [] }
     ensures sizes { length lists.new.items ≡ length lists.old.items }
     ensures longer { OnOk result (AreLonger lists.old.items lists.new.items) }
-    ensures count { OnOk result (length spots.new.items ≡ length (terms_of terms.now)) }
+    ensures count { OnOk result (length spots.new.items ≡ length (stored_terms kept.now)) }
     ensures linked { OnOk result ((base : List Shape) (all : List (List ℕ)) → form < length base →
-        terms_at base form ≡ terms_of terms.now → form < length all →
+        terms_at base form ≡ stored_terms kept.now → form < length all →
         IsLinked (cut base form 0) (slice_set all form []) (entries_of base lists.old.items) →
-        IsLinked (cut base form (length (terms_of terms.now))) (slice_set all form spots.new.items)
+        IsLinked (cut base form (length (stored_terms kept.now))) (slice_set all form spots.new.items)
         (entries_of base lists.new.items)) }
 {
-    'terms: for i in 0..terms.len() {
-        let term = terms.term(i);
+    'terms: for i in 0..kept.len() {
+        let term = kept.term(i);
         let place = place_of(term.literal);
         let spot = lists[place].len();
         spots.push(spot)?;
-        lists[place].push(Occurrence { form, index: i })?;
+        append(&mut lists[place], Occurrence { form, index: i })?;
     }
     Ok(())
 }
 
 // Removes an entry from a list. The last entry of the list moves to its position.
-fn take_out(
-    lists: &mut Vec<Vec<Occurrence>>,
-    spots: &mut Vec<Vec<usize>>,
-    place: usize,
-    spot: usize,
-)
+fn take_out(lists: &mut Vec<Vec<Occurrence>>, spots: &mut Vec<Spots>, place: usize, spot: usize)
     requires place { place < length lists.old.items }
     requires spot { spot < length (slice_index_or (lists_of lists.old.items) place []) }
     requires named { (e : Occurrence) →
@@ -133,7 +130,7 @@ fn take_out(
         return;
     }
     let moved = lists[place][spot];
-    spots[moved.form][moved.index] = spot;
+    spots[moved.form].set(moved.index, spot);
 }
 
 // Removes the entries of a form from the lists, that of the last term first.
@@ -149,41 +146,29 @@ fn unlink(store: &mut Store, form: usize)
         (spots_of store.new.spots.items)
         (entries_of (shapes_of store.new.stored.items) store.new.occurrences.items) }
 {
-    let mut left = store.stored[form].terms.len();
+    let mut left = store.stored[form].len();
     'terms: while left > 0 {
         left -= 1;
-        let term = store.stored[form].terms.term(left);
-        let spot = store.spots[form][left];
+        let term = store.stored[form].term(left);
+        let spot = store.spots[form].get(left);
         let place = place_of(term.literal);
         take_out(&mut store.occurrences, &mut store.spots, place, spot);
     }
 }
 
-// An empty form: it has no terms, and its degree is 0.
-fn empty_stored(alloc: Global) -> StoredForm
+// An empty slot.
+fn empty_stored() -> StoredForm
     ensures { IsEmpty result }
 {
-    StoredForm {
-        terms: SortedForm::none(alloc),
-        degree: 0,
-        total: 0,
-        bound: 0,
-        even: true,
-    }
+    StoredForm::Vacant
 }
 
 // A form that is propagated by its watches. It has no entries in the occurrence lists.
-fn watched_stored(alloc: Global, form: Shared) -> StoredForm
-    ensures form { result.terms.form ≡ Some form }
+fn watched_stored(form: Shared) -> StoredForm
+    ensures form { stored_form result ≡ Some form }
     ensures unlisted { IsUnlisted result }
 {
-    StoredForm {
-        terms: SortedForm::unordered(alloc, form),
-        degree: 0,
-        total: 0,
-        bound: 0,
-        even: true,
-    }
+    StoredForm::Watched(form)
 }
 
 /// Stores a clause in an empty slot. Two of its literals are watched.
@@ -202,16 +187,15 @@ pub fn watch(
     ensures lists { OnOk result (length clauses.new.lists.items ≡ length clauses.old.lists.items) }
     ensures watches { OnOk result (
         AreSet clauses.old.blocks.watches clauses.new.blocks.watches slot codes.items pair) }
-    ensures kept { OnOk result ((k : StoredForm) × (k.terms.form ≡ Some form) × IsUnlisted k ×
+    ensures kept { OnOk result ((k : StoredForm) × (stored_form k ≡ Some form) × IsUnlisted k ×
         (store.new.stored.items ≡ slice_set store.old.stored.items slot k)) }
     ensures unchanged { OnErr result (store.new.stored.items ≡ store.old.stored.items) }
     ensures rest { (store.new.spots ≡ store.old.spots) ×
         (store.new.occurrences ≡ store.old.occurrences) ×
         (store.new.variables ≡ store.old.variables) }
 {
-    let alloc = *store.stored.allocator();
     clauses.fill(slot, codes, pair)?;
-    store.stored[slot] = watched_stored(alloc, form);
+    store.stored[slot] = watched_stored(form);
     Ok(())
 }
 
@@ -225,9 +209,8 @@ pub fn widen(store: &mut Store) -> Result<(), AllocError>
     ensures occurrences { store.new.occurrences ≡ store.old.occurrences }
     ensures variables { store.new.variables ≡ store.old.variables }
 {
-    let alloc = *store.stored.allocator();
-    store.spots.push(Vec::new(alloc))?;
-    store.stored.push(empty_stored(alloc))?;
+    store.spots.push(Spots::Empty)?;
+    store.stored.push(empty_stored())?;
     Ok(())
 }
 
@@ -247,9 +230,10 @@ pub fn fill(store: &mut Store, slot: usize, form: Shared) -> Result<(), AllocErr
 {
     let alloc = *store.stored.allocator();
     let kept = stored_of(alloc, form)?;
-    let mut spots = Vec::with_capacity(alloc, kept.terms.len())?;
-    link(&kept.terms, slot, &mut store.occurrences, &mut spots)?;
-    store.spots[slot] = spots;
+    let mut spots = Vec::with_capacity(alloc, kept.len())?;
+    link(&kept, slot, &mut store.occurrences, &mut spots)?;
+    let seats = Spots::of(alloc, spots)?;
+    store.spots[slot] = seats;
     store.stored[slot] = kept;
     Ok(())
 }
@@ -278,7 +262,7 @@ pub fn enter(store: &mut Store, run: &mut Run, form: Normal) -> Result<(), Alloc
     run.candidates.reserve(1)?;
     widen(store)?;
     fill(store, slot, form)?;
-    run.opens.push_reserved(store.stored[slot].total);
+    run.opens.push_reserved(store.stored[slot].total());
     run.candidates.push_reserved(0);
     Ok(())
 }
@@ -316,8 +300,7 @@ pub fn vacate(store: &mut Store, form: usize)
         (store.new.stored.items ≡ slice_set store.old.stored.items form k) }
     ensures variables { store.new.variables ≡ store.old.variables }
 {
-    let alloc = *store.stored.allocator();
     unlink(store, form);
-    store.stored[form] = empty_stored(alloc);
-    store.spots[form] = Vec::new(alloc);
+    store.stored[form] = empty_stored();
+    store.spots[form] = Spots::Empty;
 }

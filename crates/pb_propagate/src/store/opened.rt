@@ -4,9 +4,9 @@ ghost use Rattle.std.specs.Prelude.{◌≡◌, ◌≤◌, ◌<◌, ◌^◌, fals
 ghost use Rattle.pb_normal.specs.declared.numbered.NumberedLiteral.{NumberedLiteral};
 ghost use Rattle.pb_normal.specs.meaning.Rules.{negation};
 ghost use Rattle.pb_propagate.specs.engine.Engine.Lists.{has, says, open_part, open_sum, AreInside};
-ghost use Rattle.pb_propagate.specs.engine.Engine.Terms.{terms_of};
+ghost use Rattle.pb_propagate.specs.engine.Engine.Stored.{stored_terms};
 
-use crate::store::sorted_form::SortedForm;
+use crate::store::stored_form::StoredForm;
 use crate::term::Term;
 use pb_normal::NumberedLiteral;
 
@@ -35,16 +35,16 @@ fn part_of(values: &[Option<bool>], term: Term) -> u128
 }
 
 /// The open sum of a form under some values.
-pub fn open_under(terms: &SortedForm, values: &[Option<bool>]) -> u128
-    requires small { sum_by (λ t. t.coefficient) (terms_of terms.now) < 2 ^ 127 }
-    requires inside { AreInside (length values.now) (terms_of terms.now) }
+pub fn open_under(kept: &StoredForm, values: &[Option<bool>]) -> u128
+    requires small { sum_by (λ t. t.coefficient) (stored_terms kept.now) < 2 ^ 127 }
+    requires inside { AreInside (length values.now) (stored_terms kept.now) }
     ensures { (list : List NumberedLiteral) →
         ((l : NumberedLiteral) → has list l ≡ says values.now l) →
-        result ≡ open_sum list (terms_of terms.now) }
+        result ≡ open_sum list (stored_terms kept.now) }
 {
     let mut sum = 0;
-    'terms: for i in 0..terms.len() {
-        sum += part_of(values, terms.term(i));
+    'terms: for i in 0..kept.len() {
+        sum += part_of(values, kept.term(i));
     }
     sum
 }

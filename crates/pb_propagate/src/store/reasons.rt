@@ -63,9 +63,9 @@ fn replace_by_terms(
         IsDue slot assignment.new.list.items assignment.new.reasons.items
         (slice_index_or (terms_at (shapes_of store.now.stored.items) slot) k d).literal → ⊥ }
 {
-    let terms = &store.stored[slot].terms;
-    'terms: for i in 0..terms.len() {
-        if !replace_reason(store, units, assignment, slot, terms.term(i).literal) {
+    let kept = &store.stored[slot];
+    'terms: for i in 0..kept.len() {
+        if !replace_reason(store, units, assignment, slot, kept.term(i).literal) {
             return false;
         }
     }
@@ -115,8 +115,8 @@ pub fn release_by_terms(store: &Store, root: &mut Root, slot: usize)
         IsDue slot (list_of root.new.run) (reasons_of root.new.run)
         (slice_index_or (terms_at (shapes_of store.now.stored.items) slot) k d).literal → ⊥ }
 {
-    let terms = &store.stored[slot].terms;
-    'terms: for i in 0..terms.len() {
-        root.release_literal(store, slot, terms.term(i).literal);
+    let kept = &store.stored[slot];
+    'terms: for i in 0..kept.len() {
+        root.release_literal(store, slot, kept.term(i).literal);
     }
 }

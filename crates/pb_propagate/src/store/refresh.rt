@@ -50,7 +50,7 @@ fn refresh(store: &Store, root: &mut Root, form: usize, opened: u128)
     root.run.candidates[form] = 0;
     root.rests.opens[form] = opened;
     root.rests.starts[form] = 0;
-    wait_below(&mut root.waiting, form, opened, kept.bound);
+    wait_below(&mut root.waiting, form, opened, kept.bound());
 }
 
 /// Refreshes each form with a literal. Its open sum stays.
@@ -92,7 +92,7 @@ pub fn lift_all(store: &Store, root: &mut Root, literal: NumberedLiteral)
         let entry = entries[j];
         let kept = &store.stored[entry.form];
         let before = root.run.opens[entry.form];
-        let opened = before + kept.terms.term(entry.index).coefficient;
+        let opened = before + kept.term(entry.index).coefficient;
         refresh(store, root, entry.form, opened);
     }
 }

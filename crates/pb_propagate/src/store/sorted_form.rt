@@ -1,21 +1,23 @@
 //! A form with its terms in order of falling coefficient.
 
-ghost use Rattle.std.specs.Prelude.{◌≡◌, ℕ, List, ◌<◌, ◌^◌, true, All, IfOk, length, map, sum_by, slice_index_or, IsPermutation};
-ghost use Rattle.pb_propagate.specs.engine.Engine.Forms.{entry_of, as_term, entries_in, picked, IsPlaced, AreAll};
-ghost use Rattle.pb_propagate.specs.engine.Engine.Counts.{AreFalling};
+ghost use Rattle.std.specs.Prelude.{◌≡◌, ℕ, ◌<◌, ◌^◌, [], true, All, IfOk, length, map, sum_by, slice_index_or, IsPermutation};
+ghost use Rattle.pb_propagate.specs.engine.Engine.Forms.{entry_of, as_term, picked, in_order, IsPlaced};
+ghost use Rattle.pb_propagate.specs.engine.Engine.Counts.{AreEven, AreFalling};
 
 use crate::shared::Shared;
 use crate::term::{Rank, Term};
 use pb_normal::{Entry, Normal, NumberedLiteral, Terms};
 use std::alloc::{AllocError, Global};
 
-/// A form or none, and the positions of its terms in order of falling coefficient. Each term is
-/// stored once, and the form may have other owners.
+/// A form, and the positions of its terms in order of falling coefficient. Each term is stored
+/// once, and the form may have other owners.
 #[derive(Drop)]
 pub struct SortedForm {
-    form: Option<Shared>,
+    form: Shared,
+    // Empty if all coefficients are equal: the terms are then in the order of the form.
     order: Vec<usize>,
-    pub ghost inside: { All (λ p. p < length (entries_in form)) order.items },
+    pub ghost inside: { All (λ p. p < length form.terms) order.items },
+    pub ghost even: { order.items ≡ [] → AreEven (in_order form.terms order.items) },
 }
 
 /// An entry as a term.
@@ -89,29 +91,20 @@ fn are_equal(entries: &Terms) -> bool
     true
 }
 
-// The positions in the order of the form.
-fn all_places(alloc: Global, count: usize) -> Result<Vec<usize>, AllocError>
-    ensures { (es : List Entry) → length es ≡ count →
-        IfOk result (λ places. AreAll es places.items) }
-{
-    let mut places = Vec::with_capacity(alloc, count)?;
-    'places: for place in 0..count {
-        places.push(place)?;
-    }
-    Ok(places)
-}
-
-// The positions in order of falling coefficient. If all coefficients are equal, nothing is sorted.
+// The positions in order of falling coefficient. If all coefficients are equal, there are none, and
+// nothing is allocated.
 fn order_of(alloc: Global, entries: &Terms) -> Result<Vec<usize>, AllocError>
     requires { sum_by (λ e. e.coefficient) entries.now < 2 ^ 127 }
     ensures inside { IfOk result (λ order. All (λ p. p < length entries.now) order.items) }
     ensures same { IfOk result (λ order.
-        IsPermutation (map entry_of (picked entries.now order.items)) entries.now) }
-    ensures falling { IfOk result (λ order. AreFalling (picked entries.now order.items)) }
+        IsPermutation (map entry_of (in_order entries.now order.items)) entries.now) }
+    ensures falling { IfOk result (λ order. AreFalling (in_order entries.now order.items)) }
+    ensures even { IfOk result (λ order.
+        order.items ≡ [] → AreEven (in_order entries.now order.items)) }
 {
     if are_equal(entries) {
-        let places = all_places(alloc, entries.len())?;
-        return Ok(places);
+        let none = Vec::new(alloc);
+        return Ok(none);
     }
     let ranks = ranked(alloc, entries)?;
     let order = places_of(alloc, ranks.as_slice())?;
@@ -119,83 +112,65 @@ fn order_of(alloc: Global, entries: &Terms) -> Result<Vec<usize>, AllocError>
 }
 
 impl SortedForm {
-    ghost use Rattle.std.specs.Prelude.{◌≡◌, ◌<◌, [], Some, None, IfOk, IfSome, IfNone, is_some, length, map, IsPermutation, slice_index_or};
+    ghost use Rattle.std.specs.Prelude.{◌≡◌, ◌<◌, [], true, IfOk, length, map, IsPermutation, slice_index_or};
     ghost use Rattle.pb_propagate.specs.declared.term.Term.{Term};
-    ghost use Rattle.pb_propagate.specs.engine.Engine.Forms.{entry_of};
-    ghost use Rattle.pb_propagate.specs.engine.Engine.Counts.{AreFalling};
+    ghost use Rattle.pb_propagate.specs.engine.Engine.Forms.{entry_of, as_term, entry_at_place};
+    ghost use Rattle.pb_propagate.specs.engine.Engine.Counts.{AreEven, AreFalling};
     ghost use Rattle.pb_propagate.specs.engine.Engine.Terms.{terms_of};
-
-    /// No form.
-    pub fn none(alloc: Global) -> SortedForm
-        ensures form { result.form ≡ None }
-        ensures terms { terms_of result ≡ [] }
-    {
-        SortedForm {
-            form: None,
-            order: Vec::new(alloc),
-        }
-    }
-
-    /// A form that is propagated by its watches. None of its terms is in the order.
-    pub fn unordered(alloc: Global, form: Shared) -> SortedForm
-        ensures form { result.form ≡ Some form }
-        ensures terms { terms_of result ≡ [] }
-    {
-        SortedForm {
-            form: Some(form),
-            order: Vec::new(alloc),
-        }
-    }
 
     /// A form.
     pub fn new(alloc: Global, form: Shared) -> Result<SortedForm, AllocError>
-        ensures form { IfOk result (λ f. f.form ≡ Some form) }
+        ensures form { IfOk result (λ f. f.form ≡ form) }
         ensures same { IfOk result (λ f. IsPermutation (map entry_of (terms_of f)) form.terms) }
         ensures falling { IfOk result (λ f. AreFalling (terms_of f)) }
     {
         let order = order_of(alloc, form.form().terms())?;
-        Ok(SortedForm {
-            form: Some(form),
-            order,
-        })
+        Ok(SortedForm { form, order })
     }
 
-    /// Whether there is a form.
-    pub fn has_form(&self) -> bool
-        ensures { result ≡ is_some self.now.form }
+    /// The form.
+    pub(super) fn form(&self) -> &Normal
+        ensures { result.now ≡ self.now.form }
     {
-        self.form.is_some()
+        self.form.form()
     }
 
-    /// The form, if there is one.
-    pub fn form(&self) -> Option<&Normal>
-        ensures some { IfSome result (λ f. self.now.form ≡ Some f.now) }
-        ensures none { IfNone result (self.now.form ≡ None) }
-    {
-        match &self.form {
-            Some(form) => Some(form.form()),
-            None => None,
-        }
-    }
-
-    /// One more owner of the form, if there is one.
-    pub fn shared(&self) -> Result<Option<Shared>, AllocError>
+    /// One more owner of the form.
+    pub(super) fn shared(&self) -> Result<Shared, AllocError>
         ensures { IfOk result (λ f. f ≡ self.now.form) }
     {
-        match &self.form {
-            Some(form) => {
-                let form = form.share()?;
-                Ok(Some(form))
-            }
-            None => Ok(None),
-        }
+        self.form.share()
     }
 
-    /// How many terms are in the order.
+    /// Whether the terms are in the order of the form. Then all coefficients are equal.
+    pub fn is_even(&self) -> bool
+        ensures { result ≡ true → AreEven (terms_of self.now) }
+    {
+        self.order.len() == 0
+    }
+
+    /// How many terms there are.
     pub fn len(&self) -> usize
         ensures { result ≡ length (terms_of self.now) }
     {
-        self.order.len()
+        let count = self.order.len();
+        if count == 0 {
+            return self.form.form().terms().len();
+        }
+        count
+    }
+
+    // The position in the form of a term of the order.
+    fn place_at(&self, index: usize) -> usize
+        requires { index < length (terms_of self.now) }
+        ensures inside { result < length self.now.form.terms }
+        ensures term { (d : Term) → as_term (entry_at_place self.now.form.terms result) ≡
+            slice_index_or (terms_of self.now) index d }
+    {
+        if self.order.len() == 0 {
+            return index;
+        }
+        self.order[index]
     }
 
     /// The term at a position of the order. Propagation reads it only by `visit_term` and
@@ -204,10 +179,7 @@ impl SortedForm {
         requires { index < length (terms_of self.now) }
         ensures { (d : Term) → result ≡ slice_index_or (terms_of self.now) index d }
     {
-        let place = self.order[index];
-        match &self.form {
-            Some(form) => term_of(form.form().terms().get(place)),
-            None => unreachable!(),
-        }
+        let place = self.place_at(index);
+        term_of(self.form.form().terms().get(place))
     }
 }

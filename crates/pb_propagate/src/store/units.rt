@@ -5,33 +5,32 @@ ghost use Rattle.pb_normal.specs.declared.numbered.NumberedLiteral.{NumberedLite
 ghost use Rattle.pb_propagate.specs.engine.Engine.Counts.{place};
 ghost use Rattle.pb_propagate.specs.engine.Engine.Fields.{shapes_of};
 ghost use Rattle.pb_propagate.specs.engine.Engine.Root.{IsOtherUnit, IsOnly};
-ghost use Rattle.pb_propagate.specs.engine.Engine.Terms.{terms_of};
+ghost use Rattle.pb_propagate.specs.engine.Engine.Stored.{stored_degree, stored_terms};
 
 use crate::run::place_of;
 use crate::store::Store;
-use crate::store::sorted_form::SortedForm;
 use crate::store::stored_form::StoredForm;
 use pb_normal::NumberedLiteral;
 
 /// The literal of a form with one term.
-pub fn only_literal(terms: &SortedForm) -> Option<NumberedLiteral>
-    ensures some { IfSome result (IsOnly (terms_of terms.now)) }
-    ensures none { IfNone result (length (terms_of terms.now) ≡ 1 → ⊥) }
+pub fn only_literal(kept: &StoredForm) -> Option<NumberedLiteral>
+    ensures some { IfSome result (IsOnly (stored_terms kept.now)) }
+    ensures none { IfNone result (length (stored_terms kept.now) ≡ 1 → ⊥) }
 {
-    if terms.len() != 1 {
+    if kept.len() != 1 {
         return None;
     }
-    Some(terms.term(0).literal)
+    Some(kept.term(0).literal)
 }
 
 /// Whether a form is a unit of the literal: it has no other, and is not met without it.
 pub fn is_unit(kept: &StoredForm, literal: NumberedLiteral) -> bool
-    ensures { result ≡ true → IsOnly (terms_of kept.now.terms) literal × (0 < kept.now.degree) }
+    ensures { result ≡ true → IsOnly (stored_terms kept.now) literal × (0 < stored_degree kept.now) }
 {
-    if kept.degree == 0 {
+    if kept.degree() == 0 {
         return false;
     }
-    match only_literal(&kept.terms) {
+    match only_literal(kept) {
         Some(only) => only == literal,
         None => false,
     }

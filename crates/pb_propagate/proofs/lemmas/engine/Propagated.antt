@@ -1,3 +1,4 @@
+use Rattle.pb_propagate.proofs.lemmas.store.Stored.{stored-falling}
 use Rattle.pb_propagate.proofs.Common.{ℕ, ◌*◌, ◌++◌, ◌+◌, ◌-◌, ◌<◌, ◌∙◌, ◌∷◌, ◌≡◌, ◌≤◌, [], ap, arith, drop, get_or, length, length-append, List}
 use Rattle.pb_propagate.proofs.Common.{refl, sym, take, Contains, sum, sum_by, drop_all, drop_more, get_or_read, length-take, All-push}
 use Rattle.pb_propagate.proofs.Common.{NumberedLiteral, Heads, Rests, Store, fallen, AreFalling, AreSingle, beside, IsAbsent, IsTidy, spent}
@@ -143,7 +144,7 @@ propagating-settled store rests {waiting} {before} {extra} {taken} {start} {now}
     let calm = rw is at (state.tidy.calm s f inside busy off gone) in
     let passed = rw is at (state.tidy.passed s f inside) in
     let sum_now = rw is at (open-now (shapes_of keep) now.opens now.list s f inside state.counted) in
-    let falling : AreFalling f.terms = rw (← from.value) from.element.falling in
+    let falling : AreFalling f.terms = rw (← from.value) (stored-falling from.element) in
     calm-settled f (get_or now.opens s 0) (get_or now.candidates s 0) now.list falling sum_now calm passed
 
 -- the number of visits, also if the propagation was abandoned

@@ -1,3 +1,5 @@
+use Rattle.pb_propagate.proofs.Common.{stored_total}
+use Rattle.pb_propagate.proofs.lemmas.store.Stored.{stored-sum}
 use Rattle.pb_propagate.proofs.Common.{ℕ, ◌+◌, ◌<◌, ◌∙◌, ◌≡◌, ◌⊎◌, ap, arith, get_or, get_or-set_other, get_or-set_same, inl, inr, length, List, set}
 use Rattle.pb_propagate.proofs.Common.{sym, cases_eq, get_or_read, length-map, Rests, StoredForm, IsAbsent, IsUndone, rest_open, rest_start}
 use Rattle.pb_propagate.proofs.Common.{shapes_of, stored_shape, Shape, size}
@@ -9,7 +11,7 @@ undo-form rests keep opens cands work i form inside is u =
     let named = u.named i form inside in
     omega (arith, named, is, length-map keep stored_shape)
 
-pub undo-next : (rests : Rests) (keep : List StoredForm) (opens cands opens' cands' work : List ℕ) (i form opened back : ℕ) (k : StoredForm) → i < length work → form ≡ get_or work i form → form < length keep → k ≡ get_or keep form k → opened ≡ get_or rests.opens.items form k.total → back ≡ get_or rests.starts.items form 0 → length opens ≡ length keep → length cands ≡ length keep → opens' ≡ set opens form opened → cands' ≡ set cands form back → IsUndone rests (shapes_of keep) opens cands work i → IsUndone rests (shapes_of keep) opens' cands' work (i + 1)
+pub undo-next : (rests : Rests) (keep : List StoredForm) (opens cands opens' cands' work : List ℕ) (i form opened back : ℕ) (k : StoredForm) → i < length work → form ≡ get_or work i form → form < length keep → k ≡ get_or keep form k → opened ≡ get_or rests.opens.items form (stored_total k) → back ≡ get_or rests.starts.items form 0 → length opens ≡ length keep → length cands ≡ length keep → opens' ≡ set opens form opened → cands' ≡ set cands form back → IsUndone rests (shapes_of keep) opens cands work i → IsUndone rests (shapes_of keep) opens' cands' work (i + 1)
 undo-next rests keep opens cands opens' cands' work i form opened back k inside is named at whole first o c lower again u = rw (lower, again) (record { clean = λ s d in_forms gone. clean_at s d in_forms gone (cases_eq s form); named = u.named })
   where
     clean_at : (s : ℕ) (d : Shape) → s < length (shapes_of keep) → IsAbsent work (i + 1) s → (s ≡ form) ⊎ (s ≡ form → ⊥) → (get_or (set opens form opened) s 0 ≡ rest_open rests s (get_or (shapes_of keep) s d)) × (get_or (set cands form back) s 0 ≡ rest_start rests s)
@@ -19,8 +21,8 @@ undo-next rests keep opens cands opens' cands' work i form opened back k inside 
         let is_open : get_or (set opens form opened) s 0 ≡ opened = rw one (get_or-set_same opens form opened 0 room) in
         let is_start : get_or (set cands form back) s 0 ≡ back = rw one (get_or-set_same cands form back 0 roomc) in
         let its : get_or (shapes_of keep) s d ≡ stored_shape k = rw one (shape-at keep form k named at d) in
-        let sum : k.total ≡ size (get_or (shapes_of keep) s d).terms = rw its k.sum in
-        let here : get_or rests.opens.items form k.total ≡ rest_open rests s (get_or (shapes_of keep) s d) = rw one (ap (get_or rests.opens.items form) (rw one at sum)) in
+        let sum : stored_total k ≡ size (get_or (shapes_of keep) s d).terms = rw its (stored-sum k) in
+        let here : get_or rests.opens.items form (stored_total k) ≡ rest_open rests s (get_or (shapes_of keep) s d) = rw one (ap (get_or rests.opens.items form) (rw one at sum)) in
         (is_open ∙ whole ∙ here, is_start ∙ first ∙ ap (λ x. get_or rests.starts.items x 0) (sym one))
     clean_at s d in_forms gone (inr other) =
         let before : IsAbsent work i s = λ j after less place. elim (cases_eq j i) [

@@ -1,10 +1,12 @@
+use Rattle.pb_propagate.proofs.Common.{stored_bound, stored_degree, stored_terms, stored_total}
+use Rattle.pb_propagate.proofs.lemmas.store.Stored.{stored-sum, stored-idle}
 use Rattle.pb_propagate.proofs.Common.{ℕ, ◌+◌, ◌-◌, ◌<◌, ◌^◌, ◌∙◌, ◌∷◌, ◌≡◌, ◌≤◌, [], ap, arith, false, get_or, length, length-append, length-set}
 use Rattle.pb_propagate.proofs.Common.{List, min, refl, set, subst, sym, All, Contains, slice_get, Some, sum, get_or-map, get_or_default, get_or_read}
 use Rattle.pb_propagate.proofs.Common.{length-map, Contains-get_or, sum_by-set, slice_get-get_or, NumberedLiteral, negation, Rests, Store, StoredForm}
 use Rattle.pb_propagate.proofs.Common.{Term, added, Adopted, beside, Grown, IsAbsent, IsCalm, IsCounted, IsDone, kept, pushed, rest_open, spared}
 use Rattle.pb_propagate.proofs.Common.{weight_in, shapes_of, stored_shape, coefficient_at, AreInside, broken, by_reason, Conflicts, has, HaveReasons}
 use Rattle.pb_propagate.proofs.Common.{KeepsReasons, open_sum, Shape, size, Advances, Database, database, IsOpen, IsTidyAt, passed_to, Progress}
-use Rattle.pb_propagate.proofs.Common.{StaysTidy, visited_to, VisitsEach, terms_of}
+use Rattle.pb_propagate.proofs.Common.{StaysTidy, visited_to, VisitsEach}
 use Rattle.pb_propagate.proofs.lemmas.engine.Advances.{advances-refl, advances-then, advances-as, advances-visit, advances-pass}
 use Rattle.pb_propagate.proofs.lemmas.engine.Derivations.{one_itself}
 use Rattle.pb_propagate.proofs.lemmas.engine.Reasoned.{reasons-keep}
@@ -112,7 +114,7 @@ Visiting-conflict forms opens list form f inside is c low =
 pub shape-at : (keep : List StoredForm) (form : ℕ) (k : StoredForm) → form < length keep → k ≡ get_or keep form k → (d : Shape) → get_or (shapes_of keep) form d ≡ stored_shape k
 shape-at keep form k inside is d = get_or-map stored_shape keep form k d inside ∙ ap stored_shape (sym is)
 
-pub forced-read : (store : Store) (rests : Rests) (form : ℕ) (now : Progress) (k : StoredForm) (o c : ℕ) (t : Term) → form < length store.stored.items → k ≡ get_or store.stored.items form k → length now.opens ≡ length (shapes_of store.stored.items) → length now.candidates ≡ length (shapes_of store.stored.items) → o ≡ get_or now.opens form o → c ≡ get_or now.candidates form c → c < length (terms_of k.terms) → t ≡ get_or (terms_of k.terms) c t → o < k.degree + t.coefficient → IsForced (database store rests) form now (stored_shape k) t c
+pub forced-read : (store : Store) (rests : Rests) (form : ℕ) (now : Progress) (k : StoredForm) (o c : ℕ) (t : Term) → form < length store.stored.items → k ≡ get_or store.stored.items form k → length now.opens ≡ length (shapes_of store.stored.items) → length now.candidates ≡ length (shapes_of store.stored.items) → o ≡ get_or now.opens form o → c ≡ get_or now.candidates form c → c < length (stored_terms k) → t ≡ get_or (stored_terms k) c t → o < stored_degree k + t.coefficient → IsForced (database store rests) form now (stored_shape k) t c
 forced-read store rests form now k o c t inside is opens candidates open_is cand_is here item low =
     let size = length-map store.stored.items stored_shape in
     let room : form < length now.opens = omega (arith, inside, size, opens) in
@@ -126,23 +128,23 @@ forced-read store rests form now k o c t inside is opens candidates open_is cand
       low = omega (arith, get_or_read now.opens form o room open_is 0, low);
     }
 
-pub calm-by : (k : StoredForm) (opens cands : List ℕ) (form o c : ℕ) → form < length opens → form < length cands → o ≡ get_or opens form o → c ≡ get_or cands form c → k.degree ≤ o → ((d : Term) → c < length (terms_of k.terms) → k.degree + (get_or (terms_of k.terms) c d).coefficient ≤ o) → IsCalm (stored_shape k) (get_or opens form 0) (get_or cands form 0)
+pub calm-by : (k : StoredForm) (opens cands : List ℕ) (form o c : ℕ) → form < length opens → form < length cands → o ≡ get_or opens form o → c ≡ get_or cands form c → stored_degree k ≤ o → ((d : Term) → c < length (stored_terms k) → stored_degree k + (get_or (stored_terms k) c d).coefficient ≤ o) → IsCalm (stored_shape k) (get_or opens form 0) (get_or cands form 0)
 calm-by k opens cands form o c room roomc open_is cand_is met waiting =
     let open_0 = get_or_read opens form o room open_is 0 in
     let cand_0 = get_or_read cands form c roomc cand_is 0 in
     rw (← open_0, ← cand_0) (record { met = met; waiting = waiting })
 
-pub waiting-by : (k : StoredForm) (items : List Term) (o c : ℕ) (t : Term) → items ≡ (terms_of k.terms) → t ≡ get_or items c t → k.degree + t.coefficient ≤ o → (d : Term) → c < length (terms_of k.terms) → k.degree + (get_or (terms_of k.terms) c d).coefficient ≤ o
+pub waiting-by : (k : StoredForm) (items : List Term) (o c : ℕ) (t : Term) → items ≡ (stored_terms k) → t ≡ get_or items c t → stored_degree k + t.coefficient ≤ o → (d : Term) → c < length (stored_terms k) → stored_degree k + (get_or (stored_terms k) c d).coefficient ≤ o
 waiting-by k items o c t items_is item low d here =
-    let item_k : t ≡ get_or (terms_of k.terms) c t = rw (← items_is) item in
-    let same : get_or (terms_of k.terms) c d ≡ t = get_or_default (terms_of k.terms) c d t here ∙ sym item_k in
+    let item_k : t ≡ get_or (stored_terms k) c t = rw (← items_is) item in
+    let same : get_or (stored_terms k) c d ≡ t = get_or_default (stored_terms k) c d t here ∙ sym item_k in
     rw same low
 
-pub term-inside : (keep : List StoredForm) (n form : ℕ) (k : StoredForm) (items : List Term) (c : ℕ) (t : Term) → form < length keep → k ≡ get_or keep form k → items ≡ (terms_of k.terms) → c < length items → t ≡ get_or items c t → All (λ f. AreInside n f.terms) (shapes_of keep) → t.literal.variable < n
+pub term-inside : (keep : List StoredForm) (n form : ℕ) (k : StoredForm) (items : List Term) (c : ℕ) (t : Term) → form < length keep → k ≡ get_or keep form k → items ≡ (stored_terms k) → c < length items → t ≡ get_or items c t → All (λ f. AreInside n f.terms) (shapes_of keep) → t.literal.variable < n
 term-inside keep n form k items c t inside is items_is here item all =
     let of_form = all form (stored_shape k) (omega (arith, inside, length-map keep stored_shape)) in
     let of_kept : AreInside n (stored_shape k).terms = rw (shape-at keep form k inside is (stored_shape k)) at of_form in
-    let item_k : t ≡ get_or (terms_of k.terms) c t = rw (← items_is) item in
+    let item_k : t ≡ get_or (stored_terms k) c t = rw (← items_is) item in
     let of_term = of_kept c t (omega (arith, here, ap length items_is)) in
     rw (← item_k) at of_term
 
@@ -151,19 +153,19 @@ pub grown-by : {P Q : Type 0} (x : ℕ) (old new : List ℕ) → (P → Q) → G
 grown-by x old _ f pushed = pushed
 grown-by x old _ f (spared p) = spared (f p)
 
-pub idle-at : (keep : List StoredForm) (opens : List ℕ) (form : ℕ) (k : StoredForm) (o e : ℕ) → form < length keep → k ≡ get_or keep form k → form < length opens → o ≡ get_or opens form o → k.bound ≤ o - e → (d : Shape) (c : ℕ) → IsCalm (get_or (shapes_of keep) form d) (get_or opens form 0 - e) c
+pub idle-at : (keep : List StoredForm) (opens : List ℕ) (form : ℕ) (k : StoredForm) (o e : ℕ) → form < length keep → k ≡ get_or keep form k → form < length opens → o ≡ get_or opens form o → stored_bound k ≤ o - e → (d : Shape) (c : ℕ) → IsCalm (get_or (shapes_of keep) form d) (get_or opens form 0 - e) c
 idle-at keep opens form k o e inside is room open_is low d c =
     let open_0 = get_or_read opens form o room open_is 0 in
-    rw (shape-at keep form k inside is d, ← open_0) (k.idle (o - e) c low)
+    rw (shape-at keep form k inside is d, ← open_0) (stored-idle k (o - e) c low)
 
-pub changed-at : (rests : Rests) (keep : List StoredForm) (opens : List ℕ) (form : ℕ) (k : StoredForm) (o : ℕ) → form < length keep → k ≡ get_or keep form k → form < length opens → o ≡ get_or opens form o → (o ≡ get_or rests.opens.items form k.total → ⊥) → (d : Shape) → get_or opens form 0 ≡ rest_open rests form (get_or (shapes_of keep) form d) → ⊥
+pub changed-at : (rests : Rests) (keep : List StoredForm) (opens : List ℕ) (form : ℕ) (k : StoredForm) (o : ℕ) → form < length keep → k ≡ get_or keep form k → form < length opens → o ≡ get_or opens form o → (o ≡ get_or rests.opens.items form (stored_total k) → ⊥) → (d : Shape) → get_or opens form 0 ≡ rest_open rests form (get_or (shapes_of keep) form d) → ⊥
 changed-at rests keep opens form k o inside is room open_is other d e =
     let open_0 = get_or_read opens form o room open_is 0 in
-    let shape : size (get_or (shapes_of keep) form d).terms ≡ size (terms_of k.terms) = ap (λ (f : Shape). size f.terms) (shape-at keep form k inside is d) in
-    other (open_0 ∙ e ∙ ap (get_or rests.opens.items form) (shape ∙ sym k.sum))
+    let shape : size (get_or (shapes_of keep) form d).terms ≡ size (stored_terms k) = ap (λ (f : Shape). size f.terms) (shape-at keep form k inside is d) in
+    other (open_0 ∙ e ∙ ap (get_or rests.opens.items form) (shape ∙ sym (stored-sum k)))
 
 -- a coefficient that is read
-pub weight-read : (keep : List StoredForm) (form index : ℕ) (k : StoredForm) (w : ℕ) → form < length keep → k ≡ get_or keep form k → ((d : Term) → w ≡ (get_or (terms_of k.terms) index d).coefficient) → w ≡ coefficient_at (shapes_of keep) form index
+pub weight-read : (keep : List StoredForm) (form index : ℕ) (k : StoredForm) (w : ℕ) → form < length keep → k ≡ get_or keep form k → ((d : Term) → w ≡ (get_or (stored_terms k) index d).coefficient) → w ≡ coefficient_at (shapes_of keep) form index
 weight-read keep form index k w inside is read =
     let t : Term = record { literal = record { variable = 0; negated = false }; coefficient = 0 } in
     read t ∙ ap (λ (f : Shape). (get_or f.terms index t).coefficient) (sym (shape-at keep form k inside is (record { terms = []; degree = 0 })))

@@ -1,4 +1,5 @@
 -- A form that was added comes to the root.
+use Rattle.pb_propagate.proofs.Common.{stored_form}
 use Rattle.pb_propagate.proofs.Common.{ℕ, ◌++◌, ◌+◌, ◌/◌, ◌<◌, ◌∙◌, ◌∷◌, ◌≡◌, ◌≤◌, ◌⊎◌, [], ap, arith, Bool, get_or, get_or-set_other}
 use Rattle.pb_propagate.proofs.Common.{get_or-set_same, Global, inl, inr, length, length-append, List, refl, set, subst, suc, sym, true, Vec}
 use Rattle.pb_propagate.proofs.Common.{zero, All, Option, slice_get, Some, cases_eq, cases_lt, get_or-map, get_or_append_left}
@@ -98,7 +99,7 @@ form-kept before store s x kept h = (h.0, form-of store.stored.items before.stor
       where
         form-in : Option StoredForm → Option Form
         form-in None = None
-        form-in (Some k) = k.terms.form
+        form-in (Some k) = stored_form k
 
         form-read : (zs : List StoredForm) (m : ℕ) → form_at (forms_of zs) m ≡ form-in (slice_get zs m)
         form-read [] m = refl

@@ -1,4 +1,5 @@
 -- A form came into a slot.
+use Rattle.pb_propagate.proofs.Common.{stored_form}
 use Rattle.pb_propagate.proofs.Common.{ℕ, ◌*◌, ◌++◌, ◌+◌, ◌/◌, ◌<◌, ◌∙◌, ◌∷◌, ◌≡◌, ◌≤◌, ◌⊎◌, [], ap, arith, get_or, get_or-set_other, get_or-set_same, inl}
 use Rattle.pb_propagate.proofs.Common.{inr, length, length-append, length-set, List, None, set, sym, slice_get, Some, cases_eq, cases_lt}
 use Rattle.pb_propagate.proofs.Common.{get_or_append_left, get_or_past, get_or_push, length-map, get_or_from_slice_get, slice_get_within, Form}
@@ -50,7 +51,7 @@ vacant-bare xs clauses s x v at =
     ap (λ (f : Shape). f.terms) (sym is ∙ shape) ∙ v.terms x
 
 -- a form in a vacant slot
-pub gained-filled : (before store : Store) (old clauses : Clauses) (slot : ℕ) (k : StoredForm) → store.variables ≡ before.variables → store.stored.items ≡ set before.stored.items slot k → ((s : ℕ) → (s ≡ slot → ⊥) → list_at (clauses_of clauses) s ≡ list_at (clauses_of old) s) → ((e : ℕ) → (e / 2 ≡ slot → ⊥) → watch_at clauses.blocks.watches e ≡ watch_at old.blocks.watches e) → IsVacant (shapes_of before.stored.items) (clauses_of old) slot → slice_get (forms_of before.stored.items) slot ≡ Some None → (f : Form) → k.terms.form ≡ Some f → HasGained before old store clauses slot
+pub gained-filled : (before store : Store) (old clauses : Clauses) (slot : ℕ) (k : StoredForm) → store.variables ≡ before.variables → store.stored.items ≡ set before.stored.items slot k → ((s : ℕ) → (s ≡ slot → ⊥) → list_at (clauses_of clauses) s ≡ list_at (clauses_of old) s) → ((e : ℕ) → (e / 2 ≡ slot → ⊥) → watch_at clauses.blocks.watches e ≡ watch_at old.blocks.watches e) → IsVacant (shapes_of before.stored.items) (clauses_of old) slot → slice_get (forms_of before.stored.items) slot ≡ Some None → (f : Form) → stored_form k ≡ Some f → HasGained before old store clauses slot
 gained-filled before store old clauses slot k variables keeps filled watched v none f some = record {
   variables = variables;
   longer = inl (ap length keeps ∙ length-set before.stored.items slot k);

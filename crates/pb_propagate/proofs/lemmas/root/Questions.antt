@@ -1,4 +1,6 @@
 -- A question that continues from the root.
+use Rattle.pb_propagate.proofs.Common.{stored_total}
+use Rattle.pb_propagate.proofs.lemmas.store.Stored.{stored-sum}
 use Rattle.pb_propagate.proofs.Common.{ℕ, ◌*◌, ◌++◌, ◌+◌, ◌-◌, ◌<◌, ◌^◌, ◌∙◌, ◌∷◌, ◌≡◌, ◌≤◌, ◌⊎◌, [], ap, arith, drop, get_or, Global, inl, inr}
 use Rattle.pb_propagate.proofs.Common.{length, length-append, List, map, refl, set, suc, sym, take, Vec, zero, sum, sum_by, cases_eq, cases_lt}
 use Rattle.pb_propagate.proofs.Common.{ext_get_or, get_or_append_left, get_or_default, get_or_past, get_or_push, length-map, length-take, map-append}
@@ -41,9 +43,9 @@ pub laid-counted : (g : Form) (keep keep' : List StoredForm) (opens opens' cands
     ((s : ℕ) (d : Shape) → s < length keep → get_or opens s 0 ≡ open_sum list (get_or (shapes_of keep) s d).terms) →
     ((d : Shape) → lowered ≡ set opens' n (open_sum list (get_or (shapes_of keep') n d).terms)) → IsCounted (shapes_of keep') lowered list []
 laid-counted g keep keep' opens opens' cands cands' lowered list n h at sizes counted low =
-    slot-counted (shapes_of keep') opens' lowered list n (omega (arith, at, sizes, ap length h.opened, length-append opens (h.kept.total ∷ []))) (λ s d inside other.
+    slot-counted (shapes_of keep') opens' lowered list n (omega (arith, at, sizes, ap length h.opened, length-append opens (stored_total h.kept ∷ []))) (λ s d inside other.
     let less : s < length keep = below s inside other (cases_lt s (length keep)) in
-    ap (λ xs. get_or xs s 0) h.opened ∙ get_or_append_left opens (h.kept.total ∷ []) 0 s (omega (arith, less, sizes)) ∙ counted s d less ∙ ap (λ (f : Shape). open_sum list f.terms) (sym (entered-other g keep keep' opens opens' cands cands' h s d less))) low
+    ap (λ xs. get_or xs s 0) h.opened ∙ get_or_append_left opens (stored_total h.kept ∷ []) 0 s (omega (arith, less, sizes)) ∙ counted s d less ∙ ap (λ (f : Shape). open_sum list f.terms) (sym (entered-other g keep keep' opens opens' cands cands' h s d less))) low
   where
     below : (s : ℕ) → s < length (shapes_of keep') → (s ≡ n → ⊥) → (s < length keep) ⊎ (length keep ≤ s) → s < length keep
     below s inside other (inl less) = less
@@ -95,7 +97,7 @@ entered-tidy rests g keep keep' opens opens' cands cands' list n h at sizes csiz
     shape s d less = entered-other g keep keep' opens opens' cands cands' h s d less
 
     open_other : (s : ℕ) → s < length keep → get_or opens' s 0 ≡ get_or opens s 0
-    open_other s less = ap (λ xs. get_or xs s 0) h.opened ∙ get_or_append_left opens (h.kept.total ∷ []) 0 s (omega (arith, less, sizes))
+    open_other s less = ap (λ xs. get_or xs s 0) h.opened ∙ get_or_append_left opens (stored_total h.kept ∷ []) 0 s (omega (arith, less, sizes))
 
     cand_other : (s : ℕ) → s < length keep → get_or cands' s 0 ≡ get_or cands s 0
     cand_other s less = ap (λ xs. get_or xs s 0) h.candidates ∙ get_or_append_left cands (0 ∷ []) 0 s (omega (arith, less, csizes))
@@ -105,9 +107,9 @@ entered-tidy rests g keep keep' opens opens' cands cands' list n h at sizes csiz
 
     open_goal : (s : ℕ) (d : Shape) → s ≡ n → get_or opens' s 0 ≡ rest_open rests s (get_or (shapes_of keep') s d)
     open_goal s d one =
-        let total : get_or opens' s 0 ≡ h.kept.total = ap (λ xs. get_or xs s 0) h.opened ∙ get_or_push opens h.kept.total 0 s (omega (arith, one, at, sizes)) in
+        let total : get_or opens' s 0 ≡ stored_total h.kept = ap (λ xs. get_or xs s 0) h.opened ∙ get_or_push opens (stored_total h.kept) 0 s (omega (arith, one, at, sizes)) in
         let its : get_or (shapes_of keep') s d ≡ stored_shape h.kept = ap (λ xs. get_or xs s d) (entered-shapes g keep keep' opens opens' cands cands' h) ∙ get_or_push (shapes_of keep) (stored_shape h.kept) d s (omega (arith, one, at, length-map keep stored_shape)) in
-        total ∙ h.kept.sum ∙ sym (ap (λ (x : Shape). size x.terms) its) ∙ sym (get_or_past rests.opens.items s (size (get_or (shapes_of keep') s d).terms) (omega (arith, one, at, rsizes)))
+        total ∙ stored-sum h.kept ∙ sym (ap (λ (x : Shape). size x.terms) its) ∙ sym (get_or_past rests.opens.items s (size (get_or (shapes_of keep') s d).terms) (omega (arith, one, at, rsizes)))
 
 -- what a propagation needs of the forms after the goal is laid on the root
 pub laid-tidy : (rests : Rests) (g : Form) (keep keep' : List StoredForm) (opens opens' cands cands' lowered : List ℕ) (list : List NumberedLiteral) (work trail : List ℕ) (n : ℕ) → (h : HasEntered g keep keep' opens opens' cands cands') → n ≡ length keep → length opens ≡ length keep → length cands ≡ length keep → length rests.opens.items ≡ length keep → length rests.starts.items ≡ length keep →
@@ -118,7 +120,7 @@ pub laid-tidy : (rests : Rests) (g : Form) (keep keep' : List StoredForm) (opens
 laid-tidy rests g keep keep' opens opens' cands cands' lowered list work trail n h at sizes csizes rsizes ssizes tidy low queued noted =
     let long = entered-length g keep keep' opens opens' cands cands' h in
     let entered = entered-tidy rests g keep keep' opens opens' cands cands' list n h at sizes csizes rsizes ssizes tidy in
-    let laid = slot-tidy rests [] (shapes_of keep') opens' cands' lowered list work trail n (omega (arith, at, long)) (omega (arith, at, sizes, ap length h.opened, length-append opens (h.kept.total ∷ []))) entered low queued noted in
+    let laid = slot-tidy rests [] (shapes_of keep') opens' cands' lowered list work trail n (omega (arith, at, long)) (omega (arith, at, sizes, ap length h.opened, length-append opens (stored_total h.kept ∷ []))) entered low queued noted in
     rw (length-map keep' stored_shape) at laid
 
 -- after a question each form is as it was

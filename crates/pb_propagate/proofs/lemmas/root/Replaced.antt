@@ -1,6 +1,7 @@
 -- Reasons that are replaced by others.
+use Rattle.pb_propagate.proofs.Common.{stored_terms}
 use Rattle.pb_propagate.proofs.Common.{ℕ, ◌<◌, ◌∙◌, ◌≡◌, [], ap, arith, get_or, Global, inl, inr, length, List, map, refl, set, subst, sym, true, Vec}
-use Rattle.pb_propagate.proofs.Common.{Contains, slice_get, Some, cases_eq, get_or_default, length-map, NumberedLiteral, Assignment, Clauses, Store, StoredForm, AreInside, IsSound, terms_of}
+use Rattle.pb_propagate.proofs.Common.{Contains, slice_get, Some, cases_eq, get_or_default, length-map, NumberedLiteral, Assignment, Clauses, Store, StoredForm, AreInside, IsSound}
 use Rattle.pb_propagate.proofs.Common.{Term, list_at, all_of, AreJoined, clause_shape, clauses_of, joined, literal_at, one_term, slot_shape}
 use Rattle.pb_propagate.proofs.Common.{shapes_of, stored_shape, terms_at, has, HaveReasons, IsDue, Shape, HasOtherReasons, IsNeedless, IsOtherUnit}
 use Rattle.pb_propagate.proofs.lemmas.clauses.Shapes.{shape-some}
@@ -91,7 +92,7 @@ needless-terms store clauses slot a inside bare reasoned free = record {
 }
 
 -- the variables of a stored form are those of the store
-pub terms-inside : (store : Store) (slot : ℕ) (k : StoredForm) → IsSound store → slot < length store.stored.items → k ≡ get_or store.stored.items slot k → AreInside store.variables (terms_of k.terms)
+pub terms-inside : (store : Store) (slot : ℕ) (k : StoredForm) → IsSound store → slot < length store.stored.items → k ≡ get_or store.stored.items slot k → AreInside store.variables (stored_terms k)
 terms-inside store slot k sound inside is =
     let here : slot < length (shapes_of store.stored.items) = omega (arith, inside, length-map store.stored.items stored_shape) in
     subst (λ (f : Shape). AreInside store.variables f.terms) (shape-at store.stored.items slot k inside is (stored_shape k)) (sound.inside slot (stored_shape k) here)

@@ -1,9 +1,10 @@
 -- The last literal of the root's list is taken off.
+use Rattle.pb_propagate.proofs.Common.{stored_form}
 use Rattle.pb_propagate.proofs.Common.{ℕ, ◌++◌, ◌+◌, ◌<◌, ◌∙◌, ◌∷◌, ◌≡◌, ◌≤◌, [], ap, arith, Bool, false, get_or, inl, inr, Global, length, Vec}
 use Rattle.pb_propagate.proofs.Common.{cases_eq, coefficient_at, drop, drop_more, get_or-set_other, get_or-set_same, if◌then◌else◌, take_more, set, sum_by-le-sum_by, list_of}
 use Rattle.pb_propagate.proofs.Common.{List, None, refl, subst, suc, sym, take, true, ◌==◌, Option, slice_get, Some, cases_lt, eqb-true}
 use Rattle.pb_propagate.proofs.Common.{or_cases, or_left, or_right, get_or_default, get_or_from_slice_get, get_or_past, length-map, length-append, slice_get-get_or, slice_get_within}
-use Rattle.pb_propagate.proofs.Common.{sum_by-cons, take_all, take-append-le, get_or-map, map, Occurrence, weighted, Eager, Rests, NumberedLiteral, negation, Form, Assignment, Clauses, Store, StoredForm, Term, all_of, clauses_of}
+use Rattle.pb_propagate.proofs.Common.{sum_by-cons, take_all, take-append-le, get_or-map, map, Occurrence, weighted, Eager, Rests, NumberedLiteral, negation, Form, Assignment, Clauses, Store, Term, all_of, clauses_of}
 use Rattle.pb_propagate.proofs.Common.{IsCalm, place, weight_in, entries_of, forms_of, IsSound, shapes_of, spots_of, stored_shape, terms_at}
 use Rattle.pb_propagate.proofs.Common.{HaveReasons, open_sum, Shape, size, Weighted, AreSlots, HasForm, IsWalkedTo, from_given, by_reason}
 use Rattle.pb_propagate.specs.declared.engine.root.Root.{Root}
@@ -107,7 +108,7 @@ terms-form store clauses s slots some = by (slice_get (forms_of store.stored.ite
 
     inside : s < length (forms_of store.stored.items)
     inside = elim (cases_lt s (length (shapes_of store.stored.items))) [
-      | inl less ↦ omega (arith, less, length-map store.stored.items stored_shape, length-map store.stored.items (λ (k : StoredForm). k.terms.form))
+      | inl less ↦ omega (arith, less, length-map store.stored.items stored_shape, length-map store.stored.items stored_form)
       | inr past ↦ absurd (omega (arith, some, ap (λ (x : Shape). length x.terms) (past-default past)))
     ]
       where

@@ -1,4 +1,5 @@
 -- The forms by number, which are stored by slot.
+use Rattle.pb_propagate.proofs.Common.{stored_form}
 use Rattle.pb_propagate.proofs.Common.{ℕ, ◌++◌, ◌-◌, ◌<◌, ◌^◌, ◌∙◌, ◌∷◌, ◌≡◌, ◌≤◌, ◌⊎◌, [], ap, arith, get_or, get_or-set_other, get_or-set_same, inl}
 use Rattle.pb_propagate.proofs.Common.{inr, length, length-append, length-set, List, None, refl, set, suc, sym, zero, Option, slice_get, Some, sum_by}
 use Rattle.pb_propagate.proofs.Common.{cases_eq, cases_lt, get_or-map, get_or_append_left, get_or_past, length-map, map-append, set-get_or}
@@ -242,6 +243,6 @@ numbered-more forms o places small p = numbered-same forms (forms ++ (o ∷ []))
 
 pub numbered-entered : (keep keep' : List StoredForm) (k : StoredForm) (places : List ℕ) → keep' ≡ keep ++ (k ∷ []) → length keep < 2 ^ 64 - 1 → ArePlaced (forms_of keep) places → numbered (forms_of keep') places ≡ numbered (forms_of keep) places
 numbered-entered keep keep' k places same small p =
-    let form : StoredForm → Option Form = λ x. x.terms.form in
+    let form : StoredForm → Option Form = stored_form in
     let more : forms_of keep' ≡ forms_of keep ++ (form k ∷ []) = ap forms_of same ∙ map-append form keep (k ∷ []) in
     rw more (numbered-more (forms_of keep) (form k) places (omega (arith, small, length-map keep form)) p)

@@ -1,10 +1,11 @@
 -- Adding and removing terms, in terms of what the program reads.
+use Rattle.pb_propagate.proofs.Common.{stored_terms}
 use Rattle.pb_propagate.proofs.Common.{ℕ, ◌*◌, ◌++◌, ◌+◌, ◌-◌, ◌<◌, ◌∙◌, ◌∷◌, ◌≡◌, ◌≤◌, ◌⊎◌, [], ap, arith, false, get_or, get_or-set_other}
 use Rattle.pb_propagate.proofs.Common.{get_or-set_same, Global, inl, inr, length, length-set, List, map, refl, set, subst, sym, Vec, All, slice_get}
 use Rattle.pb_propagate.proofs.Common.{Some, swap_remove, cases_eq, cases_lt, get_or-map, get_or_default, length-map, map-append, map-set, set_past}
 use Rattle.pb_propagate.proofs.Common.{get_or_from_slice_get, slice_get-get_or, slice_get_within, Occurrence, StoredForm, Term, place, entries_of}
-use Rattle.pb_propagate.proofs.Common.{lists_of, shapes_of, spots_of, stored_shape, cut, IsLinked, last, Moved, terms_at, weighted, AreInside, Shape}
-use Rattle.pb_propagate.proofs.Common.{Weighted, terms_of}
+use Rattle.pb_propagate.proofs.Common.{Spots, spots_in, lists_of, shapes_of, spots_of, stored_shape, cut, IsLinked, last, Moved, terms_at, weighted, AreInside, Shape}
+use Rattle.pb_propagate.proofs.Common.{Weighted}
 use Rattle.pb_propagate.specs.engine.Engine.Links.{none}
 use Rattle.pb_propagate.proofs.lemmas.store.Gets.{get-push_same, get-push_other}
 use Rattle.pb_propagate.proofs.lemmas.store.Crosses.{Same}
@@ -77,19 +78,19 @@ taken-moved occ p q v0 v1 e m room value gone inside more item =
     let is : m ≡ get_or v0.items (length v0.items - 1) m = item ∙ read in
     (rw es beyond, rw es (last_at ∙ ap (λ x. Some x) (sym is)))
 
-pub spots-moved : (spots : List (Vec ℕ Global)) (es : List Occurrence) (q : ℕ) (m : Occurrence) (w0 w1 : Vec ℕ Global) → m.form < length spots → w0 ≡ get_or spots m.form w0 → w1.items ≡ set w0.items m.index q → q + 1 < length es → slice_get es (length es - 1) ≡ Some m → Moved es q (spots_of spots) (spots_of (set spots m.form w1))
+pub spots-moved : (spots : List Spots) (es : List Occurrence) (q : ℕ) (m : Occurrence) (w0 w1 : Spots) → m.form < length spots → w0 ≡ get_or spots m.form w0 → spots_in w1 ≡ set (spots_in w0) m.index q → q + 1 < length es → slice_get es (length es - 1) ≡ Some m → Moved es q (spots_of spots) (spots_of (set spots m.form w1))
 spots-moved spots es q m w0 w1 room value put more at =
-    let those : get_or (spots_of spots) m.form [] ≡ w0.items = get_or-map (λ (v : Vec ℕ Global). v.items) spots m.form w0 [] room ∙ ap (λ (v : Vec ℕ Global). v.items) (sym value) in
+    let those : get_or (spots_of spots) m.form [] ≡ (spots_in w0) = get_or-map spots_in spots m.form w0 [] room ∙ ap spots_in (sym value) in
     let shape : spots_of (set spots m.form w1) ≡ set (spots_of spots) m.form (set (get_or (spots_of spots) m.form []) m.index q) =
-    map-set (λ (v : Vec ℕ Global). v.items) spots m.form w1 ∙ ap (λ xs. set (spots_of spots) m.form xs) (put ∙ ap (λ (xs : List ℕ). set xs m.index q) (sym those)) in
+    map-set spots_in spots m.form w1 ∙ ap (λ xs. set (spots_of spots) m.form xs) (put ∙ ap (λ (xs : List ℕ). set xs m.index q) (sym those)) in
     rw shape (last m more at)
 
 pub set-read : {X : Type 0} (xs : List X) (p : ℕ) (y z : X) → p < length xs → z ≡ get_or (set xs p y) p z → z ≡ y
 set-read xs p y z room is = is ∙ get_or-set_same xs p y z room
 
-pub spots-read : (spots : List (Vec ℕ Global)) (s i : ℕ) (w0 : Vec ℕ Global) → s < length spots → w0 ≡ get_or spots s w0 → i < length (get_or (spots_of spots) s []) → i < length w0.items
+pub spots-read : (spots : List Spots) (s i : ℕ) (w0 : Spots) → s < length spots → w0 ≡ get_or spots s w0 → i < length (get_or (spots_of spots) s []) → i < length (spots_in w0)
 spots-read spots s i w0 room value h =
-    let those : get_or (spots_of spots) s [] ≡ w0.items = get_or-map (λ (v : Vec ℕ Global). v.items) spots s w0 [] room ∙ ap (λ (v : Vec ℕ Global). v.items) (sym value) in
+    let those : get_or (spots_of spots) s [] ≡ (spots_in w0) = get_or-map spots_in spots s w0 [] room ∙ ap spots_in (sym value) in
     omega (arith, h, ap length those)
 
 -- what a term's removal needs and does
@@ -99,22 +100,22 @@ pub record UnlinkRead (base : List Shape) (spots : List (List ℕ)) (occ : List 
   pub named : (o : Occurrence) → slice_get (get_or (lists_of occ) p []) (length (get_or (lists_of occ) p []) - 1) ≡ Some o → (o.form < length spots) × (o.index < length (get_or spots o.form []))
   pub next : (spots' : List (List ℕ)) (occ' : List (Vec Occurrence Global)) → ((o : Occurrence) × (o ≡ get_or (get_or (lists_of occ) p []) q o) × (lists_of occ' ≡ set (lists_of occ) p (swap_remove (get_or (lists_of occ) p []) q o))) → Moved (get_or (lists_of occ) p []) q spots spots' → IsLinked (cut base form j) spots' (entries_of base occ')
 
-pub unlink-read : (keep keep' : List StoredForm) (sp : List (Vec ℕ Global)) (occ : List (Vec Occurrence Global)) (n form left j : ℕ) (k : StoredForm) (t : Term) (w : Vec ℕ Global) (q p : ℕ) →
-    keep' ≡ keep → left ≡ j + 1 → form < length keep → k ≡ get_or keep' form k → left ≤ length (terms_at (shapes_of keep) form) → t ≡ get_or (terms_of k.terms) j t → w ≡ get_or sp form w → length (get_or (spots_of sp) form []) ≡ length (terms_at (shapes_of keep) form) → q ≡ get_or w.items j q → p ≡ place t.literal →
+pub unlink-read : (keep keep' : List StoredForm) (sp : List Spots) (occ : List (Vec Occurrence Global)) (n form left j : ℕ) (k : StoredForm) (t : Term) (w : Spots) (q p : ℕ) →
+    keep' ≡ keep → left ≡ j + 1 → form < length keep → k ≡ get_or keep' form k → left ≤ length (terms_at (shapes_of keep) form) → t ≡ get_or (stored_terms k) j t → w ≡ get_or sp form w → length (get_or (spots_of sp) form []) ≡ length (terms_at (shapes_of keep) form) → q ≡ get_or (spots_in w) j q → p ≡ place t.literal →
     All (λ f. AreInside n f.terms) (shapes_of keep) → length occ ≡ 2 * n → IsLinked (cut (shapes_of keep) form left) (spots_of sp) (entries_of (shapes_of keep) occ) → UnlinkRead (shapes_of keep) (spots_of sp) occ form j q p
 unlink-read keep keep' sp occ n form left j k t w q p same count inside kept_is most item spots_is rooms spot_is place_is all places old =
     let base = shapes_of keep in
     let kept_here : k ≡ get_or keep form k = rw same at kept_is in
     let inside_base : form < length base = omega (arith, inside, length-map keep stored_shape) in
     let within : j < length (terms_at base form) = omega (arith, most, count) in
-    let those : terms_at base form ≡ (terms_of k.terms) = ap (λ (f : Shape). f.terms) (shape-at keep form k inside kept_here (record { terms = []; degree = 0 })) in
+    let those : terms_at base form ≡ (stored_terms k) = ap (λ (f : Shape). f.terms) (shape-at keep form k inside kept_here (record { terms = []; degree = 0 })) in
     let is : t ≡ get_or (terms_at base form) j t = rw those item in
-    let inside_sp : form < length sp = omega (arith, old.sizes, cut-length base form left, inside_base, length-map sp (λ (v : Vec ℕ Global). v.items)) in
-    let spots_here : get_or (spots_of sp) form [] ≡ w.items = get_or-map (λ (v : Vec ℕ Global). v.items) sp form w [] inside_sp ∙ ap (λ (v : Vec ℕ Global). v.items) (sym spots_is) in
-    let within_w : j < length w.items = omega (arith, within, rooms, ap length spots_here) in
-    let spot : slice_get (get_or (spots_of sp) form []) j ≡ Some q = ap (λ (xs : List ℕ). slice_get xs j) spots_here ∙ slice_get-get_or w.items j q within_w ∙ ap (λ x. Some x) (sym spot_is) in
+    let inside_sp : form < length sp = omega (arith, old.sizes, cut-length base form left, inside_base, length-map sp spots_in) in
+    let spots_here : get_or (spots_of sp) form [] ≡ spots_in w = get_or-map spots_in sp form w [] inside_sp ∙ ap spots_in (sym spots_is) in
+    let within_w : j < length (spots_in w) = omega (arith, within, rooms, ap length spots_here) in
+    let spot : slice_get (get_or (spots_of sp) form []) j ≡ Some q = ap (λ (xs : List ℕ). slice_get xs j) spots_here ∙ slice_get-get_or (spots_in w) j q within_w ∙ ap (λ x. Some x) (sym spot_is) in
     let linked : IsLinked (cut base form (j + 1)) (spots_of sp) (entries_of base occ) = subst (λ x. IsLinked (cut base form x) (spots_of sp) (entries_of base occ)) count old in
-    let variable : t.literal.variable < n = term-inside keep n form k (terms_of k.terms) j t inside kept_here refl (omega (arith, within, ap length those)) item all in
+    let variable : t.literal.variable < n = term-inside keep n form k (stored_terms k) j t inside kept_here refl (omega (arith, within, ap length those)) item all in
     let room : place t.literal < length (entries_of base occ) = omega (arith, place-inside t.literal n variable, places, entries-length base occ) in
     let entry = named-entry base (spots_of sp) (entries_of base occ) form j q t inside_base within is spot linked in
     rw place_is (record {

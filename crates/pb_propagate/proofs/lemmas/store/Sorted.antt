@@ -3,7 +3,7 @@ use Rattle.pb_propagate.proofs.Common.{ℕ, ◌++◌, ◌+◌, ◌-◌, ◌<◌,
 use Rattle.pb_propagate.proofs.Common.{of_z, pos, refl, subst, sym, take, to_z, ℤ, All, IsPermutation, sum_by, unsigned_abs, get_or-map}
 use Rattle.pb_propagate.proofs.Common.{get_or_default, length-map, map-append, take_all, take_more, All-push, IsPermutation-map, IsPermutation-sym}
 use Rattle.pb_propagate.proofs.Common.{sum_by-IsPermutation, get_or-le-sum_by, sum_by-cons, w128, Entry, each, total, Rank, Term, AreFalling, IsCalm}
-use Rattle.pb_propagate.proofs.Common.{AreAll, as_term, entry_at_place, entry_of, IsPlaced, picked}
+use Rattle.pb_propagate.proofs.Common.{AreEven, as_term, entry_at_place, entry_of, in_order, IsPermutation-refl, IsPlaced, length_permutation, picked}
 use Rattle.std.proofs.lemmas.Int.{fits_signed_from_abs, to_z-of_z}
 use Rattle.std.specs.List.Sorted.{IsNonDecreasingBy}
 
@@ -33,41 +33,52 @@ standing-next es ranks more i inside m old =
 pub standing-all : (es : List Entry) (ranks : List Rank) (i : ℕ) → length es ≤ i → IsStanding es ranks i → All (IsPlaced es) ranks × (map entry_of (picked es (map (λ r. r.place) ranks)) ≡ es)
 standing-all es ranks i all old = (old.placed, old.same ∙ take_all i es all)
 
--- the first positions
-pub record ArePlaces (es : List Entry) (places : List ℕ) (i : ℕ) : Type 0 where
-  pub inside : All (λ p. p < length es) places
-  pub same : map entry_of (picked es places) ≡ take i es
+as-entries : (es : List Entry) → map entry_of (map as_term es) ≡ es
+as-entries [] = refl
+as-entries (e ∷ es) = ap (λ xs. e ∷ xs) (as-entries es)
 
-pub places-none : (es : List Entry) (places : List ℕ) → places ≡ [] → ArePlaces es places 0
-places-none es places e = rw e (record { inside = λ k d h. absurd (omega (arith, h)); same = refl })
+-- with no positions the terms are those of the form
+pub form-order : (es : List Entry) (places : List ℕ) → places ≡ [] → IsPermutation (map entry_of (in_order es places)) es
+form-order es places none = rw (none, as-entries es) (IsPermutation-refl es)
 
-pub places-next : (es : List Entry) (places more : List ℕ) (i : ℕ) → i < length es → more ≡ places ++ (i ∷ []) → ArePlaces es places i → ArePlaces es more (i + 1)
-places-next es places more i inside m old =
-    let pick : ℕ → Term = λ q. as_term (entry_at_place es q) in
-    rw m (record {
-      inside = All-push (λ p. p < length es) places i old.inside inside;
-      same =
-          ap (map entry_of) (map-append pick places (i ∷ []))
-          ∙ map-append entry_of (picked es places) (pick i ∷ [])
-          ∙ ap (λ xs. xs ++ (entry_at_place es i ∷ [])) old.same
-          ∙ sym (take_more es i (record { variable = 0; negated = false; coefficient = 0 }) inside);
-    })
+pub form-length : (es : List Entry) (places : List ℕ) → length places ≡ 0 → length (in_order es places) ≡ length es
+form-length es [] none = length-map es as_term
+form-length es (p ∷ places) none = absurd (omega (arith, none))
 
-pub places-all : (es : List Entry) (places : List ℕ) (i : ℕ) → length es ≤ i → ArePlaces es places i → AreAll es places
-places-all es places i all old = (old.inside, old.same ∙ take_all i es all)
+pub form-read : (es : List Entry) (places : List ℕ) (i : ℕ) (d : Term) → length places ≡ 0 → i < length (in_order es places) → as_term (entry_at_place es i) ≡ get_or (in_order es places) i d
+form-read es [] i d none inside = sym (get_or-map as_term es i (record { variable = 0; negated = false; coefficient = 0 }) d (omega (arith, inside, length-map es as_term)))
+form-read es (p ∷ places) i d none inside = absurd (omega (arith, none))
 
--- with equal coefficients any terms fall
-pub equal-falling : (es : List Entry) (places : List ℕ) → ((i j : ℕ) (d : Entry) → i < length es → j < length es → (get_or es i d).coefficient ≡ (get_or es j d).coefficient) → All (λ p. p < length es) places → AreFalling (picked es places)
-equal-falling es places equal all i j d less inside =
-    let inside_j : j < length places = omega (arith, inside, length-map places pick) in
-    let inside_i : i < length places = omega (arith, less, inside_j) in
-    omega (arith, at i inside_i, at j inside_j, equal (get_or places j 0) (get_or places i 0) (record { variable = 0; negated = false; coefficient = 0 }) (all j 0 inside_j) (all i 0 inside_i))
-  where
-    pick : ℕ → Term
-    pick q = as_term (entry_at_place es q)
+-- otherwise those at the positions
+pub places-length : (es : List Entry) (places : List ℕ) → (length places ≡ 0 → ⊥) → length (in_order es places) ≡ length places
+places-length es [] some = absurd (some refl)
+places-length es (p ∷ places) some = length-map (p ∷ places) (λ q. as_term (entry_at_place es q))
 
-    at : (k : ℕ) → k < length places → (get_or (picked es places) k d).coefficient ≡ (entry_at_place es (get_or places k 0)).coefficient
-    at k h = ap (λ (t : Term). t.coefficient) (get_or-map pick places k 0 d h)
+pub places-read : (es : List Entry) (places : List ℕ) (i q : ℕ) (d : Term) → i < length places → q ≡ get_or places i q → as_term (entry_at_place es q) ≡ get_or (in_order es places) i d
+places-read es [] i q d inside is = absurd (omega (arith, inside))
+places-read es (p ∷ places) i q d inside is = sym (get_or-map (λ x. as_term (entry_at_place es x)) (p ∷ places) i q d inside ∙ ap (λ x. as_term (entry_at_place es x)) (sym is))
+
+-- positions that pick all entries
+pub picked-order : (es : List Entry) (places : List ℕ) → IsPermutation (map entry_of (picked es places)) es → in_order es places ≡ picked es places
+picked-order [] [] same = refl
+picked-order (e ∷ es) [] same = absurd (omega (arith, length_permutation [] (e ∷ es) same))
+picked-order es (p ∷ places) same = refl
+
+pub picked-even : (es : List Entry) (places : List ℕ) → IsPermutation (map entry_of (picked es places)) es → places ≡ [] → AreEven (in_order es places)
+picked-even es places same none i d inside =
+    absurd (omega (arith, inside, ap length (picked-order es places same), length-map places (λ q. as_term (entry_at_place es q)), ap length none))
+
+-- equal coefficients
+pub equal-even : (es : List Entry) (places : List ℕ) → ((i j : ℕ) (d : Entry) → i < length es → j < length es → (get_or es i d).coefficient ≡ (get_or es j d).coefficient) → places ≡ [] → AreEven (in_order es places)
+equal-even es places equal none i d inside =
+    let bare : length places ≡ 0 = ap length none in
+    let least : i < length es = omega (arith, inside, form-length es places bare) in
+    let here = form-read es places i d bare inside in
+    let first = form-read es places 0 d bare (omega (arith, inside)) in
+    omega (arith, ap (λ (t : Term). t.coefficient) here, ap (λ (t : Term). t.coefficient) first, equal i 0 (record { variable = 0; negated = false; coefficient = 0 }) least (omega (arith, least)))
+
+pub even-falls : (terms : List Term) → AreEven terms → AreFalling terms
+even-falls terms even i j d less inside = omega (arith, even i d (omega (arith, less, inside)), even j d inside)
 
 picked-ranks : (es : List Entry) (ranks : List Rank) → map (λ (r : Rank). entry_of (as_term (entry_at_place es r.place))) ranks ≡ map entry_of (picked es (map (λ r. r.place) ranks))
 picked-ranks es [] = refl
@@ -147,12 +158,3 @@ bound-calm terms degree bound e falling some is opened c low = record {
 
 pub bound-none : (terms : List Term) (degree : ℕ) → length terms ≡ 0 → (opened c : ℕ) → degree ≤ opened → IsCalm (record { terms = terms; degree = degree }) opened c
 bound-none terms degree none opened c low = record { met = low; waiting = λ d here. absurd (omega (arith, none, here)) }
-
--- if the first coefficient is equal to the last, all are equal
-pub even-falling : (terms : List Term) (e d : Term) (i : ℕ) → AreFalling terms → (get_or terms 0 e).coefficient ≡ (get_or terms (length terms - 1) e).coefficient → i < length terms → (get_or terms i d).coefficient ≡ (get_or terms 0 d).coefficient
-even-falling terms e d i falling same inside =
-    let above = falling 0 i d (omega arith) inside in
-    let below = falling i (length terms - 1) d (omega (arith, inside)) (omega (arith, inside)) in
-    let first : (get_or terms 0 e).coefficient ≡ (get_or terms 0 d).coefficient = ap (λ (t : Term). t.coefficient) (get_or_default terms 0 e d (omega (arith, inside))) in
-    let last : (get_or terms (length terms - 1) e).coefficient ≡ (get_or terms (length terms - 1) d).coefficient = ap (λ (t : Term). t.coefficient) (get_or_default terms (length terms - 1) e d (omega (arith, inside))) in
-    omega (arith, above, below, first, last, same)

@@ -19,8 +19,8 @@ returns-clause-lowers c =
     let weight = weight-read keep e.form e.index k c.weight_of.result c.requires.form c.index-kept.ensures c.weight_of.ensures in
     record {
       opens = ap (λ (o : ℕ). set opens e.form (o - c.weight_of.result)) (get_or_read opens e.form c.index-opened.result.now c.requires.inside c.index-opened.ensures 0) ∙ ap (λ (w : ℕ). set opens e.form (get_or opens e.form 0 - w)) weight;
-      work = grown-by e.form run.work.items _ (λ low d i. subst (λ (w : ℕ). IsCalm (get_or (shapes_of keep) e.form d) (get_or run.opens.items e.form 0 - w) i) weight (idle-at keep run.opens.items e.form k c.index-opened.result.now c.weight_of.result c.requires.form c.index-kept.ensures c.requires.inside c.index-opened.ensures low d i)) c.in_ok-queue.ensures;
-      trail = grown-by e.form run.trail.items _ (λ other. changed-at c.args.rests.now keep run.opens.items e.form k c.index-opened.result.now c.requires.form c.index-kept.ensures c.requires.inside c.index-opened.ensures (λ e. other (e ∙ sym c.open-rest.ensures))) c.in_ok-note.ensures;
+      work = grown-by e.form run.work.items _ (λ low d i. subst (λ (w : ℕ). IsCalm (get_or (shapes_of keep) e.form d) (get_or run.opens.items e.form 0 - w) i) weight (idle-at keep run.opens.items e.form k c.index-opened.result.now c.weight_of.result c.requires.form c.index-kept.ensures c.requires.inside c.index-opened.ensures (omega (arith, low, c.sums-sums.ensures.bound)) d i)) c.in_ok-queue.ensures;
+      trail = grown-by e.form run.trail.items _ (λ other. changed-at c.args.rests.now keep run.opens.items e.form k c.index-opened.result.now c.requires.form c.index-kept.ensures c.requires.inside c.index-opened.ensures (λ same. other (same ∙ sym (c.open-rest.ensures ∙ ap (get_or c.args.rests.now.opens.items e.form) c.sums-sums.ensures.total)))) c.in_ok-note.ensures;
       candidates = refl;
       list = refl;
       next = refl;
@@ -31,4 +31,4 @@ returns-clause-falsified c = λ found d.
     let opens = c.args.run.now.opens.items in
     let e = c.args.entry in
     let shape = shape-at c.args.store.now.stored.items e.form c.index-kept.result.now c.requires.form c.index-kept.ensures d in
-    omega (arith, c.is_below.ensures.below found, ap (λ (f : Shape). f.degree) shape, get_or-set_same opens e.form (c.index-opened.result.now - c.weight_of.result) 0 c.requires.inside)
+    omega (arith, c.is_below.ensures.below found, ap (λ (f : Shape). f.degree) shape, c.sums-sums.ensures.degree, get_or-set_same opens e.form (c.index-opened.result.now - c.weight_of.result) 0 c.requires.inside)

@@ -18,5 +18,5 @@ forms-preserved c =
       trail = c.forms.invariant.trail;
       visits = c.forms.invariant.visits;
       assignment = c.forms.invariant.assignment;
-      undone = undo-next c.args.rests.now keep run.opens.items run.candidates.items (set run.opens.items c.index-form.result.now c.open-opened.result) (set run.candidates.items c.index-form.result.now c.start.result) start.trail.items c.forms.i c.index-form.result.now c.open-opened.result c.start.result c.index.result.now inside is named c.index.ensures c.open-opened.ensures c.start.ensures c.forms.invariant.opens c.forms.invariant.candidates refl refl c.forms.invariant.undone;
+      undone = undo-next c.args.rests.now keep run.opens.items run.candidates.items (set run.opens.items c.index-form.result.now c.open-opened.result) (set run.candidates.items c.index-form.result.now c.start.result) start.trail.items c.forms.i c.index-form.result.now c.open-opened.result c.start.result c.index.result.now inside is named c.index.ensures (c.open-opened.ensures ∙ ap (get_or c.args.rests.now.opens.items c.index-form.result.now) c.total.ensures) c.start.ensures c.forms.invariant.opens c.forms.invariant.candidates refl refl c.forms.invariant.undone;
     }

@@ -1,6 +1,8 @@
+use Rattle.pb_propagate.proofs.Common.{stored_degree, stored_terms}
+use Rattle.pb_propagate.proofs.lemmas.store.Stored.{stored-small, stored-low}
 use Rattle.pb_propagate.proofs.Common.{ℕ, ◌+◌, ◌<◌, ◌∙◌, ap, arith, get_or, Global, length, refl, set, sym, Vec, sum, get_or_read, length-map}
 use Rattle.pb_propagate.proofs.Common.{get_or-le-sum_by, Term, shapes_of, stored_shape, database, list_of, passed_to, progress, reasons_of}
-use Rattle.pb_propagate.proofs.Common.{RunReasons, terms_of}
+use Rattle.pb_propagate.proofs.Common.{RunReasons}
 use Rattle.pb_propagate.proofs.lemmas.engine.Advances.{advances-visit, advances-then, costs-then, on-err}
 use Rattle.pb_propagate.proofs.lemmas.engine.VisitSteps.{IsVisiting, visiting-start, visiting-next, visiting-reasons, forced-read, calm-by, waiting-by, visiting-settled, Visiting-conflict, shape-at, term-inside}
 use Rattle.pb_propagate.proofs.lemmas.root.Ready.{open-later, visiting-visits}
@@ -25,7 +27,7 @@ passed c =
     let in_visit = c.terms.invariant.in_visit in
     let reported = c.in_ok-found.ensures in
     visiting-next c.visit_term-term.new.visits (progress c.try_put.new.run) (set c.try_put.new.run.candidates.items c.args.form (c.index-candidate.result.now + 1)) in_visit
-    (forced-read c.args.store.now c.args.rests.now c.args.form (progress c.terms.run) c.index-kept.result.now c.index-opened.result.now c.index-candidate.result.now c.visit_term-term.result c.requires.form c.index-kept.ensures in_visit.opens in_visit.candidates c.index-opened.ensures c.index-candidate.ensures (omega (arith, c.if-candidate-len.false, c.len.ensures)) (c.visit_term-term.ensures.item c.visit_term-term.result) (c.is_below-demands.ensures.below c.if-not-demands.false))
+    (forced-read c.args.store.now c.args.rests.now c.args.form (progress c.terms.run) c.index-kept.result.now c.index-opened.result.now c.index-candidate.result.now c.visit_term-term.result c.requires.form c.index-kept.ensures in_visit.opens in_visit.candidates c.index-opened.ensures c.index-candidate.ensures (omega (arith, c.if-candidate-len.false, c.len.ensures)) (c.visit_term-term.ensures.item c.visit_term-term.result) (rw c.degree-degree.ensures at (c.is_below-demands.ensures.below c.if-not-demands.false)))
     c.terms.invariant.counted c.visit_term-term.ensures.count c.visit_term-term.ensures.rising reported.adopted reported.puts.advances reported.puts.tidy (ap (λ (v : Vec ℕ Global). v.items) reported.candidates) refl
 
 -- the literal has the form as its reason
@@ -33,7 +35,7 @@ reasoned : (c : In_ok-found) → RunReasons (shapes_of c.args.store.now.stored.i
 reasoned c =
     let in_visit = c.terms.invariant.in_visit in
     let reported = c.in_ok-found.ensures in
-    let forced = (forced-read c.args.store.now c.args.rests.now c.args.form (progress c.terms.run) c.index-kept.result.now c.index-opened.result.now c.index-candidate.result.now c.visit_term-term.result c.requires.form c.index-kept.ensures in_visit.opens in_visit.candidates c.index-opened.ensures c.index-candidate.ensures (omega (arith, c.if-candidate-len.false, c.len.ensures)) (c.visit_term-term.ensures.item c.visit_term-term.result) (c.is_below-demands.ensures.below c.if-not-demands.false)) in
+    let forced = (forced-read c.args.store.now c.args.rests.now c.args.form (progress c.terms.run) c.index-kept.result.now c.index-opened.result.now c.index-candidate.result.now c.visit_term-term.result c.requires.form c.index-kept.ensures in_visit.opens in_visit.candidates c.index-opened.ensures c.index-candidate.ensures (omega (arith, c.if-candidate-len.false, c.len.ensures)) (c.visit_term-term.ensures.item c.visit_term-term.result) (rw c.degree-degree.ensures at (c.is_below-demands.ensures.below c.if-not-demands.false))) in
     record {
       kept = keeps-then (list_of c.args.run.now) (list_of c.terms.run) (reasons_of c.args.run.now) (reasons_of c.terms.run) (reasons_of c.try_put.new.run) (reasons-within (list_of c.args.run.now) (list_of c.terms.run) c.terms.invariant.reasons.added) c.terms.invariant.reasons.kept reported.puts.kept;
       added = visiting-reasons (list_of c.args.run.now) (list_of c.try_put.new.run) (reasons_of c.terms.run) (reasons_of c.try_put.new.run) forced c.terms.invariant.counted reported.adopted reported.reason reported.puts.kept c.terms.invariant.reasons.added;
@@ -48,17 +50,17 @@ terms-preserved c =
       in_visit = passed (goal.at.terms-preserved c).In_ok-found;
     }
 
-pub overflow_add-kept : goal.overflow_add-kept
-overflow_add-kept c =
+pub overflow_add-degree : goal.overflow_add-degree
+overflow_add-degree c =
     let k = c.index-kept.result.now in
     let t = c.visit_term-term.result in
-    let top = get_or-le-sum_by (λ (x : Term). x.coefficient) (terms_of k.terms) c.index-candidate.result.now t (omega (arith, c.if-candidate-len.false, c.len.ensures)) in
-    omega (arith, ap (λ (x : Term). x.coefficient) (c.visit_term-term.ensures.item t), top, k.small, k.low)
+    let top = get_or-le-sum_by (λ (x : Term). x.coefficient) (stored_terms k) c.index-candidate.result.now t (omega (arith, c.if-candidate-len.false, c.len.ensures)) in
+    omega (arith, ap (λ (x : Term). x.coefficient) (c.visit_term-term.ensures.item t), top, stored-small k, stored-low k, c.degree-degree.ensures)
 
 pub try_put-requires-clause-inside : goal.try_put-requires-clause-inside
 try_put-requires-clause-inside c =
     let store = c.args.store.now in
-    term-inside store.stored.items store.variables c.args.form c.index-kept.result.now (terms_of c.index-kept.result.now.terms) c.index-candidate.result.now c.visit_term-term.result c.requires.form c.index-kept.ensures refl
+    term-inside store.stored.items store.variables c.args.form c.index-kept.result.now (stored_terms c.index-kept.result.now) c.index-candidate.result.now c.visit_term-term.result c.requires.form c.index-kept.ensures refl
     (omega (arith, c.if-candidate-len.false, c.len.ensures)) (c.visit_term-term.ensures.item c.visit_term-term.result) c.requires.store.inside
 
 pub returns-then-falsified-clause-conflict : goal.returns-then-falsified-clause-conflict
@@ -68,7 +70,7 @@ returns-then-falsified-clause-conflict c = λ found.
     let inside : c.args.form < length (shapes_of store.stored.items) = omega (arith, length-map store.stored.items stored_shape, c.requires.form) in
     let room : c.args.form < length run.opens.items = omega (arith, c.terms.invariant.in_visit.opens, inside) in
     let read = get_or_read run.opens.items c.args.form c.index-opened.result.now room c.index-opened.ensures 0 in
-    let low : get_or run.opens.items c.args.form 0 < c.index-kept.result.now.degree = omega (arith, read, c.is_below-falsified.ensures.below c.if-falsified.true) in
+    let low : get_or run.opens.items c.args.form 0 < stored_degree c.index-kept.result.now = omega (arith, read, c.degree-degree.ensures, c.is_below-falsified.ensures.below c.if-falsified.true) in
     Visiting-conflict (shapes_of store.stored.items) run.opens.items run.assignment.list.items c.args.form (stored_shape c.index-kept.result.now) inside
     (shape-at store.stored.items c.args.form c.index-kept.result.now c.requires.form c.index-kept.ensures) c.terms.invariant.counted low
 
@@ -80,7 +82,7 @@ returns-then-candidate-len-clause-tidy c = λ found.
     let sizes = length-map store.stored.items stored_shape in
     let room : c.args.form < length run.opens.items = omega (arith, in_visit.opens, sizes, c.requires.form) in
     let roomc : c.args.form < length run.candidates.items = omega (arith, in_visit.candidates, sizes, c.requires.form) in
-    let calm = calm-by c.index-kept.result.now run.opens.items run.candidates.items c.args.form c.index-opened.result.now c.index-candidate.result.now room roomc c.index-opened.ensures c.index-candidate.ensures (c.is_below-falsified.ensures.above c.if-falsified.false) (λ d less. absurd (omega (arith, less, c.len.ensures, c.if-candidate-len.true))) in
+    let calm = calm-by c.index-kept.result.now run.opens.items run.candidates.items c.args.form c.index-opened.result.now c.index-candidate.result.now room roomc c.index-opened.ensures c.index-candidate.ensures (rw c.degree-degree.ensures at (c.is_below-falsified.ensures.above c.if-falsified.false)) (λ d less. absurd (omega (arith, less, c.len.ensures, c.if-candidate-len.true))) in
     visiting-settled (stored_shape c.index-kept.result.now) (length store.stored.items) sizes (shape-at store.stored.items c.args.form c.index-kept.result.now c.requires.form c.index-kept.ensures) calm in_visit
 
 pub returns-then-not-demands-clause-tidy : goal.returns-then-not-demands-clause-tidy
@@ -91,7 +93,7 @@ returns-then-not-demands-clause-tidy c = λ found.
     let sizes = length-map store.stored.items stored_shape in
     let room : c.args.form < length run.opens.items = omega (arith, in_visit.opens, sizes, c.requires.form) in
     let roomc : c.args.form < length run.candidates.items = omega (arith, in_visit.candidates, sizes, c.requires.form) in
-    let calm = calm-by c.index-kept.result.now run.opens.items run.candidates.items c.args.form c.index-opened.result.now c.index-candidate.result.now room roomc c.index-opened.ensures c.index-candidate.ensures (c.is_below-falsified.ensures.above c.if-falsified.false) (waiting-by c.index-kept.result.now (terms_of c.index-kept.result.now.terms) c.index-opened.result.now c.index-candidate.result.now c.visit_term-term.result refl (c.visit_term-term.ensures.item c.visit_term-term.result) (c.is_below-demands.ensures.above c.if-not-demands.true)) in
+    let calm = calm-by c.index-kept.result.now run.opens.items run.candidates.items c.args.form c.index-opened.result.now c.index-candidate.result.now room roomc c.index-opened.ensures c.index-candidate.ensures (rw c.degree-degree.ensures at (c.is_below-falsified.ensures.above c.if-falsified.false)) (waiting-by c.index-kept.result.now (stored_terms c.index-kept.result.now) c.index-opened.result.now c.index-candidate.result.now c.visit_term-term.result refl (c.visit_term-term.ensures.item c.visit_term-term.result) (rw c.degree-degree.ensures at (c.is_below-demands.ensures.above c.if-not-demands.true))) in
     visiting-settled (stored_shape c.index-kept.result.now) (length store.stored.items) sizes (shape-at store.stored.items c.args.form c.index-kept.result.now c.requires.form c.index-kept.ensures) calm in_visit
 
 pub returns-in_err-found-clause-costs : goal.returns-in_err-found-clause-costs

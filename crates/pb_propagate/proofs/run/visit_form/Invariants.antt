@@ -1,4 +1,5 @@
-use Rattle.pb_propagate.proofs.Common.{◌-◌, get_or, length, shapes_of, database, IsOpen, progress, RunReasons, terms_of}
+use Rattle.pb_propagate.proofs.Common.{stored_terms}
+use Rattle.pb_propagate.proofs.Common.{◌-◌, get_or, length, shapes_of, database, IsOpen, progress, RunReasons}
 use Rattle.pb_propagate.proofs.lemmas.engine.VisitSteps.{IsVisiting}
 use Rattle.pb_propagate.proofs.run.visit_form.Given as goal
 
@@ -10,4 +11,4 @@ invariant-terms l = record {
 }
 
 abbrev pub decreases-terms : goal.decreases-terms
-decreases-terms l = length (terms_of l.kept.terms) - get_or l.run.candidates.items l.form 0
+decreases-terms l = length (stored_terms l.kept) - get_or l.run.candidates.items l.form 0

@@ -1,4 +1,5 @@
-use Rattle.pb_propagate.proofs.Common.{arith, inr, None, length-map, StoredForm, forms_of}
+use Rattle.pb_propagate.proofs.Common.{stored_form}
+use Rattle.pb_propagate.proofs.Common.{arith, inr, None, length-map, forms_of}
 use Rattle.pb_propagate.proofs.lemmas.store.Gets.{get-push_same}
 use Rattle.pb_propagate.proofs.lemmas.store.Changes.{forms-more, forms-widened}
 use Rattle.pb_propagate.proofs.lemmas.store.Slots.{rest-widened}
@@ -17,7 +18,7 @@ returns-clause-slot c =
     let keep = c.args.store.now.stored in
     let k = c.in_ok-widen.ensures.kept in
     rw (forms-widened keep.items c.widen.new.store.stored.items k.0 k.2 k.1.form)
-    (get-push_same (forms_of keep.items) c.len-slot.result None (omega (arith, c.len-slot.ensures, keep.ok.0, length-map keep.items (λ (x : StoredForm). x.terms.form))))
+    (get-push_same (forms_of keep.items) c.len-slot.result None (omega (arith, c.len-slot.ensures, keep.ok.0, length-map keep.items stored_form)))
 
 pub returns-clause-forms : goal.returns-clause-forms
 returns-clause-forms c = λ s.

@@ -35,6 +35,10 @@ NameForms count lists = (p : ℕ) → All (λ e. e.form < count) (slice_index_or
 abbrev pub AreFalling : List Term → Type 0
 AreFalling terms = (i j : ℕ) (d : Term) → i ≤ j → j < length terms → (slice_index_or terms j d).coefficient ≤ (slice_index_or terms i d).coefficient
 
+-- the coefficients are equal
+abbrev pub AreEven : List Term → Type 0
+AreEven terms = (i : ℕ) (d : Term) → i < length terms → (slice_index_or terms i d).coefficient ≡ (slice_index_or terms 0 d).coefficient
+
 -- a form that needs no visit: it is not falsified, and its candidate requires nothing
 pub record IsCalm (form : Shape) (opened candidate : ℕ) : Type 0 where
   pub met : form.degree ≤ opened

@@ -6,11 +6,11 @@ pub returns-clause-lists : goal.returns-clause-lists
 returns-clause-lists c =
     let occ = c.args.lists.now.items in
     let v = c.index_mut-list.result.now in
-    watch-set occ c.args.literal c.push.new.self _
-    (ap (map (λ (x : Listed). x.watch)) c.in_ok-push.ensures.items ∙ map-append (λ (x : Listed). x.watch) v.items (c.args.entry ∷ []) ∙ ap (λ xs. xs ++ (c.args.entry.watch ∷ [])) (sym (watch-here occ c.args.literal v c.requires.literal c.index_mut-list.ensures.value)))
+    watch-set occ c.args.literal c.append.new.list _
+    (ap (map (λ (x : Listed). x.watch)) c.in_ok-append.ensures ∙ map-append (λ (x : Listed). x.watch) v.items (c.args.entry ∷ []) ∙ ap (λ xs. xs ++ (c.args.entry.watch ∷ [])) (sym (watch-here occ c.args.literal v c.requires.literal c.index_mut-list.ensures.value)))
 
 pub returns-clause-more : goal.returns-clause-more
 returns-clause-more c =
     let v = c.index_mut-list.result.now in
-    list-older c.args.lists.now.items c.args.literal v c.push.new.self (λ x. x ≡ c.args.entry) c.requires.literal c.index_mut-list.ensures.value
-    (λ i x h. push-older v.items i c.args.entry x (subst (λ (es : List Listed). slice_get es i ≡ Some x) c.in_ok-push.ensures.items h))
+    list-older c.args.lists.now.items c.args.literal v c.append.new.list (λ x. x ≡ c.args.entry) c.requires.literal c.index_mut-list.ensures.value
+    (λ i x h. push-older v.items i c.args.entry x (subst (λ (es : List Listed). slice_get es i ≡ Some x) c.in_ok-append.ensures h))

@@ -1,3 +1,4 @@
+use Rattle.pb_propagate.proofs.Common.{stored_total}
 use Rattle.pb_propagate.proofs.Common.{ℕ, ◌++◌, ◌+◌, ◌∙◌, ◌∷◌, ◌≡◌, [], ap, arith, get_or, Global, length, length-append, length-set, List, refl}
 use Rattle.pb_propagate.proofs.Common.{rules, set, subst, sym, take, Vec, Contains, sum, sum_by, take-append_seam, length-map, sum_by_push}
 use Rattle.pb_propagate.proofs.Common.{NumberedLiteral, Assignment, Listed, KeepsWalked, IsMark, all_of, clauses_of, joined, beside, IsTidy, none}
@@ -233,7 +234,7 @@ propagate-requires-clause-ready c =
     record {
       sums = record {
         values = ap length values_is ∙ r.values ∙ sym c.enter.ensures.variables;
-        opens = omega (arith, ap length (c.in_ok-lay.ensures.opens d), length-set c.enter.new.run.opens.items c.len-number.result (open_sum c.enter.new.run.assignment.list.items (get_or (shapes_of c.enter.new.store.stored.items) c.len-number.result d).terms), ap length h.opened, length-append opens (h.kept.total ∷ []), r.open_sizes, ap length h.keeps, length-append keep (h.kept ∷ []));
+        opens = omega (arith, ap length (c.in_ok-lay.ensures.opens d), length-set c.enter.new.run.opens.items c.len-number.result (open_sum c.enter.new.run.assignment.list.items (get_or (shapes_of c.enter.new.store.stored.items) c.len-number.result d).terms), ap length h.opened, length-append opens (stored_total h.kept ∷ []), r.open_sizes, ap length h.keeps, length-append keep (h.kept ∷ []));
         candidates = omega (arith, ap (λ (v : Vec ℕ Global). length v.items) c.lay.ensures.candidates, ap length h.candidates, length-append run.candidates.items (0 ∷ []), r.start_sizes, ap length h.keeps, length-append keep (h.kept ∷ []));
         next = omega (arith, next_is);
         counted = rw laid_is (laid-counted c.args.form keep new.store.stored.items run.opens.items new.run.opens.items run.candidates.items new.run.candidates.items c.lay.new.run.opens.items run.assignment.list.items c.len-number.result h number_is r.open_sizes

@@ -1,5 +1,7 @@
+use Rattle.pb_propagate.proofs.Common.{stored_terms}
+use Rattle.pb_propagate.proofs.lemmas.store.Stored.{stored-idle, stored-small}
 use Rattle.pb_propagate.proofs.Common.{ℕ, ◌<◌, ◌∙◌, ap, arith, get_or, length, set, subst, sym, length-map, IsCalm, shapes_of, stored_shape}
-use Rattle.pb_propagate.proofs.Common.{AreInside, open_sum, says, Shape, terms_of}
+use Rattle.pb_propagate.proofs.Common.{AreInside, open_sum, says, Shape}
 use Rattle.pb_propagate.proofs.lemmas.engine.VisitSteps.{shape-at, grown-by}
 use Rattle.pb_propagate.proofs.engine.root.lay.Goals as goal
 
@@ -10,7 +12,7 @@ open_under-opened-requires-clause-inside c =
     let here : c.args.form < length (shapes_of store.stored.items) = omega (arith, c.requires.form, length-map store.stored.items stored_shape) in
     let shape = shape-at store.stored.items c.args.form k c.requires.form c.index-kept.ensures (stored_shape k) in
     let all = subst (λ (f : Shape). AreInside store.variables f.terms) shape (c.requires.store.inside c.args.form (stored_shape k) here) in
-    subst (λ n. AreInside n (terms_of k.terms)) (sym (ap length c.as_slice.ensures.value ∙ c.requires.values)) all
+    subst (λ n. AreInside n (stored_terms k)) (sym (ap length c.as_slice.ensures.value ∙ c.requires.values)) all
 
 pub returns-clause-opens : goal.returns-clause-opens
 returns-clause-opens c = λ d.
@@ -29,4 +31,7 @@ returns-clause-work c =
     grown-by c.args.form run.work.items _ (λ low d i.
     let shape = shape-at store.stored.items c.args.form k c.requires.form c.index-kept.ensures d in
     let same = sum ∙ ap (λ (f : Shape). open_sum run.assignment.list.items f.terms) (sym shape) in
-    subst (λ (o : ℕ). IsCalm (get_or (shapes_of store.stored.items) c.args.form d) o i) same (subst (λ (f : Shape). IsCalm f c.open_under-opened.result i) (sym shape) (k.idle c.open_under-opened.result i low))) c.in_ok-queue.ensures
+    subst (λ (o : ℕ). IsCalm (get_or (shapes_of store.stored.items) c.args.form d) o i) same (subst (λ (f : Shape). IsCalm f c.open_under-opened.result i) (sym shape) (stored-idle k c.open_under-opened.result i (omega (arith, low, c.bound.ensures))))) c.in_ok-queue.ensures
+
+pub open_under-opened-requires-clause-small : goal.open_under-opened-requires-clause-small
+open_under-opened-requires-clause-small c = stored-small c.index-kept.result.now

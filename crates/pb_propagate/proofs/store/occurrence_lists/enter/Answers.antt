@@ -1,4 +1,5 @@
-use Rattle.pb_propagate.proofs.Common.{ℕ, ◌++◌, ◌<◌, ◌∙◌, ◌∷◌, ◌≡◌, [], ap, arith, get_or, get_or-set_same, length, length-append, None, rules, StoredForm, forms_of}
+use Rattle.pb_propagate.proofs.Common.{stored_total}
+use Rattle.pb_propagate.proofs.Common.{ℕ, ◌++◌, ◌<◌, ◌∙◌, ◌∷◌, ◌≡◌, [], ap, arith, get_or, get_or-set_same, length, length-append, None, rules, forms_of}
 use Rattle.pb_propagate.proofs.lemmas.store.Changes.{set-end, empty-end, forms-more}
 use Rattle.pb_propagate.proofs.store.occurrence_lists.enter.Goals as goal
 
@@ -36,6 +37,6 @@ returns-clause-entered c =
       is = rw c.in_ok-form.ensures at h.is;
       form = rw c.in_ok-form.ensures at h.form;
       keeps = h.keeps ∙ set-end store.stored.items c.widen.new.store.stored.items c.len-slot.result k.0 h.kept k.2 slot;
-      opened = c.push_reserved.ensures.items ∙ ap (λ xs. xs ++ (entry.total ∷ [])) c.reserve.ensures.items ∙ ap (λ (x : StoredForm). c.args.run.now.opens.items ++ (x.total ∷ [])) read;
+      opened = c.push_reserved.ensures.items ∙ ap (λ xs. xs ++ (c.total.result ∷ [])) c.reserve.ensures.items ∙ ap (λ n. c.args.run.now.opens.items ++ (n ∷ [])) (c.total.ensures ∙ ap stored_total read);
       candidates = c.push_reserved-2.ensures.items ∙ ap (λ xs. xs ++ (0 ∷ [])) c.reserve-2.ensures.items;
     }

@@ -1,4 +1,4 @@
-use Rattle.pb_propagate.proofs.Common.{arith, get_or, refl, shapes_of, terms_of}
+use Rattle.pb_propagate.proofs.Common.{◌∙◌, ap, arith, get_or, length, refl, shapes_of, stored_terms}
 use Rattle.pb_propagate.proofs.lemmas.store.Places.{entries-length}
 use Rattle.pb_propagate.proofs.lemmas.engine.Puts.{place-inside}
 use Rattle.pb_propagate.proofs.lemmas.store.Storages.{kept-inside}
@@ -8,7 +8,7 @@ use Rattle.pb_propagate.proofs.store.occurrence_lists.fill.Goals as goal
 pub link-requires-clause-inside : goal.link-requires-clause-inside
 link-requires-clause-inside c = λ k d h.
     let store = c.args.store.now in
-    let ts = terms_of c.in_ok-kept.kept.terms in
+    let ts = stored_terms c.in_ok-kept.kept in
     let variable = kept-inside ts c.args.form.terms store.variables c.in_ok-kept.ensures.is.terms c.requires.inside in
     omega (arith, place-inside (get_or ts k d).literal store.variables (variable k d h), c.requires.sound.places, entries-length (shapes_of store.stored.items) store.occurrences.items)
 
@@ -16,10 +16,10 @@ pub returns-clause-sound : goal.returns-clause-sound
 returns-clause-sound c =
     let store = c.args.store.now in
     let k = c.in_ok-kept.kept in
-    let ts = terms_of k.terms in
-    filled-stored store.stored.items k store.spots.items c.link.new.spots store.occurrences.items c.link.new.lists.items store.variables c.args.slot ts
-    c.requires.slot c.requires.empty refl c.in_ok-link.ensures.sizes c.in_ok-link.ensures.count
-    (kept-inside ts c.args.form.terms store.variables c.in_ok-kept.ensures.is.terms c.requires.inside) c.in_ok-link.ensures.linked c.requires.sound
+    let ts = stored_terms k in
+    filled-stored store.stored.items k store.spots.items c.in_ok-seats.seats store.occurrences.items c.link.new.lists.items store.variables c.args.slot ts
+    c.requires.slot c.requires.empty refl c.in_ok-link.ensures.sizes (ap length c.in_ok-seats.ensures ∙ c.in_ok-link.ensures.count)
+    (kept-inside ts c.args.form.terms store.variables c.in_ok-kept.ensures.is.terms c.requires.inside) (rw (← c.in_ok-seats.ensures) at c.in_ok-link.ensures.linked) c.requires.sound
 
 pub returns-clause-filled : goal.returns-clause-filled
 returns-clause-filled c = record {

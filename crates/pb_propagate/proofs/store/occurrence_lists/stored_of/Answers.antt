@@ -1,36 +1,29 @@
-use Rattle.pb_propagate.proofs.Common.{◌∙◌, arith, sym, terms_of}
-use Rattle.pb_propagate.proofs.lemmas.store.Sorted.{kept-size, degree-read}
+use Rattle.pb_propagate.proofs.Common.{◌∙◌, [], ap, arith, as_term, length, map, refl, Some, subst, sym, Form, IsNormal, IsStoredAs, terms_of}
+use Rattle.pb_propagate.proofs.lemmas.store.Sorted.{form-order}
+use Rattle.pb_propagate.specs.declared.store.counted_form.CountedForm.{CountedForm}
 use Rattle.pb_propagate.proofs.store.occurrence_lists.stored_of.Goals as goal
-
-pub bound_of-bound-requires-clause-size : goal.bound_of-bound-requires-clause-size
-bound_of-bound-requires-clause-size c =
-    let size = kept-size (terms_of c.in_ok-terms.terms) c.args.form.terms c.in_ok-terms.ensures.same in
-    let normal = rw c.form-normal.ensures at c.degree.ensures.normal in
-    omega (arith, size, normal.size_in)
-
-pub bound_of-bound-requires-clause-small : goal.bound_of-bound-requires-clause-small
-bound_of-bound-requires-clause-small c =
-    let normal = rw c.form-normal.ensures at c.degree.ensures.normal in
-    omega (arith, degree-read c.unsigned_abs-degree.result c.degree.result c.args.form.degree c.unsigned_abs-degree.ensures.value (rw c.form-normal.ensures at c.degree.ensures.degree) normal.degree_in, normal.degree_in)
-
-pub invariant_of-result : goal.invariant_of-result
-invariant_of-result c =
-    let normal = rw c.form-normal.ensures at c.degree.ensures.normal in
-    let size = kept-size (terms_of c.in_ok-terms.terms) c.args.form.terms c.in_ok-terms.ensures.same in
-    record {
-      falling = c.in_ok-terms.ensures.falling;
-      sum = (rw c.form-normal.ensures at c.size-total.ensures.size) ∙ sym size;
-      small = omega (arith, size, normal.size_in);
-      low = omega (arith, degree-read c.unsigned_abs-degree.result c.degree.result c.args.form.degree c.unsigned_abs-degree.ensures.value (rw c.form-normal.ensures at c.degree.ensures.degree) normal.degree_in, normal.degree_in);
-      idle = c.bound_of-bound.ensures.calm;
-      alike = λ even i d h. omega (arith, c.bound_of-bound.ensures.first d (omega (arith, h)), c.is_even-even.ensures even i d h);
-    }
 
 pub returns-clause-is : goal.returns-clause-is
 returns-clause-is c =
-    let normal = rw c.form-normal.ensures at c.degree.ensures.normal in
-    record {
-      terms = c.in_ok-terms.ensures.same;
-      degree = degree-read c.unsigned_abs-degree.result c.degree.result c.args.form.degree c.unsigned_abs-degree.ensures.value (rw c.form-normal.ensures at c.degree.ensures.degree) normal.degree_in;
+    subst (λ (x : CountedForm). IsStoredAs c.args.form (record { terms = terms_of x.terms; degree = x.degree })) (sym c.in_ok-kept.ensures.ok) c.in_ok-counted.ensures.is
+
+pub returns-clause-form : goal.returns-clause-form
+returns-clause-form c = ap (λ (x : CountedForm). Some x.terms.form) c.in_ok-kept.ensures.ok ∙ ap (λ (f : Form). Some f) c.in_ok-counted.ensures.form
+
+pub of-requires-clause-normal : goal.of-requires-clause-normal
+of-requires-clause-normal c = rw c.form-normal.ensures at c.terms.ensures.normal
+
+pub of-requires-clause-single : goal.of-requires-clause-single
+of-requires-clause-single c = omega (arith, c.len.ensures.length, c.if-len-eq1.true, ap length c.terms.ensures.terms, ap (λ (x : Form). length x.terms) c.form-normal.ensures)
+
+pub returns-then-len-eq1-clause-is : goal.returns-then-len-eq1-clause-is
+returns-then-len-eq1-clause-is c =
+    let normal : IsNormal c.args.form = rw c.form-normal.ensures at c.terms.ensures.normal in
+    subst (λ (f : Form). IsStoredAs c.args.form (record { terms = map as_term f.terms; degree = f.degree })) (sym c.of.ensures) (record {
+      terms = form-order c.args.form.terms [] refl;
+      degree = refl;
       normal = normal;
-    }
+    })
+
+pub returns-then-len-eq1-clause-form : goal.returns-then-len-eq1-clause-form
+returns-then-len-eq1-clause-form c = ap (λ (f : Form). Some f) c.of.ensures

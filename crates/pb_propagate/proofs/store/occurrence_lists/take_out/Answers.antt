@@ -1,4 +1,4 @@
-use Rattle.pb_propagate.proofs.Common.{[], ap, arith, get_or, length, refl, lists_of, spots_of}
+use Rattle.pb_propagate.proofs.Common.{[], ap, arith, get_or, length, lists_of, spots_of}
 use Rattle.pb_propagate.proofs.lemmas.store.Places.{taken-lists, taken-last, taken-moved, spots-moved, set-read, spots-read}
 use Rattle.pb_propagate.proofs.store.occurrence_lists.take_out.Goals as goal
 
@@ -22,15 +22,15 @@ index_mut-requires-2 c =
     let named = c.requires.named m moved.1 in
     omega (arith, named.0, c.args.spots.now.ok.0)
 
-pub index_mut-requires-3 : goal.index_mut-requires-3
-index_mut-requires-3 c =
+pub set-requires : goal.set-requires
+set-requires c =
     let same = set-read c.args.lists.now.items c.args.place c.swap_remove.new.self c.index.result.now c.requires.place c.index.ensures in
     let same_2 = set-read c.args.lists.now.items c.args.place c.swap_remove.new.self c.index-2.result.now c.requires.place c.index-2.ensures in
     let m = c.index-moved.result.now in
     let moved = taken-moved c.args.lists.now.items c.args.place c.args.spot c.index_mut.result.now c.swap_remove.new.self c.swap_remove.result m c.requires.place c.index_mut.ensures.value c.swap_remove.ensures.items c.requires.spot
     (omega (arith, c.if-spot-len.false, c.len.ensures, c.index.result.now.ok.0, ap (λ v. length v.items) same)) (rw same_2 at c.index-moved.ensures) in
     let named = c.requires.named m moved.1 in
-    omega (arith, spots-read c.args.spots.now.items m.form m.index c.index_mut-2.result.now named.0 c.index_mut-2.ensures.value named.1, c.index_mut-2.result.now.ok.0)
+    spots-read c.args.spots.now.items m.form m.index c.index_mut-2.result.now named.0 c.index_mut-2.ensures.value named.1
 
 pub returns-clause-lists : goal.returns-clause-lists
 returns-clause-lists c =
@@ -44,4 +44,4 @@ returns-clause-spots c =
     let moved = taken-moved c.args.lists.now.items c.args.place c.args.spot c.index_mut.result.now c.swap_remove.new.self c.swap_remove.result m c.requires.place c.index_mut.ensures.value c.swap_remove.ensures.items c.requires.spot
     (omega (arith, c.if-spot-len.false, c.len.ensures, c.index.result.now.ok.0, ap (λ v. length v.items) same)) (rw same_2 at c.index-moved.ensures) in
     let named = c.requires.named m moved.1 in
-    spots-moved c.args.spots.now.items (get_or (lists_of c.args.lists.now.items) c.args.place []) c.args.spot m c.index_mut-2.result.now _ named.0 c.index_mut-2.ensures.value refl moved.0 moved.1
+    spots-moved c.args.spots.now.items (get_or (lists_of c.args.lists.now.items) c.args.place []) c.args.spot m c.index_mut-2.result.now c.set.new.self named.0 c.index_mut-2.ensures.value c.set.ensures moved.0 moved.1

@@ -1,5 +1,6 @@
+use Rattle.pb_propagate.proofs.Common.{stored_terms}
 use Rattle.pb_propagate.proofs.Common.{◌∙◌, ◌≡◌, [], ap, arith, get_or, inl, inr, length, List, subst, sym, cases_eq, Term, shapes_of, terms_at}
-use Rattle.pb_propagate.proofs.Common.{IsDue, Shape, terms_of}
+use Rattle.pb_propagate.proofs.Common.{IsDue, Shape}
 use Rattle.pb_propagate.proofs.lemmas.engine.VisitSteps.{shape-at}
 use Rattle.pb_propagate.proofs.lemmas.root.Replaced.{terms-inside}
 use Rattle.pb_propagate.proofs.lemmas.root.Released.{released-same, released-then, some-released, some-sized}
@@ -14,7 +15,7 @@ terms-init c = record {
 pub release_literal-requires : goal.release_literal-requires
 release_literal-requires c =
     let t = c.term.result in
-    let all = terms-inside c.args.store.now c.args.slot c.index.result.now c.requires.sound c.requires.slot c.index.ensures c.terms.i t (omega (arith, c.terms-test.true, c.len-i-end.ensures)) in
+    let all = terms-inside c.args.store.now c.args.slot c.index-kept.result.now c.requires.sound c.requires.slot c.index-kept.ensures c.terms.i t (omega (arith, c.terms-test.true, c.len-i-end.ensures)) in
     record {
       sound = c.requires.sound;
       rooted = some-released c.requires.rooted c.terms.invariant.released;
@@ -30,9 +31,9 @@ terms-preserved c =
       released = released-then i.released next.released;
       needless = λ k d less due. elim (cases_eq k c.terms.i) [
         | inl is ↦
-            let same : (get_or (terms_of c.index.result.now.terms) k d).literal ≡ c.term.result.literal = ap (λ n. (get_or (terms_of c.index.result.now.terms) n d).literal) is ∙ ap (λ (x : Term). x.literal) (sym (c.term.ensures d)) in
+            let same : (get_or (stored_terms c.index-kept.result.now) k d).literal ≡ c.term.result.literal = ap (λ n. (get_or (stored_terms c.index-kept.result.now) n d).literal) is ∙ ap (λ (x : Term). x.literal) (sym (c.term.ensures d)) in
             next.needless (subst (IsDue c.args.slot new.run.assignment.list.items new.run.assignment.reasons.items) same due)
-        | inr apart ↦ i.needless k d (grind (arith, less, apart)) (next.released.fewer (get_or (terms_of c.index.result.now.terms) k d).literal due)
+        | inr apart ↦ i.needless k d (grind (arith, less, apart)) (next.released.fewer (get_or (stored_terms c.index-kept.result.now) k d).literal due)
       ];
     }
 
@@ -40,5 +41,5 @@ pub returns-clause-needless : goal.returns-clause-needless
 returns-clause-needless c = λ k d less due.
     let store = c.args.store.now in
     let new = c.terms.root in
-    let is : terms_at (shapes_of store.stored.items) c.args.slot ≡ terms_of c.index.result.now.terms = ap (λ (f : Shape). f.terms) (shape-at store.stored.items c.args.slot c.index.result.now c.requires.slot c.index.ensures (record { terms = []; degree = 0 })) in
+    let is : terms_at (shapes_of store.stored.items) c.args.slot ≡ stored_terms c.index-kept.result.now = ap (λ (f : Shape). f.terms) (shape-at store.stored.items c.args.slot c.index-kept.result.now c.requires.slot c.index-kept.ensures (record { terms = []; degree = 0 })) in
     c.terms.invariant.needless k d (omega (arith, less, ap length is, c.terms-test.false, c.len-i-end.ensures)) (subst (λ (ts : List Term). IsDue c.args.slot new.run.assignment.list.items new.run.assignment.reasons.items (get_or ts k d).literal) is due)

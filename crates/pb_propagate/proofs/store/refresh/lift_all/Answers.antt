@@ -1,3 +1,4 @@
+use Rattle.pb_propagate.proofs.lemmas.store.Stored.{stored-small}
 use Rattle.pb_propagate.proofs.Common.{ℕ, ◌+◌, ◌∙◌, [], drop, drop_all, get_or, get_or_read, map, set, size, stored_shape, subst, Shape, Term, ◌<◌, ap, arith, length, length-map, shapes_of, weighted, slice_get_within}
 use Rattle.pb_propagate.proofs.lemmas.root.Retracted.{ahead-entry, all-next, lacks-fits, lacks-next, listed-entries, occurrence-read, refreshed-none, refreshed-then}
 use Rattle.pb_propagate.proofs.lemmas.engine.VisitSteps.{shape-at, weight-read}
@@ -73,7 +74,7 @@ overflow_add-opened c =
     let lacks = subst (Lacks store c.entries.root) (ahead-entry store v.items c.entries.j c.index-entry.result.now c.index-entry.ensures less) c.entries.invariant.lacks in
     let fits = lacks-fits store c.entries.root (weighted forms c.index-entry.result.now) (drop (c.entries.j + 1) (map (weighted forms) v.items)) (stored_shape k) o.form lacks in
     let shape = shape-at store.stored.items form k o.form c.index-kept.ensures (stored_shape k) in
-    omega (arith, fits, read, weight, ap (λ (f : Shape). size f.terms) shape, k.small)
+    omega (arith, fits, read, weight, ap (λ (f : Shape). size f.terms) shape, stored-small k)
 
 pub returns-clause-lacks : goal.returns-clause-lacks
 returns-clause-lacks c =

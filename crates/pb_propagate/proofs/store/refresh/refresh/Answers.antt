@@ -1,3 +1,4 @@
+use Rattle.pb_propagate.proofs.lemmas.store.Stored.{stored-idle}
 use Rattle.pb_propagate.proofs.Common.{ℕ, ◌<◌, ◌∙◌, ap, arith, get_or, get_or-set_other, get_or-set_same, inl, inr, length, length-set, set, subst, sym, cases_eq}
 use Rattle.pb_propagate.proofs.Common.{IsCalm, shapes_of, Shape, terms_at, refl}
 use Rattle.pb_propagate.proofs.lemmas.root.Retracted.{refreshed-at}
@@ -16,7 +17,7 @@ returns-clause-form c =
     let open_now = get_or-set_same me.run.opens.items form o 0 room in
     record {
       passed = get_or-set_same me.run.candidates.items form 0 0 (omega (arith, c.requires.form, z.candidates));
-      calm = λ off d i. subst (λ (n : ℕ). IsCalm (get_or (shapes_of store.stored.items) form d) n i) (sym open_now) (subst (λ (f : Shape). IsCalm f o i) (sym (shape-at store.stored.items form k c.requires.form c.index-kept.ensures d)) (k.idle o i (c.wait_below.ensures.above off)));
+      calm = λ off d i. subst (λ (n : ℕ). IsCalm (get_or (shapes_of store.stored.items) form d) n i) (sym open_now) (subst (λ (f : Shape). IsCalm f o i) (sym (shape-at store.stored.items form k c.requires.form c.index-kept.ensures d)) (stored-idle k o i (omega (arith, c.wait_below.ensures.above off, c.bound.ensures))));
     }
 
 pub returns-clause-each : goal.returns-clause-each

@@ -1,5 +1,7 @@
+use Rattle.pb_propagate.proofs.lemmas.store.Stored.{stored-small}
+use Rattle.pb_propagate.proofs.Common.{stored_terms}
 use Rattle.pb_propagate.proofs.Common.{◌<◌, ◌∙◌, ap, arith, length, subst, sym, length-map, list_at, clauses_of, slot_shape, shapes_of, stored_shape}
-use Rattle.pb_propagate.proofs.Common.{AreInside, open_sum, says, Shape, terms_of}
+use Rattle.pb_propagate.proofs.Common.{AreInside, open_sum, says, Shape}
 use Rattle.pb_propagate.proofs.lemmas.clauses.Shapes.{shape-some}
 use Rattle.pb_propagate.proofs.lemmas.engine.VisitSteps.{shape-at}
 use Rattle.pb_propagate.proofs.lemmas.root.Lost.{slot-is}
@@ -13,7 +15,7 @@ open_under-opened-requires-clause-inside c =
     let here : c.args.slot < length (shapes_of store.stored.items) = omega (arith, c.requires.slot, length-map store.stored.items stored_shape) in
     let shape = shape-at store.stored.items c.args.slot k c.requires.slot c.index-kept.ensures (stored_shape k) in
     let all = subst (λ (f : Shape). AreInside store.variables f.terms) shape (c.requires.sound.inside c.args.slot (stored_shape k) here) in
-    subst (λ n. AreInside n (terms_of k.terms)) (sym (ap length c.as_slice.ensures.value ∙ c.requires.values)) all
+    subst (λ n. AreInside n (stored_terms k)) (sym (ap length c.as_slice.ensures.value ∙ c.requires.values)) all
 
 pub returns-then-not-is_filled : goal.returns-then-not-is_filled
 returns-then-not-is_filled c = λ above x at.
@@ -25,7 +27,7 @@ returns-then-not-is_filled c = λ above x at.
     let sum = c.open_under-opened.ensures run.assignment.list.items (λ l. run.assignment.agrees l ∙ ap (λ vs. says vs l) (sym c.as_slice.ensures.value)) in
     let same = ap (λ (f : Shape). open_sum run.assignment.list.items f.terms) is in
     let degree = ap (λ (f : Shape). f.degree) is in
-    omega (arith, c.is_below.ensures.above above, sum, same, degree)
+    omega (arith, c.is_below.ensures.above above, sum, same, degree, c.degree.ensures)
 
 pub returns-in-Some : goal.returns-in-Some
 returns-in-Some c = λ found x at.
@@ -33,3 +35,6 @@ returns-in-Some c = λ found x at.
     let codes = list_at (clauses_of c.args.clauses.now) c.args.slot in
     let is = slot-is c.args.store.now c.args.clauses.now c.args.slot x c.requires.slot at ∙ shape-some _ codes (c.is_filled.ensures.yes c.if-not-is_filled.false) in
     free-met run.assignment.values.items run.assignment.list.items codes _ x run.assignment.agrees is c.in-Some.ensures.some
+
+pub open_under-opened-requires-clause-small : goal.open_under-opened-requires-clause-small
+open_under-opened-requires-clause-small c = stored-small c.index-kept.result.now

@@ -1,0 +1,58 @@
+//! The positions of a form's entries in the occurrence lists.
+
+ghost use Rattle.std.specs.Prelude.{◌≡◌, ◌<◌, ◌≤◌, [], length, slice_index_or, slice_set, IfOk};
+ghost use Rattle.pb_propagate.specs.engine.Engine.Spots.{spots_in};
+
+use std::alloc::{AllocError, Global};
+
+/// For each term of a form the position of its entry in the list of its literal. A form of one term
+/// needs no list.
+#[derive(Drop)]
+pub enum Spots {
+    /// Those of no term.
+    Empty,
+    /// That of the only term.
+    One(usize),
+    /// Those of several terms.
+    Many(Box<Vec<usize>>),
+}
+
+impl Spots {
+    /// The same positions.
+    pub fn of(alloc: Global, spots: Vec<usize>) -> Result<Spots, AllocError>
+        ensures { IfOk result (λ s. spots_in s ≡ spots.items) }
+    {
+        if spots.len() == 0 {
+            return Ok(Spots::Empty);
+        }
+        if spots.len() == 1 {
+            return Ok(Spots::One(spots[0]));
+        }
+        let spots = Box::new(alloc, spots)?;
+        Ok(Spots::Many(spots))
+    }
+
+    /// The position of a term's entry.
+    pub fn get(&self, index: usize) -> usize
+        requires { index < length (spots_in self.now) }
+        ensures { result ≡ slice_index_or (spots_in self.now) index result }
+    {
+        match self {
+            Spots::Empty => unreachable!(),
+            Spots::One(spot) => *spot,
+            Spots::Many(spots) => spots.as_ref()[index],
+        }
+    }
+
+    /// Writes the position of a term's entry.
+    pub fn set(&mut self, index: usize, spot: usize)
+        requires { index < length (spots_in self.old) }
+        ensures { spots_in self.new ≡ slice_set (spots_in self.old) index spot }
+    {
+        match self {
+            Spots::Empty => {}
+            Spots::One(only) => *only = spot,
+            Spots::Many(spots) => spots.as_mut()[index] = spot,
+        }
+    }
+}
