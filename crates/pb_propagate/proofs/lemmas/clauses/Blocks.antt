@@ -151,6 +151,9 @@ module _ {words starts rooms : List ℕ} {run : ℕ} {v : Contents} (old : AreBl
   block-behind s (inl some) = filled-room old s (omega (arith, some, ap (λ (x : Contents). length (list_at x.literals s)) is))
   block-behind s (inr some) = omega (arith, some, ap (λ (x : Contents). number_at x.rooms s) is)
 
+  pub own-slot : (s : ℕ) → HasBlock v s → s < length starts
+  own-slot s some = room-inside old s (block-behind s some)
+
   pub clause-behind : (s : ℕ) → s < length starts → stored_clause words starts s ≡ list_at v.literals s
   clause-behind s inside = sym (table-at (length starts) (stored_clause words starts) s [] inside) ∙ ap (λ (x : Contents). list_at x.literals s) is
 
@@ -173,7 +176,23 @@ block-at {words} {starts} {rooms} old s start inside read =
       count = omega (arith, ap (λ i. number_at words (i + 6)) at, old.within s inside);
     }
 
--- and one of its watches
+-- the block is the slot's own
+pub record IsOwn (words starts rooms : List ℕ) (s start : ℕ) : Type 0 where
+  pub room : 0 < number_at rooms s
+  pub at : start ≡ number_at starts s
+  pub end : start + 8 + number_at rooms s ≤ length words
+
+pub own-by : {words starts rooms : List ℕ} {run : ℕ} → AreBlocks words starts rooms run → (s start : ℕ) → 0 < number_at rooms s →
+    start ≡ get_or starts s start → IsOwn words starts rooms s start
+own-by old s start some read =
+    let b = block-at old s start (room-inside old s some) read in
+    record { room = some; at = b.at; end = b.end }
+
+pub own-at : {words starts rooms : List ℕ} {run : ℕ} {v : Contents} → AreBlocks words starts rooms run → contents words starts rooms run ≡ v →
+    (s start : ℕ) → HasBlock v s → start ≡ get_or starts s start → IsOwn words starts rooms s start
+own-at old is s start some read = own-by old s start (block-behind old is s some) read
+
+-- where one of its watches is
 pub place-at : (starts : List ℕ) (e start place : ℕ) → e / 2 < length starts → start ≡ get_or starts (e / 2) start →
     place ≡ start + 2 * (e % 2) → place ≡ watch_place starts e
 place-at starts e start place inside read is = is ∙ ap (λ i. i + 2 * (e % 2)) (get_or_read starts (e / 2) start inside read 0)

@@ -4,7 +4,7 @@ use Rattle.pb_propagate.proofs.Common.{inl, inr, length, length-set, List, refl,
 use Rattle.pb_propagate.proofs.Common.{AreBlocks, AreKept, Contents, contents, idle, nowhere, number_at, rewatched, rewritten, Search, search_at, searched}
 use Rattle.pb_propagate.proofs.Common.{stored_clause, stored_search, stored_watch, Watch, watch_of, watch_place}
 use Rattle.pb_propagate.proofs.lemmas.clauses.Tables.{slice-is, slice-same, table-same, table-set}
-use Rattle.pb_propagate.proofs.lemmas.clauses.Blocks.{contents-are, IsSame, passed-none, passed-own, room-inside, room-start, same-block, search-behind, search-made, watch-made}
+use Rattle.pb_propagate.proofs.lemmas.clauses.Blocks.{contents-are, IsOwn, IsSame, passed-none, passed-own, room-inside, room-start, same-block, search-behind, search-made, watch-made}
 
 -- words from one position to another are written
 pub record IsWritten (from to : ℕ) (old new : List ℕ) : Type 0 where
@@ -96,6 +96,13 @@ module _ {words words' starts rooms : List ℕ} {run from to : ℕ} (s : ℕ) (o
     | inr n ↦ (beside (e / 2) (omega (arith, h)) n).watch e refl
   ]
 
+  watches-kept : ((i : ℕ) → i < number_at starts s + 4 → number_at words' i ≡ number_at words i) → (contents words' starts rooms run).watches ≡ (contents words starts rooms run).watches
+  watches-kept less = table-same (2 * length starts) (stored_watch words starts) (stored_watch words' starts) (λ e h. watch-kept e h (λ half.
+      let at : number_at starts (e / 2) ≡ number_at starts s = ap (number_at starts) half in
+      let p = less (watch_place starts e) (omega (arith, at)) in
+      let q = less (watch_place starts e + 1) (omega (arith, at)) in
+      rw (p, q) refl))
+
 -- its clause is another
 pub clause-written : {words words' starts rooms : List ℕ} {run : ℕ} {v : Contents} (s : ℕ) (xs : List ℕ) → AreBlocks words starts rooms run → contents words starts rooms run ≡ v →
     0 < number_at rooms s → length xs ≤ number_at rooms s → IsWritten (number_at starts s + 6) (number_at starts s + 8 + number_at rooms s) words words' →
@@ -107,11 +114,7 @@ clause-written {words} {words'} {starts} {rooms} {run} s xs old is some fits wri
       is = contents-are _ _
           (table-set (length starts) (stored_clause words starts) (stored_clause words' starts) s xs here (λ t h n. (beside s old some written (omega arith) (omega arith) t h n).clause))
           (searches-kept s old some written (omega arith) (omega arith) (let p = less 4 (omega arith) in let q = less 5 (omega arith) in rw (p, q, stamp) refl))
-          (table-same (2 * length starts) (stored_watch words starts) (stored_watch words' starts) (λ e h. watch-kept s old some written (omega arith) (omega arith) e h (λ half.
-          let at : number_at starts (e / 2) ≡ number_at starts s = ap (number_at starts) half in
-          let p = written.outside (watch_place starts e) (inl (omega (arith, at))) in
-          let q = written.outside (watch_place starts e + 1) (inl (omega (arith, at))) in
-          rw (p, q) refl)))
+          (watches-kept s old some written (omega arith) (omega arith) (λ i h. written.outside i (inl (omega (arith, h)))))
           refl;
     })
   where
@@ -143,11 +146,7 @@ search-written {words} {words'} {starts} {rooms} {run} s x old is some written c
       is = contents-are _ _
           (clauses-kept s old some written (omega arith) (omega arith) (clause-same s old inside written (omega arith) count))
           (table-set (length starts) (stored_search words starts run) (stored_search words' starts run) s x here (λ t h n. (beside s old some written (omega arith) (omega arith) t h n).search))
-          (table-same (2 * length starts) (stored_watch words starts) (stored_watch words' starts) (λ e h. watch-kept s old some written (omega arith) (omega arith) e h (λ half.
-          let at : number_at starts (e / 2) ≡ number_at starts s = ap (number_at starts) half in
-          let p = written.outside (watch_place starts e) (inl (omega (arith, at))) in
-          let q = written.outside (watch_place starts e + 1) (inl (omega (arith, at))) in
-          rw (p, q) refl)))
+          (watches-kept s old some written (omega arith) (omega arith) (λ i h. written.outside i (inl (omega (arith, h)))))
           refl;
     })
   where
@@ -234,10 +233,16 @@ module _ {words starts rooms : List ℕ} {run : ℕ} {v : Contents} (e p : ℕ) 
       (watch-made _ _ literal spot l q small))
 
 -- and of a search or a clause
-module _ {words starts rooms : List ℕ} {run : ℕ} {v : Contents} (s a : ℕ) (old : AreBlocks words starts rooms run) (is : contents words starts rooms run ≡ v)
-    (some : 0 < number_at rooms s) (at : a ≡ number_at starts s) where
+module _ {words starts rooms : List ℕ} {run s a : ℕ} {v : Contents} (old : AreBlocks words starts rooms run) (is : contents words starts rooms run ≡ v)
+    (own : IsOwn words starts rooms s a) where
+  some : 0 < number_at rooms s
+  some = own.room
+
+  at : a ≡ number_at starts s
+  at = own.at
+
   inside-block : number_at starts s + 8 + number_at rooms s ≤ length words
-  inside-block = old.inside s (room-inside old s some)
+  inside-block = omega (arith, own.end, own.at)
 
   pub seek-written : (x : Search) → Store (set (set (set words (a + 4) x.position) (a + 5) x.passed) (a + 7) run) starts rooms run (searched v s x)
   seek-written x = subst (λ i. Store (set (set (set words (i + 4) x.position) (i + 5) x.passed) (i + 7) run) starts rooms run (searched v s x)) (sym at)

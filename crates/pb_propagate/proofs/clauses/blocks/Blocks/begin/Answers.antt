@@ -1,5 +1,5 @@
-use Rattle.pb_propagate.proofs.Common.{◌∙◌, arith, sym}
-use Rattle.pb_propagate.proofs.lemmas.clauses.Blocks.{block-at, slot-behind, start-room}
+use Rattle.pb_propagate.proofs.Common.{arith}
+use Rattle.pb_propagate.proofs.lemmas.clauses.Blocks.{block-at, own-by, slot-behind, start-room}
 use Rattle.pb_propagate.proofs.lemmas.clauses.BlocksWritten.{begin-written, shared-begun}
 use Rattle.pb_propagate.proofs.clauses.blocks.Blocks.begin.Goals as goal
 
@@ -16,7 +16,7 @@ returns-then-start-gt0 c =
     let slot = slot-behind c.self.invariant c.self.view_is c.args.slot c.requires in
     let at = (block-at c.self.invariant c.args.slot c.index.result.now slot c.index.ensures).at in
     let room = start-room c.self.invariant c.args.slot (omega (arith, at, c.if-start-gt0.true)) in
-    (begin-written c.args.slot c.index.result.now c.self.invariant c.self.view_is room at).is
+    (begin-written c.self.invariant c.self.view_is (own-by c.self.invariant c.args.slot c.index.result.now room c.index.ensures)).is
 
 pub returns-else-start-gt0 : goal.returns-else-start-gt0
 returns-else-start-gt0 c =

@@ -1,26 +1,19 @@
 use Rattle.pb_propagate.proofs.Common.{arith, inl}
-use Rattle.pb_propagate.proofs.lemmas.clauses.Blocks.{block-at, block-behind, room-inside}
+use Rattle.pb_propagate.proofs.lemmas.clauses.Blocks.{own-at, own-slot}
 use Rattle.pb_propagate.proofs.lemmas.clauses.BlocksWritten.{clear-written}
 use Rattle.pb_propagate.proofs.clauses.blocks.Blocks.clear.Goals as goal
 
 pub index-requires : goal.index-requires
-index-requires c =
-    let room = block-behind c.self.invariant c.self.view_is c.args.slot (inl c.requires) in
-    omega (arith, room-inside c.self.invariant c.args.slot room, c.self.inside.starts.ok.0)
+index-requires c = omega (arith, own-slot c.self.invariant c.self.view_is c.args.slot (inl c.requires), c.self.inside.starts.ok.0)
 
 pub index_mut-requires : goal.index_mut-requires
 index_mut-requires c =
-    let slot = room-inside c.self.invariant c.args.slot (block-behind c.self.invariant c.self.view_is c.args.slot (inl c.requires)) in
-    omega (arith, (block-at c.self.invariant c.args.slot c.index.result.now slot c.index.ensures).end, c.self.inside.words.ok.0)
+    omega (arith, (own-at c.self.invariant c.self.view_is c.args.slot c.index.result.now (inl c.requires) c.index.ensures).end, c.self.inside.words.ok.0)
 
 pub invariant_of-self : goal.invariant_of-self
 invariant_of-self c =
-    let room = block-behind c.self.invariant c.self.view_is c.args.slot (inl c.requires) in
-    let b = block-at c.self.invariant c.args.slot c.index.result.now (room-inside c.self.invariant c.args.slot room) c.index.ensures in
-    (clear-written c.args.slot c.index.result.now c.self.invariant c.self.view_is room b.at).blocks
+    (clear-written c.self.invariant c.self.view_is (own-at c.self.invariant c.self.view_is c.args.slot c.index.result.now (inl c.requires) c.index.ensures)).blocks
 
 pub returns : goal.returns
 returns c =
-    let room = block-behind c.self.invariant c.self.view_is c.args.slot (inl c.requires) in
-    let b = block-at c.self.invariant c.args.slot c.index.result.now (room-inside c.self.invariant c.args.slot room) c.index.ensures in
-    (clear-written c.args.slot c.index.result.now c.self.invariant c.self.view_is room b.at).is
+    (clear-written c.self.invariant c.self.view_is (own-at c.self.invariant c.self.view_is c.args.slot c.index.result.now (inl c.requires) c.index.ensures)).is
