@@ -1,9 +1,9 @@
 -- What blocks of words store, and where.
-use Rattle.pb_propagate.proofs.Common.{ℕ, ◌*◌, ◌+◌, ◌-◌, ◌/◌, ◌<◌, ◌∙◌, ◌≡◌, ◌≤◌, ◌⊎◌, ◌%◌, ◌==◌, [], ap, arith, both_ways, cases_Bool, cases_eq, cases_lt}
+use Rattle.pb_propagate.proofs.Common.{ℕ, ◌*◌, ◌+◌, ◌/◌, ◌<◌, ◌∙◌, ◌≡◌, ◌≤◌, ◌⊎◌, ◌%◌, ◌==◌, [], ap, arith, both_ways, cases_Bool, cases_eq, cases_lt}
 use Rattle.pb_propagate.proofs.Common.{drop, eqb-true, get_or, get_or_past, get_or_read, inl, inr, length, List, nat_tests, refl, subst, sym, take, true}
 use Rattle.pb_propagate.proofs.Common.{AreBlocks, begun, Contents, contents, HasBlock, idle, IsBare, IsRenewed, list_at, nowhere, number_at, passed_by}
 use Rattle.pb_propagate.proofs.Common.{Search, search_at, stored_clause, stored_search, stored_watch, table, Watch, watch_at, watch_of, watch_place}
-use Rattle.pb_propagate.proofs.lemmas.clauses.Tables.{slice-length, slice-same, table-at, table-length}
+use Rattle.pb_propagate.proofs.lemmas.clauses.Tables.{slice-same, table-at, table-length}
 
 watch-live : (l spot : ℕ) → (spot ≡ nowhere → ⊥) → watch_of l spot ≡ record { literal = l; live = true; spot = spot }
 watch-live l spot n = elim (cases_Bool (spot == nowhere)) [
@@ -11,16 +11,20 @@ watch-live l spot n = elim (cases_Bool (spot == nowhere)) [
   | inr isnt ↦ rw isnt refl
 ]
 
-watch-shown : (l spot : ℕ) → (watch_of l spot).live ≡ true → watch_of l spot ≡ record { literal = l; live = true; spot = spot }
+watch-shown : (l spot : ℕ) → (watch_of l spot).live ≡ true →
+    watch_of l spot ≡ record { literal = l; live = true; spot = spot }
 watch-shown l spot live = watch-live l spot (λ is. both_ways _ (ap (λ i. (watch_of l i).live) is) live)
 
-pub watch-made : (l spot l' spot' : ℕ) → l ≡ l' → spot ≡ spot' → spot' < nowhere → watch_of l spot ≡ record { literal = l'; live = true; spot = spot' }
+pub watch-made : (l spot l' spot' : ℕ) → l ≡ l' → spot ≡ spot' → spot' < nowhere →
+    watch_of l spot ≡ record { literal = l'; live = true; spot = spot' }
 watch-made l spot l' spot' e f small = rw (e, f) (watch-live l' spot' (λ is. absurd (omega (arith, is, small))))
 
-pub search-made : (p q p' q' : ℕ) → p ≡ p' → q ≡ q' → ◌≡◌ {A = Search} (record { position = p; passed = q }) (record { position = p'; passed = q' })
+pub search-made : (p q p' q' : ℕ) → p ≡ p' → q ≡ q' →
+    ◌≡◌ {A = Search} (record { position = p; passed = q }) (record { position = p'; passed = q' })
 search-made p q p' q' e f = rw (e, f) refl
 
-pub passed-same : (run own passed own' passed' : ℕ) → own ≡ own' → passed ≡ passed' → passed_by run own passed ≡ passed_by run own' passed'
+pub passed-same : (run own passed own' passed' : ℕ) → own ≡ own' → passed ≡ passed' →
+    passed_by run own passed ≡ passed_by run own' passed'
 passed-same run own passed own' passed' e f = rw (e, f) refl
 
 pub passed-none : (run own passed : ℕ) → passed ≡ 0 → passed_by run own passed ≡ 0
@@ -41,7 +45,8 @@ passed-before run own passed less = elim (cases_Bool (own == run + 1)) [
   | inr isnt ↦ rw isnt refl
 ]
 
-pub contents-are : (a b : Contents) → a.literals ≡ b.literals → a.searches ≡ b.searches → a.watches ≡ b.watches → a.rooms ≡ b.rooms → a ≡ b
+pub contents-are : (a b : Contents) → a.literals ≡ b.literals → a.searches ≡ b.searches → a.watches ≡ b.watches →
+    a.rooms ≡ b.rooms → a ≡ b
 contents-are a b p q r s = rw (p, q, r, s) refl
 
 half : (n : ℕ) → (n % 2 ≡ 0) ⊎ (n % 2 ≡ 1)
@@ -51,13 +56,16 @@ half n = elim (cases_eq (n % 2) 0) [
 ]
 
 -- what is stored in a block with no clause
-pub bare-clause : {words : List ℕ} (starts : List ℕ) (s : ℕ) → IsBare words (number_at starts s) → stored_clause words starts s ≡ []
+pub bare-clause : {words : List ℕ} (starts : List ℕ) (s : ℕ) → IsBare words (number_at starts s) →
+    stored_clause words starts s ≡ []
 bare-clause {words} starts s bare = ap (λ k. take k (drop (number_at starts s + 8) words)) bare.count
 
-pub bare-search : {words : List ℕ} (starts : List ℕ) (run s : ℕ) → IsBare words (number_at starts s) → stored_search words starts run s ≡ begun
+pub bare-search : {words : List ℕ} (starts : List ℕ) (run s : ℕ) → IsBare words (number_at starts s) →
+    stored_search words starts run s ≡ begun
 bare-search starts run s bare = search-made _ _ _ _ bare.position (passed-none run _ _ bare.passed)
 
-pub bare-watch : {words : List ℕ} (starts : List ℕ) (e : ℕ) → IsBare words (number_at starts (e / 2)) → stored_watch words starts e ≡ idle
+pub bare-watch : {words : List ℕ} (starts : List ℕ) (e : ℕ) → IsBare words (number_at starts (e / 2)) →
+    stored_watch words starts e ≡ idle
 bare-watch {words} starts e bare = ap (watch_of (number_at words (watch_place starts e))) (elim (half e) [
   | inl even ↦ ap (number_at words) (omega (arith, even)) ∙ bare.first
   | inr odd ↦ ap (number_at words) (omega (arith, odd)) ∙ bare.second
@@ -70,15 +78,19 @@ pub record IsSame (words words' starts starts' : List ℕ) (run s : ℕ) : Type 
   pub watch : (e : ℕ) → e / 2 ≡ s → stored_watch words' starts' e ≡ stored_watch words starts e
 
 -- the words of the block are
-pub same-block : {words words' starts starts' : List ℕ} {run : ℕ} (s room : ℕ) → number_at starts' s ≡ number_at starts s →
-    number_at words (number_at starts s + 6) ≤ room → number_at starts s + 8 + room ≤ length words → length words ≤ length words' →
+pub same-block : {words words' starts starts' : List ℕ} {run : ℕ} (s room : ℕ) →
+    number_at starts' s ≡ number_at starts s →
+    number_at words (number_at starts s + 6) ≤ room → number_at starts s + 8 + room ≤ length words →
+    length words ≤ length words' →
     ((i : ℕ) → number_at starts s ≤ i → i < number_at starts s + 8 + room → number_at words' i ≡ number_at words i) →
     IsSame words words' starts starts' run s
 same-block {words} {words'} {starts} {starts'} s room start most inside longer each = record {
   clause =
       ap (λ i. take (number_at words' (i + 6)) (drop (i + 8) words')) start
-      ∙ ap (λ k. take k (drop (number_at starts s + 8) words')) (each (number_at starts s + 6) (omega arith) (omega arith))
-      ∙ slice-same words words' (number_at starts s + 8) (number_at words (number_at starts s + 6)) (omega (arith, most, inside))
+      ∙ ap (λ k. take k (drop (number_at starts s + 8) words'))
+      (each (number_at starts s + 6) (omega arith) (omega arith))
+      ∙ slice-same words words' (number_at starts s + 8) (number_at words (number_at starts s + 6))
+      (omega (arith, most, inside))
       (omega (arith, most, inside, longer)) (λ i from below. each i (omega (arith, from)) (omega (arith, below, most)));
   search =
       let p = each (number_at starts s + 4) (omega arith) (omega arith) in
@@ -105,7 +117,8 @@ same-bare {words} {words'} {starts} {starts'} {run} s was now = record {
 }
 
 -- what is known of the slots with a block of their own
-pub room-inside : {words starts rooms : List ℕ} {run : ℕ} → AreBlocks words starts rooms run → (s : ℕ) → 0 < number_at rooms s → s < length starts
+pub room-inside : {words starts rooms : List ℕ} {run : ℕ} → AreBlocks words starts rooms run → (s : ℕ) →
+    0 < number_at rooms s → s < length starts
 room-inside {rooms = rooms} old s some = elim (cases_lt s (length rooms)) [
   | inl inside ↦ omega (arith, inside, old.sizes)
   | inr past ↦ absurd (omega (arith, some, get_or_past rooms s 0 past))
@@ -137,28 +150,47 @@ module _ {words starts rooms : List ℕ} {run : ℕ} (old : AreBlocks words star
   filled-room s some = elim (cases_eq (number_at rooms s) 0) [
     | inr has ↦ grind arith
     | inl none ↦ absurd (elim (cases_lt s (length starts)) [
-      | inl inside ↦ omega (arith, some, ap length (table-at (length starts) (stored_clause words starts) s [] inside ∙ bare-clause starts s (shared-bare s inside none)))
-      | inr past ↦ omega (arith, some, ap length (get_or_past (table (length starts) (stored_clause words starts)) s [] (omega (arith, past, table-length (length starts) (stored_clause words starts)))))
+      | inl inside ↦ omega (
+        arith,
+        some,
+        ap length (table-at (length starts) (stored_clause words starts) s [] inside
+            ∙ bare-clause starts s (shared-bare s inside none)),
+      )
+      | inr past ↦ omega (
+        arith,
+        some,
+        ap length (get_or_past (table (length starts) (stored_clause words starts)) s []
+            (omega (arith, past, table-length (length starts) (stored_clause words starts)))),
+      )
     ])
   ]
 
 -- what a value says of the words behind it
-module _ {words starts rooms : List ℕ} {run : ℕ} {v : Contents} (old : AreBlocks words starts rooms run) (is : contents words starts rooms run ≡ v) where
+module _ {words starts rooms : List ℕ} {run : ℕ} {v : Contents} (old : AreBlocks words starts rooms run)
+    (is : contents words starts rooms run ≡ v) where
   pub slot-behind : (s : ℕ) → s < length v.literals → s < length starts
-  slot-behind s inside = omega (arith, inside, ap (λ (x : Contents). length x.literals) is, table-length (length starts) (stored_clause words starts))
+  slot-behind s inside = omega (
+    arith,
+    inside,
+    ap (λ (x : Contents). length x.literals) is,
+    table-length (length starts) (stored_clause words starts),
+  )
 
   pub block-behind : (s : ℕ) → HasBlock v s → 0 < number_at rooms s
-  block-behind s (inl some) = filled-room old s (omega (arith, some, ap (λ (x : Contents). length (list_at x.literals s)) is))
+  block-behind s (inl some) = filled-room old s
+      (omega (arith, some, ap (λ (x : Contents). length (list_at x.literals s)) is))
   block-behind s (inr some) = omega (arith, some, ap (λ (x : Contents). number_at x.rooms s) is)
 
   pub own-slot : (s : ℕ) → HasBlock v s → s < length starts
   own-slot s some = room-inside old s (block-behind s some)
 
   pub clause-behind : (s : ℕ) → s < length starts → stored_clause words starts s ≡ list_at v.literals s
-  clause-behind s inside = sym (table-at (length starts) (stored_clause words starts) s [] inside) ∙ ap (λ (x : Contents). list_at x.literals s) is
+  clause-behind s inside = sym (table-at (length starts) (stored_clause words starts) s [] inside)
+      ∙ ap (λ (x : Contents). list_at x.literals s) is
 
   pub search-behind : (s : ℕ) → s < length starts → stored_search words starts run s ≡ search_at v.searches s
-  search-behind s inside = sym (table-at (length starts) (stored_search words starts run) s begun inside) ∙ ap (λ (x : Contents). search_at x.searches s) is
+  search-behind s inside = sym (table-at (length starts) (stored_search words starts run) s begun inside)
+      ∙ ap (λ (x : Contents). search_at x.searches s) is
 
 -- where the program finds the block of a slot
 pub record IsAt (words starts rooms : List ℕ) (s start : ℕ) : Type 0 where
@@ -166,7 +198,8 @@ pub record IsAt (words starts rooms : List ℕ) (s start : ℕ) : Type 0 where
   pub end : start + 8 + number_at rooms s ≤ length words
   pub count : number_at words (start + 6) ≤ number_at rooms s
 
-pub block-at : {words starts rooms : List ℕ} {run : ℕ} → AreBlocks words starts rooms run → (s start : ℕ) → s < length starts →
+pub block-at : {words starts rooms : List ℕ} {run : ℕ} → AreBlocks words starts rooms run → (s start : ℕ) →
+    s < length starts →
     start ≡ get_or starts s start → IsAt words starts rooms s start
 block-at {words} {starts} {rooms} old s start inside read =
     let at = get_or_read starts s start inside read 0 in
@@ -182,29 +215,38 @@ pub record IsOwn (words starts rooms : List ℕ) (s start : ℕ) : Type 0 where
   pub at : start ≡ number_at starts s
   pub end : start + 8 + number_at rooms s ≤ length words
 
-pub own-by : {words starts rooms : List ℕ} {run : ℕ} → AreBlocks words starts rooms run → (s start : ℕ) → 0 < number_at rooms s →
+pub own-by : {words starts rooms : List ℕ} {run : ℕ} → AreBlocks words starts rooms run → (s start : ℕ) →
+    0 < number_at rooms s →
     start ≡ get_or starts s start → IsOwn words starts rooms s start
 own-by old s start some read =
     let b = block-at old s start (room-inside old s some) read in
     record { room = some; at = b.at; end = b.end }
 
-pub own-at : {words starts rooms : List ℕ} {run : ℕ} {v : Contents} → AreBlocks words starts rooms run → contents words starts rooms run ≡ v →
+pub own-at : {words starts rooms : List ℕ} {run : ℕ} {v : Contents} → AreBlocks words starts rooms run →
+    contents words starts rooms run ≡ v →
     (s start : ℕ) → HasBlock v s → start ≡ get_or starts s start → IsOwn words starts rooms s start
 own-at old is s start some read = own-by old s start (block-behind old is s some) read
 
 -- where one of its watches is
 pub place-at : (starts : List ℕ) (e start place : ℕ) → e / 2 < length starts → start ≡ get_or starts (e / 2) start →
     place ≡ start + 2 * (e % 2) → place ≡ watch_place starts e
-place-at starts e start place inside read is = is ∙ ap (λ i. i + 2 * (e % 2)) (get_or_read starts (e / 2) start inside read 0)
+place-at starts e start place inside read is = is
+    ∙ ap (λ i. i + 2 * (e % 2)) (get_or_read starts (e / 2) start inside read 0)
 
 -- a live watch has a block
 pub record IsLiveAt (v : Contents) (words starts rooms : List ℕ) (e : ℕ) : Type 0 where
   pub room : 0 < number_at rooms (e / 2)
   pub slot : e / 2 < length starts
   pub place : watch_place starts e + 1 < length words
-  pub shown : watch_at v.watches e ≡ record { literal = number_at words (watch_place starts e); live = true; spot = number_at words (watch_place starts e + 1) }
+  pub shown : watch_at v.watches e ≡ record {
+    literal = number_at words
+        (watch_place starts e);
+    live = true;
+    spot = number_at words (watch_place starts e + 1);
+  }
 
-pub live-behind : {words starts rooms : List ℕ} {run : ℕ} {v : Contents} → AreBlocks words starts rooms run → contents words starts rooms run ≡ v →
+pub live-behind : {words starts rooms : List ℕ} {run : ℕ} {v : Contents} → AreBlocks words starts rooms run →
+    contents words starts rooms run ≡ v →
     (e : ℕ) → (watch_at v.watches e).live ≡ true → IsLiveAt v words starts rooms e
 live-behind {words} {starts} {rooms} {run} {v} old is e live = record {
   room = room;
@@ -222,7 +264,9 @@ live-behind {words} {starts} {rooms} {run} {v} old is e live = record {
     inside : e < 2 * length starts
     inside = elim (cases_lt e (2 * length starts)) [
       | inl less ↦ less
-      | inr past ↦ absurd (both_ways _ (ap (λ (w : Watch). w.live) (sym behind ∙ get_or_past (table (2 * length starts) (stored_watch words starts)) e idle (omega (arith, past, all)))) live)
+      | inr past ↦ absurd (both_ways _ (ap (λ (w : Watch). w.live) (sym behind
+          ∙ get_or_past (table (2 * length starts) (stored_watch words starts)) e idle
+          (omega (arith, past, all)))) live)
     ]
 
     slot : e / 2 < length starts
@@ -233,12 +277,14 @@ live-behind {words} {starts} {rooms} {run} {v} old is e live = record {
 
     room : 0 < number_at rooms (e / 2)
     room = elim (cases_eq (number_at rooms (e / 2)) 0) [
-      | inl none ↦ absurd (both_ways _ (ap (λ (w : Watch). w.live) (sym at ∙ bare-watch starts e (shared-bare old (e / 2) slot none))) live)
+      | inl none ↦ absurd (both_ways _ (ap (λ (w : Watch). w.live) (sym at
+          ∙ bare-watch starts e (shared-bare old (e / 2) slot none))) live)
       | inr some ↦ grind arith
     ]
 
 -- another run
-pub next-run : {words starts rooms : List ℕ} {run : ℕ} → AreBlocks words starts rooms run → AreBlocks words starts rooms (run + 1)
+pub next-run : {words starts rooms : List ℕ} {run : ℕ} → AreBlocks words starts rooms run →
+    AreBlocks words starts rooms (run + 1)
 next-run old = record {
   sizes = old.sizes;
   common = old.common;
@@ -250,22 +296,32 @@ next-run old = record {
   begun_by = λ s h. omega (arith, old.begun_by s h);
 }
 
-pub renewed-by : {words starts rooms : List ℕ} {run : ℕ} {v : Contents} → AreBlocks words starts rooms run → contents words starts rooms run ≡ v → IsRenewed v (contents words starts rooms (run + 1))
-renewed-by {words} {starts} {rooms} {run} old is = subst (λ u. IsRenewed u (contents words starts rooms (run + 1))) is (record {
-  literals = refl;
-  watches = refl;
-  rooms = refl;
-  sizes = size (run + 1) ∙ sym (size run);
-  searches = λ s. at s (cases_lt s (length starts));
-})
+pub renewed-by : {words starts rooms : List ℕ} {run : ℕ} {v : Contents} → AreBlocks words starts rooms run →
+    contents words starts rooms run ≡ v → IsRenewed v (contents words starts rooms (run + 1))
+renewed-by {words} {starts} {rooms} {run} old is =
+    subst (λ u. IsRenewed u (contents words starts rooms (run + 1))) is (record {
+      literals = refl;
+      watches = refl;
+      rooms = refl;
+      sizes = size (run + 1) ∙ sym (size run);
+      searches = λ s. at s (cases_lt s (length starts));
+    })
   where
     size : (r : ℕ) → length (table (length starts) (stored_search words starts r)) ≡ length starts
     size r = table-length (length starts) (stored_search words starts r)
 
-    at : (s : ℕ) → (s < length starts) ⊎ (length starts ≤ s) → get_or (table (length starts) (stored_search words starts (run + 1))) s begun ≡ record { position = (get_or (table (length starts) (stored_search words starts run)) s begun).position; passed = 0 }
+    at : (s : ℕ) → (s < length starts) ⊎ (length starts ≤ s) →
+        get_or (table (length starts) (stored_search words starts (run + 1))) s begun ≡ record {
+          position =
+              (get_or (table (length starts) (stored_search words starts run)) s begun).position;
+          passed = 0;
+        }
     at s (inl less) =
         table-at (length starts) (stored_search words starts (run + 1)) s begun less
-        ∙ search-made _ _ _ _ (ap (λ (x : Search). x.position) (sym (table-at (length starts) (stored_search words starts run) s begun less))) (passed-before run _ _ (old.begun_by s less))
+        ∙ search-made _ _ _ _ (ap (λ (x : Search). x.position)
+        (sym (table-at (length starts) (stored_search words starts run) s begun less)))
+        (passed-before run _ _ (old.begun_by s less))
     at s (inr past) =
-        let none = λ (r : ℕ). get_or_past (table (length starts) (stored_search words starts r)) s begun (omega (arith, past, size r)) in
+        let none = λ (r : ℕ). get_or_past (table (length starts) (stored_search words starts r)) s begun
+        (omega (arith, past, size r)) in
         none (run + 1) ∙ search-made _ _ _ _ (ap (λ (x : Search). x.position) (sym (none run))) refl

@@ -1,5 +1,5 @@
 -- A visit to a watch, in terms of what the program reads.
-use Rattle.pb_propagate.proofs.Common.{ℕ, ◌*◌, ◌++◌, ◌+◌, ◌/◌, ◌<◌, ◌∙◌, ◌∷◌, ◌≡◌, ◌≤◌, ◌⊎◌, [], ap, arith, Bool, false, get_or, get_or-set_other}
+use Rattle.pb_propagate.proofs.Common.{ℕ, ◌*◌, ◌+◌, ◌/◌, ◌<◌, ◌∙◌, ◌≡◌, ◌≤◌, ◌⊎◌, ap, arith, Bool, false, get_or, get_or-set_other}
 use Rattle.pb_propagate.proofs.Common.{get_or-set_same, Global, inl, inr, length, List, map, min, refl, set, subst, sym, true, Vec, All, Contains}
 use Rattle.pb_propagate.proofs.Common.{Option, slice_get, Some, sum, cases_eq, sum_by-set, Clauses, Listed, Watch, Search, Contents, rewatched}
 use Rattle.pb_propagate.proofs.Common.{searched, AreMore, list_at, watch_at, watch_lists, all_turned, ArePassed, IsRound, IsRunning}

@@ -1,8 +1,8 @@
 -- What a visit to a watch leaves of what a run knows.
-use Rattle.pb_propagate.proofs.Common.{ℕ, ◌*◌, ◌++◌, ◌+◌, ◌/◌, ◌<◌, ◌∙◌, ◌∷◌, ◌≡◌, ◌≤◌, ◌⊎◌, [], ap, arith, Bool, false, get_or, get_or-set_other}
-use Rattle.pb_propagate.proofs.Common.{get_or-set_same, inl, inr, length, length-set, List, refl, set, subst, sym, true, All, Contains, Option}
-use Rattle.pb_propagate.proofs.Common.{slice_get, Some, both_ways, cases_eq, cases_lt, get_or_default, All-contains, Contains-append_left}
-use Rattle.pb_propagate.proofs.Common.{Contains-get_or, Contains-push, Contains-push_cases, same_Some, Watch, AreLinked, list_at, Remains, watch_at}
+use Rattle.pb_propagate.proofs.Common.{ℕ, ◌*◌, ◌+◌, ◌/◌, ◌<◌, ◌∙◌, ◌≡◌, ◌≤◌, ◌⊎◌, ap, arith, Bool, false, get_or, get_or-set_other}
+use Rattle.pb_propagate.proofs.Common.{get_or-set_same, inl, inr, length, length-set, List, refl, set, subst, sym, true, Contains, Option}
+use Rattle.pb_propagate.proofs.Common.{slice_get, Some, both_ways, cases_eq, cases_lt, get_or_default, All-contains}
+use Rattle.pb_propagate.proofs.Common.{Contains-get_or, same_Some, Watch, AreLinked, list_at, Remains, watch_at}
 use Rattle.pb_propagate.proofs.Common.{ArePassed, AreServed, AreStored, HasTrue, IsBroken, IsUnit, IsWatched, false_at}
 use Rattle.pb_propagate.proofs.Common.{flip, true_at}
 use Rattle.pb_propagate.proofs.lemmas.clauses.Linked.{sits-within}

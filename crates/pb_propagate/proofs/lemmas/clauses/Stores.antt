@@ -2,7 +2,7 @@
 use Rattle.pb_propagate.proofs.Common.{ℕ, ◌*◌, ◌++◌, ◌+◌, ◌/◌, ◌<◌, ◌∙◌, ◌∷◌, ◌≡◌, ◌≤◌, ◌⊎◌, [], ap, arith, Bool, false, get_or, get_or-set_other}
 use Rattle.pb_propagate.proofs.Common.{get_or-set_same, Global, inl, inr, length, length-append, length-set, List, map, refl, set, subst, sym}
 use Rattle.pb_propagate.proofs.Common.{true, Vec, All, Contains, Option, slice_get, Some, both_ways, cases_eq, cases_lt}
-use Rattle.pb_propagate.proofs.Common.{get_or_past, get_or_read, map-append, Contains-get_or, slice_get_within, Clauses, Listed, Watch}
+use Rattle.pb_propagate.proofs.Common.{get_or_past, map-append, Contains-get_or, slice_get_within, Clauses, Listed, Watch}
 use Rattle.pb_propagate.proofs.Common.{Search, begun, Contents, AreBlocked, AreFewer, AreLinked, AreMore, entries_at, idle, IsListed, list_at, Sits}
 use Rattle.pb_propagate.proofs.Common.{IsRenewed, watch_at, watch_lists, AreReady, AreStored, IsPair, IsRunning, passed_of, search_at, flip}
 use Rattle.pb_propagate.specs.declared.clauses.watched.Pair.{Pair}
@@ -12,7 +12,6 @@ use Rattle.pb_propagate.proofs.lemmas.clauses.Truths.{flip-half, flip-flip, flip
 use Rattle.pb_propagate.proofs.lemmas.clauses.Readings.{running-bounded, searches-length}
 use Rattle.pb_propagate.proofs.lemmas.clauses.Gets.{push-default}
 use Rattle.pb_propagate.proofs.lemmas.clauses.Searches.{passed-at, round-inside}
-use Rattle.pb_propagate.proofs.lemmas.clauses.Turned.{turned-count}
 
 -- what is known of clauses depends only on the element at each position
 pub stored-same : (clauses clauses' : List (List ℕ)) (ws ws' : List Watch) (ls ls' : List (List ℕ)) → ((s : ℕ) → list_at clauses' s ≡ list_at clauses s) → ((e : ℕ) → watch_at ws' e ≡ watch_at ws e) → ((l : ℕ) → list_at ls' l ≡ list_at ls l) → length ws' ≡ 2 * length clauses' → length ls ≤ length ls' → AreStored clauses ws ls → AreStored clauses' ws' ls'

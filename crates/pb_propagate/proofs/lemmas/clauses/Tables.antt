@@ -22,7 +22,8 @@ table-same n f g each =
 pub table-set : {A : Type 0} (n : ℕ) (f g : ℕ → A) (k : ℕ) (y : A) → g k ≡ y →
     ((j : ℕ) → j < n → (j ≡ k → ⊥) → g j ≡ f j) → table n g ≡ set (table n f) k y
 table-set n f g k y here others =
-    ext_get_or y (table n g) (set (table n f) k y) (table-length n g ∙ sym (length-set (table n f) k y ∙ table-length n f))
+    ext_get_or y (table n g) (set (table n f) k y) (table-length n g
+    ∙ sym (length-set (table n f) k y ∙ table-length n f))
     (λ j h. by j (omega (arith, h, table-length n g)) (cases_eq j k))
   where
     by : (j : ℕ) → j < n → (j ≡ k) ⊎ (j ≡ k → ⊥) → get_or (table n g) j y ≡ get_or (set (table n f) k y) j y
@@ -42,7 +43,8 @@ table-push n f g x each here =
     by : (j : ℕ) → j < n + 1 → (j < n) ⊎ (n ≤ j) → get_or (table (n + 1) g) j x ≡ get_or (table n f ++ (x ∷ [])) j x
     by j h (inl less) =
         table-at (n + 1) g j x h ∙ each j less
-        ∙ sym (get_or_append_left (table n f) (x ∷ []) x j (omega (arith, less, table-length n f)) ∙ table-at n f j x less)
+        ∙ sym (get_or_append_left (table n f) (x ∷ []) x j (omega (arith, less, table-length n f))
+        ∙ table-at n f j x less)
     by j h (inr more) =
         let is : j ≡ n = omega (arith, h, more) in
         table-at (n + 1) g j x h ∙ ap g is ∙ here ∙ sym (last-is (table n f) x x j (is ∙ sym (table-length n f)))
@@ -64,6 +66,7 @@ slice-is ws a xs room each =
 pub slice-same : (ws ws' : List ℕ) (a n : ℕ) → a + n ≤ length ws → a + n ≤ length ws' →
     ((i : ℕ) → a ≤ i → i < a + n → get_or ws' i 0 ≡ get_or ws i 0) → take n (drop a ws') ≡ take n (drop a ws)
 slice-same ws ws' a n h h' each =
-    ext_get_or 0 (take n (drop a ws')) (take n (drop a ws)) (slice-length ws' a n h' ∙ sym (slice-length ws a n h)) (λ k l.
+    ext_get_or 0 (take n (drop a ws')) (take n (drop a ws)) (slice-length ws' a n h' ∙ sym (slice-length ws a n h))
+    (λ k l.
     let less : k < n = omega (arith, l, slice-length ws' a n h') in
     slice-at ws' a n k less ∙ each (a + k) (omega arith) (omega (arith, less)) ∙ sym (slice-at ws a n k less))

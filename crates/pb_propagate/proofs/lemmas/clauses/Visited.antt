@@ -1,5 +1,5 @@
 -- What a search in a clause has found, and what it leaves.
-use Rattle.pb_propagate.proofs.Common.{ℕ, ◌*◌, ◌++◌, ◌+◌, ◌/◌, ◌<◌, ◌∙◌, ◌∷◌, ◌≡◌, ◌≤◌, ◌⊎◌, [], ap, arith, Bool, false, get_or, Global, length, List}
+use Rattle.pb_propagate.proofs.Common.{ℕ, ◌*◌, ◌+◌, ◌/◌, ◌<◌, ◌∙◌, ◌≡◌, ◌≤◌, ◌⊎◌, ap, arith, Bool, false, get_or, Global, length, List}
 use Rattle.pb_propagate.proofs.Common.{refl, subst, sym, true, Vec, Contains, Option, slice_get, Some, All-contains, Clauses}
 use Rattle.pb_propagate.proofs.Common.{Listed, Search, Falsified, Forces, Leaves, Stays, Contents, rewatched, searched, AreLinked, AreMore}
 use Rattle.pb_propagate.proofs.Common.{IsListed, list_at, Remains, watch_at, watch_lists, all_turned, AreStored, around, HasVisited}

@@ -1,6 +1,6 @@
 use Rattle.pb_propagate.proofs.Common.{ℕ, ◌+◌, ◌/◌, ◌<◌, ◌^◌, ◌∙◌, ◌≡◌, ◌≤◌, ap, arith, get_or, inl, length, min, subst, sym, Search}
 use Rattle.pb_propagate.proofs.Common.{rules, Contents, rewatched, AreLinked, list_at, watch_lists, IsRound}
-use Rattle.pb_propagate.proofs.lemmas.clauses.Readings.{Reading, Resuming, reading-slot, reading-small, resuming-within, resuming-round, resuming-inside, running-bounded, bounded-raised, covered-by}
+use Rattle.pb_propagate.proofs.lemmas.clauses.Readings.{Reading, Resuming, reading-slot, reading-small, resuming-within, resuming-round, resuming-inside, bounded-raised, covered-by}
 use Rattle.pb_propagate.proofs.lemmas.clauses.Searches.{round-inside}
 use Rattle.pb_propagate.proofs.lemmas.clauses.Visited.{IsSought, visited-falsified, visited-forces, visited-leaves, sought-round}
 use Rattle.pb_propagate.proofs.clauses.visiting.search_clause.Goals.{After-read-clause, After-advance-stop}

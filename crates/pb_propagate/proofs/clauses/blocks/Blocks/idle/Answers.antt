@@ -4,7 +4,11 @@ use Rattle.pb_propagate.proofs.lemmas.clauses.BlocksWritten.{idle-written}
 use Rattle.pb_propagate.proofs.clauses.blocks.Blocks.idle.Goals as goal
 
 pub index-requires : goal.index-requires
-index-requires c = omega (arith, (live-behind c.self.invariant c.self.view_is c.args.watch c.requires).slot, c.self.inside.starts.ok.0)
+index-requires c = omega (
+  arith,
+  (live-behind c.self.invariant c.self.view_is c.args.watch c.requires).slot,
+  c.self.inside.starts.ok.0,
+)
 
 pub index_mut-requires : goal.index_mut-requires
 index_mut-requires c =

@@ -3,19 +3,29 @@ use Rattle.pb_propagate.proofs.lemmas.clauses.Blocks.{block-at, clause-behind, s
 use Rattle.pb_propagate.proofs.clauses.blocks.Blocks.literals.Goals as goal
 
 pub index-requires : goal.index-requires
-index-requires c = omega (arith, slot-behind c.self.invariant c.self.view_is c.args.slot c.requires, c.self.inside.starts.ok.0)
+index-requires c = omega (
+  arith,
+  slot-behind c.self.invariant c.self.view_is c.args.slot c.requires,
+  c.self.inside.starts.ok.0,
+)
 
 pub index-requires-2 : goal.index-requires-2
 index-requires-2 c =
     let slot = slot-behind c.self.invariant c.self.view_is c.args.slot c.requires in
-    omega (arith, (block-at c.self.invariant c.args.slot c.index.result.now slot c.index.ensures).end, c.self.inside.words.ok.0)
+    omega (
+      arith,
+      (block-at c.self.invariant c.args.slot c.index.result.now slot c.index.ensures).end,
+      c.self.inside.words.ok.0,
+    )
 
 pub slice_bounds-result-end : goal.slice_bounds-result-end
 slice_bounds-result-end c =
     let slot = slot-behind c.self.invariant c.self.view_is c.args.slot c.requires in
     let b = block-at c.self.invariant c.args.slot c.index.result.now slot c.index.ensures in
-    let count = get_or_read c.self.inside.words.items _ c.index-2.result.now (omega (arith, b.end)) c.index-2.ensures 0 in
-    let end : c.index.result.now + 8 + c.index-2.result.now ≤ length c.deref.result.now = omega (arith, count, b.count, b.end, ap length c.deref.ensures.value) in
+    let count = get_or_read c.self.inside.words.items _ c.index-2.result.now
+    (omega (arith, b.end)) c.index-2.ensures 0 in
+    let end : c.index.result.now + 8 + c.index-2.result.now ≤ length c.deref.result.now =
+    omega (arith, count, b.count, b.end, ap length c.deref.ensures.value) in
     end
 
 pub returns-clause-literals : goal.returns-clause-literals
@@ -26,5 +36,7 @@ returns-clause-literals c =
     let words = c.self.inside.words.items in
     let count = get_or_read words _ c.index-2.result.now (omega (arith, b.end)) c.index-2.ensures 0 in
     let many : a + 8 + c.index-2.result.now - (a + 8) ≡ number_at words (a + 6) = omega (arith, count) in
-    ap (λ n. take n (drop (a + 8) c.deref.result.now)) many ∙ ap (λ ws. take (number_at words (a + 6)) (drop (a + 8) ws)) c.deref.ensures.value
-    ∙ ap (λ i. take (number_at words (i + 6)) (drop (i + 8) words)) b.at ∙ clause-behind c.self.invariant c.self.view_is c.args.slot slot
+    ap (λ n. take n (drop (a + 8) c.deref.result.now)) many
+    ∙ ap (λ ws. take (number_at words (a + 6)) (drop (a + 8) ws)) c.deref.ensures.value
+    ∙ ap (λ i. take (number_at words (i + 6)) (drop (i + 8) words)) b.at
+    ∙ clause-behind c.self.invariant c.self.view_is c.args.slot slot

@@ -5,7 +5,11 @@ use Rattle.pb_propagate.proofs.clauses.blocks.Blocks.watch.Goals as goal
 
 pub index-requires : goal.index-requires
 index-requires c =
-    omega (arith, own-slot c.self.invariant c.self.view_is (c.args.watch / 2) c.requires.block, c.self.inside.starts.ok.0)
+    omega (
+      arith,
+      own-slot c.self.invariant c.self.view_is (c.args.watch / 2) c.requires.block,
+      c.self.inside.starts.ok.0,
+    )
 
 pub index_mut-requires : goal.index_mut-requires
 index_mut-requires c =
@@ -23,12 +27,14 @@ pub invariant_of-self : goal.invariant_of-self
 invariant_of-self c =
     let slot = own-slot c.self.invariant c.self.view_is (c.args.watch / 2) c.requires.block in
     let at = place-at c.self.inside.starts.items c.args.watch c.index.result.now _ slot c.index.ensures c.place_in-place.ensures in
-    (both-written c.args.watch _ c.self.invariant c.self.view_is (block-behind c.self.invariant c.self.view_is (c.args.watch / 2) c.requires.block) at
+    (both-written c.args.watch _ c.self.invariant c.self.view_is
+    (block-behind c.self.invariant c.self.view_is (c.args.watch / 2) c.requires.block) at
     c.args.literal c.args.spot c.requires.small).blocks
 
 pub returns : goal.returns
 returns c =
     let slot = own-slot c.self.invariant c.self.view_is (c.args.watch / 2) c.requires.block in
     let at = place-at c.self.inside.starts.items c.args.watch c.index.result.now _ slot c.index.ensures c.place_in-place.ensures in
-    (both-written c.args.watch _ c.self.invariant c.self.view_is (block-behind c.self.invariant c.self.view_is (c.args.watch / 2) c.requires.block) at
+    (both-written c.args.watch _ c.self.invariant c.self.view_is
+    (block-behind c.self.invariant c.self.view_is (c.args.watch / 2) c.requires.block) at
     c.args.literal c.args.spot c.requires.small).is

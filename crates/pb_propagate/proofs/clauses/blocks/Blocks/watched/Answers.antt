@@ -3,7 +3,11 @@ use Rattle.pb_propagate.proofs.lemmas.clauses.Blocks.{live-behind, place-at}
 use Rattle.pb_propagate.proofs.clauses.blocks.Blocks.watched.Goals as goal
 
 pub index-requires : goal.index-requires
-index-requires c = omega (arith, (live-behind c.self.invariant c.self.view_is c.args.watch c.requires).slot, c.self.inside.starts.ok.0)
+index-requires c = omega (
+  arith,
+  (live-behind c.self.invariant c.self.view_is c.args.watch c.requires).slot,
+  c.self.inside.starts.ok.0,
+)
 
 pub index-requires-2 : goal.index-requires-2
 index-requires-2 c =

@@ -1,4 +1,4 @@
-use Rattle.pb_propagate.proofs.Common.{◌≡◌, ◌∙◌, ap, arith, get_or, length, sym, false_at}
+use Rattle.pb_propagate.proofs.Common.{◌∙◌, ap, arith, get_or, length, sym, false_at}
 use Rattle.std.proofs.lemmas.Grind.{get_or_default_zero}
 use Rattle.pb_propagate.proofs.lemmas.clauses.Searches.{round-next, next-inside, passed-next}
 use Rattle.pb_propagate.proofs.clauses.search.Search.advance.Goals as goal

@@ -1,4 +1,4 @@
-use Rattle.pb_propagate.proofs.Common.{ℕ, ◌+◌, ◌-◌, ◌<◌, ◌≡◌, ◌≤◌, ◌⊎◌, get_or, length, true, IsRound, turned, false_at}
+use Rattle.pb_propagate.proofs.Common.{ℕ, ◌-◌, ◌<◌, ◌≡◌, ◌≤◌, ◌⊎◌, get_or, length, true, IsRound, turned, false_at}
 use Rattle.pb_propagate.proofs.clauses.search.Search.advance.Given as goal
 
 abbrev pub decreases-literals : goal.decreases-literals
