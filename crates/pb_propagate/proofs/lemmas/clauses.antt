@@ -1,5 +1,7 @@
 -- Lemmas of clauses and their watches.
 pub mod Blocks
+pub mod BlocksFitted
+pub mod BlocksWritten
 pub mod Codes
 pub mod Counts
 pub mod Few
@@ -17,6 +19,7 @@ pub mod Shapes
 pub mod Slots
 pub mod Steps
 pub mod Stores
+pub mod Tables
 pub mod Truths
 pub mod Turned
 pub mod Visited

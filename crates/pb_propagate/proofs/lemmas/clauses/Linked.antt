@@ -38,79 +38,54 @@ pub record Taking (ws ws' : List Watch) (ls ls' : List (List ℕ)) (l i e : ℕ)
   pub others : (k : ℕ) → (k ≡ l → ⊥) → list_at ls' k ≡ list_at ls k
   pub dead : (watch_at ws' e).live ≡ false
 
--- none moves to its position
-pub taking-last : (ws ws' : List Watch) (ls ls' : List (List ℕ)) (l i e : ℕ) → Taking ws ws' ls ls' l i e → i + 1 ≡ length (list_at ls l) → ((k : ℕ) → (k ≡ e → ⊥) → watch_at ws' k ≡ watch_at ws k) → AreLinked ws' ls'
-taking-last ws ws' ls ls' l i e t end same = record {
-  sits = λ k p j s. sits-at k p j s (cases_eq k e) (cases_eq p l);
-  named = λ k p j h. named-at k p j h (cases_eq p l) (cases_lt j i);
-  small = λ k live. small-at k live (cases_eq k e);
-}
-  where
-    small-at : (k : ℕ) → (watch_at ws' k).live ≡ true → (k ≡ e) ⊎ (k ≡ e → ⊥) → k < 2 ^ 32 - 2
-    small-at k live (inl is) = absurd (both_ways _ (ap (λ x. (watch_at ws' x).live) is ∙ t.dead) live)
-    small-at k live (inr n) = t.old.small k (ap (λ (w : Watch). w.live) (sym (same k n)) ∙ live)
-
-    apart : (k p j : ℕ) → slice_get (list_at ls p) j ≡ Some k → ((p ≡ l) × (j ≡ i) → ⊥) → k ≡ e → ⊥
-    apart k p j h n is = n (one-place ws ls e p j l i t.old (h ∙ ap (λ x. Some x) is) t.item)
-
-    sits-at : (k p j : ℕ) → Sits (watch_at ws' k) p j → (k ≡ e) ⊎ (k ≡ e → ⊥) → (p ≡ l) ⊎ (p ≡ l → ⊥) → slice_get (list_at ls' p) j ≡ Some k
-    sits-at k p j s (inl is) q = absurd (both_ways _ (ap (λ x. (watch_at ws' x).live) is ∙ t.dead) s.live)
-    sits-at k p j s (inr n) (inr other) = ap (λ (xs : List ℕ). slice_get xs j) (t.others p other) ∙ t.old.sits k p j (subst (λ w. Sits w p j) (same k n) s)
-    sits-at k p j s (inr n) (inl here) =
-        let was : slice_get (list_at ls l) j ≡ Some k = ap (λ x. slice_get (list_at ls x) j) (sym here) ∙ t.old.sits k p j (subst (λ w. Sits w p j) (same k n) s) in
-        let off : j ≡ i → ⊥ = λ at. n (same_Some k e (sym was ∙ ap (slice_get (list_at ls l)) at ∙ t.item)) in
-        let off_last : j ≡ length (list_at ls l) - 1 → ⊥ = λ at. off (omega (arith, at, end)) in
-        ap (λ x. slice_get (list_at ls' x) j) here ∙ ap (λ (xs : List ℕ). slice_get xs j) t.now ∙ swap-other (list_at ls l) i j e off off_last ∙ was
-
-    named-at : (k p j : ℕ) → slice_get (list_at ls' p) j ≡ Some k → (p ≡ l) ⊎ (p ≡ l → ⊥) → (j < i) ⊎ (i ≤ j) → Sits (watch_at ws' k) p j
-    named-at k p j h (inr other) q =
-        let was : slice_get (list_at ls p) j ≡ Some k = ap (λ (xs : List ℕ). slice_get xs j) (sym (t.others p other)) ∙ h in
-        subst (λ w. Sits w p j) (sym (same k (apart k p j was (λ b. other b.0)))) (t.old.named k p j was)
-    named-at k p j h (inl here) (inl less) =
-        let off : j ≡ i → ⊥ = λ at. absurd (omega (arith, at, less)) in
-        let off_last : j ≡ length (list_at ls l) - 1 → ⊥ = λ at. off (omega (arith, at, end)) in
-        let was : slice_get (list_at ls l) j ≡ Some k = sym (swap-other (list_at ls l) i j e off off_last) ∙ ap (λ (xs : List ℕ). slice_get xs j) (sym t.now) ∙ ap (λ x. slice_get (list_at ls' x) j) (sym here) ∙ h in
-        let was_p : slice_get (list_at ls p) j ≡ Some k = ap (λ x. slice_get (list_at ls x) j) here ∙ was in
-        subst (λ w. Sits w p j) (sym (same k (apart k p j was_p (λ b. off b.1)))) (t.old.named k p j was_p)
-    named-at k p j h (inl here) (inr more) =
-        let at_now : slice_get (swap_remove (list_at ls l) i e) j ≡ Some k = ap (λ (xs : List ℕ). slice_get xs j) (sym t.now) ∙ ap (λ x. slice_get (list_at ls' x) j) (sym here) ∙ h in
-        absurd (none-some k (sym (swap-past (list_at ls l) i j e (omega (arith, more, end))) ∙ at_now))
-
--- another watch moves to its position
-pub taking-moved : (ws ws' : List Watch) (ls ls' : List (List ℕ)) (l i e m : ℕ) → Taking ws ws' ls ls' l i e → i + 1 < length (list_at ls l) → slice_get (list_at ls l) (length (list_at ls l) - 1) ≡ Some m → ((k : ℕ) → (k ≡ e → ⊥) → (k ≡ m → ⊥) → watch_at ws' k ≡ watch_at ws k) → watch_at ws' m ≡ record (watch_at ws m) { spot = i } → AreLinked ws' ls'
-taking-moved ws ws' ls ls' l i e m t more last same moved = record {
+-- the last of the list, which may be that watch, is moved to its position
+taking : {ws ws' : List Watch} {ls ls' : List (List ℕ)} {l i e : ℕ} (m : ℕ) → Taking ws ws' ls ls' l i e →
+    slice_get (list_at ls l) (length (list_at ls l) - 1) ≡ Some m → ((k : ℕ) → (k ≡ e → ⊥) → (k ≡ m → ⊥) → watch_at ws' k ≡ watch_at ws k) →
+    ((m ≡ e → ⊥) → watch_at ws' m ≡ record (watch_at ws m) { spot = i }) → AreLinked ws' ls'
+taking {ws} {ws'} {ls} {ls'} {l} {i} {e} m t last same moved = record {
   sits = λ k p j s. sits-at k p j s (cases_eq k e) (cases_eq k m) (cases_eq p l);
-  named = λ k p j h. named-at k p j h (cases_eq p l) (cases_eq j i) (cases_lt j (length (list_at ls l) - 1));
+  named = λ k p j h. named-at k p j h (cases_eq p l) (cases_lt j (length (list_at ls l) - 1)) (cases_eq j i);
   small = λ k live. small-at k live (cases_eq k e) (cases_eq k m);
 }
   where
-    small-at : (k : ℕ) → (watch_at ws' k).live ≡ true → (k ≡ e) ⊎ (k ≡ e → ⊥) → (k ≡ m) ⊎ (k ≡ m → ⊥) → k < 2 ^ 32 - 2
-    small-at k live (inl is) q = absurd (both_ways _ (ap (λ x. (watch_at ws' x).live) is ∙ t.dead) live)
-    small-at k live (inr n) (inl is) = omega (arith, is, t.old.small m (t.old.named m l (length (list_at ls l) - 1) last).live)
-    small-at k live (inr n) (inr n_m) = t.old.small k (ap (λ (w : Watch). w.live) (sym (same k n n_m)) ∙ live)
-
-    m-apart : m ≡ e → ⊥
-    m-apart is = absurd (omega (arith, (one-place ws ls e l (length (list_at ls l) - 1) l i t.old (last ∙ ap (λ x. Some x) is) t.item).1, more))
-
     m-sits : Sits (watch_at ws m) l (length (list_at ls l) - 1)
     m-sits = t.old.named m l (length (list_at ls l) - 1) last
 
-    apart : (k p j : ℕ) → slice_get (list_at ls p) j ≡ Some k → ((p ≡ l) × (j ≡ i) → ⊥) → k ≡ e → ⊥
-    apart k p j h n is = n (one-place ws ls e p j l i t.old (h ∙ ap (λ x. Some x) is) t.item)
+    -- it is another watch where the position is not the last
+    more : (m ≡ e → ⊥) → i + 1 < length (list_at ls l)
+    more n = elim (cases_lt (i + 1) (length (list_at ls l))) [
+      | inl less ↦ less
+      | inr past ↦
+          let at : length (list_at ls l) - 1 ≡ i = omega (arith, past, slice_get_within (list_at ls l) i e t.item) in
+          absurd (n (same_Some m e (sym last ∙ ap (slice_get (list_at ls l)) at ∙ t.item)))
+    ]
 
-    apart_m : (k p j : ℕ) → slice_get (list_at ls p) j ≡ Some k → ((p ≡ l) × (j ≡ length (list_at ls l) - 1) → ⊥) → k ≡ m → ⊥
-    apart_m k p j h n is = n (one-place ws ls m p j l (length (list_at ls l) - 1) t.old (h ∙ ap (λ x. Some x) is) last)
+    m-apart : i < length (list_at ls l) - 1 → m ≡ e → ⊥
+    m-apart less is = absurd (omega (arith, (one-place ws ls e l (length (list_at ls l) - 1) l i t.old (last ∙ ap (λ x. Some x) is) t.item).1, less))
 
-    now-here : slice_get (list_at ls' l) i ≡ Some m
-    now-here = ap (λ (xs : List ℕ). slice_get xs i) t.now ∙ swap-here (list_at ls l) i e m more last
+    now-here : i + 1 < length (list_at ls l) → slice_get (list_at ls' l) i ≡ Some m
+    now-here less = ap (λ (xs : List ℕ). slice_get xs i) t.now ∙ swap-here (list_at ls l) i e m less last
+
+    -- an entry that is at neither position is of another watch
+    stays : (k p j : ℕ) → slice_get (list_at ls p) j ≡ Some k → ((p ≡ l) × (j ≡ i) → ⊥) → ((p ≡ l) × (j ≡ length (list_at ls l) - 1) → ⊥) → Sits (watch_at ws' k) p j
+    stays k p j was off off_last =
+        let apart = λ (is : k ≡ e). off (one-place ws ls e p j l i t.old (was ∙ ap (λ x. Some x) is) t.item) in
+        let apart_m = λ (is : k ≡ m). off_last (one-place ws ls m p j l (length (list_at ls l) - 1) t.old (was ∙ ap (λ x. Some x) is) last) in
+        subst (λ w. Sits w p j) (sym (same k apart apart_m)) (t.old.named k p j was)
+
+    small-at : (k : ℕ) → (watch_at ws' k).live ≡ true → (k ≡ e) ⊎ (k ≡ e → ⊥) → (k ≡ m) ⊎ (k ≡ m → ⊥) → k < 2 ^ 32 - 2
+    small-at k live (inl is) q = absurd (both_ways _ (ap (λ x. (watch_at ws' x).live) is ∙ t.dead) live)
+    small-at k live (inr n) (inl is) = omega (arith, is, t.old.small m m-sits.live)
+    small-at k live (inr n) (inr n_m) = t.old.small k (ap (λ (w : Watch). w.live) (sym (same k n n_m)) ∙ live)
 
     sits-at : (k p j : ℕ) → Sits (watch_at ws' k) p j → (k ≡ e) ⊎ (k ≡ e → ⊥) → (k ≡ m) ⊎ (k ≡ m → ⊥) → (p ≡ l) ⊎ (p ≡ l → ⊥) → slice_get (list_at ls' p) j ≡ Some k
     sits-at k p j s (inl is) r q = absurd (both_ways _ (ap (λ x. (watch_at ws' x).live) is ∙ t.dead) s.live)
     sits-at k p j s (inr n) (inl is) q =
-        let s_m : Sits (record (watch_at ws m) { spot = i }) p j = subst (λ w. Sits w p j) moved (subst (λ x. Sits (watch_at ws' x) p j) is s) in
+        let off : m ≡ e → ⊥ = λ h. n (is ∙ h) in
+        let s_m : Sits (record (watch_at ws m) { spot = i }) p j = subst (λ w. Sits w p j) (moved off) (subst (λ x. Sits (watch_at ws' x) p j) is s) in
         let at_l : p ≡ l = sym s_m.literal ∙ m-sits.literal in
         let at_i : j ≡ i = sym s_m.spot in
-        ap (λ x. slice_get (list_at ls' x) j) at_l ∙ ap (slice_get (list_at ls' l)) at_i ∙ now-here ∙ ap (λ x. Some x) (sym is)
+        ap (λ x. slice_get (list_at ls' x) j) at_l ∙ ap (slice_get (list_at ls' l)) at_i ∙ now-here (more off) ∙ ap (λ x. Some x) (sym is)
     sits-at k p j s (inr n) (inr n_m) (inr other) = ap (λ (xs : List ℕ). slice_get xs j) (t.others p other) ∙ t.old.sits k p j (subst (λ w. Sits w p j) (same k n n_m) s)
     sits-at k p j s (inr n) (inr n_m) (inl here) =
         let was : slice_get (list_at ls l) j ≡ Some k = ap (λ x. slice_get (list_at ls x) j) (sym here) ∙ t.old.sits k p j (subst (λ w. Sits w p j) (same k n n_m) s) in
@@ -118,22 +93,20 @@ taking-moved ws ws' ls ls' l i e m t more last same moved = record {
         let off_last : j ≡ length (list_at ls l) - 1 → ⊥ = λ at. n_m (same_Some k m (sym was ∙ ap (slice_get (list_at ls l)) at ∙ last)) in
         ap (λ x. slice_get (list_at ls' x) j) here ∙ ap (λ (xs : List ℕ). slice_get xs j) t.now ∙ swap-other (list_at ls l) i j e off off_last ∙ was
 
-    named-at : (k p j : ℕ) → slice_get (list_at ls' p) j ≡ Some k → (p ≡ l) ⊎ (p ≡ l → ⊥) → (j ≡ i) ⊎ (j ≡ i → ⊥) → (j < length (list_at ls l) - 1) ⊎ (length (list_at ls l) - 1 ≤ j) → Sits (watch_at ws' k) p j
-    named-at k p j h (inr other) q r =
-        let was : slice_get (list_at ls p) j ≡ Some k = ap (λ (xs : List ℕ). slice_get xs j) (sym (t.others p other)) ∙ h in
-        subst (λ w. Sits w p j) (sym (same k (apart k p j was (λ b. other b.0)) (apart_m k p j was (λ b. other b.0)))) (t.old.named k p j was)
-    named-at k p j h (inl here) (inl at) r =
-        let k_is : k ≡ m = same_Some k m (sym h ∙ ap (λ x. slice_get (list_at ls' x) j) here ∙ ap (slice_get (list_at ls' l)) at ∙ now-here) in
-        let there : Sits (record (watch_at ws m) { spot = i }) p j = record { live = m-sits.live; literal = m-sits.literal ∙ sym here; spot = sym at } in
-        subst (λ x. Sits (watch_at ws' x) p j) (sym k_is) (subst (λ w. Sits w p j) (sym moved) there)
-    named-at k p j h (inl here) (inr off) (inl less) =
-        let off_last : j ≡ length (list_at ls l) - 1 → ⊥ = λ at. absurd (omega (arith, at, less)) in
-        let was : slice_get (list_at ls l) j ≡ Some k = sym (swap-other (list_at ls l) i j e off off_last) ∙ ap (λ (xs : List ℕ). slice_get xs j) (sym t.now) ∙ ap (λ x. slice_get (list_at ls' x) j) (sym here) ∙ h in
-        let was_p : slice_get (list_at ls p) j ≡ Some k = ap (λ x. slice_get (list_at ls x) j) here ∙ was in
-        subst (λ w. Sits w p j) (sym (same k (apart k p j was_p (λ b. off b.1)) (apart_m k p j was_p (λ b. off_last b.1)))) (t.old.named k p j was_p)
-    named-at k p j h (inl here) (inr off) (inr past) =
+    named-at : (k p j : ℕ) → slice_get (list_at ls' p) j ≡ Some k → (p ≡ l) ⊎ (p ≡ l → ⊥) → (j < length (list_at ls l) - 1) ⊎ (length (list_at ls l) - 1 ≤ j) → (j ≡ i) ⊎ (j ≡ i → ⊥) → Sits (watch_at ws' k) p j
+    named-at k p j h (inr other) q r = stays k p j (ap (λ (xs : List ℕ). slice_get xs j) (sym (t.others p other)) ∙ h) (λ b. other b.0) (λ b. other b.0)
+    named-at k p j h (inl here) (inr past) r =
         let at_now : slice_get (swap_remove (list_at ls l) i e) j ≡ Some k = ap (λ (xs : List ℕ). slice_get xs j) (sym t.now) ∙ ap (λ x. slice_get (list_at ls' x) j) (sym here) ∙ h in
         absurd (none-some k (sym (swap-past (list_at ls l) i j e past) ∙ at_now))
+    named-at k p j h (inl here) (inl less) (inl at) =
+        let before : i < length (list_at ls l) - 1 = omega (arith, at, less) in
+        let k_is : k ≡ m = same_Some k m (sym h ∙ ap (λ x. slice_get (list_at ls' x) j) here ∙ ap (slice_get (list_at ls' l)) at ∙ now-here (omega (arith, before))) in
+        let there : Sits (record (watch_at ws m) { spot = i }) p j = record { live = m-sits.live; literal = m-sits.literal ∙ sym here; spot = sym at } in
+        subst (λ x. Sits (watch_at ws' x) p j) (sym k_is) (subst (λ w. Sits w p j) (sym (moved (m-apart before))) there)
+    named-at k p j h (inl here) (inl less) (inr off) =
+        let off_last : j ≡ length (list_at ls l) - 1 → ⊥ = λ at. absurd (omega (arith, at, less)) in
+        let was : slice_get (list_at ls l) j ≡ Some k = sym (swap-other (list_at ls l) i j e off off_last) ∙ ap (λ (xs : List ℕ). slice_get xs j) (sym t.now) ∙ ap (λ x. slice_get (list_at ls' x) j) (sym here) ∙ h in
+        stays k p j (ap (λ x. slice_get (list_at ls x) j) here ∙ was) (λ b. off b.1) (λ b. off_last b.1)
 
 -- a watch that is in no list is appended to one
 pub put-linked : (ws : List Watch) (ls ls' : List (List ℕ)) (e l : ℕ) (w : Watch) → AreLinked ws ls → (watch_at ws e).live ≡ false → e < length ws → e < 2 ^ 32 - 2 → w.live ≡ true → w.literal ≡ l → w.spot ≡ length (list_at ls l) → list_at ls' l ≡ list_at ls l ++ (e ∷ []) → ((k : ℕ) → (k ≡ l → ⊥) → list_at ls' k ≡ list_at ls k) → AreLinked (set ws e w) ls'
@@ -202,13 +175,13 @@ removing-others ws ls ls' l i e r k n = ap (λ (x : List (List ℕ)). list_at x 
 
 pub take-last : (ws : List Watch) (ls ls' : List (List ℕ)) (l i e : ℕ) → Removing ws ls ls' l i e → i + 1 ≡ length (list_at ls l) → AreLinked (set ws e idle) ls'
 take-last ws ls ls' l i e r end =
-    taking-last ws (set ws e idle) ls ls' l i e (record {
+    taking e (record {
       old = r.old;
       item = r.item;
       now = removing-now ws ls ls' l i e r;
       others = removing-others ws ls ls' l i e r;
       dead = ap (λ (x : Watch). x.live) (get_or-set_same ws e idle idle (removing-inside ws ls ls' l i e r));
-    }) end (λ k n. get_or-set_other ws e k idle idle n)
+    }) (ap (slice_get (list_at ls l)) (omega (arith, end)) ∙ r.item) (λ k n n_m. get_or-set_other ws e k idle idle n) (λ off. absurd (off refl))
 
 pub moved-apart : (ws : List Watch) (ls : List (List ℕ)) (l i e m : ℕ) → AreLinked ws ls → slice_get (list_at ls l) i ≡ Some e → i + 1 < length (list_at ls l) → slice_get (list_at ls l) (length (list_at ls l) - 1) ≡ Some m → m ≡ e → ⊥
 moved-apart ws ls l i e m old item more last is =
@@ -228,15 +201,15 @@ take-moved ws ls ls' l i e m r more last =
     let was : watch_at (set ws e idle) m ≡ watch_at ws m = get_or-set_other ws e m idle idle apart in
     let new : Watch = record { literal = (watch_at (set ws e idle) m).literal; live = true; spot = i } in
     let same : new ≡ record (watch_at ws m) { spot = i } = rw (was, sat.live) refl in
-    taking-moved ws (placed ws e m i) ls ls' l i e m (record {
+    taking m (record {
       old = r.old;
       item = r.item;
       now = removing-now ws ls ls' l i e r;
       others = removing-others ws ls ls' l i e r;
       dead = ap (λ (x : Watch). x.live) (get_or-set_other (set ws e idle) m e new idle (λ h. apart (sym h)) ∙ get_or-set_same ws e idle idle inside);
-    }) more last
+    }) last
     (λ k n n_m. get_or-set_other (set ws e idle) m k new idle n_m ∙ get_or-set_other ws e k idle idle n)
-    (get_or-set_same (set ws e idle) m new idle inside_1 ∙ same)
+    (λ off. get_or-set_same (set ws e idle) m new idle inside_1 ∙ same)
 
 -- another watch than the two keeps its literal, and its position if this comes before
 pub placed-remains : (ws : List Watch) (ls : List (List ℕ)) (l i e m k : ℕ) → AreLinked ws ls → slice_get (list_at ls l) (length (list_at ls l) - 1) ≡ Some m → (m ≡ e → ⊥) → (k ≡ e → ⊥) → Remains i (watch_at ws k) (watch_at (placed ws e m i) k)

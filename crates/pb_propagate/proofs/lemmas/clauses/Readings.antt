@@ -127,7 +127,7 @@ running-end c values l index e other from stop xs blocks' run failed r s found e
       starts = run.starts;
       stored = run.stored;
       blocked = run.blocked;
-      passed = subst (λ p. ArePassed values (all_turned run.starts clauses) p c.blocks.watches) (sym raised) (passed-end values (all_turned run.starts clauses) (passed_of c) c.blocks.watches (watch_lists c.lists.items) l index e other stop.passed in_visit end_at);
+      passed = subst (λ p. ArePassed values (all_turned run.starts clauses) p c.blocks.watches) (sym raised) (passed-end in_visit end_at);
       round = round-set run.starts clauses c.blocks.searches (set c.blocks.searches (e / 2) stop) (e / 2) stop two.1 refl run.round (subst (λ ys. IsRound (get_or run.starts (e / 2) 0) stop (length ys)) s.items round);
       sizes = run.sizes;
     })
@@ -147,9 +147,9 @@ running-move c values l index e other from stop next xs ws' lists' run failed r 
     let blocker : Contains (list_at clauses (e / 2)) other = subst (Contains (list_at clauses (e / 2))) (sym r.other_is) (subst (λ t. Contains (list_at clauses t) (watch_at c.blocks.watches (flip e)).literal) (flip-half e) at) in
     record {
       starts = run.starts;
-      stored = stored-back run.starts clauses ws' (watch_lists lists'.items) (stored-move values (all_turned run.starts clauses) (passed_of c) c.blocks.watches ws' (watch_lists c.lists.items) (watch_lists lists'.items) l index e other stop.passed in_visit m);
+      stored = stored-back run.starts clauses ws' (watch_lists lists'.items) (stored-move in_visit m);
       blocked = blocked-more clauses (record { watch = e; blocker = other }) c.lists.items lists'.items more blocker run.blocked;
-      passed = subst (λ p. ArePassed values (all_turned run.starts clauses) p ws') (sym raised) (passed-move values (all_turned run.starts clauses) (passed_of c) c.blocks.watches ws' (watch_lists c.lists.items) (watch_lists lists'.items) l index e other stop.passed in_visit m);
+      passed = subst (λ p. ArePassed values (all_turned run.starts clauses) p ws') (sym raised) (passed-move in_visit m);
       round = round-set run.starts clauses c.blocks.searches searches' (e / 2) next two.1 refl run.round (subst (λ ys. IsRound (get_or run.starts (e / 2) 0) next (length ys)) s.items round);
       sizes = sizes ∙ run.sizes;
     }

@@ -36,12 +36,8 @@ pub slots-vacant : (os : List (Option Form)) (xs : List Shape) (clauses : List (
 slots-vacant os xs clauses s a h =
     let d0 : Shape = record { terms = []; degree = 0 } in
     let inside : s < length xs = omega (arith, (slots-at os (joined xs clauses) s None d0 a h).0, joined-length xs clauses) in
-    record {
-      inside = inside;
-      clause = (slot-none (get_or xs s d0) (list_at clauses s) (subst (IsSlot None) (joined-at xs clauses s d0 inside) (slots-at os (joined xs clauses) s None d0 a h).1)).0;
-      terms = λ d. (slot-none (get_or xs s d) (list_at clauses s) (subst (IsSlot None) (joined-at xs clauses s d inside) (slots-at os (joined xs clauses) s None d a h).1)).1;
-      degree = λ d. (slot-none (get_or xs s d) (list_at clauses s) (subst (IsSlot None) (joined-at xs clauses s d inside) (slots-at os (joined xs clauses) s None d a h).1)).2;
-    }
+    let none = λ (d : Shape). slot-none (get_or xs s d) (list_at clauses s) (subst (IsSlot None) (joined-at xs clauses s d inside) (slots-at os (joined xs clauses) s None d a h).1) in
+    record { inside = inside; clause = (none d0).0; terms = λ d. (none d).1; degree = λ d. (none d).2 }
 
 -- a constraint is added after the others
 pub joined-none : (xs : List Shape) → joined xs [] ≡ xs
@@ -103,20 +99,27 @@ joined-clause (y ∷ xs) [] s codes less some = absurd (omega (arith, less))
 joined-clause (y ∷ xs) (c ∷ clauses) zero codes less some = ap (λ z. z ∷ joined xs clauses) (shape-some y codes some)
 joined-clause (y ∷ xs) (c ∷ clauses) (suc s) codes less some = ap (λ ys. slot_shape y c ∷ ys) (joined-clause xs clauses s codes (omega (arith, less)) some)
 
-pub AreJoined-clause : (xs : List Shape) (clauses : List (List ℕ)) (s : ℕ) (codes : List ℕ) → s < length clauses → ((d : Shape) → ((get_or xs s d).terms ≡ []) × ((get_or xs s d).degree ≡ 0)) → AreDifferent codes → AreJoined xs clauses → AreJoined xs (set clauses s codes)
-AreJoined-clause xs clauses s codes room bare different j = record {
+-- what is in a slot that gets a clause, or loses it
+joined-other : (xs : List Shape) (clauses : List (List ℕ)) (s : ℕ) (codes : List ℕ) → s < length clauses →
+    (0 < length codes → (d : Shape) → ((get_or xs s d).terms ≡ []) × ((get_or xs s d).degree ≡ 0)) → AreDifferent codes → AreJoined xs clauses → AreJoined xs (set clauses s codes)
+joined-other xs clauses s codes room bare different j = record {
   short = omega (arith, j.short, length-set clauses s codes);
-  apart = λ t d less some. apart-at t d less some (cases_eq t s);
-  different = λ t. different-at t (cases_eq t s);
+  apart = λ t d less some. elim (cases_eq t s) [
+    | inl is ↦ subst (λ k. ((get_or xs k d).terms ≡ []) × ((get_or xs k d).degree ≡ 0)) (sym is) (bare (omega (arith, some, ap length (here t is))) d)
+    | inr n ↦ j.apart t d less (omega (arith, some, ap length (get_or-set_other clauses s t codes [] n)))
+  ];
+  different = λ t. elim (cases_eq t s) [
+    | inl is ↦ subst AreDifferent (sym (here t is)) different
+    | inr n ↦ subst AreDifferent (sym (get_or-set_other clauses s t codes [] n)) (j.different t)
+  ];
 }
   where
-    apart-at : (t : ℕ) (d : Shape) → t < length xs → 0 < length (list_at (set clauses s codes) t) → (t ≡ s) ⊎ (t ≡ s → ⊥) → ((get_or xs t d).terms ≡ []) × ((get_or xs t d).degree ≡ 0)
-    apart-at t d less some (inl is) = subst (λ k. ((get_or xs k d).terms ≡ []) × ((get_or xs k d).degree ≡ 0)) (sym is) (bare d)
-    apart-at t d less some (inr n) = j.apart t d less (omega (arith, some, ap length (get_or-set_other clauses s t codes [] n)))
+    here : (t : ℕ) → t ≡ s → list_at (set clauses s codes) t ≡ codes
+    here t is = ap (list_at (set clauses s codes)) is ∙ get_or-set_same clauses s codes [] room
 
-    different-at : (t : ℕ) → (t ≡ s) ⊎ (t ≡ s → ⊥) → AreDifferent (list_at (set clauses s codes) t)
-    different-at t (inl is) = subst AreDifferent (sym (ap (list_at (set clauses s codes)) is ∙ get_or-set_same clauses s codes [] room)) different
-    different-at t (inr n) = subst AreDifferent (sym (get_or-set_other clauses s t codes [] n)) (j.different t)
+pub AreJoined-clause : (xs : List Shape) (clauses : List (List ℕ)) (s : ℕ) (codes : List ℕ) → s < length clauses →
+    ((d : Shape) → ((get_or xs s d).terms ≡ []) × ((get_or xs s d).degree ≡ 0)) → AreDifferent codes → AreJoined xs clauses → AreJoined xs (set clauses s codes)
+AreJoined-clause xs clauses s codes room bare = joined-other xs clauses s codes room (λ some. bare)
 
 -- a slot is emptied
 pub joined-cleared : (xs : List Shape) (clauses : List (List ℕ)) (s : ℕ) (x : Shape) → joined (set xs s x) (set clauses s []) ≡ set (joined xs clauses) s x
@@ -130,19 +133,8 @@ none-different : AreDifferent []
 none-different x = omega arith
 
 pub AreJoined-cleared : (xs : List Shape) (clauses : List (List ℕ)) (s : ℕ) (x : Shape) → s < length clauses → AreJoined xs clauses → AreJoined (set xs s x) (set clauses s [])
-AreJoined-cleared xs clauses s x room j = record {
-  short = omega (arith, j.short, length-set xs s x, length-set clauses s []);
-  apart = λ t d less some. apart-at t d less some (cases_eq t s);
-  different = λ t. different-at t (cases_eq t s);
-}
-  where
-    apart-at : (t : ℕ) (d : Shape) → t < length (set xs s x) → 0 < length (list_at (set clauses s []) t) → (t ≡ s) ⊎ (t ≡ s → ⊥) → ((get_or (set xs s x) t d).terms ≡ []) × ((get_or (set xs s x) t d).degree ≡ 0)
-    apart-at t d less some (inl is) = absurd (omega (arith, some, ap length (ap (list_at (set clauses s [])) is ∙ get_or-set_same clauses s [] [] room)))
-    apart-at t d less some (inr n) = subst (λ (y : Shape). (y.terms ≡ []) × (y.degree ≡ 0)) (sym (get_or-set_other xs s t x d n)) (j.apart t d (omega (arith, less, length-set xs s x)) (omega (arith, some, ap length (get_or-set_other clauses s t [] [] n))))
-
-    different-at : (t : ℕ) → (t ≡ s) ⊎ (t ≡ s → ⊥) → AreDifferent (list_at (set clauses s []) t)
-    different-at t (inl is) = subst AreDifferent (sym (ap (list_at (set clauses s [])) is ∙ get_or-set_same clauses s [] [] room)) none-different
-    different-at t (inr n) = subst AreDifferent (sym (get_or-set_other clauses s t [] [] n)) (j.different t)
+AreJoined-cleared xs clauses s x room j =
+    AreJoined-set xs (set clauses s []) s x (get_or-set_same clauses s [] [] room) (joined-other xs clauses s [] room (λ some. absurd (omega (arith, some))) none-different j)
 
 -- the clause of a form
 

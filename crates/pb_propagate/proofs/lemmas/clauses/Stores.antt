@@ -67,95 +67,52 @@ slot-room clauses s some = elim (cases_lt s (length clauses)) [
   | inr past ↦ absurd (omega (arith, some, ap length (get_or_past clauses s [] past)))
 ]
 
--- a clause was added
-pub stored-fill : (clauses : List (List ℕ)) (ws ws' : List Watch) (ls ls' : List (List ℕ)) (s x y : ℕ) (xs : List ℕ) (p : Pair) → AreStored clauses ws ls → AreLinked ws' ls' → s < length clauses → length ws' ≡ length ws → length ls' ≡ length ls →
-    IsPair xs p → x ≡ get_or xs p.first 0 → y ≡ get_or xs p.second 0 → All (λ z. z < length ls) xs →
-    (watch_at ws' (2 * s)).live ≡ true → (watch_at ws' (2 * s)).literal ≡ x → (watch_at ws' (2 * s + 1)).live ≡ true → (watch_at ws' (2 * s + 1)).literal ≡ y →
-    ((k : ℕ) → (k / 2 ≡ s → ⊥) → watch_at ws' k ≡ watch_at ws k) → AreStored (set clauses s xs) ws' ls'
-stored-fill clauses ws ws' ls ls' s x y xs p old linked room sizes sizes_l pair x_is y_is inside live_x at_x live_y at_y same = record {
+-- the watches of a slot are two literals of a clause
+pub record AreWatchesOf (ws : List Watch) (s : ℕ) (xs : List ℕ) : Type 0 where
+  pub watched : (k : ℕ) → k / 2 ≡ s → (watch_at ws k).live ≡ true → Contains xs (watch_at ws k).literal
+  pub paired : (k : ℕ) → k / 2 ≡ s → (watch_at ws k).live ≡ true → (watch_at ws (flip k)).live ≡ true
+  pub apart : (k : ℕ) → k / 2 ≡ s → (watch_at ws k).live ≡ true → (watch_at ws (flip k)).literal ≡ (watch_at ws k).literal → ⊥
+  pub full : 0 < length xs → (watch_at ws (2 * s)).live ≡ true
+
+-- another watch is as before, but for its position
+abbrev pub StaysOn : List Watch → List Watch → ℕ → Type 0
+StaysOn ws ws' k = ((watch_at ws' k).live ≡ (watch_at ws k).live) × ((watch_at ws' k).literal ≡ (watch_at ws k).literal)
+
+-- a slot has another clause
+stored-set : {clauses ls ls' : List (List ℕ)} {ws ws' : List Watch} (s : ℕ) (xs : List ℕ) → AreStored clauses ws ls → AreLinked ws' ls' →
+    s < length clauses → length ws' ≡ length ws → length ls' ≡ length ls → All (λ z. z < length ls) xs → AreWatchesOf ws' s xs →
+    ((k : ℕ) → (k / 2 ≡ s → ⊥) → StaysOn ws ws' k) → AreStored (set clauses s xs) ws' ls'
+stored-set {clauses} {ls} {ls'} {ws} {ws'} s xs old linked room sizes sizes_l small mine same = record {
   linked = linked;
   pairs = sizes ∙ old.pairs ∙ ap (λ n. 2 * n) (sym (length-set clauses s xs));
-  watched = λ k live. watched-at k live (cases_eq (k / 2) s);
-  paired = λ k live. paired-at k live (cases_eq (k / 2) s);
-  apart = λ k live h. apart-at k live h (cases_eq (k / 2) s);
-  full = λ t some. full-at t some (cases_eq t s);
-  inside = λ t. inside-at t (cases_eq t s);
+  watched = λ k live. elim (cases_eq (k / 2) s) [
+    | inl e ↦ subst (λ zs. Contains zs (watch_at ws' k).literal) (sym (here (k / 2) e)) (mine.watched k e live)
+    | inr n ↦ subst (λ zs. Contains zs (watch_at ws' k).literal) (sym (other (k / 2) n))
+        (subst (Contains (list_at clauses (k / 2))) (sym (same k n).1) (old.watched k (was k n live)))
+  ];
+  paired = λ k live. elim (cases_eq (k / 2) s) [
+    | inl e ↦ mine.paired k e live
+    | inr n ↦ (same (flip k) (flip-off k n)).0 ∙ old.paired k (was k n live)
+  ];
+  apart = λ k live h. elim (cases_eq (k / 2) s) [
+    | inl e ↦ mine.apart k e live h
+    | inr n ↦ old.apart k (was k n live) (sym (same (flip k) (flip-off k n)).1 ∙ h ∙ (same k n).1)
+  ];
+  full = λ t some. elim (cases_eq t s) [
+    | inl e ↦ ap (λ u. (watch_at ws' (2 * u)).live) e ∙ mine.full (omega (arith, some, ap length (here t e)))
+    | inr n ↦ (same (2 * t) (λ h. n (omega (arith, h)))).0 ∙ old.full t (omega (arith, some, ap length (other t n)))
+  ];
+  inside = λ t k d h. elim (cases_eq t s) [
+    | inl e ↦ let less = small k d (omega (arith, h, ap length (here t e))) in omega (arith, less, sizes_l, ap (λ (zs : List ℕ). get_or zs k d) (here t e))
+    | inr n ↦ let less = old.inside t k d (omega (arith, h, ap length (other t n))) in omega (arith, less, sizes_l, ap (λ (zs : List ℕ). get_or zs k d) (other t n))
+  ];
 }
   where
-    here : list_at (set clauses s xs) s ≡ xs
-    here = get_or-set_same clauses s xs [] room
+    here : (t : ℕ) → t ≡ s → list_at (set clauses s xs) t ≡ xs
+    here t e = ap (list_at (set clauses s xs)) e ∙ get_or-set_same clauses s xs [] room
 
     other : (t : ℕ) → (t ≡ s → ⊥) → list_at (set clauses s xs) t ≡ list_at clauses t
     other t n = get_or-set_other clauses s t xs [] n
-
-    was : (k : ℕ) → (k / 2 ≡ s → ⊥) → (watch_at ws' k).live ≡ true → (watch_at ws k).live ≡ true
-    was k n live = ap (λ (w : Watch). w.live) (sym (same k n)) ∙ live
-
-    flip-off : (k : ℕ) → (k / 2 ≡ s → ⊥) → flip k / 2 ≡ s → ⊥
-    flip-off k n h = n (sym (flip-half k) ∙ h)
-
-    flip-odd : flip (2 * s + 1) ≡ 2 * s
-    flip-odd = ap flip (sym (flip-even s)) ∙ flip-flip (2 * s)
-
-    stands : (k : ℕ) → (k ≡ 2 * s) ⊎ (k ≡ 2 * s + 1) → Contains xs (watch_at ws' k).literal
-    stands k (inl e) = subst (Contains xs) (sym (ap (λ t. (watch_at ws' t).literal) e ∙ at_x ∙ x_is)) (Contains-get_or xs p.first 0 pair.first)
-    stands k (inr e) = subst (Contains xs) (sym (ap (λ t. (watch_at ws' t).literal) e ∙ at_y ∙ y_is)) (Contains-get_or xs p.second 0 pair.second)
-
-    watched-at : (k : ℕ) → (watch_at ws' k).live ≡ true → (k / 2 ≡ s) ⊎ (k / 2 ≡ s → ⊥) → Contains (list_at (set clauses s xs) (k / 2)) (watch_at ws' k).literal
-    watched-at k live (inl e) = subst (λ zs. Contains zs (watch_at ws' k).literal) (sym (ap (list_at (set clauses s xs)) e ∙ here)) (stands k (two-of k s e))
-    watched-at k live (inr n) = subst (λ zs. Contains zs (watch_at ws' k).literal) (sym (other (k / 2) n)) (subst (λ (w : Watch). Contains (list_at clauses (k / 2)) w.literal) (sym (same k n)) (old.watched k (was k n live)))
-
-    pair-live : (k : ℕ) → (k ≡ 2 * s) ⊎ (k ≡ 2 * s + 1) → (watch_at ws' (flip k)).live ≡ true
-    pair-live k (inl e) = ap (λ t. (watch_at ws' t).live) (ap flip e ∙ flip-even s) ∙ live_y
-    pair-live k (inr e) = ap (λ t. (watch_at ws' t).live) (ap flip e ∙ flip-odd) ∙ live_x
-
-    paired-at : (k : ℕ) → (watch_at ws' k).live ≡ true → (k / 2 ≡ s) ⊎ (k / 2 ≡ s → ⊥) → (watch_at ws' (flip k)).live ≡ true
-    paired-at k live (inl e) = pair-live k (two-of k s e)
-    paired-at k live (inr n) = ap (λ (w : Watch). w.live) (same (flip k) (flip-off k n)) ∙ old.paired k (was k n live)
-
-    off : x ≡ y → ⊥
-    off h = pair.apart (sym x_is ∙ h ∙ y_is)
-
-    pair-apart : (k : ℕ) → (watch_at ws' (flip k)).literal ≡ (watch_at ws' k).literal → (k ≡ 2 * s) ⊎ (k ≡ 2 * s + 1) → ⊥
-    pair-apart k h (inl e) = off (sym at_x ∙ ap (λ t. (watch_at ws' t).literal) (sym e) ∙ sym h ∙ ap (λ t. (watch_at ws' t).literal) (ap flip e ∙ flip-even s) ∙ at_y)
-    pair-apart k h (inr e) = off (sym at_x ∙ ap (λ t. (watch_at ws' t).literal) (sym (ap flip e ∙ flip-odd)) ∙ h ∙ ap (λ t. (watch_at ws' t).literal) e ∙ at_y)
-
-    apart-at : (k : ℕ) → (watch_at ws' k).live ≡ true → (watch_at ws' (flip k)).literal ≡ (watch_at ws' k).literal → (k / 2 ≡ s) ⊎ (k / 2 ≡ s → ⊥) → ⊥
-    apart-at k live h (inl e) = pair-apart k h (two-of k s e)
-    apart-at k live h (inr n) = old.apart k (was k n live) (ap (λ (w : Watch). w.literal) (sym (same (flip k) (flip-off k n))) ∙ h ∙ ap (λ (w : Watch). w.literal) (same k n))
-
-    full-at : (t : ℕ) → 0 < length (list_at (set clauses s xs) t) → (t ≡ s) ⊎ (t ≡ s → ⊥) → (watch_at ws' (2 * t)).live ≡ true
-    full-at t some (inl e) = ap (λ k. (watch_at ws' (2 * k)).live) e ∙ live_x
-    full-at t some (inr n) = ap (λ (w : Watch). w.live) (same (2 * t) (λ h. n (omega (arith, h)))) ∙ old.full t (omega (arith, some, ap length (other t n)))
-
-    inside-at : (t : ℕ) → (t ≡ s) ⊎ (t ≡ s → ⊥) → All (λ z. z < length ls') (list_at (set clauses s xs) t)
-    inside-at t (inl e) = λ k d h.
-        let those : list_at (set clauses s xs) t ≡ xs = ap (list_at (set clauses s xs)) e ∙ here in
-        let small = inside k d (omega (arith, h, ap length those)) in
-        omega (arith, small, sizes_l, ap (λ (zs : List ℕ). get_or zs k d) those)
-    inside-at t (inr n) = λ k d h.
-        let small = old.inside t k d (omega (arith, h, ap length (other t n))) in
-        omega (arith, small, sizes_l, ap (λ (zs : List ℕ). get_or zs k d) (other t n))
-
--- a clause was removed
-pub stored-vacate : (clauses : List (List ℕ)) (ws ws' : List Watch) (ls ls' : List (List ℕ)) (s : ℕ) → AreStored clauses ws ls → AreLinked ws' ls' → s < length clauses → length ws' ≡ length ws → length ls' ≡ length ls →
-    (watch_at ws' (2 * s)).live ≡ false → (watch_at ws' (2 * s + 1)).live ≡ false →
-    ((k : ℕ) → (k / 2 ≡ s → ⊥) → ((watch_at ws' k).live ≡ (watch_at ws k).live) × ((watch_at ws' k).literal ≡ (watch_at ws k).literal)) → AreStored (set clauses s []) ws' ls'
-stored-vacate clauses ws ws' ls ls' s old linked room sizes sizes_l dead_x dead_y same = record {
-  linked = linked;
-  pairs = sizes ∙ old.pairs ∙ ap (λ n. 2 * n) (sym (length-set clauses s []));
-  watched = λ k live. watched-at k live (cases_eq (k / 2) s);
-  paired = λ k live. paired-at k live (cases_eq (k / 2) s);
-  apart = λ k live h. apart-at k live h (cases_eq (k / 2) s);
-  full = λ t some. full-at t some (cases_eq t s);
-  inside = λ t. inside-at t (cases_eq t s);
-}
-  where
-    here : list_at (set clauses s []) s ≡ []
-    here = get_or-set_same clauses s [] [] room
-
-    other : (t : ℕ) → (t ≡ s → ⊥) → list_at (set clauses s []) t ≡ list_at clauses t
-    other t n = get_or-set_other clauses s t [] [] n
 
     was : (k : ℕ) → (k / 2 ≡ s → ⊥) → (watch_at ws' k).live ≡ true → (watch_at ws k).live ≡ true
     was k n live = sym (same k n).0 ∙ live
@@ -163,31 +120,49 @@ stored-vacate clauses ws ws' ls ls' s old linked room sizes sizes_l dead_x dead_
     flip-off : (k : ℕ) → (k / 2 ≡ s → ⊥) → flip k / 2 ≡ s → ⊥
     flip-off k n h = n (sym (flip-half k) ∙ h)
 
-    none : (k : ℕ) → (watch_at ws' k).live ≡ true → (k ≡ 2 * s) ⊎ (k ≡ 2 * s + 1) → ⊥
-    none k live (inl e) = both_ways _ (ap (λ t. (watch_at ws' t).live) e ∙ dead_x) live
-    none k live (inr e) = both_ways _ (ap (λ t. (watch_at ws' t).live) e ∙ dead_y) live
+-- both watches are dead, and there is no clause
+none-watched : (ws : List Watch) (s : ℕ) → (watch_at ws (2 * s)).live ≡ false → (watch_at ws (2 * s + 1)).live ≡ false → AreWatchesOf ws s []
+none-watched ws s dead_x dead_y = record {
+  watched = λ k half live. absurd (none k live (two-of k s half));
+  paired = λ k half live. absurd (none k live (two-of k s half));
+  apart = λ k half live h. none k live (two-of k s half);
+  full = λ some. absurd (omega (arith, some));
+}
+  where
+    none : (k : ℕ) → (watch_at ws k).live ≡ true → (k ≡ 2 * s) ⊎ (k ≡ 2 * s + 1) → ⊥
+    none k live (inl e) = both_ways _ (ap (λ t. (watch_at ws t).live) e ∙ dead_x) live
+    none k live (inr e) = both_ways _ (ap (λ t. (watch_at ws t).live) e ∙ dead_y) live
 
-    watched-at : (k : ℕ) → (watch_at ws' k).live ≡ true → (k / 2 ≡ s) ⊎ (k / 2 ≡ s → ⊥) → Contains (list_at (set clauses s []) (k / 2)) (watch_at ws' k).literal
-    watched-at k live (inl e) = absurd (none k live (two-of k s e))
-    watched-at k live (inr n) = subst (λ zs. Contains zs (watch_at ws' k).literal) (sym (other (k / 2) n)) (subst (Contains (list_at clauses (k / 2))) (sym (same k n).1) (old.watched k (was k n live)))
+-- both watches are live, on two different literals
+pair-watched : (ws : List Watch) (s : ℕ) (xs : List ℕ) (p : Pair) (v w : Watch) → IsPair xs p → watch_at ws (2 * s) ≡ v → watch_at ws (2 * s + 1) ≡ w →
+    v.live ≡ true → w.live ≡ true → v.literal ≡ get_or xs p.first 0 → w.literal ≡ get_or xs p.second 0 → AreWatchesOf ws s xs
+pair-watched ws s xs p v w pair at_x at_y live_x live_y x_is y_is = record {
+  watched = λ k half live. elim (two-of k s half) [
+    | inl e ↦ subst (Contains xs) (sym (ap (λ (z : Watch). z.literal) (first k e) ∙ x_is)) (Contains-get_or xs p.first 0 pair.first)
+    | inr e ↦ subst (Contains xs) (sym (ap (λ (z : Watch). z.literal) (second k e) ∙ y_is)) (Contains-get_or xs p.second 0 pair.second)
+  ];
+  paired = λ k half live. elim (two-of k s half) [
+    | inl e ↦ ap (λ (z : Watch). z.live) (second (flip k) (ap flip e ∙ flip-even s)) ∙ live_y
+    | inr e ↦ ap (λ (z : Watch). z.live) (first (flip k) (ap flip e ∙ flip-odd)) ∙ live_x
+  ];
+  apart = λ k half live h. elim (two-of k s half) [
+    | inl e ↦ off (sym (ap (λ (z : Watch). z.literal) (first k e)) ∙ sym h ∙ ap (λ (z : Watch). z.literal) (second (flip k) (ap flip e ∙ flip-even s)))
+    | inr e ↦ off (sym (ap (λ (z : Watch). z.literal) (first (flip k) (ap flip e ∙ flip-odd))) ∙ h ∙ ap (λ (z : Watch). z.literal) (second k e))
+  ];
+  full = λ some. ap (λ (z : Watch). z.live) at_x ∙ live_x;
+}
+  where
+    flip-odd : flip (2 * s + 1) ≡ 2 * s
+    flip-odd = ap flip (sym (flip-even s)) ∙ flip-flip (2 * s)
 
-    paired-at : (k : ℕ) → (watch_at ws' k).live ≡ true → (k / 2 ≡ s) ⊎ (k / 2 ≡ s → ⊥) → (watch_at ws' (flip k)).live ≡ true
-    paired-at k live (inl e) = absurd (none k live (two-of k s e))
-    paired-at k live (inr n) = (same (flip k) (flip-off k n)).0 ∙ old.paired k (was k n live)
+    first : (k : ℕ) → k ≡ 2 * s → watch_at ws k ≡ v
+    first k e = ap (watch_at ws) e ∙ at_x
 
-    apart-at : (k : ℕ) → (watch_at ws' k).live ≡ true → (watch_at ws' (flip k)).literal ≡ (watch_at ws' k).literal → (k / 2 ≡ s) ⊎ (k / 2 ≡ s → ⊥) → ⊥
-    apart-at k live h (inl e) = none k live (two-of k s e)
-    apart-at k live h (inr n) = old.apart k (was k n live) (sym (same (flip k) (flip-off k n)).1 ∙ h ∙ (same k n).1)
+    second : (k : ℕ) → k ≡ 2 * s + 1 → watch_at ws k ≡ w
+    second k e = ap (watch_at ws) e ∙ at_y
 
-    full-at : (t : ℕ) → 0 < length (list_at (set clauses s []) t) → (t ≡ s) ⊎ (t ≡ s → ⊥) → (watch_at ws' (2 * t)).live ≡ true
-    full-at t some (inl e) = absurd (omega (arith, some, ap length (ap (list_at (set clauses s [])) e ∙ here)))
-    full-at t some (inr n) = (same (2 * t) (λ h. n (omega (arith, h)))).0 ∙ old.full t (omega (arith, some, ap length (other t n)))
-
-    inside-at : (t : ℕ) → (t ≡ s) ⊎ (t ≡ s → ⊥) → All (λ z. z < length ls') (list_at (set clauses s []) t)
-    inside-at t (inl e) = λ k d h. absurd (omega (arith, h, ap length (ap (list_at (set clauses s [])) e ∙ here)))
-    inside-at t (inr n) = λ k d h.
-        let small = old.inside t k d (omega (arith, h, ap length (other t n))) in
-        omega (arith, small, sizes_l, ap (λ (zs : List ℕ). get_or zs k d) (other t n))
+    off : v.literal ≡ w.literal → ⊥
+    off h = pair.apart (sym x_is ∙ h ∙ y_is)
 
 -- one more empty list
 lists-push : (occ occ' : List (Vec Listed Global)) (v : Vec Listed Global) → occ' ≡ occ ++ (v ∷ []) → v.items ≡ [] → (l : ℕ) → entries_at occ' l ≡ entries_at occ l
@@ -252,12 +227,12 @@ pub rest-fill : (c : Clauses) (b : Contents) (lists1 lists' : Vec (Vec Listed Gl
 rest-fill c b lists1 lists' n m s x y xs p r room empty pair x_is y_is inside filled searching both linked sizes more_1 more_2 =
     record {
       stored = subst (λ cs. AreStored cs b.watches (watch_lists lists'.items)) (sym filled)
-          (stored-fill c.blocks.literals c.blocks.watches b.watches (watch_lists c.lists.items) (watch_lists lists'.items) s x y xs p r.stored linked room
-          (ap length both ∙ length-set ws1 (2 * s + 1) w2 ∙ length-set c.blocks.watches (2 * s) w1)
-          (lists-length lists'.items ∙ sizes ∙ sym (lists-length c.lists.items)) pair x_is y_is
-          (λ k d h. let small = inside k d h in omega (arith, small, lists-length c.lists.items))
-          (ap (λ (w : Watch). w.live) first) (ap (λ (w : Watch). w.literal) first) (ap (λ (w : Watch). w.live) second) (ap (λ (w : Watch). w.literal) second)
-          (λ k off. ap (λ ws. watch_at ws k) both ∙ get_or-set_other ws1 (2 * s + 1) k w2 idle (λ h. off (omega (arith, h))) ∙ get_or-set_other c.blocks.watches (2 * s) k w1 idle (λ h. off (omega (arith, h)))));
+          (stored-set s xs r.stored linked room (ap length both ∙ length-set ws1 (2 * s + 1) w2 ∙ length-set c.blocks.watches (2 * s) w1)
+          (lists-length lists'.items ∙ sizes ∙ sym (lists-length c.lists.items)) (λ k d h. let small = inside k d h in omega (arith, small, lists-length c.lists.items))
+          (pair-watched b.watches s xs p w1 w2 pair first second refl refl x_is y_is)
+          (λ k off. let same = ap (λ ws. watch_at ws k) both ∙ get_or-set_other ws1 (2 * s + 1) k w2 idle (λ h. off (omega (arith, h)))
+          ∙ get_or-set_other c.blocks.watches (2 * s) k w1 idle (λ h. off (omega (arith, h))) in
+          (ap (λ (w : Watch). w.live) same, ap (λ (w : Watch). w.literal) same)));
       blocked = subst (λ cs. AreBlocked cs lists'.items) (sym filled) (blocked-set c.blocks.literals s xs lists'.items room (λ e there is. here-blocked e is (more_2 e there)) (λ e there off. other-blocked e off (more_2 e there)));
       sizes = omega (arith, r.sizes, ap length searching, length-set c.blocks.searches s begun, ap length filled, length-set c.blocks.literals s xs);
       inside = λ t some. inside-at t some (cases_eq t s);
@@ -329,7 +304,8 @@ pub rest-vacate : (c : Clauses) (b : Contents) (lists1 lists' : Vec (Vec Listed 
     AreReady (record { blocks = b; lists = lists' })
 rest-vacate c b lists1 lists' s r some vacated searching linked sizes sizes_l dead_1 dead_2 same fewer_1 fewer_2 = record {
   stored = subst (λ cs. AreStored cs b.watches (watch_lists lists'.items)) (sym vacated)
-      (stored-vacate c.blocks.literals c.blocks.watches b.watches (watch_lists c.lists.items) (watch_lists lists'.items) s r.stored linked room sizes (lists-length lists'.items ∙ sizes_l ∙ sym (lists-length c.lists.items)) dead_1 dead_2 same);
+      (stored-set s [] r.stored linked room sizes (lists-length lists'.items ∙ sizes_l ∙ sym (lists-length c.lists.items)) (λ k d h. absurd (omega (arith, h)))
+      (none-watched b.watches s dead_1 dead_2) same);
   blocked = subst (λ cs. AreBlocked cs lists'.items) (sym vacated) (blocked-set c.blocks.literals s [] lists'.items room (λ e there is. absurd (gone e there (two-of e.watch s is))) (λ e there off. r.blocked e (fewer_1 e (fewer_2 e there))));
   sizes = omega (arith, r.sizes, ap length searching, ap length vacated, length-set c.blocks.literals s []);
   inside = λ t any. inside-at t any (cases_eq t s);

@@ -55,7 +55,7 @@ module _ (c : Clauses) (values : List (Option Bool)) (l index e other : ℕ) (fr
       lists = refl;
       running = ended;
       served = λ walked old. old;
-      found = broken-back s.run.starts c.blocks.literals values (broken-of values (all_turned s.run.starts c.blocks.literals) (passed_of c) c.blocks.watches (watch_lists c.lists.items) l index e other stop.passed visiting end-at low);
+      found = broken-back s.run.starts c.blocks.literals values (broken-of visiting end-at low);
       kept = λ k live failed. (refl, refl);
     })
 
@@ -67,7 +67,7 @@ module _ (c : Clauses) (values : List (Option Bool)) (l index e other : ℕ) (fr
       served = λ walked old. old;
       found = (
         refl,
-        unit-back s.run.starts c.blocks.literals values (e / 2) other (unit-of values (all_turned s.run.starts c.blocks.literals) (passed_of c) c.blocks.watches (watch_lists c.lists.items) l index e other stop.passed visiting end-at untrue unfailed),
+        unit-back s.run.starts c.blocks.literals values (e / 2) other (unit-of visiting end-at untrue unfailed),
         (e, s.reading.item, other-watched c values l index e other s.run s.reading),
       );
       kept = λ k live failed. (refl, refl);
@@ -98,10 +98,10 @@ module _ (c : Clauses) (values : List (Option Bool)) (l index e other : ℕ) (fr
     visited-leaves shorter = subst (λ (b : Contents). HasVisited values c (record { blocks = b; lists = lists' }) l index Leaves) (sym whole) (record {
       lists = sizes;
       running = running-move c values l index e other from stop next xs b2.watches lists' s.run s.failed s.reading s.resuming sought round one sizes more shifted;
-      served = λ walked old. served-move values c.blocks.literals (all_turned s.run.starts c.blocks.literals) (passed_of c) c.blocks.watches b2.watches (watch_lists c.lists.items) (watch_lists lists'.items) l index e other stop.passed walked visiting shifted old;
+      served = λ walked old. served-move visiting shifted c.blocks.literals walked old;
       found = shorter;
       kept = λ k live failed.
-          let r = shifted-old values (all_turned s.run.starts c.blocks.literals) (passed_of c) c.blocks.watches b2.watches (watch_lists c.lists.items) (watch_lists lists'.items) l index e other stop.passed k visiting shifted failed in
+          let r = shifted-old visiting shifted k failed in
           (r.live, r.literal);
     })
 

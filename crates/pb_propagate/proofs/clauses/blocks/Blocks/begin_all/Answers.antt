@@ -1,5 +1,6 @@
 use Rattle.pb_propagate.proofs.Common.{◌∙◌, ◌≡◌, ◌≤◌, ap, arith, inl, inr, length, sym, cases_lt, get_or_past, begun, Contents, Search, stored_clause, stored_search}
-use Rattle.pb_propagate.proofs.lemmas.clauses.Blocks.{table-length, search-made}
+use Rattle.pb_propagate.proofs.lemmas.clauses.Blocks.{search-made}
+use Rattle.pb_propagate.proofs.lemmas.clauses.Tables.{table-length}
 use Rattle.pb_propagate.proofs.clauses.blocks.Blocks.begin_all.Goals as goal
 
 pub returns : goal.returns

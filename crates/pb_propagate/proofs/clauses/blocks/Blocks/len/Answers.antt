@@ -1,5 +1,5 @@
 use Rattle.pb_propagate.proofs.Common.{ap, arith, length, Contents, stored_clause}
-use Rattle.pb_propagate.proofs.lemmas.clauses.Blocks.{table-length}
+use Rattle.pb_propagate.proofs.lemmas.clauses.Tables.{table-length}
 use Rattle.pb_propagate.proofs.clauses.blocks.Blocks.len.Goals as goal
 
 pub returns : goal.returns

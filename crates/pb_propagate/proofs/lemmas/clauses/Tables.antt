@@ -1,0 +1,72 @@
+-- Tables of a function's values, and parts of lists.
+use Rattle.pb_propagate.proofs.Common.{ℕ, ◌++◌, ◌+◌, ◌<◌, ◌∙◌, ◌∷◌, ◌≡◌, ◌≤◌, ◌⊎◌, [], ap, arith, cases_eq, cases_lt, drop, ext_get_or, get_or}
+use Rattle.pb_propagate.proofs.Common.{get_or-drop, get_or-map, get_or-set_other, get_or-set_same, get_or-take, get_or_append_left, inl, inr}
+use Rattle.pb_propagate.proofs.Common.{length, length-append, length-drop, length-set, length-take-le, List, range_with_len, set, sym, table, take}
+use Rattle.std.proofs.lemmas.List.FromFn.{length-map-range_with_len, length-range_with_len, get_or-range_with_len}
+use Rattle.pb_propagate.proofs.lemmas.clauses.Gets.{last-is}
+
+pub table-length : {A : Type 0} (n : ℕ) (f : ℕ → A) → length (table n f) ≡ n
+table-length n f = length-map-range_with_len f 0 n
+
+pub table-at : {A : Type 0} (n : ℕ) (f : ℕ → A) (k : ℕ) (d : A) → k < n → get_or (table n f) k d ≡ f k
+table-at n f k d h =
+    let is : get_or (range_with_len 0 n) k 0 ≡ k = omega (arith, get_or-range_with_len 0 n k 0 h) in
+    get_or-map f (range_with_len 0 n) k 0 d (omega (arith, h, length-range_with_len 0 n)) ∙ ap f is
+
+pub table-same : {A : Type 0} (n : ℕ) (f g : ℕ → A) → ((k : ℕ) → k < n → g k ≡ f k) → table n g ≡ table n f
+table-same n f g each =
+    ext_get_or (f 0) (table n g) (table n f) (table-length n g ∙ sym (table-length n f)) (λ k h.
+    let less : k < n = omega (arith, h, table-length n g) in
+    table-at n g k (f 0) less ∙ each k less ∙ sym (table-at n f k (f 0) less))
+
+pub table-set : {A : Type 0} (n : ℕ) (f g : ℕ → A) (k : ℕ) (y : A) → g k ≡ y →
+    ((j : ℕ) → j < n → (j ≡ k → ⊥) → g j ≡ f j) → table n g ≡ set (table n f) k y
+table-set n f g k y here others =
+    ext_get_or y (table n g) (set (table n f) k y) (table-length n g
+    ∙ sym (length-set (table n f) k y ∙ table-length n f))
+    (λ j h. by j (omega (arith, h, table-length n g)) (cases_eq j k))
+  where
+    by : (j : ℕ) → j < n → (j ≡ k) ⊎ (j ≡ k → ⊥) → get_or (table n g) j y ≡ get_or (set (table n f) k y) j y
+    by j h (inl is) =
+        table-at n g j y h ∙ ap g is ∙ here ∙ sym (ap (λ i. get_or (set (table n f) k y) i y) is
+        ∙ get_or-set_same (table n f) k y y (omega (arith, h, is, table-length n f)))
+    by j h (inr n_is) =
+        table-at n g j y h ∙ others j h n_is ∙ sym (get_or-set_other (table n f) k j y y n_is ∙ table-at n f j y h)
+
+pub table-push : {A : Type 0} (n : ℕ) (f g : ℕ → A) (x : A) → ((k : ℕ) → k < n → g k ≡ f k) → g n ≡ x →
+    table (n + 1) g ≡ table n f ++ (x ∷ [])
+table-push n f g x each here =
+    ext_get_or x (table (n + 1) g) (table n f ++ (x ∷ []))
+    (omega (arith, table-length (n + 1) g, table-length n f, length-append (table n f) (x ∷ [])))
+    (λ j h. by j (omega (arith, h, table-length (n + 1) g)) (cases_lt j n))
+  where
+    by : (j : ℕ) → j < n + 1 → (j < n) ⊎ (n ≤ j) → get_or (table (n + 1) g) j x ≡ get_or (table n f ++ (x ∷ [])) j x
+    by j h (inl less) =
+        table-at (n + 1) g j x h ∙ each j less
+        ∙ sym (get_or_append_left (table n f) (x ∷ []) x j (omega (arith, less, table-length n f))
+        ∙ table-at n f j x less)
+    by j h (inr more) =
+        let is : j ≡ n = omega (arith, h, more) in
+        table-at (n + 1) g j x h ∙ ap g is ∙ here ∙ sym (last-is (table n f) x x j (is ∙ sym (table-length n f)))
+
+-- a part of a list
+pub slice-length : (ws : List ℕ) (a n : ℕ) → a + n ≤ length ws → length (take n (drop a ws)) ≡ n
+slice-length ws a n h = length-take-le n (drop a ws) (omega (arith, h, length-drop a ws))
+
+pub slice-at : (ws : List ℕ) (a n k : ℕ) → k < n → get_or (take n (drop a ws)) k 0 ≡ get_or ws (a + k) 0
+slice-at ws a n k h = get_or-take n (drop a ws) k 0 h ∙ get_or-drop a ws k 0
+
+pub slice-is : (ws : List ℕ) (a : ℕ) (xs : List ℕ) → a + length xs ≤ length ws →
+    ((k : ℕ) → k < length xs → get_or ws (a + k) 0 ≡ get_or xs k 0) → take (length xs) (drop a ws) ≡ xs
+slice-is ws a xs room each =
+    ext_get_or 0 (take (length xs) (drop a ws)) xs (slice-length ws a (length xs) room) (λ k h.
+    let less : k < length xs = omega (arith, h, slice-length ws a (length xs) room) in
+    slice-at ws a (length xs) k less ∙ each k less)
+
+pub slice-same : (ws ws' : List ℕ) (a n : ℕ) → a + n ≤ length ws → a + n ≤ length ws' →
+    ((i : ℕ) → a ≤ i → i < a + n → get_or ws' i 0 ≡ get_or ws i 0) → take n (drop a ws') ≡ take n (drop a ws)
+slice-same ws ws' a n h h' each =
+    ext_get_or 0 (take n (drop a ws')) (take n (drop a ws)) (slice-length ws' a n h' ∙ sym (slice-length ws a n h))
+    (λ k l.
+    let less : k < n = omega (arith, l, slice-length ws' a n h') in
+    slice-at ws' a n k less ∙ each (a + k) (omega arith) (omega (arith, less)) ∙ sym (slice-at ws a n k less))
