@@ -32,8 +32,8 @@ pub record Store (words starts rooms : List ℕ) (run : ℕ) (v : Contents) : Ty
   pub blocks : AreBlocks words starts rooms run
   pub is : contents words starts rooms run ≡ v
 
-module _ {words words' starts rooms : List ℕ} {run from to : ℕ} (s : ℕ) (old : AreBlocks words starts rooms run)
-    (some : 0 < number_at rooms s)
+module _ {words words' starts rooms : List ℕ} {run from to : ℕ} {v : Contents} (s : ℕ)
+    (old : AreBlocks words starts rooms run) (is : contents words starts rooms run ≡ v) (some : 0 < number_at rooms s)
     (written : IsWritten from to words words') (above : number_at starts s ≤ from)
     (below : to ≤ number_at starts s + 8 + number_at rooms s) where
   outside : (i : ℕ) → (i < number_at starts s) ⊎ (number_at starts s + 8 + number_at rooms s ≤ i) →
@@ -118,132 +118,106 @@ module _ {words words' starts rooms : List ℕ} {run from to : ℕ} (s : ℕ) (o
       let q = less (watch_place starts e + 1) (omega (arith, at)) in
       rw (p, q) refl))
 
--- its clause is another
-pub clause-written : {words words' starts rooms : List ℕ} {run : ℕ} {v : Contents} (s : ℕ) (xs : List ℕ) →
-    AreBlocks words starts rooms run → contents words starts rooms run ≡ v →
-    0 < number_at rooms s → length xs ≤ number_at rooms s →
-    IsWritten (number_at starts s + 6) (number_at starts s + 8 + number_at rooms s) words words' →
-    number_at words' (number_at starts s + 6) ≡ length xs →
-    number_at words' (number_at starts s + 7) ≡ number_at words (number_at starts s + 7) →
-    ((k : ℕ) → k < length xs → number_at words' (number_at starts s + 8 + k) ≡ number_at xs k) →
-    Store words' starts rooms run (rewritten v s xs)
-clause-written {words} {words'} {starts} {rooms} {run} s xs old is some fits written count stamp each =
-    subst (λ u. Store words' starts rooms run (rewritten u s xs)) is (record {
-      blocks = blocks-kept s old some written (omega arith) (omega arith) (omega (arith, count, fits))
-          (omega (arith, stamp, old.begun_by s inside));
-      is = contents-are _ _
-          (table-set (length starts) (stored_clause words starts) (stored_clause words' starts) s xs here
-          (λ t h n. (beside s old some written (omega arith) (omega arith) t h n).clause))
-          (searches-kept s old some written (omega arith) (omega arith)
-          (let p = less 4 (omega arith) in let q = less 5 (omega arith) in rw (p, q, stamp) refl))
-          (watches-kept s old some written (omega arith) (omega arith)
-          (λ i h. written.outside i (inl (omega (arith, h)))))
-          refl;
-    })
-  where
-    inside : s < length starts
-    inside = room-inside old s some
+  inside : s < length starts
+  inside = room-inside old s some
 
-    less : (i : ℕ) → i < 6 → number_at words' (number_at starts s + i) ≡ number_at words (number_at starts s + i)
-    less i h = written.outside (number_at starts s + i) (inl (omega (arith, h)))
+  -- its clause is another
+  pub clause-written : (xs : List ℕ) → number_at starts s + 6 ≤ from → length xs ≤ number_at rooms s →
+      number_at words' (number_at starts s + 6) ≡ length xs →
+      number_at words' (number_at starts s + 7) ≡ number_at words (number_at starts s + 7) →
+      ((k : ℕ) → k < length xs → number_at words' (number_at starts s + 8 + k) ≡ number_at xs k) →
+      Store words' starts rooms run (rewritten v s xs)
+  clause-written xs after fits count stamp each =
+      subst (λ u. Store words' starts rooms run (rewritten u s xs)) is (record {
+        blocks = blocks-kept (omega (arith, count, fits)) (omega (arith, stamp, old.begun_by s inside));
+        is = contents-are _ _
+            (table-set (length starts) (stored_clause words starts) (stored_clause words' starts) s xs here
+            (λ t h n. (beside t h n).clause))
+            (searches-kept (let p = less 4 (omega arith) in let q = less 5 (omega arith) in rw (p, q, stamp) refl))
+            (watches-kept (λ i h. written.outside i (inl (omega (arith, h, after)))))
+            refl;
+      })
+    where
+      less : (i : ℕ) → i < 6 → number_at words' (number_at starts s + i) ≡ number_at words (number_at starts s + i)
+      less i h = written.outside (number_at starts s + i) (inl (omega (arith, h, after)))
 
-    here : stored_clause words' starts s ≡ xs
-    here = ap (λ k. take k (drop (number_at starts s + 8) words')) count
-        ∙ slice-is words' (number_at starts s + 8) xs (omega (arith, fits, written.size, old.inside s inside)) each
+      here : stored_clause words' starts s ≡ xs
+      here = ap (λ k. take k (drop (number_at starts s + 8) words')) count
+          ∙ slice-is words' (number_at starts s + 8) xs (omega (arith, fits, written.size, old.inside s inside)) each
 
--- the clause is as before
-clause-same : {words words' starts rooms : List ℕ} {run from to : ℕ} (s : ℕ) → AreBlocks words starts rooms run →
-    s < length starts → IsWritten from to words words' →
-    to ≤ number_at starts s + 8 → number_at words' (number_at starts s + 6) ≡ number_at words (number_at starts s + 6) →
-    stored_clause words' starts s ≡ stored_clause words starts s
-clause-same {words} {words'} {starts} s old inside written below count =
-    ap (λ k. take k (drop (number_at starts s + 8) words')) count
-    ∙ slice-same words words' (number_at starts s + 8) (number_at words (number_at starts s + 6))
-    (omega (arith, old.within s inside, old.inside s inside))
-    (omega (arith, old.within s inside, old.inside s inside, written.size))
-    (λ i from to. written.outside i (inr (omega (arith, from, below))))
+  -- the clause is as before
+  clause-same : to ≤ number_at starts s + 8 →
+      number_at words' (number_at starts s + 6) ≡ number_at words (number_at starts s + 6) →
+      (contents words' starts rooms run).literals ≡ (contents words starts rooms run).literals
+  clause-same before count = clauses-kept (ap (λ k. take k (drop (number_at starts s + 8) words')) count
+      ∙ slice-same words words' (number_at starts s + 8) (number_at words (number_at starts s + 6))
+      (omega (arith, old.within s inside, old.inside s inside))
+      (omega (arith, old.within s inside, old.inside s inside, written.size))
+      (λ i from to. written.outside i (inr (omega (arith, from, before)))))
 
--- its search is another
-pub search-written : {words words' starts rooms : List ℕ} {run : ℕ} {v : Contents} (s : ℕ) (x : Search) →
-    AreBlocks words starts rooms run → contents words starts rooms run ≡ v →
-    0 < number_at rooms s → IsWritten (number_at starts s + 4) (number_at starts s + 8) words words' →
-    number_at words' (number_at starts s + 6) ≡ number_at words (number_at starts s + 6) →
-    number_at words' (number_at starts s + 7) ≤ run →
-    stored_search words' starts run s ≡ x → Store words' starts rooms run (searched v s x)
-search-written {words} {words'} {starts} {rooms} {run} s x old is some written count stamp here =
-    subst (λ u. Store words' starts rooms run (searched u s x)) is (record {
-      blocks = blocks-kept s old some written (omega arith) (omega arith)
-          (omega (arith, old.within s inside, count)) stamp;
-      is = contents-are _ _
-          (clauses-kept s old some written (omega arith) (omega arith)
-          (clause-same s old inside written (omega arith) count))
-          (table-set (length starts) (stored_search words starts run) (stored_search words' starts run) s x here
-          (λ t h n. (beside s old some written (omega arith) (omega arith) t h n).search))
-          (watches-kept s old some written (omega arith) (omega arith)
-          (λ i h. written.outside i (inl (omega (arith, h)))))
-          refl;
-    })
-  where
-    inside : s < length starts
-    inside = room-inside old s some
+  -- its search is another
+  pub search-written : (x : Search) → number_at starts s + 4 ≤ from → to ≤ number_at starts s + 8 →
+      number_at words' (number_at starts s + 6) ≡ number_at words (number_at starts s + 6) →
+      number_at words' (number_at starts s + 7) ≤ run → stored_search words' starts run s ≡ x →
+      Store words' starts rooms run (searched v s x)
+  search-written x after before count stamp here =
+      subst (λ u. Store words' starts rooms run (searched u s x)) is (record {
+        blocks = blocks-kept (omega (arith, old.within s inside, count)) stamp;
+        is = contents-are _ _ (clause-same before count)
+            (table-set (length starts) (stored_search words starts run) (stored_search words' starts run) s x here
+            (λ t h n. (beside t h n).search))
+            (watches-kept (λ i h. written.outside i (inl (omega (arith, h, after)))))
+            refl;
+      })
 
--- one of its watches is another
-pub watch-written : {words words' starts rooms : List ℕ} {run : ℕ} {v : Contents} (e : ℕ) (w : Watch) →
-    AreBlocks words starts rooms run → contents words starts rooms run ≡ v →
-    0 < number_at rooms (e / 2) → IsWritten (watch_place starts e) (watch_place starts e + 2) words words' →
-    stored_watch words' starts e ≡ w →
-    Store words' starts rooms run (rewatched v (set v.watches e w))
-watch-written {words} {words'} {starts} {rooms} {run} e w old is some written here =
-    subst (λ (u : Contents). Store words' starts rooms run (rewatched u (set u.watches e w))) is (record {
-      blocks = blocks-kept s old some written (omega arith) (omega arith)
-          (omega (arith, old.within s inside, more 6 (omega arith)))
-          (omega (arith, old.begun_by s inside, more 7 (omega arith)));
-      is = contents-are _ _
-          (clauses-kept s old some written (omega arith) (omega arith)
-          (clause-same s old inside written (omega arith) (more 6 (omega arith))))
-          (searches-kept s old some written (omega arith) (omega arith)
-          (let p = more 4 (omega arith) in let q = more 5 (omega arith) in let r = more 7 (omega arith) in rw
-          (p, q, r) refl))
-          (table-set (2 * length starts) (stored_watch words starts) (stored_watch words' starts) e w here
-          (λ k h n. watch-kept s old some written (omega arith) (omega arith) k h (other k n)))
-          refl;
-    })
-  where
-    s : ℕ
-    s = e / 2
+  -- one of its watches is another
+  pub watch-written : (e : ℕ) (w : Watch) → e / 2 ≡ s → watch_place starts e ≤ from → to ≤ watch_place starts e + 2 →
+      stored_watch words' starts e ≡ w → Store words' starts rooms run (rewatched v (set v.watches e w))
+  watch-written e w side after before here =
+      subst (λ (u : Contents). Store words' starts rooms run (rewatched u (set u.watches e w))) is (record {
+        blocks = blocks-kept (omega (arith, old.within s inside, more 6 (omega arith)))
+            (omega (arith, old.begun_by s inside, more 7 (omega arith)));
+        is = contents-are _ _ (clause-same (omega (arith, before, place)) (more 6 (omega arith)))
+            (searches-kept
+            (let p = more 4 (omega arith) in let q = more 5 (omega arith) in let r = more 7 (omega arith) in
+            rw (p, q, r) refl))
+            (table-set (2 * length starts) (stored_watch words starts) (stored_watch words' starts) e w here
+            (λ k h n. watch-kept k h (other k n)))
+            refl;
+      })
+    where
+      place : number_at starts (e / 2) ≡ number_at starts s
+      place = ap (number_at starts) side
 
-    inside : s < length starts
-    inside = room-inside old s some
+      more : (i : ℕ) → 3 < i → number_at words' (number_at starts s + i) ≡ number_at words (number_at starts s + i)
+      more i h = written.outside (number_at starts s + i) (inr (omega (arith, h, before, place)))
 
-    more : (i : ℕ) → 3 < i → number_at words' (number_at starts s + i) ≡ number_at words (number_at starts s + i)
-    more i h = written.outside (number_at starts s + i) (inr (omega (arith, h)))
+      apart : (k : ℕ) → (k ≡ e → ⊥) → k / 2 ≡ s →
+          (watch_place starts k + 2 ≤ watch_place starts e) ⊎ (watch_place starts e + 2 ≤ watch_place starts k)
+      apart k n half =
+          let at : number_at starts (k / 2) ≡ number_at starts (e / 2) = ap (number_at starts) (half ∙ sym side) in
+          elim (cases_eq (k % 2) 0) [
+            | inl even ↦ inl (elim (cases_eq (e % 2) 0) [
+              | inl same ↦ absurd (n (omega (arith, half, side, even, same)))
+              | inr odd ↦ grind (arith, at, even, odd)
+            ])
+            | inr odd ↦ inr (elim (cases_eq (e % 2) 0) [
+              | inl even ↦ grind (arith, at, even, odd)
+              | inr same ↦ absurd (n (grind (arith, half, side, odd, same)))
+            ])
+          ]
 
-    apart : (k : ℕ) → (k ≡ e → ⊥) → k / 2 ≡ s →
-        (watch_place starts k + 2 ≤ watch_place starts e) ⊎ (watch_place starts e + 2 ≤ watch_place starts k)
-    apart k n half =
-        let at : number_at starts (k / 2) ≡ number_at starts s = ap (number_at starts) half in
-        elim (cases_eq (k % 2) 0) [
-          | inl even ↦ inl (elim (cases_eq (e % 2) 0) [
-            | inl same ↦ absurd (n (omega (arith, half, even, same)))
-            | inr odd ↦ grind (arith, at, even, odd)
-          ])
-          | inr odd ↦ inr (elim (cases_eq (e % 2) 0) [
-            | inl even ↦ grind (arith, at, even, odd)
-            | inr same ↦ absurd (n (grind (arith, half, odd, same)))
-          ])
-        ]
+      same : (k i : ℕ) → (watch_place starts k + 2 ≤ watch_place starts e) ⊎
+          (watch_place starts e + 2 ≤ watch_place starts k) →
+          watch_place starts k ≤ i → i < watch_place starts k + 2 → number_at words' i ≡ number_at words i
+      same k i (inl less) low high = written.outside i (inl (omega (arith, less, low, high, after)))
+      same k i (inr far) low high = written.outside i (inr (omega (arith, far, low, high, before)))
 
-    other : (k : ℕ) → (k ≡ e → ⊥) → k / 2 ≡ s → stored_watch words' starts k ≡ stored_watch words starts k
-    other k n half = elim (apart k n half) [
-      | inl less ↦
-          let p = written.outside (watch_place starts k) (inl (omega (arith, less))) in
-          let q = written.outside (watch_place starts k + 1) (inl (omega (arith, less))) in
+      other : (k : ℕ) → (k ≡ e → ⊥) → k / 2 ≡ s → stored_watch words' starts k ≡ stored_watch words starts k
+      other k n half =
+          let p = same k (watch_place starts k) (apart k n half) (omega arith) (omega arith) in
+          let q = same k (watch_place starts k + 1) (apart k n half) (omega arith) (omega arith) in
           rw (p, q) refl
-      | inr more ↦
-          let p = written.outside (watch_place starts k) (inr (omega (arith, more))) in
-          let q = written.outside (watch_place starts k + 1) (inr (omega (arith, more))) in
-          rw (p, q) refl
-    ]
 
 -- the program's writes of a watch
 module _ {words starts rooms : List ℕ} {run : ℕ} {v : Contents} (e p : ℕ) (old : AreBlocks words starts rooms run)
@@ -255,8 +229,9 @@ module _ {words starts rooms : List ℕ} {run : ℕ} {v : Contents} (e p : ℕ) 
   pub idle-written : Store (set words (p + 1) nowhere) starts rooms run (rewatched v (set v.watches e idle))
   idle-written = subst (λ i. Store (set words (i + 1) nowhere) starts rooms run (rewatched v (set v.watches e idle)))
       (sym at)
-      (watch-written e idle old is some
-      (one-written words _ _ (watch_place starts e + 1) nowhere (omega arith) (omega arith))
+      (watch-written (e / 2) old is some (one-written words (watch_place starts e) (watch_place starts e + 2)
+      (watch_place starts e + 1) nowhere (omega arith) (omega arith))
+      (omega arith) (omega arith) e idle refl (omega arith) (omega arith)
       (ap (watch_of _) (get_or-set_same words (watch_place starts e + 1) nowhere 0 inside-watch)))
 
   pub place-written : (literal spot : ℕ) → number_at words (watch_place starts e) ≡ literal → spot < nowhere →
@@ -268,8 +243,9 @@ module _ {words starts rooms : List ℕ} {run : ℕ} {v : Contents} (e p : ℕ) 
       (let same = get_or-set_other words (watch_place starts e + 1) (watch_place starts e) spot 0
       (λ h. absurd (omega (arith, h))) in
       let q = get_or-set_same words (watch_place starts e + 1) spot 0 inside-watch in
-      watch-written e _ old is some (one-written words _ _ (watch_place starts e + 1) spot (omega arith) (omega arith))
-      (watch-made _ _ literal spot (same ∙ l) q small))
+      watch-written (e / 2) old is some (one-written words (watch_place starts e) (watch_place starts e + 2)
+          (watch_place starts e + 1) spot (omega arith) (omega arith))
+      (omega arith) (omega arith) e _ refl (omega arith) (omega arith) (watch-made _ _ literal spot (same ∙ l) q small))
 
   pub both-written : (literal spot : ℕ) → spot < nowhere →
       Store (set (set words p literal) (p + 1) spot) starts rooms run
@@ -281,9 +257,10 @@ module _ {words starts rooms : List ℕ} {run : ℕ} {v : Contents} (e p : ℕ) 
       let l = get_or-set_other words1 (i + 1) i spot 0 (λ h. absurd (omega (arith, h)))
       ∙ get_or-set_same words i literal 0 (omega (arith, inside-watch)) in
       let q = get_or-set_same words1 (i + 1) spot 0 (omega (arith, inside-watch, length-set words i literal)) in
-      watch-written e _ old is some (then-written (one-written words i (i + 2) i literal (omega arith) (omega arith))
+      watch-written (e / 2) old is some
+          (then-written (one-written words i (i + 2) i literal (omega arith) (omega arith))
       (one-written words1 i (i + 2) (i + 1) spot (omega arith) (omega arith)))
-      (watch-made _ _ literal spot l q small))
+      (omega arith) (omega arith) e _ refl (omega arith) (omega arith) (watch-made _ _ literal spot l q small))
 
 -- and of a search or a clause
 module _ {words starts rooms : List ℕ} {run s a : ℕ} {v : Contents} (old : AreBlocks words starts rooms run)
@@ -316,11 +293,12 @@ module _ {words starts rooms : List ℕ} {run s a : ℕ} {v : Contents} (old : A
       let count = get_or-set_other words2 (b + 7) (b + 6) run 0 (λ h. absurd (omega (arith, h)))
       ∙ get_or-set_other words1 (b + 5) (b + 6) x.passed 0 (λ h. absurd (omega (arith, h)))
       ∙ get_or-set_other words (b + 4) (b + 6) x.position 0 (λ h. absurd (omega (arith, h))) in
-      search-written s x old is some
+      search-written s old is some
       (then-written (one-written words (b + 4) (b + 8) (b + 4) x.position (omega arith) (omega arith))
       (then-written (one-written words1 (b + 4) (b + 8) (b + 5) x.passed (omega arith) (omega arith))
       (one-written words2 (b + 4) (b + 8) (b + 7) run (omega arith) (omega arith))))
-      count (omega (arith, r)) (search-made _ _ _ _ p (passed-own run _ _ r ∙ q)))
+      (omega arith) (omega arith) x (omega arith) (omega arith) count (omega (arith, r))
+      (search-made _ _ _ _ p (passed-own run _ _ r ∙ q)))
 
   pub begin-written : Store (set words (a + 5) 0) starts rooms run
       (searched v s (record { position = (search_at v.searches s).position; passed = 0 }))
@@ -330,8 +308,8 @@ module _ {words starts rooms : List ℕ} {run s a : ℕ} {v : Contents} (old : A
       (let b = number_at starts s in
       let slot = room-inside old s some in
       let other = λ (i : ℕ) (n : i ≡ b + 5 → ⊥). get_or-set_other words (b + 5) i 0 0 n in
-      search-written s _ old is some (one-written words (b + 4) (b + 8) (b + 5) 0 (omega arith) (omega arith))
-      (other (b + 6) (λ h. absurd (omega (arith, h))))
+      search-written s old is some (one-written words (b + 4) (b + 8) (b + 5) 0 (omega arith) (omega arith))
+      (omega arith) (omega arith) _ (omega arith) (omega arith) (other (b + 6) (λ h. absurd (omega (arith, h))))
       (omega (arith, other (b + 7) (λ h. absurd (omega (arith, h))), old.begun_by s slot))
       (search-made _ _ _ _ (other (b + 4) (λ h. absurd (omega (arith, h)))
       ∙ ap (λ (x : Search). x.position) (search-behind old is s slot))
@@ -339,8 +317,10 @@ module _ {words starts rooms : List ℕ} {run s a : ℕ} {v : Contents} (old : A
 
   pub clear-written : Store (set words (a + 6) 0) starts rooms run (rewritten v s [])
   clear-written = subst (λ i. Store (set words (i + 6) 0) starts rooms run (rewritten v s [])) (sym at)
-      (clause-written s [] old is some (omega arith)
-      (one-written words _ _ (number_at starts s + 6) 0 (omega arith) (omega arith))
+      (clause-written s old is some
+      (one-written words (number_at starts s + 6) (number_at starts s + 8) (number_at starts s + 6) 0 (omega arith)
+      (omega arith))
+      (omega arith) (omega arith) [] (omega arith) (omega arith)
       (get_or-set_same words (number_at starts s + 6) 0 0 (omega (arith, inside-block)))
       (get_or-set_other words (number_at starts s + 6) (number_at starts s + 7) 0 0 (λ h. absurd (omega (arith, h))))
       (λ k h. absurd (omega (arith, h))))
@@ -354,14 +334,15 @@ module _ {words starts rooms : List ℕ} {run s a : ℕ} {v : Contents} (old : A
       let n = length xs in
       let next : IsWritten (b + 8) (b + 8 + n) (set words (b + 6) n) words' =
       subst (λ i. IsWritten (i + 8) (i + 8 + n) (set words (i + 6) n) words') at written in
-      clause-written s xs old is some fits
-      (then-written (one-written words _ _ (b + 6) n (omega arith) (omega arith)) (record {
+      clause-written s old is some
+      (then-written (one-written words (b + 6) (b + 8 + n) (b + 6) n (omega arith) (omega arith)) (record {
         size = next.size;
         outside = λ i h. next.outside i (elim h [
           | inl less ↦ inl (omega (arith, less))
-          | inr more ↦ inr (omega (arith, more, fits))
+          | inr more ↦ inr more
         ]);
       }))
+      (omega arith) (omega (arith, fits)) xs (omega arith) fits
       (next.outside (b + 6) (inl (omega arith)) ∙ get_or-set_same words (b + 6) n 0 (omega (arith, inside-block)))
       (next.outside (b + 7) (inl (omega arith))
       ∙ get_or-set_other words (b + 6) (b + 7) n 0 (λ h. absurd (omega (arith, h))))

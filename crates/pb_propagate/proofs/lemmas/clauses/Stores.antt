@@ -134,9 +134,9 @@ none-watched ws s dead_x dead_y = record {
     none k live (inr e) = both_ways _ (ap (λ t. (watch_at ws t).live) e ∙ dead_y) live
 
 -- both watches are live, on two different literals
-pair-watched : (ws : List Watch) (s : ℕ) (xs : List ℕ) (p : Pair) (v w : Watch) → IsPair xs p → watch_at ws (2 * s) ≡ v → watch_at ws (2 * s + 1) ≡ w →
+pair-watched : {xs : List ℕ} {p : Pair} {v w : Watch} (ws : List Watch) (s : ℕ) → IsPair xs p → watch_at ws (2 * s) ≡ v → watch_at ws (2 * s + 1) ≡ w →
     v.live ≡ true → w.live ≡ true → v.literal ≡ get_or xs p.first 0 → w.literal ≡ get_or xs p.second 0 → AreWatchesOf ws s xs
-pair-watched ws s xs p v w pair at_x at_y live_x live_y x_is y_is = record {
+pair-watched {xs} {p} {v} {w} ws s pair at_x at_y live_x live_y x_is y_is = record {
   watched = λ k half live. elim (two-of k s half) [
     | inl e ↦ subst (Contains xs) (sym (ap (λ (z : Watch). z.literal) (first k e) ∙ x_is)) (Contains-get_or xs p.first 0 pair.first)
     | inr e ↦ subst (Contains xs) (sym (ap (λ (z : Watch). z.literal) (second k e) ∙ y_is)) (Contains-get_or xs p.second 0 pair.second)
@@ -229,7 +229,7 @@ rest-fill c b lists1 lists' n m s x y xs p r room empty pair x_is y_is inside fi
       stored = subst (λ cs. AreStored cs b.watches (watch_lists lists'.items)) (sym filled)
           (stored-set s xs r.stored linked room (ap length both ∙ length-set ws1 (2 * s + 1) w2 ∙ length-set c.blocks.watches (2 * s) w1)
           (lists-length lists'.items ∙ sizes ∙ sym (lists-length c.lists.items)) (λ k d h. let small = inside k d h in omega (arith, small, lists-length c.lists.items))
-          (pair-watched b.watches s xs p w1 w2 pair first second refl refl x_is y_is)
+          (pair-watched b.watches s pair first second refl refl x_is y_is)
           (λ k off. let same = ap (λ ws. watch_at ws k) both ∙ get_or-set_other ws1 (2 * s + 1) k w2 idle (λ h. off (omega (arith, h)))
           ∙ get_or-set_other c.blocks.watches (2 * s) k w1 idle (λ h. off (omega (arith, h))) in
           (ap (λ (w : Watch). w.live) same, ap (λ (w : Watch). w.literal) same)));
