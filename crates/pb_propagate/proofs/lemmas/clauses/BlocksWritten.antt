@@ -244,7 +244,7 @@ module _ {words starts rooms : List ℕ} {run : ℕ} {v : Contents} (e p : ℕ) 
       (λ h. absurd (omega (arith, h))) in
       let q = get_or-set_same words (watch_place starts e + 1) spot 0 inside-watch in
       watch-written (e / 2) old is some (one-written words (watch_place starts e) (watch_place starts e + 2)
-          (watch_place starts e + 1) spot (omega arith) (omega arith))
+      (watch_place starts e + 1) spot (omega arith) (omega arith))
       (omega arith) (omega arith) e _ refl (omega arith) (omega arith) (watch-made _ _ literal spot (same ∙ l) q small))
 
   pub both-written : (literal spot : ℕ) → spot < nowhere →
@@ -258,7 +258,7 @@ module _ {words starts rooms : List ℕ} {run : ℕ} {v : Contents} (e p : ℕ) 
       ∙ get_or-set_same words i literal 0 (omega (arith, inside-watch)) in
       let q = get_or-set_same words1 (i + 1) spot 0 (omega (arith, inside-watch, length-set words i literal)) in
       watch-written (e / 2) old is some
-          (then-written (one-written words i (i + 2) i literal (omega arith) (omega arith))
+      (then-written (one-written words i (i + 2) i literal (omega arith) (omega arith))
       (one-written words1 i (i + 2) (i + 1) spot (omega arith) (omega arith)))
       (omega arith) (omega arith) e _ refl (omega arith) (omega arith) (watch-made _ _ literal spot l q small))
 
