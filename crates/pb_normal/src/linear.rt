@@ -22,7 +22,7 @@ use pb_sums::{Linear, Term};
 use pb_text::Limits;
 use std::alloc::{AllocError, Global};
 
-/// What room for a term has before one is written.
+/// What a buffer of terms has where none was written yet.
 const NOTHING: Entry = Entry {
     variable: 0,
     negated: false,
@@ -132,22 +132,22 @@ fn side_terms(
     ensures distinct { AreDistinct names.new }
 {
     if terms.len() <= FEW {
-        let mut room = [NOTHING; FEW];
-        return side_terms_in(alloc, names, terms, side, &mut room[..terms.len()]);
+        let mut buffer = [NOTHING; FEW];
+        return side_terms_in(alloc, names, terms, side, &mut buffer[..terms.len()]);
     }
-    let mut room = Vec::from_elem(alloc, NOTHING, terms.len())?;
-    side_terms_in(alloc, names, terms, side, room.as_mut_slice())
+    let mut buffer = Vec::from_elem(alloc, NOTHING, terms.len())?;
+    side_terms_in(alloc, names, terms, side, buffer.as_mut_slice())
 }
 
-// The same in room for as many terms.
+// The same with a buffer for as many terms.
 fn side_terms_in(
     alloc: Global,
     names: &mut Names,
     terms: &[Term],
     side: Side,
-    room: &mut [Entry],
+    buffer: &mut [Entry],
 ) -> Result<(Terms, u128), AllocError>
-    requires room { length room.old ≡ length terms.now }
+    requires size { length buffer.old ≡ length terms.now }
     requires small { magnitude terms.now < 2 ^ 127 }
     requires names_distinct { AreDistinct names.old }
     ensures names { OnOk result (names.new ≡ with_names names.old (names_of terms.now)) }
@@ -158,8 +158,8 @@ fn side_terms_in(
     ensures err { OnErr result (AfterPrefix names.old (names_of terms.now) names.new) }
     ensures distinct { AreDistinct names.new }
 {
-    number(names, terms, side, room)?;
-    collected(alloc, room)
+    number(names, terms, side, buffer)?;
+    collected(alloc, buffer)
 }
 
 // Writes the terms of that side as positive coefficients on literals, over the numbers of their

@@ -6,6 +6,7 @@ ghost use Rattle.pb_text.specs.meaning.Spelling.{place_next, place_or};
 ghost use Rattle.pb_text.specs.contract.Standing.{opened};
 ghost use Rattle.pb_text.specs.meaning.Stopping.{IsShown};
 
+mod fast;
 mod statement;
 
 use crate::machine::{Machine, Push};
@@ -221,131 +222,6 @@ impl<M: Machine> Feeder<M> {
         stop
     }
 
-    /// Takes a byte that ends a statement, if that is fast.
-    fn try_finish(&mut self, byte: u8) -> Option<Spanned<M::Event>>
-        requires unfinished { is_complete self.old ≡ false }
-        requires running { halt_of self.old ≡ None }
-        requires state { IsState M.automaton (state_of self.old) }
-        ensures stands { (longest : ℕ) (start : M) (input : List ℕ) (spans : List (Spanned M.Event))
-            → StandsAt longest start input spans self.old
-            → StandsAt longest start (input ++ (if is_some result then byte ∷ [] else []))
-            (spans ++ spans_in result) self.new }
-        ensures offset { (place_of self.new).offset ≡ (place_of self.old).offset + (if is_some
-            result then 1 else 0) }
-        ensures past { (event : Spanned M.Event) → result ≡ Some event →
-            event.past ≡ place_of self.new }
-        ensures unfinished { result ≡ None → is_complete self.new ≡ false }
-        ensures running { halt_of self.new ≡ None }
-        ensures state { IsState M.automaton (state_of self.new) }
-    {
-        if self.place.offset == self.end {
-            return None;
-        }
-        match self.machine.try_finish(byte) {
-            Some(event) => Some(self.span(event, byte)),
-            None => None,
-        }
-    }
-
-    /// Takes a prefix of a piece that is fast to take and ends no statement. It returns the length
-    /// of the prefix.
-    #[inline(always)]
-    pub(crate) fn feed_fast(&mut self, piece: &[u8]) -> usize
-        requires unfinished { is_complete self.old ≡ false }
-        requires running { halt_of self.old ≡ None }
-        requires state { IsState M.automaton (state_of self.old) }
-        ensures bound { result ≤ length piece.now }
-        ensures stands { (longest : ℕ) (start : M) (input : List ℕ) (spans : List (Spanned M.Event))
-            → StandsAt longest start input spans self.old
-            → StandsAt longest start (input ++ take result piece.now) spans self.new }
-        ensures offset { (place_of self.new).offset ≡ (place_of self.old).offset + result }
-        ensures running { halt_of self.new ≡ None }
-        ensures unfinished { is_complete self.new ≡ false }
-        ensures state { IsState M.automaton (state_of self.new) }
-    {
-        let entered = self.skip_gap(piece);
-        entered + self.feed_body(&piece[entered..])
-    }
-
-    /// If no statement has begun, takes a prefix of a piece, at most through the first byte of one.
-    /// It returns the length.
-    #[inline(always)]
-    fn skip_gap(&mut self, piece: &[u8]) -> usize
-        requires unfinished { is_complete self.old ≡ false }
-        requires running { halt_of self.old ≡ None }
-        requires state { IsState M.automaton (state_of self.old) }
-        ensures bound { result ≤ length piece.now }
-        ensures stands { (longest : ℕ) (start : M) (input : List ℕ) (spans : List (Spanned M.Event))
-            → StandsAt longest start input spans self.old
-            → StandsAt longest start (input ++ take result piece.now) spans self.new }
-        ensures offset { (place_of self.new).offset ≡ (place_of self.old).offset + result }
-        ensures running { halt_of self.new ≡ None }
-        ensures unfinished { is_complete self.new ≡ false }
-        ensures state { IsState M.automaton (state_of self.new) }
-    {
-        let mut used: usize = 0;
-        while used < piece.len() {
-            if !self.try_continue(piece[used]) {
-                return used;
-            }
-            used += 1;
-        }
-        used
-    }
-
-    /// Takes a byte between two statements, or the first byte of one, if that is fast. It returns
-    /// whether it did.
-    #[inline(always)]
-    fn try_continue(&mut self, byte: u8) -> bool
-        requires unfinished { is_complete self.old ≡ false }
-        requires running { halt_of self.old ≡ None }
-        requires state { IsState M.automaton (state_of self.old) }
-        ensures stands { (longest : ℕ) (start : M) (input : List ℕ) (spans : List (Spanned M.Event))
-            → StandsAt longest start input spans self.old
-            → StandsAt longest start (input ++ (if result then byte ∷ [] else [])) spans self.new }
-        ensures offset { (place_of self.new).offset ≡ (place_of self.old).offset + (if
-            result then 1 else 0) }
-        ensures running { halt_of self.new ≡ None }
-        ensures unfinished { is_complete self.new ≡ false }
-        ensures state { IsState M.automaton (state_of self.new) }
-    {
-        if self.first.is_some() || self.place.offset == self.end {
-            return false;
-        }
-        let starts = self.machine.starts(byte);
-        if !self.machine.try_continue(byte) {
-            return false;
-        }
-        self.move_on(starts, byte);
-        true
-    }
-
-    /// Takes a prefix of a piece while the statement that has begun continues. It returns the
-    /// length of the prefix.
-    #[inline(always)]
-    fn feed_body(&mut self, piece: &[u8]) -> usize
-        requires unfinished { is_complete self.old ≡ false }
-        requires running { halt_of self.old ≡ None }
-        requires state { IsState M.automaton (state_of self.old) }
-        ensures bound { result ≤ length piece.now }
-        ensures stands { (longest : ℕ) (start : M) (input : List ℕ) (spans : List (Spanned M.Event))
-            → StandsAt longest start input spans self.old
-            → StandsAt longest start (input ++ take result piece.now) spans self.new }
-        ensures offset { (place_of self.new).offset ≡ (place_of self.old).offset + result }
-        ensures running { halt_of self.new ≡ None }
-        ensures unfinished { is_complete self.new ≡ false }
-        ensures state { IsState M.automaton (state_of self.new) }
-    {
-        if self.first.is_none() {
-            return 0;
-        }
-        let room = (self.end - self.place.offset) as usize;
-        let prefix = &piece[..piece.len().min(room)];
-        let used = self.machine.take_run(prefix);
-        self.place = self.place.past(&prefix[..used]);
-        used
-    }
-
     /// Takes one byte.
     pub(crate) fn take(&mut self, byte: u8) -> Result<Option<Spanned<M::Event>>, Stop>
         requires unfinished { is_complete self.old ≡ false }
@@ -402,7 +278,11 @@ impl<M: Machine> Feeder<M> {
     /// Advances past the byte that ends a statement, and returns its event with its positions.
     fn span(&mut self, event: M::Event, byte: u8) -> Spanned<M::Event>
         requires room { self.old.place.offset < self.old.end }
-        ensures spans { result ≡ record { event = event; first = place_or self.old.first self.old.place; past = self.new.place } }
+        ensures spans { result ≡ record {
+          event = event;
+          first = place_or self.old.first self.old.place;
+          past = self.new.place;
+        } }
         ensures machine { self.new.machine ≡ self.old.machine }
         ensures place { self.new.place ≡ place_next self.old.place byte }
         ensures first { self.new.first ≡ None }
