@@ -50,7 +50,12 @@ impl Flat {
             HoldAll before rows spans self.old
             → OnOk result
             (HoldAll (before ++ terms.now)
-            (rows ++ (record { kind = kind; end = length (before ++ terms.now); degree = degree }) ∷ []) (spans ++ span ∷ []) self.new) }
+            (rows ++ (record {
+              kind = kind;
+              end = length (before ++ terms.now);
+              degree = degree;
+            }) ∷ [])
+            (spans ++ span ∷ []) self.new) }
     {
         self.named.extend(terms)?;
         let end = self.named.len();

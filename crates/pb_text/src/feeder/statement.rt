@@ -75,8 +75,8 @@ impl<M: Machine> Feeder<M> {
         }
     }
 
-    /// Takes a prefix of a piece in parts, at most through the end of a statement. The result counts
-    /// the bytes that were skipped before the piece.
+    /// Takes a prefix of a piece in parts, at most through the end of a statement. The result
+    /// counts the bytes that were skipped before the piece.
     fn feed_part(&mut self, skipped: usize, piece: &[u8]) -> Fed<M::Event>
         requires room { skipped + length piece.now < 2 ^ 64 }
         requires unfinished { is_complete self.old ≡ false }

@@ -40,9 +40,12 @@ impl InstanceText {
     /// Adds a statement to the text, after the stored objective, if any. If memory ran out, the
     /// text is unchanged.
     fn push(&mut self, event: &OpbEvent) -> Result<(), AllocError>
-        ensures ok { OnOk result
-            (self.new ≡ record
-            self.old { page = record self.old.page { text = self.old.page.text ++ (line_if self.old.objective ++ line event.now) }; objective = None }) }
+        ensures ok { OnOk result (self.new ≡ record self.old {
+          page = record self.old.page {
+            text = self.old.page.text ++ (line_if self.old.objective ++ line event.now);
+          };
+          objective = None;
+        }) }
         ensures unchanged { OnErr result (self.new ≡ self.old) }
     {
         let mark = self.page.mark();

@@ -53,9 +53,11 @@ impl ProofText {
 
     /// Adds a step to the text. If memory ran out, the text is unchanged.
     fn push(&mut self, step: &Statement) -> Result<(), AllocError>
-        ensures ok { OnOk result
-            (self.new ≡ record
-            self.old { steps = record self.old.steps { text = self.old.steps.text ++ line step.now } }) }
+        ensures ok { OnOk result (self.new ≡ record self.old {
+          steps = record self.old.steps {
+            text = self.old.steps.text ++ line step.now;
+          };
+        }) }
         ensures unchanged { OnErr result (self.new ≡ self.old) }
     {
         let mark = self.steps.mark();
