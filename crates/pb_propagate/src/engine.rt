@@ -58,7 +58,12 @@ impl Model for Engine {
     ghost use Rattle.pb_propagate.specs.engine.Engine.Root.{IsRootOf, IsKeptConflict};
     ghost use Rattle.pb_propagate.specs.engine.Clauses.Shapes.{all_of};
 
-    ghost view = { λ e. record { forms = numbered (forms_of e.store.stored.items) e.places.items; variables = e.store.variables; visits = e.visits; spent = e.spent } };
+    ghost view = { λ e. record {
+      forms = numbered (forms_of e.store.stored.items) e.places.items;
+      variables = e.store.variables;
+      visits = e.visits;
+      spent = e.spent;
+    } };
 
     ghost invariant = { λ e. e.spent ≡ false →
         IsAtRest e.store e.clauses (forms_of e.store.stored.items) ×

@@ -220,9 +220,11 @@ impl Blocks {
     pub fn place(&mut self, watch: usize, spot: usize)
         requires live { (watch_at self.old.watches watch).live ≡ true }
         requires small { spot < 2 ^ 32 - 1 }
-        ensures { self.new ≡ rewatched self.old
-            (slice_set self.old.watches watch
-            record { literal = (watch_at self.old.watches watch).literal; live = true; spot = spot }) }
+        ensures { self.new ≡ rewatched self.old (slice_set self.old.watches watch record {
+          literal = (watch_at self.old.watches watch).literal;
+          live = true;
+          spot = spot;
+        }) }
     {
         let place = place_in(self.starts[watch / 2], watch);
         self.words[place + 1] = spot as u32;

@@ -134,8 +134,11 @@ pub fn put_in(
     requires linked { AreLinked blocks.old.watches (watch_lists lists.old.items) }
     ensures linked { OnOk result (AreLinked blocks.new.watches (watch_lists lists.new.items)) }
     ensures watches { OnOk result (blocks.new ≡ rewatched blocks.old
-        (slice_set blocks.old.watches watch
-        record { literal = literal; live = true; spot = length (list_at (watch_lists lists.old.items) literal) })) }
+        (slice_set blocks.old.watches watch record {
+          literal = literal;
+          live = true;
+          spot = length (list_at (watch_lists lists.old.items) literal);
+        })) }
     ensures kept { blocks.new ≡ rewatched blocks.old blocks.new.watches }
     ensures sizes { OnOk result (length lists.new.items ≡ length lists.old.items) }
     ensures others { OnOk result ((l : ℕ) → (l ≡ literal → ⊥) →

@@ -66,7 +66,8 @@ impl Search {
         assignment: &Assignment,
         visits: &mut Visits,
     ) -> Search
-        requires within { (self.position < length literals.now) × (self.passed ≤ length literals.now) }
+        requires within { (self.position < length literals.now) ×
+            (self.passed ≤ length literals.now) }
         requires inside { All (λ x. x < 4 * length assignment.now.values.items) literals.now }
         ensures position { result.position < length literals.now }
         ensures within { (self.passed ≤ result.passed) × (result.passed ≤ length literals.now) }

@@ -95,8 +95,8 @@ fn link(
     ensures linked { OnOk result ((base : List Shape) (all : List (List ℕ)) → form < length base →
         terms_at base form ≡ stored_terms kept.now → form < length all →
         IsLinked (cut base form 0) (slice_set all form []) (entries_of base lists.old.items) →
-        IsLinked (cut base form (length (stored_terms kept.now))) (slice_set all form spots.new.items)
-        (entries_of base lists.new.items)) }
+        IsLinked (cut base form (length (stored_terms kept.now)))
+        (slice_set all form spots.new.items) (entries_of base lists.new.items)) }
 {
     'terms: for i in 0..kept.len() {
         let term = kept.term(i);

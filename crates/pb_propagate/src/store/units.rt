@@ -25,7 +25,8 @@ pub fn only_literal(kept: &StoredForm) -> Option<NumberedLiteral>
 
 /// Whether a form is a unit of the literal: it has no other, and is not met without it.
 pub fn is_unit(kept: &StoredForm, literal: NumberedLiteral) -> bool
-    ensures { result ≡ true → IsOnly (stored_terms kept.now) literal × (0 < stored_degree kept.now) }
+    ensures { result ≡ true → IsOnly (stored_terms kept.now) literal ×
+        (0 < stored_degree kept.now) }
 {
     if kept.degree() == 0 {
         return false;
