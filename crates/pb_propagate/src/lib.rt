@@ -5,7 +5,7 @@
 mod assignment;
 mod clause;
 mod clauses;
-mod eager;
+mod waiting;
 mod engine;
 mod free;
 mod heads;
