@@ -22,7 +22,7 @@ use crate::engine::root::Root;
 use crate::engine::visits::Visits;
 use crate::free::Free;
 use crate::shared::Shared;
-use crate::slots::{clause_size, add_form, remove_form, empty_slot};
+use crate::slots::{add_form, clause_size, empty_slot, remove_form};
 use crate::store::Store;
 use pb_normal::{Normal, NumberedLiteral};
 use std::alloc::{AllocError, Global};
@@ -158,7 +158,8 @@ impl Engine {
         self.places[number] = usize::MAX;
         self.root.remove(&self.store, &self.clauses, slot);
         let units = self.root.units.as_slice();
-        self.conflict.remove(&self.store, &self.clauses, units, slot);
+        self.conflict
+            .remove(&self.store, &self.clauses, units, slot);
         remove_form(&mut self.store, &mut self.clauses, slot);
         self.free.put(slot, self.clauses.room(slot));
     }

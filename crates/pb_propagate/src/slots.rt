@@ -14,7 +14,7 @@ use crate::clauses::watched::{Pair, pick};
 use crate::free::Free;
 use crate::shared::Shared;
 use crate::store::Store;
-use crate::store::occurrence_lists::{fill, clear_slot, watch, widen};
+use crate::store::occurrence_lists::{clear_slot, fill, watch, widen};
 use crate::store::stored_form::StoredForm;
 use pb_normal::Normal;
 use std::alloc::{AllocError, Global};

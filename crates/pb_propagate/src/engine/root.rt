@@ -14,7 +14,6 @@ ghost use Rattle.pb_propagate.specs.engine.Clauses.Shapes.{AreJoined, clauses_of
 
 use crate::assignment::Assignment;
 use crate::clauses::Clauses;
-use crate::waiting::Waiting;
 use crate::engine::conflict::Conflict;
 use crate::engine::visits::Visits;
 use crate::heads::{Heads, Order, Walked};
@@ -23,6 +22,7 @@ use crate::run::{Run, place_of, propagate, queue, undo_forms};
 use crate::store::Store;
 use crate::store::opened::open_under;
 use crate::store::units::only_literal;
+use crate::waiting::Waiting;
 use std::alloc::{AllocError, Global};
 
 /// The literals that the live forms force with nothing assumed, and the state of each form under

@@ -9,10 +9,10 @@ ghost use Rattle.pb_propagate.specs.engine.Engine.Links.{terms_at};
 ghost use Rattle.pb_propagate.specs.engine.Engine.Refreshed.{AreRefreshed, IsRefreshed, Lacks};
 ghost use Rattle.pb_propagate.specs.engine.Engine.Root.{IsSized};
 
-use crate::waiting::Waiting;
 use crate::engine::root::Root;
 use crate::run::place_of;
 use crate::store::Store;
+use crate::waiting::Waiting;
 use pb_normal::NumberedLiteral;
 
 // A form waits if its open sum is below its bound.
