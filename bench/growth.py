@@ -175,7 +175,7 @@ def lent(count):
 # The families, each with its smallest size.
 FAMILIES = {
     facts: 2_500, chain: 2_500, again: 4_000, satisfied: 20_000, copies: 10_000, sums: 8_000, weakened: 10_000, axioms: 10_000,
-    divided: 5_000, multiplied: 5_000, deleted: 10_000, dropped: 2_500, reasons: 2_500, pairs: 2_500, news: 2_500,
+    divided: 10_000, multiplied: 10_000, deleted: 10_000, dropped: 2_500, reasons: 2_500, pairs: 2_500, news: 2_500,
     heavy: 2_500, late: 2_500, fallen: 2_500, shortened: 1_000, withdrawn: 1_000, lent: 2_500,
 }
 

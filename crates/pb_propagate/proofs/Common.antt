@@ -39,7 +39,7 @@ pub use Rattle.pb_propagate.specs.declared.clauses.lists.Watch.{Watch}
 pub use Rattle.pb_propagate.specs.declared.clauses.search.Search.{Search}
 pub use Rattle.pb_propagate.specs.declared.clauses.watched.Pair.{Pair}
 pub use Rattle.pb_propagate.specs.declared.clauses.visiting.Visit.TheVariants.{Falsified, Forces, Leaves, Stays}
-pub use Rattle.pb_propagate.specs.declared.eager.Eager.{Eager}
+pub use Rattle.pb_propagate.specs.declared.waiting.Waiting.{Waiting}
 pub use Rattle.pb_propagate.specs.declared.heads.Heads.{Heads}
 pub use Rattle.pb_propagate.specs.declared.rests.Rests.{Rests}
 pub use Rattle.pb_propagate.specs.declared.run.Run.{Run}
@@ -85,7 +85,7 @@ pub use Rattle.pb_propagate.specs.engine.Engine.Progress.{taken_to, visited_to, 
 pub use Rattle.pb_propagate.specs.engine.Engine.Propagation.{GoesBack, IsReadyRun, Propagates, RunGains, RunPuts, RunVisits}
 pub use Rattle.pb_propagate.specs.engine.Engine.Reached.{HasClash, HasEnded, IsCovered, IsFrom, IsMade}
 pub use Rattle.pb_propagate.specs.engine.Engine.Rest.{AreSlots, derived, IsAtRest, IsEnded, IsRefuted, IsSlot}
-pub use Rattle.pb_propagate.specs.engine.Engine.Root.{alone, HasForm, HasGained, HasLost, HasOtherReasons, HasReached, HasVacated, HasWidened}
+pub use Rattle.pb_propagate.specs.engine.Engine.Root.{alone, HasForm, HasGained, HasLost, HasOtherReasons, RunIsWidened, HasCleared, HasWidened}
 pub use Rattle.pb_propagate.specs.engine.Engine.Root.{HasMet, HasUpdated, IsAnswered, IsAsked, IsConflict, IsFree, IsKeptConflict, IsMet}
 pub use Rattle.pb_propagate.specs.engine.Engine.Root.{IsNeedless, IsOtherUnit, IsRooted, IsVacant, posed, UpdateCosts}
 pub use Rattle.pb_propagate.specs.engine.Engine.Slots.{ArePlaced, form_at, numbered}

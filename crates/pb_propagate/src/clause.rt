@@ -45,8 +45,8 @@ pub fn is_clause(form: &Normal) -> bool
     if entries.len() < 2 {
         return false;
     }
-    'entries: for i in 0..entries.len() {
-        if !is_light(entries.get(i)) {
+    'entries: for entry in entries.iter() {
+        if !is_light(entry) {
             return false;
         }
     }
@@ -88,8 +88,7 @@ pub fn codes_of(alloc: Global, entries: &Terms) -> Result<Vec<u32>, AllocError>
 {
     let group = group_of(entries.len());
     let mut codes = Vec::with_capacity(alloc, entries.len())?;
-    'entries: for i in 0..entries.len() {
-        let entry = entries.get(i);
+    'entries: for entry in entries.iter() {
         let term = term_of(entry);
         codes.push(code_of(group, term.literal) as u32)?;
     }

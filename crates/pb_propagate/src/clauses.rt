@@ -169,11 +169,11 @@ impl Clauses {
         if !self.is_filled(slot) {
             return;
         }
-        self.vacate(slot);
+        self.remove_clause(slot);
     }
 
     // Removes the clause of a slot, which is then empty.
-    fn vacate(&mut self, slot: usize)
+    fn remove_clause(&mut self, slot: usize)
         requires rest { AreReady self.old }
         requires some { 0 < length (list_at self.old.blocks.literals slot) }
         ensures rest { AreReady self.new }

@@ -22,7 +22,7 @@ use crate::engine::root::Root;
 use crate::engine::visits::Visits;
 use crate::free::Free;
 use crate::shared::Shared;
-use crate::slots::{clause_size, occupy, quit, vacancy};
+use crate::slots::{add_form, clause_size, empty_slot, remove_form};
 use crate::store::Store;
 use pb_normal::{Normal, NumberedLiteral};
 use std::alloc::{AllocError, Global};
@@ -132,16 +132,16 @@ impl Engine {
         ensures ready { OnOk result (self.new.spent ≡ false) }
     {
         self.spent = true;
-        let slot = vacancy(
+        let slot = empty_slot(
             &mut self.store,
             &mut self.clauses,
             &mut self.free,
             clause_size(form.form()),
         )?;
         let assigned = &self.root.run.assignment;
-        occupy(&mut self.store, &mut self.clauses, assigned, slot, form)?;
+        add_form(&mut self.store, &mut self.clauses, assigned, slot, form)?;
         self.root.note(&self.store, slot);
-        self.root.admit(&self.store, &self.clauses, slot)?;
+        self.root.add(&self.store, &self.clauses, slot)?;
         self.places.push(slot)?;
         self.spent = false;
         Ok(())
@@ -161,10 +161,11 @@ impl Engine {
             return;
         }
         self.places[number] = usize::MAX;
-        self.root.lose(&self.store, &self.clauses, slot);
+        self.root.remove(&self.store, &self.clauses, slot);
         let units = self.root.units.as_slice();
-        self.conflict.lose(&self.store, &self.clauses, units, slot);
-        quit(&mut self.store, &mut self.clauses, slot);
+        self.conflict
+            .remove(&self.store, &self.clauses, units, slot);
+        remove_form(&mut self.store, &mut self.clauses, slot);
         self.free.put(slot, self.clauses.room(slot));
     }
 

@@ -5,7 +5,6 @@
 mod assignment;
 mod clause;
 mod clauses;
-mod eager;
 mod engine;
 mod free;
 mod heads;
@@ -17,6 +16,7 @@ mod slots;
 mod store;
 mod term;
 mod tight;
+mod waiting;
 mod walk;
 
 pub use engine::Engine;

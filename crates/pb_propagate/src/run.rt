@@ -6,7 +6,7 @@ ghost use Rattle.pb_normal.specs.meaning.Rules.{negation};
 ghost use Rattle.pb_propagate.specs.engine.Engine.Lists.{has, Conflicts};
 ghost use Rattle.pb_propagate.specs.engine.Engine.Counts.{place, Grown, IsAbsent, Adopted};
 ghost use Rattle.pb_propagate.specs.engine.Engine.Progress.{progress, IfFound, IfNotFound, RunIsCounted, RunIsOpen, RunIsTidy, shapes_in, list_of, RunIsCalm, RunIsUndone, RunIsShort, RunFits, RunReasons, RunRecords, RunLowers, RunCosts, RunSpends};
-ghost use Rattle.pb_propagate.specs.engine.Engine.Propagation.{IsReadyRun, Propagates, RunGains, HasSettled, RunPuts, RunVisits};
+ghost use Rattle.pb_propagate.specs.engine.Engine.Propagation.{IsReadyRun, Propagates, RunGains, HasPropagated, RunPuts, RunVisits};
 ghost use Rattle.pb_propagate.specs.engine.Clauses.Marks.{KeepsMarks};
 ghost use Rattle.pb_propagate.specs.engine.Engine.Fields.{shapes_of, IsSound};
 ghost use Rattle.pb_propagate.specs.engine.Engine.Links.{terms_at};
@@ -233,7 +233,7 @@ pub fn propagate(
     ensures gains { OnOk result (RunGains run.old run.new) }
     ensures conflict { IfFound result (Conflicts (all_of store.now clauses.old) (list_of run.new)) }
     ensures settled { IfNotFound result (
-        HasSettled store.now rests.now clauses.old clauses.new waiting.now from run.old run.new) }
+        HasPropagated store.now rests.now clauses.old clauses.new waiting.now from run.old run.new) }
 {
     let mut taken = 0;
     let mut heads = from;

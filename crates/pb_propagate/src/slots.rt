@@ -3,7 +3,7 @@
 ghost use Rattle.std.specs.Prelude.{◌≡◌, ℕ, ◌<◌, ◌++◌, ◌∷◌, [], All, Some, None, length, slice_get, slice_set, slice_index_or, IfSome, IfOk, OnOk, OnErr};
 ghost use Rattle.pb_propagate.specs.engine.Engine.Fields.{forms_of};
 ghost use Rattle.pb_propagate.specs.engine.Engine.Rest.{IsAtRest};
-ghost use Rattle.pb_propagate.specs.engine.Engine.Root.{HasWidened, HasGained, HasVacated};
+ghost use Rattle.pb_propagate.specs.engine.Engine.Root.{HasWidened, HasGained, HasCleared};
 ghost use Rattle.pb_propagate.specs.engine.Clauses.Shapes.{IsClause, IsPlanned};
 ghost use Rattle.pb_propagate.specs.engine.Clauses.Runs.{AreFree, AreReady, CanHold, IsFreePair, IsRefitted};
 
@@ -14,7 +14,7 @@ use crate::clauses::watched::{Pair, pick};
 use crate::free::Free;
 use crate::shared::Shared;
 use crate::store::Store;
-use crate::store::occurrence_lists::{fill, vacate, watch, widen};
+use crate::store::occurrence_lists::{clear_slot, fill, watch, widen};
 use crate::store::stored_form::StoredForm;
 use pb_normal::Normal;
 use std::alloc::{AllocError, Global};
@@ -44,7 +44,7 @@ pub fn clause_size(form: &Normal) -> usize
 
 /// A slot without a form: that of a removed form, or a new one. A clause of `count` literals fits
 /// into its block, if it has one.
-pub fn vacancy(
+pub fn empty_slot(
     store: &mut Store,
     clauses: &mut Clauses,
     free: &mut Free,
@@ -111,7 +111,7 @@ fn plan(
 
 /// Stores a form in an empty slot. A clause of which the assigned literals falsify all but one or
 /// all is stored with its entries.
-pub fn occupy(
+pub fn add_form(
     store: &mut Store,
     clauses: &mut Clauses,
     assigned: &Assignment,
@@ -147,15 +147,15 @@ pub fn occupy(
 }
 
 /// Removes the form of a slot, which is then empty.
-pub fn quit(store: &mut Store, clauses: &mut Clauses, slot: usize)
+pub fn remove_form(store: &mut Store, clauses: &mut Clauses, slot: usize)
     requires rest { IsAtRest store.old clauses.old (forms_of store.old.stored.items) }
     requires slot { slot < length store.old.stored.items }
     ensures rest { IsAtRest store.new clauses.new (forms_of store.new.stored.items) }
     ensures forms { forms_of store.new.stored.items ≡ slice_set
         (forms_of store.old.stored.items) slot None }
-    ensures vacated { HasVacated store.old clauses.old store.new clauses.new slot }
+    ensures vacated { HasCleared store.old clauses.old store.new clauses.new slot }
     ensures variables { store.new.variables ≡ store.old.variables }
 {
     clauses.empty(slot);
-    vacate(store, slot);
+    clear_slot(store, slot);
 }

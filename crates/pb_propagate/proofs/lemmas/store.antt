@@ -5,7 +5,7 @@ pub mod Gets
 pub mod Links
 pub mod Placed
 pub mod Places
-pub mod Seats
+pub mod Positions
 pub mod Slots
 pub mod Sorted
 pub mod Storages

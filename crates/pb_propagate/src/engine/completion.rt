@@ -52,7 +52,7 @@ fn assume(
 
 /// The values after the given literals are assigned and propagated, from a list that is walked, or
 /// `None` if a conflict is met.
-pub fn settle(
+pub fn propagate_given(
     store: &Store,
     rests: &Rests,
     clauses: &mut Clauses,
@@ -123,7 +123,7 @@ pub fn extend(
     }
     let count = root.run.assignment.list.len();
     root.spare.clear();
-    let values = settle(
+    let values = propagate_given(
         store,
         &root.rests,
         clauses,

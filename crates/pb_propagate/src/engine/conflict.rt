@@ -96,7 +96,7 @@ impl Conflict {
 
     /// The form of a slot goes. The conflict stays if its literals have other reasons, and the form
     /// is not the falsified one.
-    pub fn lose(&mut self, store: &Store, clauses: &Clauses, units: &[usize], slot: usize)
+    pub fn remove(&mut self, store: &Store, clauses: &Clauses, units: &[usize], slot: usize)
         requires slot { slot < length store.now.stored.items }
         requires sound { IsSound store.now }
         requires joined { AreJoined (shapes_of store.now.stored.items) (clauses_of clauses.now) }

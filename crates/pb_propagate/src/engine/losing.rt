@@ -8,7 +8,7 @@ ghost use Rattle.pb_propagate.specs.engine.Engine.Progress.{list_of, reasons_of}
 ghost use Rattle.pb_propagate.specs.engine.Engine.Fields.{shapes_of, forms_of, IsSound};
 ghost use Rattle.pb_propagate.specs.engine.Engine.Refreshed.{IsReleased, IsShortened, IsSomeRoot};
 ghost use Rattle.pb_propagate.specs.engine.Engine.Rest.{AreSlots};
-ghost use Rattle.pb_propagate.specs.engine.Engine.Root.{IsRootOf, IsNeedless, Loses};
+ghost use Rattle.pb_propagate.specs.engine.Engine.Root.{IsRootOf, IsNeedless, HasRemoved};
 ghost use Rattle.pb_propagate.specs.engine.Clauses.Runs.{AreReady};
 ghost use Rattle.pb_propagate.specs.engine.Clauses.Shapes.{AreJoined, clauses_of, all_of};
 
@@ -91,7 +91,7 @@ impl Root {
     }
 
     /// The form of a slot goes.
-    pub fn lose(&mut self, store: &Store, clauses: &Clauses, slot: usize)
+    pub fn remove(&mut self, store: &Store, clauses: &Clauses, slot: usize)
         requires slot { slot < length store.now.stored.items }
         requires sound { IsSound store.now }
         requires joined { AreJoined (shapes_of store.now.stored.items) (clauses_of clauses.now) }
@@ -100,7 +100,7 @@ impl Root {
         requires widths { length clauses.now.lists.items ≡ 4 * store.now.variables }
         requires slots { AreSlots (forms_of store.now.stored.items) (all_of store.now clauses.now) }
         requires rooted { IsRootOf store.now clauses.now self.old }
-        ensures { Loses store.now clauses.now slot self.new }
+        ensures { HasRemoved store.now clauses.now slot self.new }
     {
         self.release(store, clauses, slot);
         self.run.opens[slot] = 0;

@@ -12,7 +12,7 @@ ghost use Rattle.pb_propagate.specs.engine.Clauses.Shapes.{all_of};
 use crate::clauses::Clauses;
 use crate::engine::conflict::Conflict;
 use crate::engine::denial::{is_disjunction, refute};
-use crate::engine::root::{Root, back, lay};
+use crate::engine::root::{Root, back, open_form};
 use crate::engine::visits::Visits;
 use crate::heads::{Heads, Order};
 use crate::run::propagate;
@@ -53,7 +53,7 @@ fn pose(
     let number = store.stored.len();
     root.spare.clear();
     enter(store, &mut root.run, form)?;
-    lay(store, &mut root.run, number)?;
+    open_form(store, &mut root.run, number)?;
     let none = Vec::new(*store.stored.allocator());
     let found = propagate(
         store,

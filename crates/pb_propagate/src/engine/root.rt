@@ -6,15 +6,14 @@ ghost use Rattle.pb_propagate.specs.declared.clauses.Clauses.{Clauses};
 ghost use Rattle.pb_propagate.specs.engine.Engine.Lists.{Shape, open_sum};
 ghost use Rattle.pb_propagate.specs.engine.Engine.Progress.{RunIsUndone, IfFound, IfNotFound};
 ghost use Rattle.pb_propagate.specs.engine.Engine.Counts.{Grown, IsAbsent, IsCalm, IsUndone};
-ghost use Rattle.pb_propagate.specs.engine.Engine.Propagation.{GoesBack, IsKept};
+ghost use Rattle.pb_propagate.specs.engine.Engine.Propagation.{GoesBack, IsSaved};
 ghost use Rattle.pb_propagate.specs.engine.Engine.Fields.{shapes_of, IsSound};
-ghost use Rattle.pb_propagate.specs.engine.Engine.Root.{IsRootOf, WasRootOf, IsStanding, IsVacant, IsKeptConflict, HasReached, UpdateCosts, HasMet, HasUpdated};
+ghost use Rattle.pb_propagate.specs.engine.Engine.Root.{IsRootOf, WasRootOf, IsStanding, IsVacant, IsKeptConflict, RunIsWidened, UpdateCosts, HasMet, HasUpdated};
 ghost use Rattle.pb_propagate.specs.engine.Clauses.Runs.{AreReady, IsRunning};
 ghost use Rattle.pb_propagate.specs.engine.Clauses.Shapes.{AreJoined, clauses_of, all_of};
 
 use crate::assignment::Assignment;
 use crate::clauses::Clauses;
-use crate::eager::Eager;
 use crate::engine::conflict::Conflict;
 use crate::engine::visits::Visits;
 use crate::heads::{Heads, Order, Walked};
@@ -23,6 +22,7 @@ use crate::run::{Run, place_of, propagate, queue, undo_forms};
 use crate::store::Store;
 use crate::store::opened::open_under;
 use crate::store::units::only_literal;
+use crate::waiting::Waiting;
 use std::alloc::{AllocError, Global};
 
 /// The literals that the live forms force with nothing assumed, and the state of each form under
@@ -34,7 +34,7 @@ pub struct Root {
     pub rests: Rests,
     // The forms that may force something, or are falsified. No question has visited them since they
     // were added.
-    pub waiting: Eager,
+    pub waiting: Waiting,
     // How far the literals are walked.
     pub walked: Walked,
     // The marks of a question, which nobody reads.
@@ -45,7 +45,7 @@ pub struct Root {
 
 /// Lowers the open sum of a form to that under the list. The form is put to work if it may then
 /// propagate or is falsified.
-pub fn lay(store: &Store, run: &mut Run, form: usize) -> Result<(), AllocError>
+pub fn open_form(store: &Store, run: &mut Run, form: usize) -> Result<(), AllocError>
     requires store { IsSound store.now }
     requires form { form < length store.now.stored.items }
     requires opens { length run.old.opens.items ≡ length store.now.stored.items }
@@ -74,14 +74,14 @@ pub fn lay(store: &Store, run: &mut Run, form: usize) -> Result<(), AllocError>
 }
 
 // Adds an entry to each list if the slot is new.
-fn reach(
+fn widen_run(
     run: &mut Run,
     rests: &mut Rests,
-    waiting: &mut Eager,
+    waiting: &mut Waiting,
     slot: usize,
 ) -> Result<(), AllocError>
     ensures { OnOk result (
-        HasReached run.old run.new rests.old rests.new waiting.old waiting.new slot) }
+        RunIsWidened run.old run.new rests.old rests.new waiting.old waiting.new slot) }
 {
     if slot < run.opens.len() {
         return Ok(());
@@ -95,12 +95,12 @@ fn reach(
 }
 
 // The form waits if it is on the work list.
-fn defer(waiting: &mut Eager, work: &[usize], slot: usize)
-    requires inside { slot < length waiting.old.seats.items }
+fn defer(waiting: &mut Waiting, work: &[usize], slot: usize)
+    requires inside { slot < length waiting.old.positions.items }
     requires absent { IsAbsent waiting.old.list.items 0 slot }
     ensures list { ((work.now ≡ []) × (waiting.new.list.items ≡ waiting.old.list.items)) ⊎
         (waiting.new.list.items ≡ waiting.old.list.items ++ slot ∷ []) }
-    ensures seats { length waiting.new.seats.items ≡ length waiting.old.seats.items }
+    ensures positions { length waiting.new.positions.items ≡ length waiting.old.positions.items }
 {
     if work.is_empty() {
         return;
@@ -109,14 +109,14 @@ fn defer(waiting: &mut Eager, work: &[usize], slot: usize)
 }
 
 // Questions return to the state of the run from now on.
-fn keep(run: &mut Run, rests: &mut Rests)
+fn save(run: &mut Run, rests: &mut Rests)
     requires opens { length rests.old.opens.items ≡ length run.old.opens.items }
     requires starts { length rests.old.starts.items ≡ length run.old.candidates.items }
     requires sizes { length run.old.candidates.items ≡ length run.old.opens.items }
     requires undone { (forms : List Shape) × (length forms ≡ length run.old.opens.items) ×
         IsUndone rests.old forms run.old.opens.items run.old.candidates.items run.old.trail.items
         0 }
-    ensures { IsKept run.old run.new rests.new }
+    ensures { IsSaved run.old run.new rests.new }
 {
     'forms: for i in 0..run.trail.len() {
         let form = run.trail[i];
@@ -145,7 +145,7 @@ impl Root {
                 visits: Visits::none(),
             },
             rests: Rests::none(alloc),
-            waiting: Eager::new(alloc),
+            waiting: Waiting::new(alloc),
             walked: Walked::none(alloc),
             spare: Vec::new(alloc),
             units: Vec::new(alloc),
@@ -168,7 +168,7 @@ impl Root {
     }
 
     /// A form that was added waits for the next question, unless it is a clause with watches.
-    pub fn admit(&mut self, store: &Store, clauses: &Clauses, slot: usize) -> Result<(), AllocError>
+    pub fn add(&mut self, store: &Store, clauses: &Clauses, slot: usize) -> Result<(), AllocError>
         requires store { IsSound store.now }
         requires joined { AreJoined (shapes_of store.now.stored.items) (clauses_of clauses.now) }
         requires ready { AreReady clauses.now }
@@ -178,13 +178,13 @@ impl Root {
         requires gained { WasRootOf store.now clauses.now slot self.old }
         ensures { OnOk result (IsRootOf store.now clauses.now self.new) }
     {
-        reach(&mut self.run, &mut self.rests, &mut self.waiting, slot)?;
+        widen_run(&mut self.run, &mut self.rests, &mut self.waiting, slot)?;
         if clauses.is_filled(slot) {
             return Ok(());
         }
-        lay(store, &mut self.run, slot)?;
+        open_form(store, &mut self.run, slot)?;
         defer(&mut self.waiting, self.run.work.as_slice(), slot);
-        keep(&mut self.run, &mut self.rests);
+        save(&mut self.run, &mut self.rests);
         Ok(())
     }
 
@@ -227,7 +227,7 @@ impl Root {
             self.walked.marks.truncate(count);
             return Ok(true);
         }
-        keep(&mut self.run, &mut self.rests);
+        save(&mut self.run, &mut self.rests);
         let whole = self.run.assignment.list.len();
         self.walked.finish(whole)?;
         self.waiting.clear();

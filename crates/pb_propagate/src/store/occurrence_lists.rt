@@ -232,8 +232,8 @@ pub fn fill(store: &mut Store, slot: usize, form: Shared) -> Result<(), AllocErr
     let kept = stored_of(alloc, form)?;
     let mut spots = Vec::with_capacity(alloc, kept.len())?;
     link(&kept, slot, &mut store.occurrences, &mut spots)?;
-    let seats = Spots::of(alloc, spots)?;
-    store.spots[slot] = seats;
+    let positions = Spots::of(alloc, spots)?;
+    store.spots[slot] = positions;
     store.stored[slot] = kept;
     Ok(())
 }
@@ -292,7 +292,7 @@ pub fn leave(store: &mut Store, run: &mut Run)
 }
 
 /// Removes a form. An empty one takes its slot.
-pub fn vacate(store: &mut Store, form: usize)
+pub fn clear_slot(store: &mut Store, form: usize)
     requires sound { IsSound store.old }
     requires form { form < length store.old.stored.items }
     ensures sound { IsSound store.new }

@@ -9,22 +9,22 @@ ghost use Rattle.pb_propagate.specs.engine.Engine.Links.{terms_at};
 ghost use Rattle.pb_propagate.specs.engine.Engine.Refreshed.{AreRefreshed, IsRefreshed, Lacks};
 ghost use Rattle.pb_propagate.specs.engine.Engine.Root.{IsSized};
 
-use crate::eager::Eager;
 use crate::engine::root::Root;
 use crate::run::place_of;
 use crate::store::Store;
+use crate::waiting::Waiting;
 use pb_normal::NumberedLiteral;
 
 // A form waits if its open sum is below its bound.
-fn wait_below(waiting: &mut Eager, form: usize, opened: u128, bound: u128)
-    requires inside { form < length waiting.old.seats.items }
+fn wait_below(waiting: &mut Waiting, form: usize, opened: u128, bound: u128)
+    requires inside { form < length waiting.old.positions.items }
     ensures absent { (s : ℕ) → IsAbsent waiting.new.list.items 0 s →
         IsAbsent waiting.old.list.items 0 s }
     ensures above { IsAbsent waiting.new.list.items 0 form → bound ≤ opened }
     ensures older { (i s : ℕ) → slice_get waiting.new.list.items i ≡ Some s →
         ((s ≡ form) × (opened < bound)) ⊎
         ((j : ℕ) × (slice_get waiting.old.list.items j ≡ Some s)) }
-    ensures seats { length waiting.new.seats.items ≡ length waiting.old.seats.items }
+    ensures positions { length waiting.new.positions.items ≡ length waiting.old.positions.items }
 {
     if opened >= bound {
         return;

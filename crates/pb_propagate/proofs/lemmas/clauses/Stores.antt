@@ -298,11 +298,11 @@ rest-fill c b lists1 lists' n m s x y xs p r room empty pair x_is y_is inside fi
     none-at t (inr off) = passed-at b.searches t ∙ ap (λ (z : Search). z.passed) (other t off) ∙ sym (passed-at c.blocks.searches t) ∙ r.none t
 
 -- a clause was removed
-pub rest-vacate : (c : Clauses) (b : Contents) (lists1 lists' : Vec (Vec Listed Global) Global) (s : ℕ) → AreReady c → 0 < length (list_at c.blocks.literals s) → b.literals ≡ set c.blocks.literals s [] → b.searches ≡ c.blocks.searches → AreLinked b.watches (watch_lists lists'.items) →
+pub rest-cleared : (c : Clauses) (b : Contents) (lists1 lists' : Vec (Vec Listed Global) Global) (s : ℕ) → AreReady c → 0 < length (list_at c.blocks.literals s) → b.literals ≡ set c.blocks.literals s [] → b.searches ≡ c.blocks.searches → AreLinked b.watches (watch_lists lists'.items) →
     length b.watches ≡ length c.blocks.watches → length lists'.items ≡ length c.lists.items → (watch_at b.watches (2 * s)).live ≡ false → (watch_at b.watches (2 * s + 1)).live ≡ false →
     ((k : ℕ) → (k / 2 ≡ s → ⊥) → ((watch_at b.watches k).live ≡ (watch_at c.blocks.watches k).live) × ((watch_at b.watches k).literal ≡ (watch_at c.blocks.watches k).literal)) → AreFewer c.lists.items lists1.items → AreFewer lists1.items lists'.items →
     AreReady (record { blocks = b; lists = lists' })
-rest-vacate c b lists1 lists' s r some vacated searching linked sizes sizes_l dead_1 dead_2 same fewer_1 fewer_2 = record {
+rest-cleared c b lists1 lists' s r some vacated searching linked sizes sizes_l dead_1 dead_2 same fewer_1 fewer_2 = record {
   stored = subst (λ cs. AreStored cs b.watches (watch_lists lists'.items)) (sym vacated)
       (stored-set s [] r.stored linked room sizes (lists-length lists'.items ∙ sizes_l ∙ sym (lists-length c.lists.items)) (λ k d h. absurd (omega (arith, h)))
       (none-watched b.watches s dead_1 dead_2) same);

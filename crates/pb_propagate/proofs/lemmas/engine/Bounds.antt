@@ -4,7 +4,7 @@ use Rattle.pb_propagate.proofs.Common.{set, suc, sym, true, zero, Option, slice_
 use Rattle.pb_propagate.proofs.Common.{sum_by-set, Form, list_at, AreJoined, joined, one_term, slot_shape, entry_of, Shape, one_in, terms_in}
 use Rattle.pb_propagate.proofs.Common.{AreSlots, IsSlot, form_at, IsAbsent, get_or-map, slice_get_within}
 use Rattle.pb_propagate.proofs.lemmas.store.Options.{some-one}
-use Rattle.pb_propagate.proofs.lemmas.store.Seats.{AreSeated, absent-get}
+use Rattle.pb_propagate.proofs.lemmas.store.Positions.{ArePositioned, absent-get}
 
 -- the terms of the stored forms are those of the live ones
 slot-terms : (o : Option Form) (x : Shape) → IsSlot o x → length x.terms ≡ terms_in o
@@ -58,15 +58,15 @@ ones : (xs : List ℕ) (f : Form) → sum_by one_in (map (λ (x : ℕ). Some f) 
 ones [] f = refl
 ones (x ∷ xs) f = omega (arith, sum_by-cons one_in (Some f) (map (λ (y : ℕ). Some f) xs), ones xs f)
 
-pub seated-room : (list seats : List ℕ) (form : ℕ) → form < length seats → IsAbsent list 0 form → AreSeated list seats → length list < length seats
-seated-room list seats form inside gone seated =
+pub positioned-room : (list positions : List ℕ) (form : ℕ) → form < length positions → IsAbsent list 0 form → ArePositioned list positions → length list < length positions
+positioned-room list positions form inside gone positioned =
     let f : Form = record { terms = []; degree = 0 } in
-    let full : List (Option Form) = map (λ (x : ℕ). Some f) seats in
-    let within : form < length full = omega (arith, inside, length-map {B = Option Form} seats (λ (x : ℕ). Some f)) in
-    let few = listed-few (set full form None) list (λ i j s h k. some-one (slice_get seats s) i j (seated i s h) (seated j s k)) (λ i s h.
-    let less : s < length seats = slice_get_within seats s i (seated i s h) in
+    let full : List (Option Form) = map (λ (x : ℕ). Some f) positions in
+    let within : form < length full = omega (arith, inside, length-map {B = Option Form} positions (λ (x : ℕ). Some f)) in
+    let few = listed-few (set full form None) list (λ i j s h k. some-one (slice_get positions s) i j (positioned i s h) (positioned j s k)) (λ i s h.
+    let less : s < length positions = slice_get_within positions s i (positioned i s h) in
     let other : s ≡ form → ⊥ = λ e. absent-get list form i gone (h ∙ ap (λ z. Some z) e) in
-    (f, get_or-set_other full form s None None other ∙ get_or-map (λ (x : ℕ). Some f) seats s 0 None less)) in
+    (f, get_or-set_other full form s None None other ∙ get_or-map (λ (x : ℕ). Some f) positions s 0 None less)) in
     let change = sum_by-set one_in full form None None within in
-    let one : get_or full form None ≡ Some f = get_or-map (λ (x : ℕ). Some f) seats form 0 None inside in
-    omega (arith, few, change, ones seats f, ap one_in one)
+    let one : get_or full form None ≡ Some f = get_or-map (λ (x : ℕ). Some f) positions form 0 None inside in
+    omega (arith, few, change, ones positions f, ap one_in one)

@@ -4,11 +4,11 @@ use Rattle.pb_propagate.proofs.Common.{ℕ, ◌++◌, ◌+◌, ◌/◌, ◌<◌,
 use Rattle.pb_propagate.proofs.Common.{get_or-set_same, Global, inl, inr, length, length-append, List, refl, set, subst, suc, sym, true, Vec}
 use Rattle.pb_propagate.proofs.Common.{zero, All, Option, slice_get, Some, cases_eq, cases_lt, get_or-map, get_or_append_left}
 use Rattle.pb_propagate.proofs.Common.{get_or_default, get_or_push, length-map, get_or_from_slice_get, slice_get-get_or, slice_get_within}
-use Rattle.pb_propagate.proofs.Common.{NumberedLiteral, Form, Assignment, Clauses, Watch, Eager, Rests, Run, Store, StoredForm, list_at, watch_at}
+use Rattle.pb_propagate.proofs.Common.{NumberedLiteral, Form, Assignment, Clauses, Watch, Waiting, Rests, Run, Store, StoredForm, list_at, watch_at}
 use Rattle.pb_propagate.proofs.Common.{watch_lists, AreReady, AreStored, all_of, clauses_of, joined, one_term, slot_shape}
 use Rattle.pb_propagate.proofs.Common.{false_at, Walked, IsWalkedTo, beside, Grown, IsAbsent, IsCalm, IsCounted, IsTidy, pushed, spared}
 use Rattle.pb_propagate.proofs.Common.{weight_in, forms_of, shapes_of, stored_shape, HaveReasons, open_sum, Shape, size, HasForm, HasGained}
-use Rattle.pb_propagate.proofs.Common.{HasReached, IsRooted, form_at, AreFree, AreSet, IsFreePair, IfSome, None, Pair}
+use Rattle.pb_propagate.proofs.Common.{RunIsWidened, IsRooted, form_at, AreFree, AreSet, IsFreePair, IfSome, None, Pair}
 use Rattle.pb_propagate.proofs.lemmas.clauses.Heads.{KeepsFallen, walks-kept}
 use Rattle.pb_propagate.proofs.lemmas.clauses.Literals.{Agree, false-listed}
 use Rattle.pb_propagate.proofs.lemmas.clauses.Shapes.{joined-at, joined-length}
@@ -48,7 +48,7 @@ pub record Arrived (before store : Store) (old clauses : Clauses) (run run' : Ru
   pub open_none : get_or run'.opens.items slot 0 ≡ 0
   pub cand_none : get_or run'.candidates.items slot 0 ≡ 0
 
-pub arrived : (before store : Store) (old clauses : Clauses) (run run' : Run) (rests rests' : Rests) (waiting waiting' : Eager) (walked : Walked) (slot : ℕ) → slot < length store.stored.items → IsRooted before old run rests waiting walked (length before.stored.items) → HasGained before old store clauses slot → HasReached run run' rests rests' waiting waiting' slot → Arrived before store old clauses run run' slot
+pub arrived : (before store : Store) (old clauses : Clauses) (run run' : Run) (rests rests' : Rests) (waiting waiting' : Waiting) (walked : Walked) (slot : ℕ) → slot < length store.stored.items → IsRooted before old run rests waiting walked (length before.stored.items) → HasGained before old store clauses slot → RunIsWidened run run' rests rests' waiting waiting' slot → Arrived before store old clauses run run' slot
 arrived before store old clauses run run' rests rests' waiting waiting' walked slot inside r g h = elim h.lists [
   | inl stay ↦ by_longer stay g.longer
   | inr grown ↦ by_new grown g.longer
@@ -132,7 +132,7 @@ gained-reasons before store old clauses slot reasons list g h = reasons-moved (a
 ]) h
 
 -- the root for all forms but the new one
-pub gained-rooted : (before store : Store) (old clauses : Clauses) (run run' : Run) (rests rests' : Rests) (waiting waiting' : Eager) (walked : Walked) (slot : ℕ) → slot < length store.stored.items → IsRooted before old run rests waiting walked (length before.stored.items) → HasGained before old store clauses slot → HasReached run run' rests rests' waiting waiting' slot →
+pub gained-rooted : (before store : Store) (old clauses : Clauses) (run run' : Run) (rests rests' : Rests) (waiting waiting' : Waiting) (walked : Walked) (slot : ℕ) → slot < length store.stored.items → IsRooted before old run rests waiting walked (length before.stored.items) → HasGained before old store clauses slot → RunIsWidened run run' rests rests' waiting waiting' slot →
     IsWalkedTo clauses run.assignment.list.items walked → IsRooted store clauses run' rests' waiting' walked slot
 gained-rooted before store old clauses run run' rests rests' waiting waiting' walked slot inside r g h walks = record {
   values = ap (λ (x : Assignment). length x.values.items) h.assignment ∙ r.values ∙ sym g.variables;
@@ -174,7 +174,7 @@ gained-rooted before store old clauses run run' rests rests' waiting waiting' wa
   next = h.next ∙ r.next;
   reasoned = rw h.assignment (gained-reasons before store old clauses slot run.assignment.reasons.items run.assignment.list.items g r.reasoned);
   walks = rw h.assignment walks;
-  seats = h.seats (r.seats ∙ sym r.open_sizes) ∙ a.sizes;
+  positions = h.positions (r.positions ∙ sym r.open_sizes) ∙ a.sizes;
   live = λ i s at. form-kept before store s (λ one. g.empty (subst (HasForm before) one (r.live i s (rw h.waits at at)))) (g.kept s) (r.live i s (rw h.waits at at));
 }
   where
@@ -212,7 +212,7 @@ no-watch clauses ws ls slot e stored none here live =
     omega (arith, there.1, ap length (ap (list_at clauses) here ∙ none))
 
 -- the root for all forms but the new one, which is no clause
-pub admitted-rooted : (before store : Store) (old clauses : Clauses) (run run' : Run) (rests rests' : Rests) (waiting waiting' : Eager) (walked : Walked) (slot : ℕ) → slot < length store.stored.items → IsRooted before old run rests waiting walked (length before.stored.items) → HasGained before old store clauses slot → HasReached run run' rests rests' waiting waiting' slot →
+pub admitted-rooted : (before store : Store) (old clauses : Clauses) (run run' : Run) (rests rests' : Rests) (waiting waiting' : Waiting) (walked : Walked) (slot : ℕ) → slot < length store.stored.items → IsRooted before old run rests waiting walked (length before.stored.items) → HasGained before old store clauses slot → RunIsWidened run run' rests rests' waiting waiting' slot →
     AreReady clauses → list_at (clauses_of clauses) slot ≡ [] → IsRooted store clauses run' rests' waiting' walked slot
 admitted-rooted before store old clauses run run' rests rests' waiting waiting' walked slot inside r g h ready none =
     let keeps = gained-keeps run.assignment.values.items run.assignment.list.items before store old clauses slot run.assignment.agrees g (λ e here live failed. no-watch (clauses_of clauses) clauses.blocks.watches (watch_lists clauses.lists.items) slot e ready.stored none here live) in
@@ -231,7 +231,7 @@ some-map None A B f h = h
 some-map (Some a) A B f h = f a h
 
 -- a clause adds nothing to the occurrence lists
-pub clause-rooted : (store : Store) (clauses : Clauses) (run : Run) (rests : Rests) (waiting : Eager) (walked : Walked) (slot : ℕ) → slot < length store.stored.items → ((d : Shape) → ((get_or (shapes_of store.stored.items) slot d).terms ≡ []) × ((get_or (shapes_of store.stored.items) slot d).degree ≡ 0)) → get_or run.opens.items slot 0 ≡ 0 → IsRooted store clauses run rests waiting walked slot → IsRooted store clauses run rests waiting walked (length store.stored.items)
+pub clause-rooted : (store : Store) (clauses : Clauses) (run : Run) (rests : Rests) (waiting : Waiting) (walked : Walked) (slot : ℕ) → slot < length store.stored.items → ((d : Shape) → ((get_or (shapes_of store.stored.items) slot d).terms ≡ []) × ((get_or (shapes_of store.stored.items) slot d).degree ≡ 0)) → get_or run.opens.items slot 0 ≡ 0 → IsRooted store clauses run rests waiting walked slot → IsRooted store clauses run rests waiting walked (length store.stored.items)
 clause-rooted store clauses run rests waiting walked slot inside bare none r = record {
   values = r.values;
   opens = r.opens;
@@ -262,7 +262,7 @@ clause-rooted store clauses run rests waiting walked slot inside bare none r = r
   next = r.next;
   reasoned = r.reasoned;
   walks = r.walks;
-  seats = r.seats;
+  positions = r.positions;
   live = r.live;
 }
 

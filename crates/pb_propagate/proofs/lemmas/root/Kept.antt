@@ -4,7 +4,7 @@ use Rattle.pb_propagate.proofs.Common.{zero, Contains, Option, slice_get, Some, 
 use Rattle.pb_propagate.proofs.Common.{slice_get-get_or, slice_get_within, NumberedLiteral, Form, negation, Assignment, Clauses, Store, all_of, AreJoined}
 use Rattle.pb_propagate.proofs.Common.{clause_shape, clauses_of, literal_at, one_term, none, forms_of, IsSound, shapes_of, stored_shape, broken}
 use Rattle.pb_propagate.proofs.Common.{Conflicts, has, HaveReasons, KeepsReasons, open_part, open_sum, opposed, Shape, AreSlots, HasGained, by_reason, from_given}
-use Rattle.pb_propagate.proofs.Common.{HasVacated, IsAnswered, IsConflict, IsFree, IsKeptConflict, IsMet, IsNeedless, IsVacant, form_at}
+use Rattle.pb_propagate.proofs.Common.{HasCleared, IsAnswered, IsConflict, IsFree, IsKeptConflict, IsMet, IsNeedless, IsVacant, form_at}
 use Rattle.pb_propagate.specs.declared.engine.conflict.Conflict.{Conflict}
 use Rattle.pb_propagate.proofs.lemmas.clauses.Literals.{Agree, false-listed}
 use Rattle.pb_propagate.proofs.lemmas.engine.Literals.{open_part-open, has-get, has-push_cases}
@@ -156,7 +156,7 @@ gained-kept before store old clauses slot conflict slots g k = record {
 }
 
 -- a form went that is no literal's reason, and is not the falsified one
-pub lost-kept : (before store : Store) (old clauses : Clauses) (slot : ℕ) (conflict : Conflict) → HasVacated before old store clauses slot → (conflict.met ≡ true → IsNeedless (all_of before old) slot conflict.assignment) → (conflict.met ≡ true → IsMet (all_of before old) slot conflict.assignment.list.items) → IsKeptConflict (all_of before old) before.variables conflict → IsKeptConflict (all_of store clauses) store.variables conflict
+pub lost-kept : (before store : Store) (old clauses : Clauses) (slot : ℕ) (conflict : Conflict) → HasCleared before old store clauses slot → (conflict.met ≡ true → IsNeedless (all_of before old) slot conflict.assignment) → (conflict.met ≡ true → IsMet (all_of before old) slot conflict.assignment.list.items) → IsKeptConflict (all_of before old) before.variables conflict → IsKeptConflict (all_of store clauses) store.variables conflict
 lost-kept before store old clauses slot conflict g spare unbroken k = record {
   values = k.values ∙ sym g.variables;
   none = k.none;

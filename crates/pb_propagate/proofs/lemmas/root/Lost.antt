@@ -2,10 +2,10 @@
 use Rattle.pb_propagate.proofs.Common.{ℕ, ◌/◌, ◌<◌, ◌∙◌, ◌≡◌, [], ap, arith, get_or, get_or-set_other, get_or-set_same, Global, inl, inr}
 use Rattle.pb_propagate.proofs.Common.{length, length-set, List, map, refl, set, subst, sym, Vec, Contains, slice_get, Some, cases_eq}
 use Rattle.pb_propagate.proofs.Common.{get_or-map, get_or_default, length-map, map-set, sum_by-cons, get_or_from_slice_get, slice_get-get_or}
-use Rattle.pb_propagate.proofs.Common.{NumberedLiteral, Assignment, Clauses, Eager, Rests, Run, Store, StoredForm, Term, list_at, watch_at}
+use Rattle.pb_propagate.proofs.Common.{NumberedLiteral, Assignment, Clauses, Waiting, Rests, Run, Store, StoredForm, Term, list_at, watch_at}
 use Rattle.pb_propagate.proofs.Common.{watch_lists, AreReady, all_of, AreJoined, clauses_of, joined, literal_at, one_term, slot_shape}
 use Rattle.pb_propagate.proofs.Common.{Walked, shapes_of, stored_shape, HaveReasons, open_part, open_sum, Shape, size, HasLost}
-use Rattle.pb_propagate.proofs.Common.{HasVacated, IsNeedless, IsOtherUnit, IsRooted, IsSameWatch, IsWithout}
+use Rattle.pb_propagate.proofs.Common.{HasCleared, IsNeedless, IsOtherUnit, IsRooted, IsSameWatch, IsWithout}
 use Rattle.pb_propagate.proofs.lemmas.clauses.Heads.{KeepsFallen, walks-kept}
 use Rattle.pb_propagate.proofs.lemmas.clauses.Shapes.{joined-at}
 use Rattle.pb_propagate.proofs.lemmas.clauses.Slots.{joined-cleared}
@@ -60,14 +60,14 @@ vacated-keeps list old clauses slot ready none emptied same e live failed = elim
 ]
 
 -- the constraints after the form went
-pub vacated-all : (before store : Store) (old clauses : Clauses) (slot : ℕ) (g : HasVacated before old store clauses slot) → all_of store clauses ≡ set (all_of before old) slot (stored_shape g.kept.0)
+pub vacated-all : (before store : Store) (old clauses : Clauses) (slot : ℕ) (g : HasCleared before old store clauses slot) → all_of store clauses ≡ set (all_of before old) slot (stored_shape g.kept.0)
 vacated-all before store old clauses slot g =
     let k = g.kept.0 in
     let shapes : shapes_of store.stored.items ≡ set (shapes_of before.stored.items) slot (stored_shape k) = ap shapes_of g.kept.2 ∙ map-set stored_shape before.stored.items slot k in
     ap (λ xs. joined xs (clauses_of clauses)) shapes ∙ ap (joined (set (shapes_of before.stored.items) slot (stored_shape k))) g.emptied ∙ joined-cleared (shapes_of before.stored.items) (clauses_of old) slot (stored_shape k)
 
 -- the reasons still hold
-pub lost-reasons : (before store : Store) (old clauses : Clauses) (slot : ℕ) (a : Assignment) → HasVacated before old store clauses slot → IsNeedless (all_of before old) slot a → HaveReasons (all_of store clauses) a.reasons.items [] a.list.items
+pub lost-reasons : (before store : Store) (old clauses : Clauses) (slot : ℕ) (a : Assignment) → HasCleared before old store clauses slot → IsNeedless (all_of before old) slot a → HaveReasons (all_of store clauses) a.reasons.items [] a.list.items
 lost-reasons before store old clauses slot a g n =
     let all = vacated-all before store old clauses slot g in
     reasons-moved (all_of before old) (all_of store clauses) a.reasons.items a.reasons.items [] a.list.items (λ l s x on at stored some. elim (cases_eq s slot) [
@@ -76,9 +76,9 @@ lost-reasons before store old clauses slot a g n =
     ]) n.reasoned
 
 -- the root stays
-pub lost-rooted : (before store : Store) (old clauses : Clauses) (run run' : Run) (rests rests' : Rests) (waiting waiting' : Eager) (walked : Walked) (slot : ℕ) → slot < length before.stored.items → slot < length old.blocks.literals → AreReady clauses → HasVacated before old store clauses slot → HasLost run run' rests rests' slot → IsWithout slot waiting.list.items waiting'.list.items → length waiting'.seats.items ≡ length waiting.seats.items →
+pub lost-rooted : (before store : Store) (old clauses : Clauses) (run run' : Run) (rests rests' : Rests) (waiting waiting' : Waiting) (walked : Walked) (slot : ℕ) → slot < length before.stored.items → slot < length old.blocks.literals → AreReady clauses → HasCleared before old store clauses slot → HasLost run run' rests rests' slot → IsWithout slot waiting.list.items waiting'.list.items → length waiting'.positions.items ≡ length waiting.positions.items →
     IsNeedless (all_of before old) slot run.assignment → IsRooted before old run rests waiting walked (length before.stored.items) → IsRooted store clauses run' rests' waiting' walked (length store.stored.items)
-lost-rooted before store old clauses run run' rests rests' waiting waiting' walked slot inside room ready g h without seats spare r = record {
+lost-rooted before store old clauses run run' rests rests' waiting waiting' walked slot inside room ready g h without positions spare r = record {
   values = ap length valued ∙ r.values ∙ sym g.variables;
   opens = h.opens ∙ ap (λ xs. set xs slot 0) r.opens ∙ sym h.rest_opens;
   starts = h.candidates ∙ ap (λ xs. set xs slot 0) r.starts ∙ sym h.rest_starts;
@@ -124,7 +124,7 @@ lost-rooted before store old clauses run run' rests rests' waiting waiting' walk
   next = h.next ∙ r.next;
   reasoned = rw h.assignment (lost-reasons before store old clauses slot run.assignment g spare);
   walks = rw listed (walks-kept old clauses run.assignment.list.items walked (vacated-keeps run.assignment.list.items old clauses slot ready none_there g.emptied g.watched) r.walks);
-  seats = seats ∙ r.seats ∙ sym longer;
+  positions = positions ∙ r.positions ∙ sym longer;
   live = λ i s at.
       let w = without.older i s at in
       form-kept before store s w.0 (λ apart. ap (λ xs. slice_get xs s) g.kept.2 ∙ get-set_other before.stored.items slot s k apart) (r.live w.1 s w.2);

@@ -1,6 +1,6 @@
 -- What the parts of a question need, and what they leave: literals that are assigned, a propagation, and the way back.
 use Rattle.pb_propagate.proofs.Common.{ℕ, ◌+◌, ◌∙◌, ◌≤◌, [], arith, length, List, refl, subst, all_of, none}
-use Rattle.pb_propagate.proofs.Common.{Clauses, Eager, Heads, Rests, Run, Store, Walked, AreJoined, clauses_of, heads_at, IsRunning, Advances, database, Database}
+use Rattle.pb_propagate.proofs.Common.{Clauses, Waiting, Heads, Rests, Run, Store, Walked, AreJoined, clauses_of, heads_at, IsRunning, Advances, database, Database}
 use Rattle.pb_propagate.proofs.Common.{IsRooted, HasUpdated, list_of, progress, reasons_of, shapes_in, values_of, AreOpen, IsCounted, Progress, RunIsOpen}
 use Rattle.pb_propagate.proofs.Common.{IsReadyRun, Propagates, RunGains, RunPuts, RunVisits, RunVisitsEach, RunReasons}
 use Rattle.pb_propagate.specs.declared.engine.root.Root.{Root}
@@ -96,7 +96,7 @@ left-then {store} {rests} {before} {after} {n} {old} {mid} {new} p q = record {
 }
 
 -- a root may be propagated, and so may one that was updated
-pub root-ready : {store : Store} {clauses : Clauses} {run : Run} {rests : Rests} {waiting : Eager} {walked : Walked} → IsRooted store clauses run rests waiting walked (length store.stored.items) → AreJoined (shapes_in store) (clauses_of clauses) → IsRunning (values_of run) clauses → IsReadyRun store rests clauses waiting.list.items walked.heads run
+pub root-ready : {store : Store} {clauses : Clauses} {run : Run} {rests : Rests} {waiting : Waiting} {walked : Walked} → IsRooted store clauses run rests waiting walked (length store.stored.items) → AreJoined (shapes_in store) (clauses_of clauses) → IsRunning (values_of run) clauses → IsReadyRun store rests clauses waiting.list.items walked.heads run
 root-ready {store} {clauses} {run} {rests} {waiting} {walked} r joined running = record {
   sums = record {
     values = r.values;

@@ -16,7 +16,7 @@ rooted-sized store clauses root r = record {
   candidates = r.start_sizes;
   rest_opens = sym (ap length r.opens) ∙ r.open_sizes;
   rest_starts = sym (ap length r.starts) ∙ r.start_sizes;
-  seats = r.seats;
+  positions = r.positions;
 }
 
 -- none is taken off
@@ -67,7 +67,7 @@ replaced-released store slot old new a is sized o = rw is (record {
     candidates = sized.candidates;
     rest_opens = sized.rest_opens;
     rest_starts = sized.rest_starts;
-    seats = sized.seats;
+    positions = sized.positions;
   };
   fewer = o.fewer;
   rooted = λ clauses j slots r. reasoned-rooted a o.list o.values (o.reasoned (clauses_of clauses) j r.reasoned) r;

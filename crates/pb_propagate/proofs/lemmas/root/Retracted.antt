@@ -4,7 +4,7 @@ use Rattle.pb_propagate.proofs.Common.{ℕ, ◌++◌, ◌+◌, ◌<◌, ◌∙�
 use Rattle.pb_propagate.proofs.Common.{cases_eq, coefficient_at, drop, drop_more, get_or-set_other, get_or-set_same, if◌then◌else◌, take_more, set, sum_by-le-sum_by, list_of}
 use Rattle.pb_propagate.proofs.Common.{List, None, refl, subst, suc, sym, take, true, ◌==◌, Option, slice_get, Some, cases_lt, eqb-true}
 use Rattle.pb_propagate.proofs.Common.{or_cases, or_left, or_right, get_or_default, get_or_from_slice_get, get_or_past, length-map, length-append, slice_get-get_or, slice_get_within}
-use Rattle.pb_propagate.proofs.Common.{sum_by-cons, take_all, take-append-le, get_or-map, map, Occurrence, weighted, Eager, Rests, NumberedLiteral, negation, Form, Assignment, Clauses, Store, Term, all_of, clauses_of}
+use Rattle.pb_propagate.proofs.Common.{sum_by-cons, take_all, take-append-le, get_or-map, map, Occurrence, weighted, Waiting, Rests, NumberedLiteral, negation, Form, Assignment, Clauses, Store, Term, all_of, clauses_of}
 use Rattle.pb_propagate.proofs.Common.{IsCalm, place, weight_in, entries_of, forms_of, IsSound, shapes_of, spots_of, stored_shape, terms_at}
 use Rattle.pb_propagate.proofs.Common.{HaveReasons, open_sum, Shape, size, Weighted, AreSlots, HasForm, IsWalkedTo, from_given, by_reason}
 use Rattle.pb_propagate.specs.declared.engine.root.Root.{Root}
@@ -178,7 +178,7 @@ retracted-rooted store clauses old mid new first l listed absent reasoned sound 
   tidy = record {
     calm = λ s d less idle off gone. elim (f.each s) [
       | inl u ↦
-          let calm = r.tidy.calm s d less idle (rw (ap (λ (w : Eager). w.list.items) cut.waiting) at (u.absent off)) gone in
+          let calm = r.tidy.calm s d less idle (rw (ap (λ (w : Waiting). w.list.items) cut.waiting) at (u.absent off)) gone in
           rw (u.opened ∙ was-open s, u.passed ∙ was-start s) calm
       | inr n ↦ n.calm off d (get_or new.run.candidates.items s 0)
     ];
@@ -205,10 +205,10 @@ retracted-rooted store clauses old mid new first l listed absent reasoned sound 
   next = f.next ∙ cut.next ∙ r.next;
   reasoned = rw (f.assignment, cut.list, cut.reasons) reasoned;
   walks = rw (f.walked, now) walks;
-  seats = f.sized.seats;
+  positions = f.sized.positions;
   live = λ i s at. elim (f.live i s at) [
     | inl some ↦ terms-form store clauses s slots some
-    | inr was ↦ r.live was.0 s (rw (ap (λ (w : Eager). w.list.items) cut.waiting) at was.1)
+    | inr was ↦ r.live was.0 s (rw (ap (λ (w : Waiting). w.list.items) cut.waiting) at was.1)
   ];
 }
   where

@@ -1,7 +1,7 @@
 -- What a question on the root costs, and how it comes back to the root.
 use Rattle.pb_propagate.proofs.Common.{ℕ, ◌*◌, ◌+◌, ◌<◌, ◌∙◌, ◌≡◌, ◌≤◌, [], ap, arith, length, List, refl, sym, take, sum}
 use Rattle.pb_propagate.proofs.Common.{sum_by, take-append_seam, length-map, NumberedLiteral}
-use Rattle.pb_propagate.proofs.Common.{Assignment, Long, Short, Clauses, Eager, Rests, Run, Store, Heads, Walked, IsWalkedTo, AreWithin, Grows, passed_of, clauses_of}
+use Rattle.pb_propagate.proofs.Common.{Assignment, Long, Short, Clauses, Waiting, Rests, Run, Store, Heads, Walked, IsWalkedTo, AreWithin, Grows, passed_of, clauses_of}
 use Rattle.pb_propagate.proofs.Common.{fallen, falsified_code, heads_at, reached, AreSingle, IsCounted, spent, weight_in, RunRefutes, entries_of}
 use Rattle.pb_propagate.proofs.Common.{shapes_of, stored_shape, Extends, HaveReasons, all_of, KeepsReasons, same, Advances, Costs, database, progress, RunPays}
 use Rattle.pb_propagate.proofs.Common.{RunSpends, IsRooted, GoesBack, Propagates, list_of, reasons_of, values_of, Global, Vec, subst}
@@ -57,7 +57,7 @@ both-costs store clauses between rests rests' waiting from count old mid new sam
     omega (arith, first.upper, second.upper, seen_mid, seen_new, sizes, ap length work, begun)
 
 -- the open sums of the root are those of its list
-pub root-counted : (store : Store) (clauses : Clauses) (run : Run) (rests : Rests) (waiting : Eager) (walked : Walked) → IsRooted store clauses run rests waiting walked (length store.stored.items) → IsCounted (shapes_of store.stored.items) run.opens.items run.assignment.list.items []
+pub root-counted : (store : Store) (clauses : Clauses) (run : Run) (rests : Rests) (waiting : Waiting) (walked : Walked) → IsRooted store clauses run rests waiting walked (length store.stored.items) → IsCounted (shapes_of store.stored.items) run.opens.items run.assignment.list.items []
 root-counted store clauses run rests waiting walked r = record {
   each = λ s d less.
       let inside : s < length store.stored.items = omega (arith, less, length-map store.stored.items stored_shape) in
@@ -66,7 +66,7 @@ root-counted store clauses run rests waiting walked r = record {
 }
 
 -- a question that was undone leaves the root
-pub back-rooted : {store : Store} {between mid after : Clauses} {run done last : Run} {rests : Rests} {waiting : Eager} {walked walked' : Walked} {count : ℕ} → IsRooted store between run rests waiting walked (length store.stored.items) → Propagates store rests between mid run done → GoesBack store rests mid after count done last → count ≡ length (list_of run) → mid.blocks.literals ≡ between.blocks.literals → IsWalkedTo after (list_of run) walked' → IsRooted store after last rests waiting walked' (length store.stored.items)
+pub back-rooted : {store : Store} {between mid after : Clauses} {run done last : Run} {rests : Rests} {waiting : Waiting} {walked walked' : Walked} {count : ℕ} → IsRooted store between run rests waiting walked (length store.stored.items) → Propagates store rests between mid run done → GoesBack store rests mid after count done last → count ≡ length (list_of run) → mid.blocks.literals ≡ between.blocks.literals → IsWalkedTo after (list_of run) walked' → IsRooted store after last rests waiting walked' (length store.stored.items)
 back-rooted {store} {between} {mid} {after} {run} {done} {last} {rests} {waiting} {walked} {walked'} {count} r p b count_is literals walks =
     let shapes = shapes_of store.stored.items in
     let long = length-map store.stored.items stored_shape in
@@ -88,18 +88,18 @@ back-rooted {store} {between} {mid} {after} {run} {done} {last} {rests} {waiting
       next = b.next;
       reasoned = rw (b.literals ∙ literals, list_is) (reasons-keep (reasons_of run) (reasons_of last) reasons r.reasoned);
       walks = rw list_is walks;
-      seats = r.seats;
+      positions = r.positions;
       live = r.live;
     }
 
 -- the same if its literals are walked as before
-pub question-back : {store : Store} {between mid after : Clauses} {run done last : Run} {rests : Rests} {waiting : Eager} {walked : Walked} {count : ℕ} → IsRooted store between run rests waiting walked (length store.stored.items) → Propagates store rests between mid run done → GoesBack store rests mid after count done last → count ≡ length (list_of run) → mid.blocks.literals ≡ between.blocks.literals → IsRooted store after last rests waiting walked (length store.stored.items)
+pub question-back : {store : Store} {between mid after : Clauses} {run done last : Run} {rests : Rests} {waiting : Waiting} {walked : Walked} {count : ℕ} → IsRooted store between run rests waiting walked (length store.stored.items) → Propagates store rests between mid run done → GoesBack store rests mid after count done last → count ≡ length (list_of run) → mid.blocks.literals ≡ between.blocks.literals → IsRooted store after last rests waiting walked (length store.stored.items)
 question-back {store} {between} {mid} {after} {run} {done} {last} {rests} {waiting} {walked} {count} r p b count_is literals =
     back-rooted r p b count_is literals (walks-kept between after (list_of run) walked (visits-back (values_of run) between mid after (list_of run) run.assignment.agrees (b.literals ∙ literals) b.watches p.kept) r.walks)
 
 -- the same forms wait
-pub rooted-waiting : {store : Store} {clauses : Clauses} {run : Run} {rests : Rests} {walked : Walked} {busy : ℕ} (waiting waiting' : Eager) → waiting'.list ≡ waiting.list → waiting'.seats ≡ waiting.seats → IsRooted store clauses run rests waiting walked busy → IsRooted store clauses run rests waiting' walked busy
-rooted-waiting waiting waiting' list seats r = record {
+pub rooted-waiting : {store : Store} {clauses : Clauses} {run : Run} {rests : Rests} {walked : Walked} {busy : ℕ} (waiting waiting' : Waiting) → waiting'.list ≡ waiting.list → waiting'.positions ≡ waiting.positions → IsRooted store clauses run rests waiting walked busy → IsRooted store clauses run rests waiting' walked busy
+rooted-waiting waiting waiting' list positions r = record {
   values = r.values;
   opens = r.opens;
   starts = r.starts;
@@ -112,12 +112,12 @@ rooted-waiting waiting waiting' list seats r = record {
   next = r.next;
   reasoned = r.reasoned;
   walks = r.walks;
-  seats = rw seats r.seats;
+  positions = rw positions r.positions;
   live = rw list r.live;
 }
 
 -- other reasons for the same literals
-pub reasoned-rooted : {store : Store} {clauses : Clauses} {run : Run} {rests : Rests} {waiting : Eager} {walked : Walked} {busy : ℕ} (a : Assignment) → a.list ≡ run.assignment.list → a.values ≡ run.assignment.values → HaveReasons (all_of store clauses) a.reasons.items [] a.list.items → IsRooted store clauses run rests waiting walked busy →
+pub reasoned-rooted : {store : Store} {clauses : Clauses} {run : Run} {rests : Rests} {waiting : Waiting} {walked : Walked} {busy : ℕ} (a : Assignment) → a.list ≡ run.assignment.list → a.values ≡ run.assignment.values → HaveReasons (all_of store clauses) a.reasons.items [] a.list.items → IsRooted store clauses run rests waiting walked busy →
     IsRooted store clauses (record { opens = run.opens; candidates = run.candidates; assignment = a; work = run.work; next = run.next; trail = run.trail; visits = run.visits }) rests waiting walked busy
 reasoned-rooted a list values reasoned r = record {
   values = rw values r.values;
@@ -132,6 +132,6 @@ reasoned-rooted a list values reasoned r = record {
   next = r.next;
   reasoned = reasoned;
   walks = rw list r.walks;
-  seats = r.seats;
+  positions = r.positions;
   live = r.live;
 }

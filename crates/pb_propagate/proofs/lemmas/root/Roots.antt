@@ -1,10 +1,10 @@
 -- The state to which questions return becomes that of the run.
 use Rattle.pb_propagate.proofs.Common.{ℕ, ◌+◌, ◌<◌, ◌∙◌, ◌≡◌, ◌≤◌, ◌⊎◌, [], ap, arith, get_or, get_or-set_other, get_or-set_same, inl, inr, length}
 use Rattle.pb_propagate.proofs.Common.{List, set, sym, slice_get, slice_get_within, Some, cases_eq, ext_get_or, get_or_default, get_or_read}
-use Rattle.pb_propagate.proofs.Common.{length-map, NumberedLiteral, Assignment, Clauses, Eager, Rests, Run, Store, all_of, Walked, IsWalkedTo}
+use Rattle.pb_propagate.proofs.Common.{length-map, NumberedLiteral, Assignment, Clauses, Waiting, Rests, Run, Store, all_of, Walked, IsWalkedTo}
 use Rattle.pb_propagate.proofs.Common.{heads_at, beside, IsAbsent, IsCounted, IsTidy, IsUndone, rest_open, rest_start, shapes_of, stored_shape}
 use Rattle.pb_propagate.proofs.Common.{HaveReasons, KeepsReasons, Shape, size, from_given, HasForm, IsRooted}
-use Rattle.pb_propagate.specs.engine.Engine.Propagation.{IsKept}
+use Rattle.pb_propagate.specs.engine.Engine.Propagation.{IsSaved}
 use Rattle.pb_propagate.proofs.lemmas.clauses.Heads.{walks-none}
 use Rattle.pb_propagate.proofs.lemmas.store.Gets.{lt_of_apart}
 use Rattle.pb_propagate.proofs.lemmas.engine.Reasoned.{reasons-keep}
@@ -68,12 +68,12 @@ pub record IsEnded (store : Store) (clauses : Clauses) (run : Run) (walked : Wal
   pub reasoned : HaveReasons (all_of store clauses) run.assignment.reasons.items [] run.assignment.list.items
   pub walks : IsWalkedTo clauses run.assignment.list.items walked
 
-pub kept-rooted : (store : Store) (clauses : Clauses) (run run' : Run) (rests rests' : Rests) (aside : List ℕ) (waiting' : Eager) (walked : Walked) → IsEnded store clauses run walked →
+pub kept-rooted : (store : Store) (clauses : Clauses) (run run' : Run) (rests rests' : Rests) (aside : List ℕ) (waiting' : Waiting) (walked : Walked) → IsEnded store clauses run walked →
     IsTidy (beside rests aside) (shapes_of store.stored.items) run.opens.items run.candidates.items run.assignment.list.items run.work.items run.trail.items run.next (length store.stored.items) →
-    ((s : ℕ) → IsAbsent waiting'.list.items 0 s → IsAbsent aside 0 s × IsAbsent run.work.items run.next s) → IsKept run run' rests' →
-    length waiting'.seats.items ≡ length store.stored.items → ((i s : ℕ) → slice_get waiting'.list.items i ≡ Some s → HasForm store s) →
+    ((s : ℕ) → IsAbsent waiting'.list.items 0 s → IsAbsent aside 0 s × IsAbsent run.work.items run.next s) → IsSaved run run' rests' →
+    length waiting'.positions.items ≡ length store.stored.items → ((i s : ℕ) → slice_get waiting'.list.items i ≡ Some s → HasForm store s) →
     IsRooted store clauses run' rests' waiting' walked (length store.stored.items)
-kept-rooted store clauses run run' rests rests' aside waiting' walked e tidy waits k seats live =
+kept-rooted store clauses run run' rests rests' aside waiting' walked e tidy waits k positions live =
     let long = length-map store.stored.items stored_shape in
     let tidy_f : IsTidy (beside rests aside) (shapes_of store.stored.items) run.opens.items run.candidates.items run.assignment.list.items run.work.items run.trail.items run.next (length (shapes_of store.stored.items)) = rw long tidy in
     let still = kept-tidy rests rests' aside waiting'.list.items (shapes_of store.stored.items) run.opens.items run.candidates.items run.assignment.list.items run.work.items run.trail.items run.next waits (omega (arith, long, e.opens)) k.rest_opens k.rest_starts tidy_f in
@@ -91,14 +91,14 @@ kept-rooted store clauses run run' rests rests' aside waiting' walked e tidy wai
       next = k.next;
       reasoned = rw k.assignment e.reasoned;
       walks = rw k.assignment e.walks;
-      seats = seats;
+      positions = positions;
       live = live;
     }
 
 -- the root of no forms over no variables
-pub new-rooted : (store : Store) (clauses : Clauses) (run : Run) (rests : Rests) (waiting : Eager) (walked : Walked) → store.stored.items ≡ [] → store.variables ≡ 0 → run.assignment.values.items ≡ [] → run.assignment.list.items ≡ [] → run.opens.items ≡ [] → run.candidates.items ≡ [] → run.work.items ≡ [] → run.trail.items ≡ [] → run.next ≡ 0 →
-    rests.opens.items ≡ [] → rests.starts.items ≡ [] → waiting.list.items ≡ [] → waiting.seats.items ≡ [] → walked.heads ≡ heads_at 0 → walked.marks.items ≡ [] → IsRooted store clauses run rests waiting walked (length store.stored.items)
-new-rooted store clauses run rests waiting walked none variables values list opens cands work trail next rest_opens rest_starts waits seats heads marks =
+pub new-rooted : (store : Store) (clauses : Clauses) (run : Run) (rests : Rests) (waiting : Waiting) (walked : Walked) → store.stored.items ≡ [] → store.variables ≡ 0 → run.assignment.values.items ≡ [] → run.assignment.list.items ≡ [] → run.opens.items ≡ [] → run.candidates.items ≡ [] → run.work.items ≡ [] → run.trail.items ≡ [] → run.next ≡ 0 →
+    rests.opens.items ≡ [] → rests.starts.items ≡ [] → waiting.list.items ≡ [] → waiting.positions.items ≡ [] → walked.heads ≡ heads_at 0 → walked.marks.items ≡ [] → IsRooted store clauses run rests waiting walked (length store.stored.items)
+new-rooted store clauses run rests waiting walked none variables values list opens cands work trail next rest_opens rest_starts waits positions heads marks =
     let empty = ap length none in
     let shapes = length-map store.stored.items stored_shape in
     record {
@@ -122,12 +122,12 @@ new-rooted store clauses run rests waiting walked none variables values list ope
       next = next;
       reasoned = rw list from_given;
       walks = rw list (walks-none clauses walked heads marks);
-      seats = ap length seats ∙ sym empty;
+      positions = ap length positions ∙ sym empty;
       live = λ i s at. absurd (omega (arith, slice_get_within waiting.list.items i s at, ap length waits));
     }
 
 -- a run with another count of visits
-pub rooted-counted : {store : Store} {clauses : Clauses} {run : Run} {rests : Rests} {waiting : Eager} {walked : Walked} {busy : ℕ} (visits : ℕ) → IsRooted store clauses run rests waiting walked busy → IsRooted store clauses (record { opens = run.opens; candidates = run.candidates; assignment = run.assignment; work = run.work; next = run.next; trail = run.trail; visits = visits }) rests waiting walked busy
+pub rooted-counted : {store : Store} {clauses : Clauses} {run : Run} {rests : Rests} {waiting : Waiting} {walked : Walked} {busy : ℕ} (visits : ℕ) → IsRooted store clauses run rests waiting walked busy → IsRooted store clauses (record { opens = run.opens; candidates = run.candidates; assignment = run.assignment; work = run.work; next = run.next; trail = run.trail; visits = visits }) rests waiting walked busy
 rooted-counted visits r = record {
   values = r.values;
   opens = r.opens;
@@ -141,12 +141,12 @@ rooted-counted visits r = record {
   next = r.next;
   reasoned = r.reasoned;
   walks = r.walks;
-  seats = r.seats;
+  positions = r.positions;
   live = r.live;
 }
 
 -- one more variable, which has no value
-pub widened-rooted : (store store' : Store) (clauses clauses' : Clauses) (run : Run) (assignment : Assignment) (rests : Rests) (waiting : Eager) (walked : Walked) → store'.stored ≡ store.stored → store'.variables ≡ store.variables + 1 → clauses'.blocks.literals ≡ clauses.blocks.literals → clauses'.blocks.watches ≡ clauses.blocks.watches → assignment.list.items ≡ run.assignment.list.items → length assignment.values.items ≡ length run.assignment.values.items + 1 → KeepsReasons run.assignment.list.items run.assignment.reasons.items assignment.reasons.items →
+pub widened-rooted : (store store' : Store) (clauses clauses' : Clauses) (run : Run) (assignment : Assignment) (rests : Rests) (waiting : Waiting) (walked : Walked) → store'.stored ≡ store.stored → store'.variables ≡ store.variables + 1 → clauses'.blocks.literals ≡ clauses.blocks.literals → clauses'.blocks.watches ≡ clauses.blocks.watches → assignment.list.items ≡ run.assignment.list.items → length assignment.values.items ≡ length run.assignment.values.items + 1 → KeepsReasons run.assignment.list.items run.assignment.reasons.items assignment.reasons.items →
     IsRooted store clauses run rests waiting walked (length store.stored.items) → IsRooted store' clauses' (record { opens = run.opens; candidates = run.candidates; assignment = assignment; work = run.work; next = run.next; trail = run.trail; visits = run.visits }) rests waiting walked (length store'.stored.items)
 widened-rooted store store' clauses clauses' run assignment rests waiting walked stored variables literals watches list values keeps r =
     record {
@@ -162,6 +162,6 @@ widened-rooted store store' clauses clauses' run assignment rests waiting walked
       next = r.next;
       reasoned = rw (stored, literals, list) (reasons-keep run.assignment.reasons.items assignment.reasons.items keeps r.reasoned);
       walks = record { now = rw (list, literals, watches) r.walks.now; marks = rw (list, literals, watches) r.walks.marks; level = rw list r.walks.level };
-      seats = rw stored r.seats;
+      positions = rw stored r.positions;
       live = rw stored r.live;
     }

@@ -61,7 +61,7 @@ pub record RunGains (old new : Run) : Type 0 where
   pub rising : old.visits ≤ new.visits
 
 -- what a propagation leaves without a conflict
-pub record HasSettled (store : Store) (rests : Rests) (before after : Clauses) (waiting : List ℕ) (heads : Heads) (old new : Run) : Type 0 where
+pub record HasPropagated (store : Store) (rests : Rests) (before after : Clauses) (waiting : List ℕ) (heads : Heads) (old new : Run) : Type 0 where
   pub walked : RunIsWalked (heads_at (length (list_of new))) after new
   pub pays : RunPays store rests before after heads waiting old new
   pub settled : AreSettled (all_of store before) (list_of new)
@@ -70,7 +70,7 @@ pub record HasSettled (store : Store) (rests : Rests) (before after : Clauses) (
   pub done : length new.work.items ≤ new.next
 
 -- questions return to the state of the run from now on
-pub record IsKept (old new : Run) (rests : Rests) : Type 0 where
+pub record IsSaved (old new : Run) (rests : Rests) : Type 0 where
   pub opens : new.opens ≡ old.opens
   pub candidates : new.candidates ≡ old.candidates
   pub assignment : new.assignment ≡ old.assignment

@@ -9,7 +9,7 @@ use Rattle.pb_propagate.specs.declared.run.Run.{Run}
 use Rattle.pb_propagate.specs.declared.engine.root.Root.{Root}
 use Rattle.pb_propagate.specs.declared.engine.conflict.Conflict.{Conflict}
 use Rattle.pb_propagate.specs.declared.rests.Rests.{Rests}
-use Rattle.pb_propagate.specs.declared.eager.Eager.{Eager}
+use Rattle.pb_propagate.specs.declared.waiting.Waiting.{Waiting}
 use Rattle.pb_normal.specs.meaning.Form.{Form}
 use Rattle.pb_propagate.specs.declared.clauses.Clauses.{Clauses}
 use Rattle.pb_propagate.specs.declared.term.Term.{Term}
@@ -34,7 +34,7 @@ HasForm store s = (f : Form) × (form_at (forms_of store.stored.items) s ≡ Som
 
 -- The state of the forms under the literals that they force. The forms that wait may force more. One form may be left out:
 -- none is if `busy` is no form's number.
-pub record IsRooted (store : Store) (clauses : Clauses) (run : Run) (rests : Rests) (waiting : Eager) (walked : Walked) (busy : ℕ) : Type 0 where
+pub record IsRooted (store : Store) (clauses : Clauses) (run : Run) (rests : Rests) (waiting : Waiting) (walked : Walked) (busy : ℕ) : Type 0 where
   pub values : length run.assignment.values.items ≡ store.variables
   pub opens : run.opens.items ≡ rests.opens.items
   pub starts : run.candidates.items ≡ rests.starts.items
@@ -47,7 +47,7 @@ pub record IsRooted (store : Store) (clauses : Clauses) (run : Run) (rests : Res
   pub next : run.next ≡ 0
   pub reasoned : HaveReasons (all_of store clauses) run.assignment.reasons.items [] run.assignment.list.items
   pub walks : IsWalkedTo clauses run.assignment.list.items walked
-  pub seats : length waiting.seats.items ≡ length store.stored.items
+  pub positions : length waiting.positions.items ≡ length store.stored.items
   pub live : (i s : ℕ) → slice_get waiting.list.items i ≡ Some s → HasForm store s
 
 -- the same of the program's root, with no form left out
@@ -151,7 +151,7 @@ pub record IsNeedless (forms : List Shape) (slot : ℕ) (a : Assignment) : Type 
   pub none : (l : NumberedLiteral) → IsDue slot a.list.items a.reasons.items l → ⊥
 
 -- the form of a slot went
-pub record HasVacated (before : Store) (old : Clauses) (store : Store) (clauses : Clauses) (slot : ℕ) : Type 0 where
+pub record HasCleared (before : Store) (old : Clauses) (store : Store) (clauses : Clauses) (slot : ℕ) : Type 0 where
   pub variables : store.variables ≡ before.variables
   pub kept : (k : StoredForm) × IsEmpty k × (store.stored.items ≡ slice_set before.stored.items slot k)
   pub emptied : clauses_of clauses ≡ slice_set (clauses_of old) slot []
@@ -175,17 +175,17 @@ pub record IsSized (store : Store) (root : Root) : Type 0 where
   pub candidates : length root.run.candidates.items ≡ length store.stored.items
   pub rest_opens : length root.rests.opens.items ≡ length store.stored.items
   pub rest_starts : length root.rests.starts.items ≡ length store.stored.items
-  pub seats : length root.waiting.seats.items ≡ length store.stored.items
+  pub positions : length root.waiting.positions.items ≡ length store.stored.items
 
 -- there was a root of the same forms that does not need the one of the slot, and the lists have the entry of an empty form
 -- for it
-pub record Loses (store : Store) (clauses : Clauses) (slot : ℕ) (root : Root) : Type 0 where
+pub record HasRemoved (store : Store) (clauses : Clauses) (slot : ℕ) (root : Root) : Type 0 where
   pub mid : Root
   pub rooted : IsRootOf store clauses mid
   pub needless : IsNeedless (all_of store clauses) slot mid.run.assignment
   pub lost : HasLost mid.run root.run mid.rests root.rests slot
   pub waiting : IsWithout slot mid.waiting.list.items root.waiting.list.items
-  pub seats : length root.waiting.seats.items ≡ length mid.waiting.seats.items
+  pub positions : length root.waiting.positions.items ≡ length mid.waiting.positions.items
   pub walked : root.walked ≡ mid.walked
 
 -- a form came into a slot that was empty, or into a new one
@@ -204,9 +204,9 @@ abbrev pub WasRootOf : Store → Clauses → ℕ → Root → Type 0
 WasRootOf store clauses slot root = (before : Store) × (old : Clauses) × IsRootOf before old root × HasGained before old store clauses slot × AreFree root.run.assignment.values.items clauses.blocks.watches slot
 
 -- each list has an entry for the slot
-pub record HasReached (run run' : Run) (rests rests' : Rests) (waiting waiting' : Eager) (slot : ℕ) : Type 0 where
+pub record RunIsWidened (run run' : Run) (rests rests' : Rests) (waiting waiting' : Waiting) (slot : ℕ) : Type 0 where
   pub waits : waiting'.list.items ≡ waiting.list.items
-  pub seats : length waiting.seats.items ≡ length run.opens.items → length waiting'.seats.items ≡ length run'.opens.items
+  pub positions : length waiting.positions.items ≡ length run.opens.items → length waiting'.positions.items ≡ length run'.opens.items
   pub assignment : run'.assignment ≡ run.assignment
   pub work : run'.work ≡ run.work
   pub trail : run'.trail ≡ run.trail

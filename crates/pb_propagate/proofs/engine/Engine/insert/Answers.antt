@@ -11,69 +11,69 @@ pub invariant_of-self-2 : goal.invariant_of-self-2
 invariant_of-self-2 c = λ ready.
     let e = c.self.inside in
     let r = c.self.invariant (ap (λ (v : Standing). v.spent) c.self.view_is ∙ c.requires.ready) in
-    let keep = c.vacancy.new.store.stored in
+    let keep = c.empty_slot.new.store.stored in
     let forms = forms_of keep.items in
     let was = forms_of e.store.stored.items in
     let slot = c.in_ok-slot.slot in
     let none = c.in_ok-slot.ensures.slot in
     let small : slot < 2 ^ 64 - 1 = omega (arith, slice_get_within forms slot None none, keep.ok.0, keep.ok.1, forms-length keep.items) in
-    let placed = placed-agree was forms e.places.items c.vacancy.ensures.forms r.1 in
-    (c.in_ok-occupy.ensures.rest, rw (c.in_ok-occupy.ensures.forms, c.in_ok-push.ensures.items) (placed-filled forms e.places.items slot c.args.form none small placed), c.in_ok-admit.ensures, gained-kept e.store c.occupy.new.store e.clauses c.occupy.new.clauses slot e.conflict r.0.slots (gained-both e.store c.vacancy.new.store c.occupy.new.store e.clauses c.vacancy.new.clauses c.occupy.new.clauses slot c.vacancy.ensures.variables c.in_ok-slot.ensures.widened c.in_ok-occupy.ensures.gained) r.3)
+    let placed = placed-agree was forms e.places.items c.empty_slot.ensures.forms r.1 in
+    (c.in_ok-add_form.ensures.rest, rw (c.in_ok-add_form.ensures.forms, c.in_ok-push.ensures.items) (placed-filled forms e.places.items slot c.args.form none small placed), c.in_ok-add.ensures, gained-kept e.store c.add_form.new.store e.clauses c.add_form.new.clauses slot e.conflict r.0.slots (gained-both e.store c.empty_slot.new.store c.add_form.new.store e.clauses c.empty_slot.new.clauses c.add_form.new.clauses slot c.empty_slot.ensures.variables c.in_ok-slot.ensures.widened c.in_ok-add_form.ensures.gained) r.3)
 
 pub returns-in_err-slot-clause-unchanged : goal.returns-in_err-slot-clause-unchanged
 returns-in_err-slot-clause-unchanged c =
     let e = c.self.inside in
     let was = forms_of e.store.stored.items in
-    let same : numbered (forms_of c.vacancy.new.store.stored.items) e.places.items ≡ c.args.self.now.forms =
-    numbered-same was (forms_of c.vacancy.new.store.stored.items) e.places.items (λ n s h. c.vacancy.ensures.forms s) ∙ ap (λ (v : Standing). v.forms) c.self.view_is in
+    let same : numbered (forms_of c.empty_slot.new.store.stored.items) e.places.items ≡ c.args.self.now.forms =
+    numbered-same was (forms_of c.empty_slot.new.store.stored.items) e.places.items (λ n s h. c.empty_slot.ensures.forms s) ∙ ap (λ (v : Standing). v.forms) c.self.view_is in
     search (rules, same)
 
-pub returns-in_err-occupy-clause-unchanged : goal.returns-in_err-occupy-clause-unchanged
-returns-in_err-occupy-clause-unchanged c =
+pub returns-in_err-add_form-clause-unchanged : goal.returns-in_err-add_form-clause-unchanged
+returns-in_err-add_form-clause-unchanged c =
     let e = c.self.inside in
-    let forms = forms_of c.vacancy.new.store.stored.items in
+    let forms = forms_of c.empty_slot.new.store.stored.items in
     let was = forms_of e.store.stored.items in
-    let same : numbered forms e.places.items ≡ c.args.self.now.forms = numbered-same was forms e.places.items (λ n s h. c.vacancy.ensures.forms s) ∙ ap (λ (v : Standing). v.forms) c.self.view_is in
-    let reported : numbered (forms_of c.occupy.new.store.stored.items) e.places.items ≡ c.args.self.now.forms = ap (λ fs. numbered fs e.places.items) c.in_err-occupy.ensures.refused ∙ same in
+    let same : numbered forms e.places.items ≡ c.args.self.now.forms = numbered-same was forms e.places.items (λ n s h. c.empty_slot.ensures.forms s) ∙ ap (λ (v : Standing). v.forms) c.self.view_is in
+    let reported : numbered (forms_of c.add_form.new.store.stored.items) e.places.items ≡ c.args.self.now.forms = ap (λ fs. numbered fs e.places.items) c.in_err-add_form.ensures.refused ∙ same in
     search (rules, reported)
 
 -- the forms were the same before the number was pushed
-same-forms : (c : In_ok-slot) → numbered (set (forms_of c.vacancy.new.store.stored.items) c.in_ok-slot.slot (Some c.args.form)) c.self.inside.places.items ≡ c.args.self.now.forms
+same-forms : (c : In_ok-slot) → numbered (set (forms_of c.empty_slot.new.store.stored.items) c.in_ok-slot.slot (Some c.args.form)) c.self.inside.places.items ≡ c.args.self.now.forms
 same-forms c =
     let e = c.self.inside in
     let r = c.self.invariant (ap (λ (v : Standing). v.spent) c.self.view_is ∙ c.requires.ready) in
-    let keep = c.vacancy.new.store.stored in
+    let keep = c.empty_slot.new.store.stored in
     let forms = forms_of keep.items in
     let was = forms_of e.store.stored.items in
     let slot = c.in_ok-slot.slot in
     let none = c.in_ok-slot.ensures.slot in
     let small : slot < 2 ^ 64 - 1 = omega (arith, slice_get_within forms slot None none, keep.ok.0, keep.ok.1, forms-length keep.items) in
-    let placed = placed-agree was forms e.places.items c.vacancy.ensures.forms r.1 in
-    numbered-filled forms e.places.items slot c.args.form none small placed ∙ numbered-same was forms e.places.items (λ n s h. c.vacancy.ensures.forms s) ∙ ap (λ (v : Standing). v.forms) c.self.view_is
+    let placed = placed-agree was forms e.places.items c.empty_slot.ensures.forms r.1 in
+    numbered-filled forms e.places.items slot c.args.form none small placed ∙ numbered-same was forms e.places.items (λ n s h. c.empty_slot.ensures.forms s) ∙ ap (λ (v : Standing). v.forms) c.self.view_is
 
 pub returns-in_err-push-clause-unchanged : goal.returns-in_err-push-clause-unchanged
 returns-in_err-push-clause-unchanged c = let same = same-forms (goal.at.returns-in_err-push-clause-unchanged c).In_ok-slot in search (rules, same)
 
-pub returns-in_err-admit-clause-unchanged : goal.returns-in_err-admit-clause-unchanged
-returns-in_err-admit-clause-unchanged c = let same = same-forms (goal.at.returns-in_err-admit-clause-unchanged c).In_ok-slot in search (rules, same)
+pub returns-in_err-add-clause-unchanged : goal.returns-in_err-add-clause-unchanged
+returns-in_err-add-clause-unchanged c = let same = same-forms (goal.at.returns-in_err-add-clause-unchanged c).In_ok-slot in search (rules, same)
 
 pub returns-clause-forms : goal.returns-clause-forms
 returns-clause-forms c =
     let e = c.self.inside in
     let r = c.self.invariant (ap (λ (v : Standing). v.spent) c.self.view_is ∙ c.requires.ready) in
-    let keep = c.vacancy.new.store.stored in
+    let keep = c.empty_slot.new.store.stored in
     let forms = forms_of keep.items in
     let was = forms_of e.store.stored.items in
     let slot = c.in_ok-slot.slot in
     let none = c.in_ok-slot.ensures.slot in
     let small : slot < 2 ^ 64 - 1 = omega (arith, slice_get_within forms slot None none, keep.ok.0, keep.ok.1, forms-length keep.items) in
-    let placed = placed-agree was forms e.places.items c.vacancy.ensures.forms r.1 in
-    let same = numbered-same was forms e.places.items (λ n s h. c.vacancy.ensures.forms s) ∙ ap (λ (v : Standing). v.forms) c.self.view_is in
-    rw (c.in_ok-occupy.ensures.forms, c.in_ok-push.ensures.items) (numbered-grown forms e.places.items slot c.args.form none small placed ∙ ap (λ xs. xs ++ (Some c.args.form ∷ [])) same)
+    let placed = placed-agree was forms e.places.items c.empty_slot.ensures.forms r.1 in
+    let same = numbered-same was forms e.places.items (λ n s h. c.empty_slot.ensures.forms s) ∙ ap (λ (v : Standing). v.forms) c.self.view_is in
+    rw (c.in_ok-add_form.ensures.forms, c.in_ok-push.ensures.items) (numbered-grown forms e.places.items slot c.args.form none small placed ∙ ap (λ xs. xs ++ (Some c.args.form ∷ [])) same)
 
-pub admit-requires-clause-gained : goal.admit-requires-clause-gained
-admit-requires-clause-gained c =
+pub add-requires-clause-gained : goal.add-requires-clause-gained
+add-requires-clause-gained c =
     let e = c.self.inside in
     let r = c.self.invariant (ap (λ (v : Standing). v.spent) c.self.view_is ∙ c.requires.ready) in
     let kept = c.note.ensures in
-    rw (kept.0, kept.1, kept.2, kept.3) (e.store, e.clauses, r.2, gained-both e.store c.vacancy.new.store c.occupy.new.store e.clauses c.vacancy.new.clauses c.occupy.new.clauses c.in_ok-slot.slot c.vacancy.ensures.variables c.in_ok-slot.ensures.widened c.in_ok-occupy.ensures.gained, c.in_ok-occupy.ensures.free)
+    rw (kept.0, kept.1, kept.2, kept.3) (e.store, e.clauses, r.2, gained-both e.store c.empty_slot.new.store c.add_form.new.store e.clauses c.empty_slot.new.clauses c.add_form.new.clauses c.in_ok-slot.slot c.empty_slot.ensures.variables c.in_ok-slot.ensures.widened c.in_ok-add_form.ensures.gained, c.in_ok-add_form.ensures.free)

@@ -5,8 +5,8 @@ use Rattle.pb_propagate.proofs.lemmas.root.Kept.{lost-kept}
 use Rattle.pb_propagate.proofs.lemmas.root.Lost.{lost-rooted}
 use Rattle.pb_propagate.proofs.engine.Engine.remove.Goals as goal
 
-pub quit-requires-clause-rest : goal.quit-requires-clause-rest
-quit-requires-clause-rest c =
+pub remove_form-requires-clause-rest : goal.remove_form-requires-clause-rest
+remove_form-requires-clause-rest c =
     let r = c.self.invariant (ap (λ (v : Standing). v.spent) c.self.view_is ∙ c.requires.ready) in
     r.0
 
@@ -17,11 +17,11 @@ invariant_of-self c = λ ready.
     let inside : c.args.number < length e.places.items = omega (arith, c.requires.number, ap (λ (v : Standing). length v.forms) c.self.view_is, numbered-length (forms_of e.store.stored.items) e.places.items) in
     let t = taken-by (forms_of e.store.stored.items) e.places.items c.args.number c.index-slot.result.now inside c.index-slot.ensures (omega (arith, c.if-slot-len.false, c.len.ensures, e.store.stored.ok.0, forms-length e.store.stored.items)) (omega (arith, e.store.stored.ok.0, e.store.stored.ok.1, forms-length e.store.stored.items)) r.1 in
     let room : c.index-slot.result.now < length e.store.stored.items = omega (arith, c.if-slot-len.false, c.len.ensures, e.store.stored.ok.0) in (
-      c.quit.ensures.rest,
-      rw c.quit.ensures.forms (placed-left (forms_of e.store.stored.items) e.places.items c.args.number c.index-slot.result.now t r.1),
-      let l = c.lose.ensures in
-          rw l.walked (lost-rooted e.store c.quit.new.store e.clauses c.quit.new.clauses l.mid.run c.lose.new.self.run l.mid.rests c.lose.new.self.rests l.mid.waiting c.lose.new.self.waiting l.mid.walked c.index-slot.result.now room (omega (arith, room, r.0.known)) c.quit.ensures.rest.ready c.quit.ensures.vacated l.lost l.waiting l.seats l.needless l.rooted),
-      lost-kept e.store c.quit.new.store e.clauses c.quit.new.clauses c.index-slot.result.now c.lose-2.new.self c.quit.ensures.vacated c.lose-2.ensures.spare c.lose-2.ensures.unbroken c.lose-2.ensures.kept,
+      c.remove_form.ensures.rest,
+      rw c.remove_form.ensures.forms (placed-left (forms_of e.store.stored.items) e.places.items c.args.number c.index-slot.result.now t r.1),
+      let l = c.remove.ensures in
+          rw l.walked (lost-rooted e.store c.remove_form.new.store e.clauses c.remove_form.new.clauses l.mid.run c.remove.new.self.run l.mid.rests c.remove.new.self.rests l.mid.waiting c.remove.new.self.waiting l.mid.walked c.index-slot.result.now room (omega (arith, room, r.0.known)) c.remove_form.ensures.rest.ready c.remove_form.ensures.vacated l.lost l.waiting l.positions l.needless l.rooted),
+      lost-kept e.store c.remove_form.new.store e.clauses c.remove_form.new.clauses c.index-slot.result.now c.remove-2.new.self c.remove_form.ensures.vacated c.remove-2.ensures.spare c.remove-2.ensures.unbroken c.remove-2.ensures.kept,
     )
 
 pub returns-then-slot-len-clause-forms : goal.returns-then-slot-len-clause-forms
@@ -36,4 +36,4 @@ returns-clause-forms c =
     let r = c.self.invariant (ap (λ (v : Standing). v.spent) c.self.view_is ∙ c.requires.ready) in
     let inside : c.args.number < length e.places.items = omega (arith, c.requires.number, ap (λ (v : Standing). length v.forms) c.self.view_is, numbered-length (forms_of e.store.stored.items) e.places.items) in
     let t = taken-by (forms_of e.store.stored.items) e.places.items c.args.number c.index-slot.result.now inside c.index-slot.ensures (omega (arith, c.if-slot-len.false, c.len.ensures, e.store.stored.ok.0, forms-length e.store.stored.items)) (omega (arith, e.store.stored.ok.0, e.store.stored.ok.1, forms-length e.store.stored.items)) r.1 in
-    rw c.quit.ensures.forms (numbered-left (forms_of e.store.stored.items) e.places.items c.args.number c.index-slot.result.now t r.1 ∙ ap (λ (v : Standing). set v.forms c.args.number None) c.self.view_is)
+    rw c.remove_form.ensures.forms (numbered-left (forms_of e.store.stored.items) e.places.items c.args.number c.index-slot.result.now t r.1 ∙ ap (λ (v : Standing). set v.forms c.args.number None) c.self.view_is)

@@ -43,8 +43,8 @@ returns-then-branch-clause-left c = record {
   conflict = c.in_ok-update.ensures.kept;
 }
 
-pub settle-requires-clause-ready : goal.settle-requires-clause-ready
-settle-requires-clause-ready c = updated-ready c.in_ok-update.ensures.rooted (rw c.update.ensures.literals c.requires.standing.joined) (c.in_ok-update.ensures.updated c.if-branch.false)
+pub propagate_given-requires-clause-ready : goal.propagate_given-requires-clause-ready
+propagate_given-requires-clause-ready c = updated-ready c.in_ok-update.ensures.rooted (rw c.update.ensures.literals c.requires.standing.joined) (c.in_ok-update.ensures.updated c.if-branch.false)
 
 pub returns-clause-left : goal.returns-clause-left
 returns-clause-left c =
@@ -57,5 +57,5 @@ returns-clause-left c =
       ready = c.back.ensures.ready;
       lists = omega (arith, ap (λ (v : Vec (Vec Listed Global) Global). length v.items) c.back.ensures.lists, left.running.sizes, left.values, r.values, c.requires.standing.widths);
       conflict = c.in_ok-update.ensures.kept;
-      rooted = question-back r left c.back.ensures (omega (arith, c.len-count.ensures, run.assignment.list.ok.0)) c.settle.ensures.literals;
+      rooted = question-back r left c.back.ensures (omega (arith, c.len-count.ensures, run.assignment.list.ok.0)) c.propagate_given.ensures.literals;
     }

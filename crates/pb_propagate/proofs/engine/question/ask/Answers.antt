@@ -16,5 +16,5 @@ question-answer-requires-clause-standing c = record {
 pub returns-clause-most : goal.returns-clause-most
 returns-clause-most c =
     let waiting = c.args.root.now.waiting in
-    let few = listed-few (forms_of c.args.store.now.stored.items) waiting.list.items (λ i j s h k. some-one (slice_get waiting.seats.items s) i j (waiting.seated i s h) (waiting.seated j s k)) c.requires.standing.rooted.live in
+    let few = listed-few (forms_of c.args.store.now.stored.items) waiting.list.items (λ i j s h k. some-one (slice_get waiting.positions.items s) i j (waiting.positioned i s h) (waiting.positioned j s k)) c.requires.standing.rooted.live in
     omega (arith, few, c.question-answer.ensures.most, c.replace.ensures.value)

@@ -35,13 +35,13 @@ returns-in_err-enter-clause-most c =
     let most = updated-most c.requires.standing c.requires.visits c.update.ensures.costs in
     omega (arith, most, c.enter.ensures.rest.3)
 
-pub returns-in_err-lay-clause-most : goal.returns-in_err-lay-clause-most
-returns-in_err-lay-clause-most c =
+pub returns-in_err-open_form-clause-most : goal.returns-in_err-open_form-clause-most
+returns-in_err-open_form-clause-most c =
     let most = updated-most c.requires.standing c.requires.visits c.update.ensures.costs in
-    omega (arith, most, c.enter.ensures.rest.3, c.lay.ensures.visits)
+    omega (arith, most, c.enter.ensures.rest.3, c.open_form.ensures.visits)
 
-pub returns-in_err-lay-clause-forms : goal.returns-in_err-lay-clause-forms
-returns-in_err-lay-clause-forms c =
+pub returns-in_err-open_form-clause-forms : goal.returns-in_err-open_form-clause-forms
+returns-in_err-open_form-clause-forms c =
     let keep = c.args.store.now.stored.items in
     let h = c.in_ok-enter.ensures.entered in
     let same : (places : List ℕ) → ArePlaced (forms_of keep) places → numbered (forms_of c.enter.new.store.stored.items) places ≡ numbered (forms_of keep) places = λ places p. numbered-entered keep c.enter.new.store.stored.items h.kept places h.keeps (omega (arith, c.args.store.now.stored.ok.0, c.args.store.now.stored.ok.1)) p in
@@ -74,7 +74,7 @@ posed-most c =
     let new = c.enter.new in
     let h = c.in_ok-enter.ensures.entered in
     let list_is = ap (λ (a : Assignment). a.list.items) c.enter.ensures.rest.0 in
-    let laid_is = ap (λ (a : Assignment). a.list.items) (c.lay.ensures.assignment ∙ c.enter.ensures.rest.0) in
+    let laid_is = ap (λ (a : Assignment). a.list.items) (c.open_form.ensures.assignment ∙ c.enter.ensures.rest.0) in
     let number_is : c.len-number.result ≡ length keep = omega (arith, c.len-number.ensures, store.stored.ok.0) in
     let lit : clauses_of between ≡ clauses_of c.args.clauses.now = c.update.ensures.literals in
     let count_is : c.len-count.result ≡ length run.assignment.list.items = omega (arith, c.len-count.ensures, run.assignment.list.ok.0) in
@@ -84,10 +84,10 @@ posed-most c =
     let start : Derives (all_of new.store c.args.clauses.now) [] c.args.root.now.run.assignment.list.items = rw whole (derives-entered (all_of store c.args.clauses.now) (stored_shape h.kept) [] c.args.root.now.run.assignment.list.items (reasons-derive c.requires.standing.rooted.reasoned)) in
     let done = c.propagate.new.run in
     let work_is = ap (λ (v : Vec ℕ Global). v.items) c.enter.ensures.rest.1 ∙ r.work in
-    let few = grown-length c.len-number.result c.enter.new.run.work.items c.lay.new.run.work.items c.in_ok-lay.ensures.work in
+    let few = grown-length c.len-number.result c.enter.new.run.work.items c.open_form.new.run.work.items c.in_ok-open_form.ensures.work in
     let spends = rw (c.as_slice.ensures.value ∙ c.new-none.ensures.items) at c.propagate.ensures.costs in
-    let cands = ap (λ (v : Vec ℕ Global). sum v.items) c.lay.ensures.candidates ∙ ap sum h.candidates ∙ sum_by_push (λ (n : ℕ). n) run.candidates.items 0 in
-    let upper = both-parts store new.store c.args.clauses.now between c.args.root.now.rests rests c.args.root.now.waiting.list.items c.args.root.now.walked.heads c.args.root.now.run run c.lay.new.run done c.at.result (heads-is c.at.result (length run.assignment.list.items) (c.at.ensures.0 ∙ count_is) (c.at.ensures.1 ∙ count_is)) lit c.in_ok-enter.ensures.longer laid_is (omega (arith, cands)) (c.lay.ensures.visits ∙ c.enter.ensures.rest.3) c.requires.standing.rooted.work (omega (arith, few.1, ap length work_is)) c.requires.visits (c.in_ok-update.ensures.updated c.if-branch.false).pays spends in
+    let cands = ap (λ (v : Vec ℕ Global). sum v.items) c.open_form.ensures.candidates ∙ ap sum h.candidates ∙ sum_by_push (λ (n : ℕ). n) run.candidates.items 0 in
+    let upper = both-parts store new.store c.args.clauses.now between c.args.root.now.rests rests c.args.root.now.waiting.list.items c.args.root.now.walked.heads c.args.root.now.run run c.open_form.new.run done c.at.result (heads-is c.at.result (length run.assignment.list.items) (c.at.ensures.0 ∙ count_is) (c.at.ensures.1 ∙ count_is)) lit c.in_ok-enter.ensures.longer laid_is (omega (arith, cands)) (c.open_form.ensures.visits ∙ c.enter.ensures.rest.3) c.requires.standing.rooted.work (omega (arith, few.1, ap length work_is)) c.requires.visits (c.in_ok-update.ensures.updated c.if-branch.false).pays spends in
     let extends = extends-then c.args.root.now.run.assignment.list.items run.assignment.list.items done.assignment.list.items (c.in_ok-update.ensures.updated c.if-branch.false).pays.extends (rw laid_is at spends.extends) in
     let most = question-most new.store clauses c.args.root.now.run.assignment.list.items done.assignment.list.items done.visits (length c.args.root.now.waiting.list.items + 1) (sum done.candidates.items) c.in_ok-enter.ensures.sound
     (joined-entered c.args.form keep new.store.stored.items clauses run.opens.items new.run.opens.items run.candidates.items new.run.candidates.items h c.requires.standing.joined) spends.single (λ l on. opposite done.assignment.values.items done.assignment.list.items l done.assignment.agrees on) extends start spends.bounded upper in
@@ -111,7 +111,7 @@ returns-clause-asked c =
     let new = c.enter.new in
     let h = c.in_ok-enter.ensures.entered in
     let list_is = ap (λ (a : Assignment). a.list.items) c.enter.ensures.rest.0 in
-    let laid_is = ap (λ (a : Assignment). a.list.items) (c.lay.ensures.assignment ∙ c.enter.ensures.rest.0) in
+    let laid_is = ap (λ (a : Assignment). a.list.items) (c.open_form.ensures.assignment ∙ c.enter.ensures.rest.0) in
     let number_is : c.len-number.result ≡ length keep = omega (arith, c.len-number.ensures, store.stored.ok.0) in
     let lit : clauses_of between ≡ clauses_of c.args.clauses.now = c.update.ensures.literals in
     let clauses = clauses_of c.args.clauses.now in
@@ -126,7 +126,7 @@ returns-clause-asked c =
     posed (stored_shape h.kept) h.is (record {
       list = done.assignment.list.items;
       derived = rw whole at all;
-      few = omega (arith, found-after (length done.assignment.list.items) done.visits (length c.args.root.now.run.assignment.list.items) (found-both (length c.args.root.now.run.assignment.list.items) (length run.assignment.list.items) (length c.lay.new.run.assignment.list.items) (length done.assignment.list.items) c.args.root.now.run.visits run.visits c.lay.new.run.visits done.visits c.requires.visits (ap length laid_is) (c.lay.ensures.visits ∙ c.enter.ensures.rest.3) (c.in_ok-update.ensures.updated c.if-branch.false).found reported.gains.found c.in_ok-found.ensures.gains.rising) (omega (arith, done.assignment.list.ok.0, done.assignment.list.ok.1)), c.back.ensures.visits, c.leave.ensures.rest.3);
+      few = omega (arith, found-after (length done.assignment.list.items) done.visits (length c.args.root.now.run.assignment.list.items) (found-both (length c.args.root.now.run.assignment.list.items) (length run.assignment.list.items) (length c.open_form.new.run.assignment.list.items) (length done.assignment.list.items) c.args.root.now.run.visits run.visits c.open_form.new.run.visits done.visits c.requires.visits (ap length laid_is) (c.open_form.ensures.visits ∙ c.enter.ensures.rest.3) (c.in_ok-update.ensures.updated c.if-branch.false).found reported.gains.found c.in_ok-found.ensures.gains.rising) (omega (arith, done.assignment.list.ok.0, done.assignment.list.ok.1)), c.back.ensures.visits, c.leave.ensures.rest.3);
       one_sided = λ l on. opposite done.assignment.values.items done.assignment.list.items l done.assignment.agrees on;
       conflict = λ found. subst (λ xs. Conflicts xs done.assignment.list.items) (whole_now) (reported.conflict found);
       settled = λ found f has. (reported.settled found).settled f (subst (λ xs. Contains xs f) (sym whole_now) has);
@@ -154,7 +154,7 @@ returns-clause-left c =
     let new = c.enter.new in
     let h = c.in_ok-enter.ensures.entered in
     let list_is = ap (λ (a : Assignment). a.list.items) c.enter.ensures.rest.0 in
-    let laid_is = ap (λ (a : Assignment). a.list.items) (c.lay.ensures.assignment ∙ c.enter.ensures.rest.0) in
+    let laid_is = ap (λ (a : Assignment). a.list.items) (c.open_form.ensures.assignment ∙ c.enter.ensures.rest.0) in
     let number_is : c.len-number.result ≡ length keep = omega (arith, c.len-number.ensures, store.stored.ok.0) in
     let count_is : c.len-count.result ≡ length run.assignment.list.items = omega (arith, c.len-count.ensures, run.assignment.list.ok.0) in
     let done = c.propagate.new.run in
@@ -170,10 +170,10 @@ returns-clause-left c =
     let cut : b.run.assignment.list.items ≡ run.assignment.list.items = c.back.ensures.list ∙ ap (λ xs. take c.len-count.result xs) extends.1 ∙ ap (λ n. take n (run.assignment.list.items ++ extends.0)) count_is ∙ take-append_seam run.assignment.list.items extends.0 in
     let end_is : last.run.assignment.list.items ≡ run.assignment.list.items = ap (λ (a : Assignment). a.list.items) c.leave.ensures.rest.0 ∙ cut in
     let lit : clauses_of b.clauses ≡ clauses_of between = (c.back.ensures.literals ∙ c.propagate.ensures.literals) in
-    let mine : c.lay.new.run.assignment ≡ run.assignment = c.lay.ensures.assignment ∙ c.enter.ensures.rest.0 in
+    let mine : c.open_form.new.run.assignment ≡ run.assignment = c.open_form.ensures.assignment ∙ c.enter.ensures.rest.0 in
     let last_is : reasons_of last.run ≡ reasons_of done = ap (λ (a : Assignment). a.reasons.items) c.leave.ensures.rest.0 ∙ ap (λ (v : Vec ℕ Global). v.items) c.back.ensures.reasons in
     let keeps : KeepsReasons (list_of run) (reasons_of run) (reasons_of last.run) = subst (λ xs. KeepsReasons (list_of run) (reasons_of run) xs) (sym last_is) (subst (λ (a : Assignment). KeepsReasons a.list.items a.reasons.items (reasons_of done)) mine reported.left.reasons) in
-    let values_is = ap (λ (a : Assignment). a.values.items) (c.lay.ensures.assignment ∙ c.enter.ensures.rest.0) in
+    let values_is = ap (λ (a : Assignment). a.values.items) (c.open_form.ensures.assignment ∙ c.enter.ensures.rest.0) in
     let moved = subst (λ vs. KeepsWalked vs between c.propagate.new.clauses) values_is reported.left.kept in
     let fallen = visits-back run.assignment.values.items between c.propagate.new.clauses b.clauses run.assignment.list.items run.assignment.agrees lit c.back.ensures.watches moved in
     record {
@@ -183,7 +183,7 @@ returns-clause-left c =
       lists = omega (arith, ap (λ (v : Vec (Vec Listed Global) Global). length v.items) c.back.ensures.lists, reported.left.running.sizes, reported.left.values, ap length values_is, r.values, c.requires.standing.widths);
       conflict = c.in_ok-update.ensures.kept;
       rooted = record {
-        values = ap (λ (a : Assignment). length a.values.items) c.leave.ensures.rest.0 ∙ c.back.ensures.values ∙ reported.left.values ∙ ap (λ (a : Assignment). length a.values.items) (c.lay.ensures.assignment ∙ c.enter.ensures.rest.0) ∙ r.values ∙ sym (c.leave.ensures.variables ∙ c.enter.ensures.variables);
+        values = ap (λ (a : Assignment). length a.values.items) c.leave.ensures.rest.0 ∙ c.back.ensures.values ∙ reported.left.values ∙ ap (λ (a : Assignment). length a.values.items) (c.open_form.ensures.assignment ∙ c.enter.ensures.rest.0) ∙ r.values ∙ sym (c.leave.ensures.variables ∙ c.enter.ensures.variables);
         opens = opens_is;
         starts = starts_is;
         open_sizes = ap length (opens_is ∙ sym r.opens) ∙ r.open_sizes ∙ sym (ap length kept_is);
@@ -195,7 +195,7 @@ returns-clause-left c =
         next = c.leave.ensures.rest.2 ∙ c.back.ensures.next;
         reasoned = rw (kept_is, lit, end_is) (reasons-keep (reasons_of run) (reasons_of last.run) keeps r.reasoned);
         walks = rw end_is (walks-kept between b.clauses run.assignment.list.items root.walked fallen r.walks);
-        seats = r.seats ∙ sym (ap length kept_is);
+        positions = r.positions ∙ sym (ap length kept_is);
         live = rw kept_is r.live;
       };
     }
@@ -213,35 +213,35 @@ propagate-requires-clause-ready c =
     let opens = run.opens.items in
     let d : Shape = record { terms = []; degree = 0 } in
     let between = c.update.new.clauses in
-    let laid_is = ap (λ (a : Assignment). a.list.items) (c.lay.ensures.assignment ∙ c.enter.ensures.rest.0) in
+    let laid_is = ap (λ (a : Assignment). a.list.items) (c.open_form.ensures.assignment ∙ c.enter.ensures.rest.0) in
     let number_is : c.len-number.result ≡ length keep = omega (arith, c.len-number.ensures, store.stored.ok.0) in
     let rests = root.rests in
-    let low = λ (d : Shape). c.in_ok-lay.ensures.opens d ∙ ap (λ (xs : List NumberedLiteral). set new.run.opens.items c.len-number.result (open_sum xs (get_or (shapes_of new.store.stored.items) c.len-number.result d).terms)) list_is in
+    let low = λ (d : Shape). c.in_ok-open_form.ensures.opens d ∙ ap (λ (xs : List NumberedLiteral). set new.run.opens.items c.len-number.result (open_sum xs (get_or (shapes_of new.store.stored.items) c.len-number.result d).terms)) list_is in
     let work_is = ap (λ (v : Vec ℕ Global). v.items) c.enter.ensures.rest.1 ∙ r.work in
-    let queued = rw (list_is, work_is) at c.in_ok-lay.ensures.work in
-    let trail_is = c.in_ok-lay.ensures.trail ∙ ap (λ (xs : List ℕ). xs ++ (c.len-number.result ∷ [])) (ap (λ (v : Vec ℕ Global). v.items) c.enter.ensures.trail ∙ r.trail) in
+    let queued = rw (list_is, work_is) at c.in_ok-open_form.ensures.work in
+    let trail_is = c.in_ok-open_form.ensures.trail ∙ ap (λ (xs : List ℕ). xs ++ (c.len-number.result ∷ [])) (ap (λ (v : Vec ℕ Global). v.items) c.enter.ensures.trail ∙ r.trail) in
     let none_waits = (c.in_ok-update.ensures.updated c.if-branch.false).none in
     let before : IsTidy (beside rests []) (shapes_of keep) run.opens.items run.candidates.items run.assignment.list.items [] [] 0 c.len-number.result = rw number_is (rw none_waits at r.tidy) in
-    let tidy = laid-tidy rests c.args.form keep new.store.stored.items run.opens.items new.run.opens.items run.candidates.items new.run.candidates.items c.lay.new.run.opens.items run.assignment.list.items c.lay.new.run.work.items c.lay.new.run.trail.items c.len-number.result h number_is r.open_sizes r.start_sizes (omega (arith, ap length r.opens, r.open_sizes)) (omega (arith, ap length r.starts, r.start_sizes)) before low queued trail_is in
-    let cands_is = ap (λ (v : Vec ℕ Global). v.items) c.lay.ensures.candidates in
+    let tidy = laid-tidy rests c.args.form keep new.store.stored.items run.opens.items new.run.opens.items run.candidates.items new.run.candidates.items c.open_form.new.run.opens.items run.assignment.list.items c.open_form.new.run.work.items c.open_form.new.run.trail.items c.len-number.result h number_is r.open_sizes r.start_sizes (omega (arith, ap length r.opens, r.open_sizes)) (omega (arith, ap length r.starts, r.start_sizes)) before low queued trail_is in
+    let cands_is = ap (λ (v : Vec ℕ Global). v.items) c.open_form.ensures.candidates in
     let lit : clauses_of between ≡ clauses_of c.args.clauses.now = c.update.ensures.literals in
-    let values_is = ap (λ (a : Assignment). a.values.items) (c.lay.ensures.assignment ∙ c.enter.ensures.rest.0) in
+    let values_is = ap (λ (a : Assignment). a.values.items) (c.open_form.ensures.assignment ∙ c.enter.ensures.rest.0) in
     let list = root.run.assignment.list.items in
     let count_is : c.len-count.result ≡ length list = omega (arith, c.len-count.ensures, root.run.assignment.list.ok.0) in
     let heads = heads-is c.at.result (length list) (c.at.ensures.0 ∙ count_is) (c.at.ensures.1 ∙ count_is) in
     let whole = subst (IsMark c.update.new.clauses.blocks.literals c.update.new.clauses.blocks.watches list) (c.in_ok-update.ensures.updated c.if-branch.false).walked c.in_ok-update.ensures.rooted.walks.now in
-    let next_is = c.lay.ensures.next ∙ c.enter.ensures.rest.2 ∙ r.next in
+    let next_is = c.open_form.ensures.next ∙ c.enter.ensures.rest.2 ∙ r.next in
     record {
       sums = record {
         values = ap length values_is ∙ r.values ∙ sym c.enter.ensures.variables;
-        opens = omega (arith, ap length (c.in_ok-lay.ensures.opens d), length-set c.enter.new.run.opens.items c.len-number.result (open_sum c.enter.new.run.assignment.list.items (get_or (shapes_of c.enter.new.store.stored.items) c.len-number.result d).terms), ap length h.opened, length-append opens (stored_total h.kept ∷ []), r.open_sizes, ap length h.keeps, length-append keep (h.kept ∷ []));
-        candidates = omega (arith, ap (λ (v : Vec ℕ Global). length v.items) c.lay.ensures.candidates, ap length h.candidates, length-append run.candidates.items (0 ∷ []), r.start_sizes, ap length h.keeps, length-append keep (h.kept ∷ []));
+        opens = omega (arith, ap length (c.in_ok-open_form.ensures.opens d), length-set c.enter.new.run.opens.items c.len-number.result (open_sum c.enter.new.run.assignment.list.items (get_or (shapes_of c.enter.new.store.stored.items) c.len-number.result d).terms), ap length h.opened, length-append opens (stored_total h.kept ∷ []), r.open_sizes, ap length h.keeps, length-append keep (h.kept ∷ []));
+        candidates = omega (arith, ap (λ (v : Vec ℕ Global). length v.items) c.open_form.ensures.candidates, ap length h.candidates, length-append run.candidates.items (0 ∷ []), r.start_sizes, ap length h.keeps, length-append keep (h.kept ∷ []));
         next = omega (arith, next_is);
-        counted = rw laid_is (laid-counted c.args.form keep new.store.stored.items run.opens.items new.run.opens.items run.candidates.items new.run.candidates.items c.lay.new.run.opens.items run.assignment.list.items c.len-number.result h number_is r.open_sizes
-            (λ s d less. r.counted s d less (λ e. absurd (omega (arith, e, less)))) (λ d. c.in_ok-lay.ensures.opens d ∙ ap (λ (xs : List NumberedLiteral). set new.run.opens.items c.len-number.result (open_sum xs (get_or (shapes_of new.store.stored.items) c.len-number.result d).terms)) list_is));
+        counted = rw laid_is (laid-counted c.args.form keep new.store.stored.items run.opens.items new.run.opens.items run.candidates.items new.run.candidates.items c.open_form.new.run.opens.items run.assignment.list.items c.len-number.result h number_is r.open_sizes
+            (λ s d less. r.counted s d less (λ e. absurd (omega (arith, e, less)))) (λ d. c.in_ok-open_form.ensures.opens d ∙ ap (λ (xs : List NumberedLiteral). set new.run.opens.items c.len-number.result (open_sum xs (get_or (shapes_of new.store.stored.items) c.len-number.result d).terms)) list_is));
       };
       single = rw laid_is (derivation-single (all_of store between) [] run.assignment.list.items none (reasons-derive r.reasoned));
-      tidy = rw (c.as_slice.ensures.value, c.new-none.ensures.items, laid_is, cands_is, c.lay.ensures.next ∙ c.enter.ensures.rest.2 ∙ r.next) tidy;
+      tidy = rw (c.as_slice.ensures.value, c.new-none.ensures.items, laid_is, cands_is, c.open_form.ensures.next ∙ c.enter.ensures.rest.2 ∙ r.next) tidy;
       joined = rw lit (joined-entered c.args.form keep new.store.stored.items (clauses_of c.args.clauses.now) run.opens.items new.run.opens.items run.candidates.items new.run.candidates.items h c.requires.standing.joined);
       running = rw values_is (c.in_ok-update.ensures.updated c.if-branch.false).running;
       walked = rw (laid_is, heads) whole;

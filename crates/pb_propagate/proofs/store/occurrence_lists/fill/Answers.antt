@@ -17,9 +17,9 @@ returns-clause-sound c =
     let store = c.args.store.now in
     let k = c.in_ok-kept.kept in
     let ts = stored_terms k in
-    filled-stored store.stored.items k store.spots.items c.in_ok-seats.seats store.occurrences.items c.link.new.lists.items store.variables c.args.slot ts
-    c.requires.slot c.requires.empty refl c.in_ok-link.ensures.sizes (ap length c.in_ok-seats.ensures ∙ c.in_ok-link.ensures.count)
-    (kept-inside ts c.args.form.terms store.variables c.in_ok-kept.ensures.is.terms c.requires.inside) (rw (← c.in_ok-seats.ensures) at c.in_ok-link.ensures.linked) c.requires.sound
+    filled-stored store.stored.items k store.spots.items c.in_ok-positions.positions store.occurrences.items c.link.new.lists.items store.variables c.args.slot ts
+    c.requires.slot c.requires.empty refl c.in_ok-link.ensures.sizes (ap length c.in_ok-positions.ensures ∙ c.in_ok-link.ensures.count)
+    (kept-inside ts c.args.form.terms store.variables c.in_ok-kept.ensures.is.terms c.requires.inside) (rw (← c.in_ok-positions.ensures) at c.in_ok-link.ensures.linked) c.requires.sound
 
 pub returns-clause-filled : goal.returns-clause-filled
 returns-clause-filled c = record {

@@ -42,7 +42,7 @@ returns-clause-each c =
         candidates = length-set me.run.candidates.items form 0 ∙ z.candidates;
         rest_opens = length-set me.rests.opens.items form o ∙ z.rest_opens;
         rest_starts = length-set me.rests.starts.items form 0 ∙ z.rest_starts;
-        seats = c.wait_below.ensures.seats ∙ z.seats;
+        positions = c.wait_below.ensures.positions ∙ z.positions;
       };
       assignment = refl;
       work = refl;

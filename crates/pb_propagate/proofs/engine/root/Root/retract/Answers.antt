@@ -30,7 +30,7 @@ lift_all-requires c =
         candidates = r.start_sizes;
         rest_opens = sym (ap length r.opens) ∙ r.open_sizes;
         rest_starts = sym (ap length r.starts) ∙ r.start_sizes;
-        seats = r.seats;
+        positions = r.positions;
       };
       lacks = rw c.negation.ensures (cut-lacks store clauses me (record me { run = record me.run { assignment = c.cut.new.self }; walked = c.cut-2.new.self }) (take last list) l (listed-last list last l size c.index-literal.ensures) absent c.requires.sound r (record {
         opens = refl;

@@ -78,7 +78,7 @@ returns-then-found-clause-met c = λ found. record {
 pub returns-clause-costs : goal.returns-clause-costs
 returns-clause-costs c =
     let spends = rw c.as_slice.ensures.value at c.propagate.ensures.costs in
-    record { ended = c.propagate.new.run; spends = spends; visits = c.keep.ensures.visits }
+    record { ended = c.propagate.new.run; spends = spends; visits = c.save.ensures.visits }
 
 pub returns-clause-rooted : goal.returns-clause-rooted
 returns-clause-rooted c =
@@ -90,9 +90,9 @@ returns-clause-rooted c =
     let settled = reported.settled c.if-found.false in
     let reasoned = run-reasons-rooted r.reasoned reported.reasons in
     let lit = c.propagate.ensures.literals in
-    let whole_is : c.len-whole.result ≡ length done.assignment.list.items = omega (arith, c.len-whole.ensures, done.assignment.list.ok.0, ap (λ (a : Assignment). length a.list.items) c.keep.ensures.assignment, c.keep.new.run.assignment.list.ok.0) in
+    let whole_is : c.len-whole.result ≡ length done.assignment.list.items = omega (arith, c.len-whole.ensures, done.assignment.list.ok.0, ap (λ (a : Assignment). length a.list.items) c.save.ensures.assignment, c.save.new.run.assignment.list.ok.0) in
     let heads = heads-is c.finish.new.self.heads (length done.assignment.list.items) (c.in_ok-finish.ensures.heads.0 ∙ whole_is) (c.in_ok-finish.ensures.heads.1 ∙ whole_is) in
-    kept-rooted store c.propagate.new.clauses done c.keep.new.run me.rests c.keep.new.rests [] c.clear.new.self c.finish.new.self
+    kept-rooted store c.propagate.new.clauses done c.save.new.run me.rests c.save.new.rests [] c.clear.new.self c.finish.new.self
     (record {
       values = reported.left.values ∙ r.values;
       opens = reported.left.opens;
@@ -103,8 +103,8 @@ returns-clause-rooted c =
     })
     settled.tidy
     (λ s off. (λ i from less at. absurd (omega (arith, less)), λ i from less at. let end_is = settled.done in absurd (omega (arith, from, less, end_is))))
-    c.keep.ensures
-    (ap (λ (v : Vec ℕ Global). length v.items) c.clear.ensures.seats ∙ r.seats)
+    c.save.ensures
+    (ap (λ (v : Vec ℕ Global). length v.items) c.clear.ensures.positions ∙ r.positions)
     (λ i s at. absurd (omega (arith, slice_get_within c.clear.new.self.list.items i s at, ap length c.clear.ensures.list)))
 
 pub returns-clause-lists : goal.returns-clause-lists
@@ -120,24 +120,24 @@ returns-clause-updated c = λ none.
     let count_is : c.len-count.result ≡ length me.run.assignment.list.items = omega (arith, c.len-count.ensures, me.run.assignment.list.ok.0) in
     let pays = rw c.as_slice.ensures.value at (reported.settled c.if-found.false).pays in
     let done = c.propagate.new.run in
-    let whole_is : c.len-whole.result ≡ length done.assignment.list.items = omega (arith, c.len-whole.ensures, done.assignment.list.ok.0, ap (λ (a : Assignment). length a.list.items) c.keep.ensures.assignment, c.keep.new.run.assignment.list.ok.0) in
+    let whole_is : c.len-whole.result ≡ length done.assignment.list.items = omega (arith, c.len-whole.ensures, done.assignment.list.ok.0, ap (λ (a : Assignment). length a.list.items) c.save.ensures.assignment, c.save.new.run.assignment.list.ok.0) in
     record {
-      running = rw c.keep.ensures.assignment reported.left.running;
+      running = rw c.save.ensures.assignment reported.left.running;
       pays = record {
-        extends = rw c.keep.ensures.assignment pays.extends;
-        single = rw c.keep.ensures.assignment pays.single;
-        bounded = rw c.keep.ensures.candidates pays.bounded;
-        upper = rw (c.keep.ensures.assignment, c.keep.ensures.candidates, c.keep.ensures.visits) pays.upper;
+        extends = rw c.save.ensures.assignment pays.extends;
+        single = rw c.save.ensures.assignment pays.single;
+        bounded = rw c.save.ensures.candidates pays.bounded;
+        upper = rw (c.save.ensures.assignment, c.save.ensures.candidates, c.save.ensures.visits) pays.upper;
       };
-      found = rw (c.keep.ensures.assignment, c.keep.ensures.visits) reported.gains.found;
+      found = rw (c.save.ensures.assignment, c.save.ensures.visits) reported.gains.found;
       none = c.clear.ensures.list;
-      walked = rw c.keep.ensures.assignment (heads-is c.finish.new.self.heads (length c.propagate.new.run.assignment.list.items) (c.in_ok-finish.ensures.heads.0 ∙ whole_is) (c.in_ok-finish.ensures.heads.1 ∙ whole_is));
+      walked = rw c.save.ensures.assignment (heads-is c.finish.new.self.heads (length c.propagate.new.run.assignment.list.items) (c.in_ok-finish.ensures.heads.0 ∙ whole_is) (c.in_ok-finish.ensures.heads.1 ∙ whole_is));
     }
 
 pub returns-in_err-finish-clause-costs : goal.returns-in_err-finish-clause-costs
 returns-in_err-finish-clause-costs c =
     let spends = rw c.as_slice.ensures.value at c.propagate.ensures.costs in
-    record { ended = c.propagate.new.run; spends = spends; visits = c.keep.ensures.visits }
+    record { ended = c.propagate.new.run; spends = spends; visits = c.save.ensures.visits }
 
 pub propagate-requires-clause-ready : goal.propagate-requires-clause-ready
 propagate-requires-clause-ready c =

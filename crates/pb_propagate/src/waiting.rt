@@ -1,0 +1,102 @@
+//! The forms that may propagate with nothing assigned.
+
+ghost use Rattle.std.specs.Prelude.{◌≡◌, ℕ, ◌<◌, ◌≤◌, ◌+◌, ◌++◌, ◌∷◌, [], Some, length, slice_get, swap_remove, true, false, vec_capacity, OnOk};
+ghost use Rattle.pb_propagate.specs.engine.Engine.Counts.{IsAbsent};
+ghost use Rattle.pb_propagate.specs.engine.Engine.Waiting.{IsWithout};
+
+use std::alloc::{AllocError, Global};
+
+/// Some of the forms, each once. The list has room for all of them. A form is removed without a
+/// search.
+#[derive(Drop)]
+pub struct Waiting {
+    pub list: Vec<usize>,
+    // For each form on the list, its position there.
+    pub positions: Vec<usize>,
+    pub ghost positioned: { (i s : ℕ) → slice_get list.items i ≡ Some s →
+        slice_get positions.items s ≡ Some i },
+    pub ghost room: { length positions.items ≤ vec_capacity list },
+}
+
+impl Waiting {
+    /// An empty list, over no forms.
+    pub fn new(alloc: Global) -> Waiting
+        ensures { (result.list.items ≡ []) × (result.positions.items ≡ []) }
+    {
+        Waiting {
+            list: Vec::new(alloc),
+            positions: Vec::new(alloc),
+        }
+    }
+
+    /// Adds a form that is not on the list, and room for it there.
+    pub fn widen(&mut self) -> Result<(), AllocError>
+        ensures list { self.new.list.items ≡ self.old.list.items }
+        ensures positions { OnOk result
+            (length self.new.positions.items ≡ length self.old.positions.items + 1) }
+    {
+        let count = self.positions.len() + 1;
+        self.list.reserve(count.saturating_sub(self.list.len()))?;
+        self.positions.push(0)?;
+        Ok(())
+    }
+
+    /// Adds a form to the list. Nothing is allocated.
+    pub fn put(&mut self, form: usize)
+        requires inside { form < length self.old.positions.items }
+        requires absent { IsAbsent self.old.list.items 0 form }
+        ensures list { self.new.list.items ≡ self.old.list.items ++ form ∷ [] }
+        ensures positions { length self.new.positions.items ≡ length self.old.positions.items }
+    {
+        let position = self.list.len();
+        self.list.push_reserved(form);
+        self.positions[form] = position;
+    }
+
+    /// Whether the form is on the list.
+    pub fn contains(&self, form: usize) -> bool
+        requires inside { form < length self.now.positions.items }
+        ensures yes { result ≡ true → IsAbsent self.now.list.items 0 form → ⊥ }
+        ensures no { result ≡ false → IsAbsent self.now.list.items 0 form }
+    {
+        match self.list.get(self.positions[form]) {
+            Some(other) => *other == form,
+            None => false,
+        }
+    }
+
+    /// Removes a form from the list if it is there.
+    pub fn remove(&mut self, form: usize)
+        requires inside { form < length self.old.positions.items }
+        ensures left { IsWithout form self.old.list.items self.new.list.items }
+        ensures positions { length self.new.positions.items ≡ length self.old.positions.items }
+    {
+        if self.contains(form) {
+            self.take(form);
+        }
+    }
+
+    /// Removes all forms from the list.
+    pub fn clear(&mut self)
+        ensures list { self.new.list.items ≡ [] }
+        ensures positions { self.new.positions ≡ self.old.positions }
+    {
+        self.list.clear();
+    }
+
+    /// Removes a form from the list. The last one moves to its position.
+    pub fn take(&mut self, form: usize)
+        requires there { IsAbsent self.old.list.items 0 form → ⊥ }
+        ensures list { (position : ℕ) × (slice_get self.old.list.items position ≡ Some form) ×
+            (self.new.list.items ≡ swap_remove self.old.list.items position form) }
+        ensures positions { length self.new.positions.items ≡ length self.old.positions.items }
+    {
+        let position = self.positions[form];
+        self.list.swap_remove(position);
+        if position >= self.list.len() {
+            return;
+        }
+        let moved = self.list[position];
+        self.positions[moved] = position;
+    }
+}
