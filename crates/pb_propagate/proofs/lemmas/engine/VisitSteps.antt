@@ -76,17 +76,17 @@ visiting-reasons {d} {form} {now} {f} {t} {c} given _ reasons reasons' forced co
     })
 
 -- a forced literal was tried, and its term is passed
-pub visiting-next : {d : Database} {aside : List ℕ} {form : ℕ} {start now : Progress} {f : Shape} {t : Term} {c : ℕ} (seen : ℕ) (mid : Progress) (passed : List ℕ) → IsVisiting d aside form start now → IsForced d form now f t c → IsOpen d now → seen ≡ min (now.visits + 1) (2 ^ 64 - 1) → now.visits ≤ seen → Adopted t.literal now.list mid.list → Advances d 0 0 (visited_to seen now) mid → StaysTidy d (visited_to seen now) mid → mid.candidates ≡ now.candidates → passed ≡ set mid.candidates form (c + 1) → IsVisiting d aside form start (passed_to passed mid)
-visiting-next {d} {aside} {form} {start} {now} {f} {t} {c} seen mid passed p forced counted count rising adopted a tidy same is =
+pub visiting-next : {d : Database} {aside : List ℕ} {form : ℕ} {start now : Progress} {f : Shape} {t : Term} {c : ℕ} (seen : ℕ) (mid : Progress) → IsVisiting d aside form start now → IsForced d form now f t c → IsOpen d now → seen ≡ min (now.visits + 1) (2 ^ 64 - 1) → now.visits ≤ seen → Adopted t.literal now.list mid.list → Advances d 0 0 (visited_to seen now) mid → StaysTidy d (visited_to seen now) mid → mid.candidates ≡ now.candidates → IsVisiting d aside form start (passed_to (set mid.candidates form (c + 1)) mid)
+visiting-next {d} {aside} {form} {start} {now} {f} {t} {c} seen mid p forced counted count rising adopted a tidy same =
     let room : form < length mid.candidates = omega (arith, forced.inside, p.candidates, ap length same) in
     let at : c ≡ get_or mid.candidates form 0 = forced.candidate ∙ ap (λ xs. get_or xs form 0) (sym same) in
     let adopted_f : Adopted (get_or f.terms c t).literal now.list mid.list = rw (← forced.item) adopted in
-    let sizes : length passed ≡ length mid.candidates = ap length is ∙ length-set mid.candidates form (c + 1) in
-    let raised : sum passed ≡ sum mid.candidates + 1 = ap sum (is ∙ ap (λ x. set mid.candidates form (x + 1)) at) ∙ sum-raise mid.candidates form room in
+    let sizes = length-set mid.candidates form (c + 1) in
+    let raised : sum (set mid.candidates form (c + 1)) ≡ sum mid.candidates + 1 = ap (λ x. sum (set mid.candidates form (x + 1))) at ∙ sum-raise mid.candidates form room in
     let visit = advances-visit d now seen 0 1 rising (omega (arith, count)) in
     record {
-      advances = advances-as 0 0 (omega arith) (advances-then p.advances (advances-then visit (advances-then a (advances-pass d mid passed sizes raised))));
-      tidy = Tidy-pass (beside d.rests aside) d.forms mid.opens mid.candidates passed mid.list mid.work mid.trail mid.next form c f.terms t is at room (λ x h. ap (λ (y : Shape). y.terms) (forced.is x)) forced.here (adopted-done (get_or f.terms c t).literal now.list mid.list adopted_f) (λ gone. p.there (a.absent form gone)) (tidy aside form p.tidy);
+      advances = advances-as 0 0 (omega arith) (advances-then p.advances (advances-then visit (advances-then a (advances-pass d mid (set mid.candidates form (c + 1)) sizes raised))));
+      tidy = Tidy-pass d aside form mid f c t at room forced.is forced.here (adopted-done (get_or f.terms c t).literal now.list mid.list adopted_f) (λ gone. p.there (a.absent form gone)) (tidy aside form p.tidy);
       there = λ gone. p.there (a.absent form gone);
       found = λ few. found_from now.visits seen mid.visits start.visits (length start.list) (length now.list) (length mid.list) count a.rising few p.found (adopted-length t.literal now.list mid.list adopted);
       opens = a.opens ∙ p.opens;
@@ -102,7 +102,7 @@ visiting-next {d} {aside} {form} {start} {now} {f} {t} {c} seen mid passed p for
 -- the visit ends at a calm form
 pub visiting-settled : {d : Database} {aside : List ℕ} {form : ℕ} {start now : Progress} (f : Shape) (n : ℕ) → length d.forms ≡ n → ((x : Shape) → get_or d.forms form x ≡ f) → IsCalm f (get_or now.opens form 0) (get_or now.candidates form 0) → IsVisiting d aside form start now → IsTidyAt d aside n now
 visiting-settled {d} {aside} {form} {start} {now} f n e is calm p =
-    rw (← e) (Tidy-settle (beside d.rests aside) d.forms now.opens now.candidates now.list now.work now.trail now.next form f (rw (is f) calm) p.tidy)
+    rw (← e) (Tidy-settle d aside form now f (rw (is f) calm) p.tidy)
 
 pub Visiting-conflict : (forms : List Shape) (opens : List ℕ) (list : List NumberedLiteral) (form : ℕ) (f : Shape) → form < length forms → ((d : Shape) → get_or forms form d ≡ f) → IsCounted forms opens list [] → get_or opens form 0 < f.degree → Conflicts forms list
 Visiting-conflict forms opens list form f inside is c low =
