@@ -1,7 +1,7 @@
 use Rattle.pb_propagate.proofs.Common.{ℕ, ◌++◌, ◌+◌, ◌-◌, ◌<◌, ◌∙◌, ◌∷◌, ◌≡◌, ◌≤◌, ◌⊎◌, [], ap, arith, eq-eqb, false, get_or, get_or-set_other}
 use Rattle.pb_propagate.proofs.Common.{get_or-set_same, inl, inr, length, length-append, List, refl, set, suc, sym, true, zero, ◌==◌, All, sum_by}
 use Rattle.pb_propagate.proofs.Common.{both_ways, cases_Bool, cases_eq, cases_lt, ne_eqb, or_cases, or_left, or_right, get_or_append_left}
-use Rattle.pb_propagate.proofs.Common.{get_or_default, get_or_push, All-push, sum_by-cons, NumberedLiteral, negation, Term, AreFalling, Database, Grown}
+use Rattle.pb_propagate.proofs.Common.{get_or_default, get_or_push, All-push, sum_by-cons, NumberedLiteral, negation, Term, AreFalling, beside, Database, Grown, IsTidy, Rests, size}
 use Rattle.pb_propagate.proofs.Common.{IsAbsent, IsCalm, IsCounted, IsDone, IsTidyAt, Lowers, passed_to, Progress, pushed, rest_open, spared, taken_to, weight_in, weight_on, has, IsSettled}
 use Rattle.pb_propagate.proofs.Common.{open_part, open_sum, same, Shape, Weighted}
 use Rattle.pb_propagate.specs.declared.store.Visited.{Visited}
@@ -257,6 +257,20 @@ Tidy-settle d aside busy now e calm r = record {
   named = r.named;
   marked = r.marked;
   traced = r.traced;
+}
+
+-- no form is on the work list or the trail, and each is as it is at rest
+pub Tidy-rest : {rests : Rests} {aside : List ℕ} {forms : List Shape} {opens cands : List ℕ} {list : List NumberedLiteral} {busy : ℕ} → opens ≡ rests.opens.items → cands ≡ rests.starts.items → length forms ≡ length opens →
+    ((s : ℕ) (d : Shape) → s < length forms → (s ≡ busy → ⊥) → IsAbsent aside 0 s → IsAbsent [] 0 s → IsCalm (get_or forms s d) (get_or opens s 0) (get_or cands s 0)) →
+    ((s : ℕ) (d : Shape) → s < length forms → ArePassed (get_or forms s d).terms (get_or cands s 0) list) → ((s : ℕ) (d : Shape) → s < length forms → get_or cands s 0 ≤ length (get_or forms s d).terms) → IsTidy (beside rests aside) forms opens cands list [] [] 0 busy
+Tidy-rest {rests} {aside} {forms} {opens} {cands} {list} {busy} opened started long calm passed bounded = record {
+  calm = calm;
+  passed = passed;
+  bounded = bounded;
+  clean = λ s d less gone. (get_or_default opens s 0 (size (get_or forms s d).terms) (omega (arith, less, long)) ∙ ap (λ xs. get_or xs s (size (get_or forms s d).terms)) opened, ap (λ xs. get_or xs s 0) started);
+  named = λ i d less. absurd (omega (arith, less));
+  marked = λ i d less. absurd (omega (arith, less));
+  traced = λ s gone. gone;
 }
 
 -- a calm form is settled, since its coefficients fall

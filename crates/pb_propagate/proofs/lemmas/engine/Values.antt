@@ -86,7 +86,7 @@ has-neither list l k absent open' e =
       | inr o ↦ ap (has list) (literal_ext k (negation l) e o) ∙ open'
     ]
 
-says-apart : (xs : List (Option Bool)) (v : ℕ) (o : Option Bool) (q : NumberedLiteral) → (q.variable ≡ v → ⊥) → says (set xs v o) q ≡ says xs q
+pub says-apart : (xs : List (Option Bool)) (v : ℕ) (o : Option Bool) (q : NumberedLiteral) → (q.variable ≡ v → ⊥) → says (set xs v o) q ≡ says xs q
 unfolding says
 says-apart xs v o q apart = ap (λ x. holds x q.negated) (get_or-set_other xs v q.variable o None apart)
 

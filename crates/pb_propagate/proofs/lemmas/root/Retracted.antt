@@ -15,7 +15,7 @@ use Rattle.pb_propagate.specs.engine.Engine.Refreshed.{AreRefreshed, IsRefreshed
 use Rattle.pb_propagate.specs.engine.Engine.Root.{IsRootOf, IsSized}
 use Rattle.pb_propagate.proofs.lemmas.clauses.Slots.{slots-vacant}
 use Rattle.pb_propagate.proofs.lemmas.engine.Literals.{has-push_cases, negation-negation}
-use Rattle.pb_propagate.proofs.lemmas.engine.Runs.{entry_weight-other, entry_weight-same, open_sum-push}
+use Rattle.pb_propagate.proofs.lemmas.engine.Runs.{Tidy-rest, entry_weight-other, entry_weight-same, open_sum-push}
 use Rattle.pb_propagate.proofs.lemmas.engine.Puts.{entries-at, form-within, place-inside}
 use Rattle.pb_propagate.proofs.lemmas.store.Unlinks.{entry-back}
 use Rattle.pb_propagate.proofs.lemmas.store.Weights.{index-within}
@@ -69,21 +69,6 @@ refreshed-then store a b c p q = record {
     | inr old ↦ p.live old.0 s old.1
   ];
 }
-
--- a form with a weight among some entries has one of them
-weight-entry : (s : ℕ) (es : List Weighted) → 0 < weight_in s es → (j : ℕ) × (e : Weighted) × (slice_get es j ≡ Some e) × (e.form ≡ s)
-unfolding entry_weight
-weight-entry s [] h = absurd (omega (arith, h))
-weight-entry s (e ∷ es) h = by (e.form == s) refl (weight-entry s es)
-  where
-    none-of : (e.form == s) ≡ false → entry_weight s e ≡ 0
-    none-of is = rw is
-
-    by : (b : Bool) → (e.form == s) ≡ b → (0 < weight_in s es → (j : ℕ) × (x : Weighted) × (slice_get es j ≡ Some x) × (x.form ≡ s)) → (j : ℕ) × (x : Weighted) × (slice_get (e ∷ es) j ≡ Some x) × (x.form ≡ s)
-    by true is rest = (0, e, refl, eqb-true e.form s is)
-    by false is rest =
-        let more = rest (omega (arith, h, sum_by-cons (entry_weight s) e es, none-of is)) in
-        (suc more.0, more.1, more.2, more.3)
 
 -- a term has an entry
 term-entry : (store : Store) (s k : ℕ) (t : Term) → IsSound store → s < length (shapes_of store.stored.items) → slice_get (terms_at (shapes_of store.stored.items) s) k ≡ Some t →
@@ -147,12 +132,6 @@ pub record IsCut (old mid : Root) (first : List NumberedLiteral) : Type 0 where
 abbrev pub AllRefreshed : Store → Root → NumberedLiteral → Type 0
 AllRefreshed store r l = (j : ℕ) (e : Weighted) → slice_get (get_or (entries_of (shapes_of store.stored.items) store.occurrences.items) (place l) []) j ≡ Some e → IsRefreshed store r e.form
 
--- the last literal of a list
-pub listed-last : (list : List NumberedLiteral) (n : ℕ) (l : NumberedLiteral) → n + 1 ≡ length list → l ≡ get_or list n l → list ≡ take n list ++ (l ∷ [])
-listed-last list n l size is =
-    let inside : n < length list = omega (arith, size) in
-    sym (take_all (n + 1) list (omega (arith, size))) ∙ take_more list n l inside ∙ ap (λ (k : NumberedLiteral). take n list ++ (k ∷ [])) (sym is)
-
 -- after the cut the open sums lack the coefficients of the literal that was falsified
 pub cut-lacks : (store : Store) (clauses : Clauses) (old mid : Root) (first : List NumberedLiteral) (l : NumberedLiteral) → old.run.assignment.list.items ≡ first ++ (l ∷ []) → has first l ≡ false → IsSound store → IsRootOf store clauses old → IsCut old mid first →
     Lacks store mid (get_or (entries_of (shapes_of store.stored.items) store.occurrences.items) (place (negation l)) [])
@@ -175,31 +154,23 @@ retracted-rooted store clauses old mid new first l listed absent reasoned sound 
   counted = λ s d less apart.
       let none : weight_in s [] ≡ 0 = refl in
       omega (arith, lacks s d less, none);
-  tidy = record {
-    calm = λ s d less idle off gone. elim (f.each s) [
+  tidy = Tidy-rest opens_same starts_same (long ∙ sym f.sized.opens)
+      (λ s d less idle off gone. elim (f.each s) [
       | inl u ↦
           let calm = r.tidy.calm s d less idle (rw (ap (λ (w : Waiting). w.list.items) cut.waiting) at (u.absent off)) gone in
           rw (u.opened ∙ was-open s, u.passed ∙ was-start s) calm
       | inr n ↦ n.calm off d (get_or new.run.candidates.items s 0)
-    ];
-    passed = λ s d less k t early within. elim (f.each s) [
+    ])
+      (λ s d less k t early within. elim (f.each s) [
       | inl u ↦
           let done = r.tidy.passed s d less k t (omega (arith, early, u.passed, was-start s)) within in
           rw now (done-first s d k t less within early (rw listed at done))
       | inr n ↦ absurd (omega (arith, early, n.passed))
-    ];
-    bounded = λ s d less. elim (f.each s) [
+    ])
+      (λ s d less. elim (f.each s) [
       | inl u ↦ omega (arith, r.tidy.bounded s d less, u.passed, was-start s)
       | inr n ↦ omega (arith, n.passed)
-    ];
-    clean = λ s d less gone. (
-      get_or_default new.run.opens.items s 0 (size (get_or shapes s d).terms) (omega (arith, less, long, f.sized.opens)) ∙ ap (λ xs. get_or xs s (size (get_or shapes s d).terms)) opens_same,
-      ap (λ xs. get_or xs s 0) starts_same,
-    );
-    named = λ i d less. absurd (omega (arith, less));
-    marked = λ i d less. absurd (omega (arith, less));
-    traced = λ s gone. gone;
-  };
+    ]);
   work = ap (λ (v : Vec ℕ Global). v.items) (f.work ∙ cut.work) ∙ r.work;
   trail = ap (λ (v : Vec ℕ Global). v.items) (f.trail ∙ cut.trail) ∙ r.trail;
   next = f.next ∙ cut.next ∙ r.next;

@@ -4,10 +4,12 @@ use Rattle.pb_propagate.proofs.Common.{List, set, sym, slice_get, slice_get_with
 use Rattle.pb_propagate.proofs.Common.{length-map, NumberedLiteral, Assignment, Clauses, Waiting, Rests, Run, Store, all_of, Walked, IsWalkedTo}
 use Rattle.pb_propagate.proofs.Common.{heads_at, beside, IsAbsent, IsCounted, IsTidy, IsUndone, rest_open, rest_start, shapes_of, stored_shape}
 use Rattle.pb_propagate.proofs.Common.{HaveReasons, KeepsReasons, Shape, size, from_given, HasForm, IsRooted}
+use Rattle.pb_propagate.specs.engine.Engine.Progress.{RunIsCalm}
 use Rattle.pb_propagate.specs.engine.Engine.Propagation.{IsSaved}
 use Rattle.pb_propagate.proofs.lemmas.clauses.Heads.{walks-none}
 use Rattle.pb_propagate.proofs.lemmas.store.Gets.{lt_of_apart}
 use Rattle.pb_propagate.proofs.lemmas.engine.Reasoned.{reasons-keep}
+use Rattle.pb_propagate.proofs.lemmas.engine.Runs.{Tidy-rest}
 use Rattle.pb_propagate.proofs.lemmas.engine.VisitSteps.{open-now}
 
 -- one form more
@@ -44,21 +46,6 @@ keep-all rests forms opens cands trail i end long sizes osizes ssizes u = (
     clean : (s : ℕ) → s < length forms → (get_or opens s 0 ≡ rest_open rests s (get_or forms s none)) × (get_or cands s 0 ≡ rest_start rests s)
     clean s less = u.clean s none less (λ j after short. absurd (omega (arith, after, short, end)))
 
--- with nothing left to do but to visit the forms that wait, the run is a root
-pub kept-tidy : (rests rests' : Rests) (aside aside' : List ℕ) (forms : List Shape) (opens cands : List ℕ) (list : List NumberedLiteral) (work trail : List ℕ) (next : ℕ) → ((s : ℕ) → IsAbsent aside' 0 s → IsAbsent aside 0 s × IsAbsent work next s) → length forms ≡ length opens → rests'.opens.items ≡ opens → rests'.starts.items ≡ cands → IsTidy (beside rests aside) forms opens cands list work trail next (length forms) → IsTidy (beside rests' aside') forms opens cands list [] [] 0 (length forms)
-kept-tidy rests rests' aside aside' forms opens cands list work trail next waits long opened started t = record {
-  calm = λ s d less idle off gone. let w = waits s off in t.calm s d less idle w.0 w.1;
-  passed = t.passed;
-  bounded = t.bounded;
-  clean = λ s d less gone. (
-    get_or_default opens s 0 (size (get_or forms s d).terms) (omega (arith, less, long)) ∙ sym (ap (λ xs. get_or xs s (size (get_or forms s d).terms)) opened),
-    sym (ap (λ xs. get_or xs s 0) started),
-  );
-  named = λ i d less. absurd (omega (arith, less));
-  marked = λ i d less. absurd (omega (arith, less));
-  traced = λ s gone. gone;
-}
-
 -- the parts of a root that lists of forms that wait do not touch
 pub record IsEnded (store : Store) (clauses : Clauses) (run : Run) (walked : Walked) : Type 0 where
   pub values : length run.assignment.values.items ≡ store.variables
@@ -68,16 +55,14 @@ pub record IsEnded (store : Store) (clauses : Clauses) (run : Run) (walked : Wal
   pub reasoned : HaveReasons (all_of store clauses) run.assignment.reasons.items [] run.assignment.list.items
   pub walks : IsWalkedTo clauses run.assignment.list.items walked
 
+-- with nothing left to do but to visit the forms that wait, the run is a root
 pub kept-rooted : (store : Store) (clauses : Clauses) (run run' : Run) (rests rests' : Rests) (aside : List ℕ) (waiting' : Waiting) (walked : Walked) → IsEnded store clauses run walked →
-    IsTidy (beside rests aside) (shapes_of store.stored.items) run.opens.items run.candidates.items run.assignment.list.items run.work.items run.trail.items run.next (length store.stored.items) →
+    RunIsCalm store rests aside run →
     ((s : ℕ) → IsAbsent waiting'.list.items 0 s → IsAbsent aside 0 s × IsAbsent run.work.items run.next s) → IsSaved run run' rests' →
     length waiting'.positions.items ≡ length store.stored.items → ((i s : ℕ) → slice_get waiting'.list.items i ≡ Some s → HasForm store s) →
     IsRooted store clauses run' rests' waiting' walked (length store.stored.items)
 kept-rooted store clauses run run' rests rests' aside waiting' walked e tidy waits k positions live =
     let long = length-map store.stored.items stored_shape in
-    let tidy_f : IsTidy (beside rests aside) (shapes_of store.stored.items) run.opens.items run.candidates.items run.assignment.list.items run.work.items run.trail.items run.next (length (shapes_of store.stored.items)) = rw long tidy in
-    let still = kept-tidy rests rests' aside waiting'.list.items (shapes_of store.stored.items) run.opens.items run.candidates.items run.assignment.list.items run.work.items run.trail.items run.next waits (omega (arith, long, e.opens)) k.rest_opens k.rest_starts tidy_f in
-    let still_k : IsTidy (beside rests' waiting'.list.items) (shapes_of store.stored.items) run.opens.items run.candidates.items run.assignment.list.items [] [] 0 (length store.stored.items) = rw (← long) still in
     record {
       values = rw k.assignment e.values;
       opens = rw k.opens (sym k.rest_opens);
@@ -85,7 +70,7 @@ kept-rooted store clauses run run' rests rests' aside waiting' walked e tidy wai
       open_sizes = rw k.opens e.opens;
       start_sizes = rw k.candidates e.candidates;
       counted = λ s d less apart. rw (k.opens, k.assignment) (open-now (shapes_of store.stored.items) run.opens.items run.assignment.list.items s d (omega (arith, less, long)) e.counted);
-      tidy = rw (k.opens, k.candidates, k.assignment) still_k;
+      tidy = rw (k.opens, k.candidates, k.assignment) (Tidy-rest (sym k.rest_opens) (sym k.rest_starts) (long ∙ sym e.opens) (λ s d less idle off gone. let w = waits s off in tidy.calm s d less idle w.0 w.1) tidy.passed tidy.bounded);
       work = k.work;
       trail = k.trail;
       next = k.next;
