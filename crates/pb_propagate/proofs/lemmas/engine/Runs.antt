@@ -2,7 +2,7 @@ use Rattle.pb_propagate.proofs.Common.{ℕ, ◌++◌, ◌+◌, ◌-◌, ◌<◌,
 use Rattle.pb_propagate.proofs.Common.{get_or-set_same, inl, inr, length, length-append, List, refl, set, suc, sym, true, zero, ◌==◌, All, sum_by}
 use Rattle.pb_propagate.proofs.Common.{both_ways, cases_Bool, cases_eq, cases_lt, ne_eqb, or_cases, or_left, or_right, get_or_append_left}
 use Rattle.pb_propagate.proofs.Common.{get_or_default, get_or_push, All-push, sum_by-cons, NumberedLiteral, negation, Term, AreFalling, beside, Database, Grown, IsTidy, Rests, size}
-use Rattle.pb_propagate.proofs.Common.{IsAbsent, IsCalm, IsCounted, IsDone, IsTidyAt, Lowers, passed_to, Progress, pushed, rest_open, spared, taken_to, weight_in, weight_on, has, IsSettled}
+use Rattle.pb_propagate.proofs.Common.{IsAbsent, IsCalm, IsCounted, IsDone, IsTidyAt, Lowers, passed_to, Progress, pushed, spared, taken_to, weight_in, weight_on, has, IsSettled}
 use Rattle.pb_propagate.proofs.Common.{open_part, open_sum, same, Shape, Weighted}
 use Rattle.pb_propagate.specs.declared.store.Visited.{Visited}
 use Rattle.pb_propagate.specs.engine.Engine.Counts.{entry_weight, term_weight, ArePassed}

@@ -13,7 +13,7 @@ has-tail : (x : NumberedLiteral) (xs : List NumberedLiteral) (k : NumberedLitera
 unfolding has
 has-tail x xs k h = or_right (same x k) (has xs k) h
 
-sum_by-agree : (f g : NumberedLiteral → ℕ) (list : List NumberedLiteral) → ((k : NumberedLiteral) → has list k ≡ true → f k ≡ g k) → sum_by f list ≡ sum_by g list
+pub sum_by-agree : (f g : NumberedLiteral → ℕ) (list : List NumberedLiteral) → ((k : NumberedLiteral) → has list k ≡ true → f k ≡ g k) → sum_by f list ≡ sum_by g list
 sum_by-agree f g [] e = refl
 sum_by-agree f g (x ∷ xs) e =
     let rest = sum_by-agree f g xs (λ k h. e k (has-tail x xs k h)) in

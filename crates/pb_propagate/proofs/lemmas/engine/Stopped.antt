@@ -1,5 +1,5 @@
 -- What a propagation costs that ends: at a visit to a form, in a walk, or between them.
-use Rattle.pb_propagate.proofs.Common.{ℕ, ◌*◌, ◌+◌, ◌≡◌, ◌≤◌, ◌∙◌, ap, arith, length, List, sym, sum, sum_by, Clauses, Heads}
+use Rattle.pb_propagate.proofs.Common.{ℕ, ◌*◌, ◌+◌, ◌≡◌, ◌≤◌, ◌∙◌, ap, arith, length, sym, sum, sum_by, Clauses, Heads}
 use Rattle.pb_propagate.proofs.Common.{advanced, AreWithin, clauses_of, Costs, falsified_code, IsAhead, passed_of, Progress, queued}
 use Rattle.pb_propagate.proofs.Common.{seen, spent, Spends, taken_to}
 use Rattle.pb_propagate.specs.declared.heads.Ahead.{Ahead}

@@ -3,7 +3,7 @@ use Rattle.pb_propagate.proofs.lemmas.store.Stored.{stored-sum, stored-idle}
 use Rattle.pb_propagate.proofs.Common.{ℕ, ◌+◌, ◌-◌, ◌<◌, ◌^◌, ◌∙◌, ◌∷◌, ◌≡◌, ◌≤◌, [], ap, arith, false, get_or, length, length-append, length-set}
 use Rattle.pb_propagate.proofs.Common.{List, min, refl, set, subst, sym, All, Contains, slice_get, Some, sum, get_or-map, get_or_default, get_or_read}
 use Rattle.pb_propagate.proofs.Common.{length-map, Contains-get_or, sum_by-set, slice_get-get_or, NumberedLiteral, negation, Rests, Store, StoredForm}
-use Rattle.pb_propagate.proofs.Common.{Term, added, Adopted, beside, Grown, IsAbsent, IsCalm, IsCounted, IsDone, kept, pushed, rest_open, spared}
+use Rattle.pb_propagate.proofs.Common.{Term, added, Adopted, Grown, IsAbsent, IsCalm, IsCounted, IsDone, kept, pushed, rest_open, spared}
 use Rattle.pb_propagate.proofs.Common.{weight_in, shapes_of, stored_shape, coefficient_at, AreInside, broken, by_reason, Conflicts, has, HaveReasons}
 use Rattle.pb_propagate.proofs.Common.{KeepsReasons, open_sum, Shape, size, Advances, Database, database, IsOpen, IsTidyAt, passed_to, Progress}
 use Rattle.pb_propagate.proofs.Common.{StaysTidy, visited_to, VisitsEach}

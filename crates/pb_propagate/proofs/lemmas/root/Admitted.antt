@@ -1,13 +1,13 @@
 -- A form that was added comes to the root.
 use Rattle.pb_propagate.proofs.Common.{stored_form}
-use Rattle.pb_propagate.proofs.Common.{ℕ, ◌++◌, ◌+◌, ◌/◌, ◌<◌, ◌∙◌, ◌∷◌, ◌≡◌, ◌≤◌, ◌⊎◌, [], ap, arith, Bool, get_or, get_or-set_other}
+use Rattle.pb_propagate.proofs.Common.{ℕ, ◌++◌, ◌/◌, ◌<◌, ◌∙◌, ◌∷◌, ◌≡◌, ◌≤◌, [], ap, arith, Bool, get_or, get_or-set_other}
 use Rattle.pb_propagate.proofs.Common.{get_or-set_same, Global, inl, inr, length, length-append, List, refl, set, subst, suc, sym, true, Vec}
 use Rattle.pb_propagate.proofs.Common.{zero, All, both_ways, Option, slice_get, Some, cases_eq, cases_lt, get_or-map, get_or_append_left}
-use Rattle.pb_propagate.proofs.Common.{get_or_default, get_or_push, length-map, get_or_from_slice_get, slice_get-get_or, slice_get_within}
+use Rattle.pb_propagate.proofs.Common.{get_or_push, length-map, get_or_from_slice_get, slice_get-get_or, slice_get_within}
 use Rattle.pb_propagate.proofs.Common.{NumberedLiteral, Form, Assignment, Clauses, Watch, Waiting, Rests, Run, Store, StoredForm, list_at, watch_at}
-use Rattle.pb_propagate.proofs.Common.{watch_lists, AreReady, AreStored, all_of, clauses_of, joined, one_term, slot_shape}
-use Rattle.pb_propagate.proofs.Common.{false_at, Walked, IsWalkedTo, beside, Grown, IsAbsent, IsCalm, IsCounted, IsTidy, pushed, spared}
-use Rattle.pb_propagate.proofs.Common.{weight_in, forms_of, shapes_of, stored_shape, HaveReasons, open_sum, Shape, size, HasForm, HasGained}
+use Rattle.pb_propagate.proofs.Common.{AreStored, all_of, clauses_of, joined, one_term, slot_shape}
+use Rattle.pb_propagate.proofs.Common.{false_at, Walked, beside, Grown, IsAbsent, IsCalm, IsCounted, IsTidy, pushed, spared}
+use Rattle.pb_propagate.proofs.Common.{weight_in, forms_of, shapes_of, stored_shape, HaveReasons, open_sum, Shape, HasForm, HasGained}
 use Rattle.pb_propagate.proofs.Common.{RunIsWidened, IsRooted, form_at, AreFree, AreSet, IsFreePair, None, Pair}
 use Rattle.pb_propagate.specs.declared.engine.root.Root.{Root}
 use Rattle.pb_propagate.specs.engine.Engine.Root.{WasRootOf}
@@ -152,22 +152,22 @@ gained-rooted store clauses root run' rests' waiting' slot (before, old, r, g, f
       rw h.assignment (a.opens s was apart ∙ r.counted s d was (λ e. absurd (omega (arith, e, was))) ∙ ap (λ (f : Shape). open_sum root.run.assignment.list.items f.terms) (sym (shape s d was apart)));
   tidy = Tidy-rest opens_same starts_same (length-map store.stored.items stored_shape ∙ sym a.sizes)
       (λ s d less apart off gone.
-        let was = a.older s (omega (arith, less, length-map store.stored.items stored_shape)) apart in
-        let calm = r.tidy.calm s d (omega (arith, was, length-map before.stored.items stored_shape)) (λ e. absurd (omega (arith, e, was))) (rw h.waits at off) gone in
-        rw (shape s d was apart, a.opens s was apart, a.cands s was apart) calm)
+      let was = a.older s (omega (arith, less, length-map store.stored.items stored_shape)) apart in
+      let calm = r.tidy.calm s d (omega (arith, was, length-map before.stored.items stored_shape)) (λ e. absurd (omega (arith, e, was))) (rw h.waits at off) gone in
+      rw (shape s d was apart, a.opens s was apart, a.cands s was apart) calm)
       (λ s d less k f early within. elim (cases_eq s slot) [
-      | inl one ↦ absurd (omega (arith, early, ap (λ j. get_or run'.candidates.items j 0) one, a.cand_none))
-      | inr apart ↦
-          let was = a.older s (omega (arith, less, length-map store.stored.items stored_shape)) apart in
-          let done = r.tidy.passed s d (omega (arith, was, length-map before.stored.items stored_shape)) k f (omega (arith, early, a.cands s was apart)) (omega (arith, within, ap (λ (x : Shape). length x.terms) (shape s d was apart))) in
-          rw (shape s d was apart, h.assignment) done
-    ])
+        | inl one ↦ absurd (omega (arith, early, ap (λ j. get_or run'.candidates.items j 0) one, a.cand_none))
+        | inr apart ↦
+            let was = a.older s (omega (arith, less, length-map store.stored.items stored_shape)) apart in
+            let done = r.tidy.passed s d (omega (arith, was, length-map before.stored.items stored_shape)) k f (omega (arith, early, a.cands s was apart)) (omega (arith, within, ap (λ (x : Shape). length x.terms) (shape s d was apart))) in
+            rw (shape s d was apart, h.assignment) done
+      ])
       (λ s d less. elim (cases_eq s slot) [
-      | inl one ↦ omega (arith, ap (λ j. get_or run'.candidates.items j 0) one, a.cand_none)
-      | inr apart ↦
-          let was = a.older s (omega (arith, less, length-map store.stored.items stored_shape)) apart in
-          omega (arith, r.tidy.bounded s d (omega (arith, was, length-map before.stored.items stored_shape)), a.cands s was apart, ap (λ (x : Shape). length x.terms) (shape s d was apart))
-    ]);
+        | inl one ↦ omega (arith, ap (λ j. get_or run'.candidates.items j 0) one, a.cand_none)
+        | inr apart ↦
+            let was = a.older s (omega (arith, less, length-map store.stored.items stored_shape)) apart in
+            omega (arith, r.tidy.bounded s d (omega (arith, was, length-map before.stored.items stored_shape)), a.cands s was apart, ap (λ (x : Shape). length x.terms) (shape s d was apart))
+      ]);
   work = ap (λ (v : Vec ℕ Global). v.items) h.work ∙ r.work;
   trail = ap (λ (v : Vec ℕ Global). v.items) h.trail ∙ r.trail;
   next = h.next ∙ r.next;

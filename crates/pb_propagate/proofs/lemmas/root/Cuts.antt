@@ -1,11 +1,11 @@
 -- The last literal of a list is removed.
-use Rattle.pb_propagate.proofs.Common.{ℕ, ◌++◌, ◌+◌, ◌<◌, ◌∙◌, ◌∷◌, ◌≡◌, ◌≤◌, ◌⊎◌, [], ap, arith, Bool, drop, false, get_or, get_or-set_other}
-use Rattle.pb_propagate.proofs.Common.{get_or-set_same, inl, inr, length, length-append, length-set, List, min, None, not, refl, set, subst, suc, sym}
+use Rattle.pb_propagate.proofs.Common.{ℕ, ◌++◌, ◌+◌, ◌<◌, ◌∙◌, ◌∷◌, ◌≡◌, ◌≤◌, [], ap, arith, Bool, drop, false, get_or}
+use Rattle.pb_propagate.proofs.Common.{get_or-set_same, inl, inr, length, length-append, length-set, List, min, None, refl, set, subst, suc, sym}
 use Rattle.pb_propagate.proofs.Common.{take, true, zero, Option, Some, sum_by, both_ways, cases_Bool, cases_eq, cases_lt, length-take-le, set_past}
-use Rattle.pb_propagate.proofs.Common.{take_all, take_more, sum_by-set, NumberedLiteral, negation, has, holds, vacancy}
+use Rattle.pb_propagate.proofs.Common.{take_all, take_more, sum_by-set, NumberedLiteral, negation, has, vacancy}
 use Rattle.std.proofs.lemmas.List.{take-take}
 use Rattle.pb_propagate.specs.engine.Engine.Lists.{says}
-use Rattle.pb_propagate.proofs.lemmas.engine.Literals.{literal_ext, has-push_old, has-push_new, has-push_cases}
+use Rattle.pb_propagate.proofs.lemmas.engine.Literals.{has-push_old, has-push_new, has-push_cases}
 use Rattle.pb_propagate.proofs.lemmas.engine.Values.{Agree, Forgotten, has-neither, says-apart, says-none, says-inside, opposite, forget-next, forget-none, vacancy-none}
 
 -- a list has a literal for each variable with a value, so it is at least as long

@@ -4,7 +4,7 @@ use Rattle.pb_propagate.proofs.Common.{length, length-set, List, map, refl, set,
 use Rattle.pb_propagate.proofs.Common.{get_or-map, get_or_default, length-map, map-set, sum_by-cons, get_or_from_slice_get, slice_get-get_or}
 use Rattle.pb_propagate.proofs.Common.{NumberedLiteral, Assignment, Clauses, Store, StoredForm, Term, list_at, watch_at}
 use Rattle.pb_propagate.proofs.Common.{watch_lists, AreReady, all_of, AreJoined, clauses_of, joined, literal_at, one_term, slot_shape}
-use Rattle.pb_propagate.proofs.Common.{shapes_of, stored_shape, HaveReasons, open_part, open_sum, Shape, size}
+use Rattle.pb_propagate.proofs.Common.{shapes_of, stored_shape, HaveReasons, open_part, open_sum, Shape}
 use Rattle.pb_propagate.proofs.Common.{HasCleared, IsNeedless, IsOtherUnit, IsSameWatch}
 use Rattle.pb_propagate.specs.declared.engine.root.Root.{Root}
 use Rattle.pb_propagate.specs.engine.Engine.Root.{HasRemoved, IsRootOf}
@@ -92,24 +92,24 @@ lost-rooted before store old clauses slot root inside room ready g l = record {
   ];
   tidy = Tidy-rest opens_same starts_same (omega (arith, length-map store.stored.items stored_shape, size_now, longer))
       (λ s d less off away gone. elim (cases_eq s slot) [
-      | inl here ↦ record {
-        met = omega (arith, (bare s d here).1);
-        waiting = λ e few. absurd (omega (arith, few, ap length (bare s d here).0));
-      }
-      | inr apart ↦
-          let calm = l.rooted.tidy.calm s d (shorter s less) (λ e. absurd (omega (arith, e, was-shape s less))) (l.waiting.others s apart away) gone in
-          rw (shape s d apart, open-other s apart, cand-other s apart) calm
-    ])
+        | inl here ↦ record {
+          met = omega (arith, (bare s d here).1);
+          waiting = λ e few. absurd (omega (arith, few, ap length (bare s d here).0));
+        }
+        | inr apart ↦
+            let calm = l.rooted.tidy.calm s d (shorter s less) (λ e. absurd (omega (arith, e, was-shape s less))) (l.waiting.others s apart away) gone in
+            rw (shape s d apart, open-other s apart, cand-other s apart) calm
+      ])
       (λ s d less k f early within. elim (cases_eq s slot) [
-      | inl here ↦ absurd (omega (arith, within, ap length (bare s d here).0))
-      | inr apart ↦
-          let done = l.rooted.tidy.passed s d (shorter s less) k f (omega (arith, early, cand-other s apart)) (omega (arith, within, ap (λ (x : Shape). length x.terms) (shape s d apart))) in
-          rw (shape s d apart, listed) done
-    ])
+        | inl here ↦ absurd (omega (arith, within, ap length (bare s d here).0))
+        | inr apart ↦
+            let done = l.rooted.tidy.passed s d (shorter s less) k f (omega (arith, early, cand-other s apart)) (omega (arith, within, ap (λ (x : Shape). length x.terms) (shape s d apart))) in
+            rw (shape s d apart, listed) done
+      ])
       (λ s d less. elim (cases_eq s slot) [
-      | inl here ↦ omega (arith, cand-here s here)
-      | inr apart ↦ omega (arith, l.rooted.tidy.bounded s d (shorter s less), cand-other s apart, ap (λ (x : Shape). length x.terms) (shape s d apart))
-    ]);
+        | inl here ↦ omega (arith, cand-here s here)
+        | inr apart ↦ omega (arith, l.rooted.tidy.bounded s d (shorter s less), cand-other s apart, ap (λ (x : Shape). length x.terms) (shape s d apart))
+      ]);
   work = ap (λ (v : Vec ℕ Global). v.items) l.lost.work ∙ l.rooted.work;
   trail = ap (λ (v : Vec ℕ Global). v.items) l.lost.trail ∙ l.rooted.trail;
   next = l.lost.next ∙ l.rooted.next;

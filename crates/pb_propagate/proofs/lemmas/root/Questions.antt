@@ -1,14 +1,14 @@
 -- A question that continues from the root.
 use Rattle.pb_propagate.proofs.Common.{stored_total}
 use Rattle.pb_propagate.proofs.lemmas.store.Stored.{stored-sum}
-use Rattle.pb_propagate.proofs.Common.{ℕ, ◌*◌, ◌++◌, ◌+◌, ◌-◌, ◌<◌, ◌^◌, ◌∙◌, ◌∷◌, ◌≡◌, ◌≤◌, ◌⊎◌, [], ap, arith, drop, get_or, Global, inl, inr}
+use Rattle.pb_propagate.proofs.Common.{ℕ, ◌*◌, ◌++◌, ◌+◌, ◌-◌, ◌<◌, ◌^◌, ◌∙◌, ◌∷◌, ◌≡◌, ◌≤◌, [], ap, arith, drop, get_or, Global, inl, inr}
 use Rattle.pb_propagate.proofs.Common.{length, length-append, List, map, refl, set, suc, sym, take, Vec, zero, sum, sum_by, cases_eq, cases_lt}
 use Rattle.pb_propagate.proofs.Common.{ext_get_or, get_or_append_left, get_or_default, get_or_past, get_or_push, length-map, length-take, map-append}
 use Rattle.pb_propagate.proofs.Common.{take-append-drop, take_all, Contains-append_left, length_permutation, sum_by-append, sum_by-cons}
 use Rattle.pb_propagate.proofs.Common.{NumberedLiteral, Form, negation, Long, Short, Clauses, Heads, heads_at, reached, Rests, Run, Occurrence, Store, StoredForm}
 use Rattle.pb_propagate.proofs.Common.{AreJoined, clauses_of, code_in, joined, fallen, AreFound, AreSingle, beside, Grown, IsCalm, IsCounted, IsTidy}
 use Rattle.pb_propagate.proofs.Common.{IsUndone, place, rest_open, spent, AreLonger, entries_of, HasEntered, IsSound, lists_of, shapes_of, spots_of}
-use Rattle.pb_propagate.proofs.Common.{stored_shape, entry_of, IsStoredAs, weighted, Derives, Extends, open_sum, Shape, size, RunPays, RunSpends}
+use Rattle.pb_propagate.proofs.Common.{stored_shape, entry_of, IsStoredAs, weighted, Derives, Extends, open_sum, Shape, size, RunSpends}
 use Rattle.pb_propagate.proofs.Common.{UpdateCosts, list_of, values_of}
 use Rattle.pb_propagate.specs.declared.engine.root.Root.{Root}
 use Rattle.pb_propagate.specs.engine.Engine.Root.{HasUpdated, IsRootOf, IsStanding, terms_of_all}

@@ -1,8 +1,8 @@
 -- The last literal of the root's list is taken off.
 use Rattle.pb_propagate.proofs.Common.{stored_form}
 use Rattle.pb_propagate.proofs.Common.{ℕ, ◌++◌, ◌+◌, ◌<◌, ◌∙◌, ◌∷◌, ◌≡◌, ◌≤◌, [], ap, arith, Bool, false, get_or, inl, inr, Global, length, Vec}
-use Rattle.pb_propagate.proofs.Common.{cases_eq, coefficient_at, drop, drop_more, get_or-set_other, get_or-set_same, if◌then◌else◌, take_more, set, sum_by-le-sum_by, list_of}
-use Rattle.pb_propagate.proofs.Common.{List, None, refl, subst, suc, sym, take, true, ◌==◌, Option, slice_get, Some, cases_lt, eqb-true}
+use Rattle.pb_propagate.proofs.Common.{cases_eq, coefficient_at, drop, drop_more, get_or-set_other, get_or-set_same, if◌then◌else◌, set, sum_by-le-sum_by, list_of}
+use Rattle.pb_propagate.proofs.Common.{List, None, refl, subst, sym, take, true, Option, slice_get, Some, cases_lt}
 use Rattle.pb_propagate.proofs.Common.{or_cases, or_left, or_right, get_or_default, get_or_from_slice_get, get_or_past, length-map, length-append, slice_get-get_or, slice_get_within}
 use Rattle.pb_propagate.proofs.Common.{sum_by-cons, take_all, take-append-le, get_or-map, map, Occurrence, weighted, Waiting, Rests, NumberedLiteral, negation, Form, Assignment, Clauses, Store, Term, all_of, clauses_of}
 use Rattle.pb_propagate.proofs.Common.{IsCalm, place, weight_in, entries_of, forms_of, IsSound, shapes_of, spots_of, stored_shape, terms_at}
@@ -156,21 +156,21 @@ retracted-rooted store clauses old mid new first l listed absent reasoned sound 
       omega (arith, lacks s d less, none);
   tidy = Tidy-rest opens_same starts_same (long ∙ sym f.sized.opens)
       (λ s d less idle off gone. elim (f.each s) [
-      | inl u ↦
-          let calm = r.tidy.calm s d less idle (rw (ap (λ (w : Waiting). w.list.items) cut.waiting) at (u.absent off)) gone in
-          rw (u.opened ∙ was-open s, u.passed ∙ was-start s) calm
-      | inr n ↦ n.calm off d (get_or new.run.candidates.items s 0)
-    ])
+        | inl u ↦
+            let calm = r.tidy.calm s d less idle (rw (ap (λ (w : Waiting). w.list.items) cut.waiting) at (u.absent off)) gone in
+            rw (u.opened ∙ was-open s, u.passed ∙ was-start s) calm
+        | inr n ↦ n.calm off d (get_or new.run.candidates.items s 0)
+      ])
       (λ s d less k t early within. elim (f.each s) [
-      | inl u ↦
-          let done = r.tidy.passed s d less k t (omega (arith, early, u.passed, was-start s)) within in
-          rw now (done-first s d k t less within early (rw listed at done))
-      | inr n ↦ absurd (omega (arith, early, n.passed))
-    ])
+        | inl u ↦
+            let done = r.tidy.passed s d less k t (omega (arith, early, u.passed, was-start s)) within in
+            rw now (done-first s d k t less within early (rw listed at done))
+        | inr n ↦ absurd (omega (arith, early, n.passed))
+      ])
       (λ s d less. elim (f.each s) [
-      | inl u ↦ omega (arith, r.tidy.bounded s d less, u.passed, was-start s)
-      | inr n ↦ omega (arith, n.passed)
-    ]);
+        | inl u ↦ omega (arith, r.tidy.bounded s d less, u.passed, was-start s)
+        | inr n ↦ omega (arith, n.passed)
+      ]);
   work = ap (λ (v : Vec ℕ Global). v.items) (f.work ∙ cut.work) ∙ r.work;
   trail = ap (λ (v : Vec ℕ Global). v.items) (f.trail ∙ cut.trail) ∙ r.trail;
   next = f.next ∙ cut.next ∙ r.next;

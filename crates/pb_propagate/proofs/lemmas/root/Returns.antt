@@ -121,7 +121,7 @@ rooted-waiting waiting waiting' list positions r = record {
 
 -- other reasons for the same literals
 pub reasoned-rooted : {store : Store} {clauses : Clauses} {run : Run} {rests : Rests} {waiting : Waiting} {walked : Walked} {busy : ℕ} (a : Assignment) → a.list ≡ run.assignment.list → a.values ≡ run.assignment.values → HaveReasons (all_of store clauses) a.reasons.items [] a.list.items → IsRooted store clauses run rests waiting walked busy →
-    IsRooted store clauses (record { opens = run.opens; candidates = run.candidates; assignment = a; work = run.work; next = run.next; trail = run.trail; visits = run.visits }) rests waiting walked busy
+    IsRooted store clauses (record run { assignment = a }) rests waiting walked busy
 reasoned-rooted a list values reasoned r = record {
   values = rw values r.values;
   opens = r.opens;

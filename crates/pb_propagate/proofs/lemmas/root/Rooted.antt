@@ -1,30 +1,20 @@
 -- Literals that forms force with nothing assumed.
 use Rattle.pb_propagate.proofs.Common.{ℕ, ◌++◌, ◌+◌, ◌<◌, ◌∙◌, ◌∷◌, ◌≡◌, ◌≤◌, [], ap, arith, Bool, false, get_or, get_or-set_other, inl, inr, length}
-use Rattle.pb_propagate.proofs.Common.{length-append, List, map, refl, set, subst, sym, true, Contains, slice_get, slice_index_or, Some, sum_by}
-use Rattle.pb_propagate.proofs.Common.{both_ways, cases_lt, or_left, or_right, get_or-map, get_or_default, get_or_past, length-map, set_past}
-use Rattle.pb_propagate.proofs.Common.{sum_by-cons, sum_by-set, sum_by_push, slice_get-get_or, slice_get_past, NumberedLiteral, negation, Long, Short}
+use Rattle.pb_propagate.proofs.Common.{length-append, List, map, set, subst, sym, true, Contains, slice_get, slice_index_or, Some, sum_by}
+use Rattle.pb_propagate.proofs.Common.{both_ways, cases_lt, get_or-map, get_or_default, get_or_past, length-map, set_past}
+use Rattle.pb_propagate.proofs.Common.{sum_by-set, sum_by_push, slice_get-get_or, slice_get_past, NumberedLiteral, negation, Long, Short}
 use Rattle.pb_propagate.proofs.Common.{Term, list_at, code_in, joined, literal_at, one_term, AreSingle, more, none, place, spent, entry_at}
-use Rattle.pb_propagate.proofs.Common.{entry_cross, IsStored, term_at, term_cross, terms_at, begin, Derives, put, Puts, same, Shape, Weighted}
+use Rattle.pb_propagate.proofs.Common.{entry_cross, IsStored, term_at, term_cross, terms_at, begin, Derives, put, Puts, Shape, Weighted}
 use Rattle.pb_propagate.specs.engine.Engine.Lists.{has}
-use Rattle.pb_propagate.proofs.lemmas.engine.Literals.{same-refl, negation-negation, has-push_old, has-push_new}
+use Rattle.pb_propagate.proofs.lemmas.engine.Derivations.{puts-other}
+use Rattle.pb_propagate.proofs.lemmas.engine.Literals.{negation-negation, has-push_old, has-push_new}
 use Rattle.pb_propagate.proofs.lemmas.store.Crosses.{to, to-none}
 use Rattle.pb_propagate.proofs.lemmas.root.Cuts.{absent-before}
-use Rattle.pb_propagate.proofs.lemmas.engine.Spent.{place-injective}
+use Rattle.pb_propagate.proofs.lemmas.engine.Spent.{place-injective, sum_by-agree}
 use Rattle.pb_propagate.proofs.lemmas.clauses.Literals.{code-of}
 use Rattle.pb_propagate.proofs.lemmas.clauses.Counts.{occurs}
 use Rattle.pb_propagate.proofs.lemmas.clauses.Shapes.{joined-source}
 use Rattle.pb_propagate.proofs.lemmas.clauses.Killed.{IsOneSided, risen, risen-push, occurs-some}
-
-pub puts-other : (a b : List Shape) (list : List NumberedLiteral) (l : NumberedLiteral) (m : Puts a list l) → Contains b m.form → Puts b list l
-puts-other a b list l m among = record {
-  absent = m.absent;
-  not_falsified = m.not_falsified;
-  form = m.form;
-  among = among;
-  coefficient = m.coefficient;
-  term = m.term;
-  forced = m.forced;
-}
 
 -- a derivation holds among more constraints
 pub derives-within : (a b : List Shape) (given list : List NumberedLiteral) → ((x : Shape) → Contains a x → Contains b x) → Derives a given list → Derives b given list
@@ -92,21 +82,6 @@ root-short forms spots lists variables clauses _ stored (put {list} l d m) =
     omega (arith, rest, here, entries, killings, length-append list (l ∷ []))
 
 -- the lists of a list's literals and of their negations are different lists
-has-head : (x : NumberedLiteral) (xs : List NumberedLiteral) → has (x ∷ xs) x ≡ true
-unfolding has
-has-head x xs = or_left (same x x) (has xs x) (same-refl x)
-
-has-tail : (x : NumberedLiteral) (xs : List NumberedLiteral) (k : NumberedLiteral) → has xs k ≡ true → has (x ∷ xs) k ≡ true
-unfolding has
-has-tail x xs k h = or_right (same x k) (has xs k) h
-
-sum-agree : (f g : NumberedLiteral → ℕ) (list : List NumberedLiteral) → ((k : NumberedLiteral) → has list k ≡ true → f k ≡ g k) → sum_by f list ≡ sum_by g list
-sum-agree f g [] e = refl
-sum-agree f g (x ∷ xs) e =
-    let rest = sum-agree f g xs (λ k h. e k (has-tail x xs k h)) in
-    let here = e x (has-head x xs) in
-    rw (sum_by-cons f x xs, sum_by-cons g x xs) (omega (arith, rest, here))
-
 lists-clear : (lists : List (List Weighted)) (p : ℕ) → sum_by length (set lists p []) + length (get_or lists p []) ≡ sum_by length lists
 lists-clear lists p =
     let empty : List Weighted = [] in
@@ -154,8 +129,8 @@ both-le lists _ (more {list} l d absent) one =
     let opposed : has list (negation l) ≡ false = absent-before list l (negation l) (one l (has-push_new list l)) in
     let apart : (k : NumberedLiteral) → has list k ≡ true → k ≡ l → ⊥ = λ k h e. both_ways _ absent (ap (has list) (sym e) ∙ h) in
     let apart' : (k : NumberedLiteral) → has list k ≡ true → k ≡ negation l → ⊥ = λ k h e. both_ways _ opposed (ap (has list) (sym e) ∙ h) in
-    let a : spent lists list ≡ spent (without lists l) list = sum-agree (λ k. length (get_or lists (place (negation k)) [])) (λ k. length (get_or (without lists l) (place (negation k)) [])) list (λ k h. without-other lists l (negation k) (λ e. apart' k h (sym (negation-negation k) ∙ ap negation e)) (λ e. apart k h (sym (negation-negation k) ∙ ap negation e ∙ negation-negation l))) in
-    let b : owned lists list ≡ owned (without lists l) list = sum-agree (λ k. length (get_or lists (place k) [])) (λ k. length (get_or (without lists l) (place k) [])) list (λ k h. without-other lists l k (apart k h) (apart' k h)) in
+    let a : spent lists list ≡ spent (without lists l) list = sum_by-agree (λ k. length (get_or lists (place (negation k)) [])) (λ k. length (get_or (without lists l) (place (negation k)) [])) list (λ k h. without-other lists l (negation k) (λ e. apart' k h (sym (negation-negation k) ∙ ap negation e)) (λ e. apart k h (sym (negation-negation k) ∙ ap negation e ∙ negation-negation l))) in
+    let b : owned lists list ≡ owned (without lists l) list = sum_by-agree (λ k. length (get_or lists (place k) [])) (λ k. length (get_or (without lists l) (place k) [])) list (λ k h. without-other lists l k (apart k h) (apart' k h)) in
     let left = sum_by_push (λ k. length (get_or lists (place (negation k)) [])) list l in
     let right = sum_by_push (λ k. length (get_or lists (place k) [])) list l in
     omega (arith, earlier, a, b, left, right, without-total lists l)

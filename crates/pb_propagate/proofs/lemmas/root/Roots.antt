@@ -1,8 +1,8 @@
 -- The state to which questions return becomes that of the run.
 use Rattle.pb_propagate.proofs.Common.{ℕ, ◌+◌, ◌<◌, ◌∙◌, ◌≡◌, ◌≤◌, ◌⊎◌, [], ap, arith, get_or, get_or-set_other, get_or-set_same, inl, inr, length}
 use Rattle.pb_propagate.proofs.Common.{List, set, sym, slice_get, slice_get_within, Some, cases_eq, ext_get_or, get_or_default, get_or_read}
-use Rattle.pb_propagate.proofs.Common.{length-map, NumberedLiteral, Assignment, Clauses, Waiting, Rests, Run, Store, all_of, Walked, IsWalkedTo}
-use Rattle.pb_propagate.proofs.Common.{heads_at, beside, IsAbsent, IsCounted, IsTidy, IsUndone, rest_open, rest_start, shapes_of, stored_shape}
+use Rattle.pb_propagate.proofs.Common.{length-map, Assignment, Clauses, Waiting, Rests, Run, Store, all_of, Walked, IsWalkedTo}
+use Rattle.pb_propagate.proofs.Common.{heads_at, IsAbsent, IsCounted, IsUndone, rest_open, rest_start, shapes_of, stored_shape}
 use Rattle.pb_propagate.proofs.Common.{HaveReasons, KeepsReasons, Shape, size, from_given, HasForm, IsRooted}
 use Rattle.pb_propagate.specs.engine.Engine.Progress.{RunIsCalm}
 use Rattle.pb_propagate.specs.engine.Engine.Propagation.{IsSaved}
@@ -112,7 +112,7 @@ new-rooted store clauses run rests waiting walked none variables values list ope
     }
 
 -- a run with another count of visits
-pub rooted-counted : {store : Store} {clauses : Clauses} {run : Run} {rests : Rests} {waiting : Waiting} {walked : Walked} {busy : ℕ} (visits : ℕ) → IsRooted store clauses run rests waiting walked busy → IsRooted store clauses (record { opens = run.opens; candidates = run.candidates; assignment = run.assignment; work = run.work; next = run.next; trail = run.trail; visits = visits }) rests waiting walked busy
+pub rooted-counted : {store : Store} {clauses : Clauses} {run : Run} {rests : Rests} {waiting : Waiting} {walked : Walked} {busy : ℕ} (visits : ℕ) → IsRooted store clauses run rests waiting walked busy → IsRooted store clauses (record run { visits = visits }) rests waiting walked busy
 rooted-counted visits r = record {
   values = r.values;
   opens = r.opens;
@@ -132,7 +132,7 @@ rooted-counted visits r = record {
 
 -- one more variable, which has no value
 pub widened-rooted : (store store' : Store) (clauses clauses' : Clauses) (run : Run) (assignment : Assignment) (rests : Rests) (waiting : Waiting) (walked : Walked) → store'.stored ≡ store.stored → store'.variables ≡ store.variables + 1 → clauses'.blocks.literals ≡ clauses.blocks.literals → clauses'.blocks.watches ≡ clauses.blocks.watches → assignment.list.items ≡ run.assignment.list.items → length assignment.values.items ≡ length run.assignment.values.items + 1 → KeepsReasons run.assignment.list.items run.assignment.reasons.items assignment.reasons.items →
-    IsRooted store clauses run rests waiting walked (length store.stored.items) → IsRooted store' clauses' (record { opens = run.opens; candidates = run.candidates; assignment = assignment; work = run.work; next = run.next; trail = run.trail; visits = run.visits }) rests waiting walked (length store'.stored.items)
+    IsRooted store clauses run rests waiting walked (length store.stored.items) → IsRooted store' clauses' (record run { assignment = assignment }) rests waiting walked (length store'.stored.items)
 widened-rooted store store' clauses clauses' run assignment rests waiting walked stored variables literals watches list values keeps r =
     record {
       values = omega (arith, values, r.values, variables);

@@ -1,4 +1,4 @@
-use Rattle.pb_propagate.proofs.Common.{ℕ, ◌<◌, ◌∙◌, ◌≡◌, ap, arith, get_or, Global, length, length-set, set, Vec}
+use Rattle.pb_propagate.proofs.Common.{ℕ, ◌<◌, ◌∙◌, ◌≡◌, ap, arith, get_or, Global, length, length-set, Vec}
 use Rattle.pb_propagate.proofs.lemmas.engine.Undone.{undo-next}
 use Rattle.pb_propagate.proofs.run.undo_forms.Goals as goal
 

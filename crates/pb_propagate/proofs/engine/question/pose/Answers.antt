@@ -1,7 +1,7 @@
 use Rattle.pb_propagate.proofs.Common.{stored_total}
 use Rattle.pb_propagate.proofs.Common.{ℕ, ◌++◌, ◌+◌, ◌∙◌, ◌∷◌, ◌≡◌, [], ap, arith, get_or, Global, length, length-append, length-set, List, refl}
 use Rattle.pb_propagate.proofs.Common.{rules, set, subst, sym, take, Vec, Contains, sum, sum_by, take-append_seam, length-map, sum_by_push}
-use Rattle.pb_propagate.proofs.Common.{NumberedLiteral, Assignment, Listed, KeepsWalked, IsMark, all_of, clauses_of, joined, beside, IsTidy, none}
+use Rattle.pb_propagate.proofs.Common.{NumberedLiteral, Assignment, Listed, KeepsWalked, IsMark, all_of, clauses_of, joined, none}
 use Rattle.pb_propagate.proofs.Common.{forms_of, shapes_of, stored_shape, Conflicts, Derives, KeepsReasons, open_sum, Shape, list_of, reasons_of}
 use Rattle.pb_propagate.proofs.Common.{alone, posed, ArePlaced, numbered, ◌*◌, ◌≤◌}
 use Rattle.pb_propagate.proofs.lemmas.clauses.Heads.{heads-is, visits-back, walks-kept}
