@@ -1,10 +1,10 @@
 -- A question that continues from the root.
 use Rattle.pb_propagate.proofs.Common.{stored_total}
 use Rattle.pb_propagate.proofs.lemmas.store.Stored.{stored-sum}
-use Rattle.pb_propagate.proofs.Common.{ℕ, ◌*◌, ◌++◌, ◌+◌, ◌-◌, ◌<◌, ◌^◌, ◌∙◌, ◌∷◌, ◌≡◌, ◌≤◌, [], ap, arith, drop, get_or, Global, inl, inr}
+use Rattle.pb_propagate.proofs.Common.{ℕ, ◌*◌, ◌++◌, ◌+◌, ◌-◌, ◌<◌, ◌^◌, ◌∙◌, ◌∷◌, ◌≡◌, ◌≤◌, [], ap, arith, get_or, Global, inl, inr}
 use Rattle.pb_propagate.proofs.Common.{length, length-append, List, map, refl, set, suc, sym, take, Vec, zero, sum, sum_by, cases_eq, cases_lt}
-use Rattle.pb_propagate.proofs.Common.{ext_get_or, get_or_append_left, get_or_default, get_or_past, get_or_push, length-map, length-take, map-append}
-use Rattle.pb_propagate.proofs.Common.{take-append-drop, take_all, Contains-append_left, length_permutation, sum_by-append, sum_by-cons}
+use Rattle.pb_propagate.proofs.Common.{ext_get_or, get_or-take, get_or_append_left, get_or_default, get_or_past, get_or_push, length-map, length-take, map-append}
+use Rattle.pb_propagate.proofs.Common.{take_all, Contains-append_left, length_permutation, sum_by-append, sum_by-cons}
 use Rattle.pb_propagate.proofs.Common.{NumberedLiteral, Form, negation, Long, Short, Clauses, Heads, heads_at, reached, Rests, Run, Occurrence, Store, StoredForm}
 use Rattle.pb_propagate.proofs.Common.{AreJoined, clauses_of, code_in, joined, fallen, AreFound, AreSingle, beside, Grown, IsCalm, IsCounted, IsTidy}
 use Rattle.pb_propagate.proofs.Common.{IsUndone, place, rest_open, spent, AreLonger, entries_of, HasEntered, IsSound, lists_of, shapes_of, spots_of}
@@ -128,26 +128,17 @@ module _ {g : Form} {store store' : Store} {root : Root} {run' : Run} {n : ℕ} 
 -- after a question each form is as it was
 pub undone-same : (rests : Rests) (forms : List Shape) (opens cands : List ℕ) (n : ℕ) → IsUndone rests forms opens cands [] 0 → length forms ≡ n + 1 → length opens ≡ n + 1 → length cands ≡ n + 1 → length rests.opens.items ≡ n → length rests.starts.items ≡ n → (take (length opens - 1) opens ≡ rests.opens.items) × (take (length cands - 1) cands ≡ rests.starts.items)
 undone-same rests forms opens cands n u long o c r s = (
-  same_prefix opens rests.opens.items n o r (λ i less. (u.clean i none (omega (arith, less, long)) (λ j from short. absurd (omega (arith, short)))).0 ∙ default_at rests.opens.items i less r),
+  same_prefix opens rests.opens.items n o r (λ i less. (u.clean i none (omega (arith, less, long)) (λ j from short. absurd (omega (arith, short)))).0 ∙ get_or_default rests.opens.items i (size (get_or forms i none).terms) 0 (omega (arith, less, r))),
   same_prefix cands rests.starts.items n c s (λ i less. (u.clean i none (omega (arith, less, long)) (λ j from short. absurd (omega (arith, short)))).1),
 )
   where
     none : Shape
     none = record { terms = []; degree = 0 }
 
-    default_at : (xs : List ℕ) (i : ℕ) → i < n → length xs ≡ n → get_or xs i (size (get_or forms i none).terms) ≡ get_or xs i 0
-    default_at xs i less e = get_or_default xs i (size (get_or forms i none).terms) 0 (omega (arith, less, e))
-
-    prefix_at : (xs : List ℕ) (m i : ℕ) → i < m → get_or (take m xs) i 0 ≡ get_or xs i 0
-    prefix_at xs m i less = elim (cases_lt i (length (take m xs))) [
-      | inl inside ↦ sym (get_or_append_left (take m xs) (drop m xs) 0 i inside) ∙ ap (λ zs. get_or zs i 0) (take-append-drop m xs)
-      | inr past ↦ get_or_past (take m xs) i 0 past ∙ sym (get_or_past xs i 0 (omega (arith, past, length-take m xs, less)))
-    ]
-
     same_prefix : (xs ys : List ℕ) (m : ℕ) → length xs ≡ m + 1 → length ys ≡ m → ((i : ℕ) → i < m → get_or xs i 0 ≡ get_or ys i 0) → take (length xs - 1) xs ≡ ys
     same_prefix xs ys m e f h =
         let short : length xs - 1 ≡ m = omega (arith, e) in
-        rw short (ext_get_or 0 (take m xs) ys (omega (arith, length-take m xs, e, f)) (λ i less. prefix_at xs m i (omega (arith, less, length-take m xs, e)) ∙ h i (omega (arith, less, length-take m xs, e))))
+        rw short (ext_get_or 0 (take m xs) ys (omega (arith, length-take m xs, e, f)) (λ i less. get_or-take m xs i 0 (omega (arith, less, length-take m xs, e)) ∙ h i (omega (arith, less, length-take m xs, e))))
 
 -- the constraints that are asked about are those of the root and one more
 pub derives-entered : (shapes : List Shape) (x : Shape) (given list : List NumberedLiteral) → Derives shapes given list → Derives (shapes ++ (x ∷ [])) given list

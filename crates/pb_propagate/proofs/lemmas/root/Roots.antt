@@ -33,15 +33,12 @@ keep-next rests rests' forms opens cands trail i form o c inside is room roomc o
 -- all of them
 pub keep-all : (rests : Rests) (forms : List Shape) (opens cands trail : List ℕ) (i : ℕ) → length trail ≤ i → length forms ≡ length opens → length cands ≡ length opens → length rests.opens.items ≡ length opens → length rests.starts.items ≡ length cands → IsUndone rests forms opens cands trail i → (rests.opens.items ≡ opens) × (rests.starts.items ≡ cands)
 keep-all rests forms opens cands trail i end long sizes osizes ssizes u = (
-  ext_get_or 0 rests.opens.items opens osizes (λ s less. default_at s (omega (arith, less, osizes)) ∙ sym (clean s (omega (arith, less, osizes, long))).0),
+  ext_get_or 0 rests.opens.items opens osizes (λ s less. get_or_default rests.opens.items s 0 (size (get_or forms s none).terms) less ∙ sym (clean s (omega (arith, less, osizes, long))).0),
   ext_get_or 0 rests.starts.items cands ssizes (λ s less. sym (clean s (omega (arith, less, ssizes, long, sizes))).1),
 )
   where
     none : Shape
     none = record { terms = []; degree = 0 }
-
-    default_at : (s : ℕ) → s < length opens → get_or rests.opens.items s 0 ≡ get_or rests.opens.items s (size (get_or forms s none).terms)
-    default_at s less = get_or_default rests.opens.items s 0 (size (get_or forms s none).terms) (omega (arith, less, osizes))
 
     clean : (s : ℕ) → s < length forms → (get_or opens s 0 ≡ rest_open rests s (get_or forms s none)) × (get_or cands s 0 ≡ rest_start rests s)
     clean s less = u.clean s none less (λ j after short. absurd (omega (arith, after, short, end)))
