@@ -97,16 +97,13 @@ putting-next {d} {es} {start} {now} {j} seen e after read within count rising p 
       sizes = ap length l.opens ∙ length-set now.opens e.form (get_or now.opens e.form 0 - coefficient_at d.forms e.form e.index) ∙ p.sizes;
       grown = omega (arith, queued.1, p.grown);
       longer = omega (arith, queued.0, p.longer);
-      upper = least_upper now.visits seen start.visits j after.visits count p.upper visits;
+      upper = omega (arith, count, p.upper, visits);
       rising = omega (arith, rising, p.rising, visits);
       candidates = l.candidates ∙ p.candidates;
       values = values ∙ p.values;
       list = l.list ∙ p.list;
       next = l.next ∙ p.next;
     }
-  where
-    least_upper : (v w a i x : ℕ) → w ≡ min (v + 1) (2 ^ 64 - 1) → v ≤ a + i → x ≡ w → x ≤ a + (i + 1)
-    least_upper v w a i x e h k = omega arith
 
 spent-push : (d : Database) (l : NumberedLiteral) (old start : Progress) → Assigns l old start → spent d.lists start.list ≡ spent d.lists old.list + length (entries_against d l)
 spent-push d l old start a = ap (spent d.lists) a.list ∙ sum_by_push (λ (k : NumberedLiteral). length (get_or d.lists (place (negation k)) [])) old.list l
@@ -123,41 +120,29 @@ assigned-tidy d {l} {old} {start} a aside busy t =
       traced = t.traced;
     })
 
--- what has happened once some entries were subtracted
+-- what has been paid once some entries were subtracted, also if an allocation fails at the next one
+pub putting-costs : {d : Database} {l : NumberedLiteral} {old start now : Progress} {j : ℕ} (new : Progress) → Assigns l old start → new.list ≡ now.list → new.candidates ≡ now.candidates → new.visits + j ≤ now.visits + length (entries_against d l) → IsPutting d (entries_against d l) start now j → Costs d 0 0 old new
+putting-costs {d} {l} {old} {start} {now} {j} new a lists candidates visits p =
+    let listed : new.list ≡ old.list ++ (l ∷ []) = lists ∙ p.list ∙ a.list in
+    record {
+      extends = extends-one old.list new.list l listed;
+      single = λ s. rw listed (more l s a.absent);
+      paid = omega (arith, visits, p.upper, a.visits, spent-push d l old start a, ap (spent d.lists) (lists ∙ p.list), ap sum (candidates ∙ p.candidates ∙ a.candidates));
+    }
+
 pub putting-advances : {d : Database} {l : NumberedLiteral} {old start now : Progress} {j : ℕ} → Assigns l old start → length old.opens ≡ length d.forms → IsPutting d (entries_against d l) start now j → Advances d 0 0 old now
 putting-advances {d} {l} {old} {start} {now} {j} a sizes p =
-    let pushed = spent-push d l old start a in
-    let listed : now.list ≡ old.list ++ (l ∷ []) = p.list ∙ a.list in
-    let same = ap (spent d.lists) p.list in
     let works = ap length a.work in
-    let sums = ap sum (p.candidates ∙ a.candidates) in
     record {
-      costs = record {
-        extends = extends-one old.list now.list l listed;
-        single = λ s. rw listed (more l s a.absent);
-        paid = omega (arith, p.upper, a.visits, p.within, pushed, same, sums);
-      };
+      costs = putting-costs now a refl refl (omega (arith, p.within)) p;
       values = ap length p.values ∙ a.values;
       opens = p.sizes ∙ sym sizes;
       candidates = ap length (p.candidates ∙ a.candidates);
       next = p.next ∙ a.next;
       absent = λ s gone. rw a.work at (p.absent s gone);
       longer = omega (arith, p.longer, works);
-      work = omega (arith, p.grown, works, p.within, pushed, same);
+      work = omega (arith, p.grown, works, p.within, spent-push d l old start a, ap (spent d.lists) p.list);
       rising = omega (arith, p.rising, a.visits);
-    }
-
--- an allocation failed at an entry
-pub putting-costs : {d : Database} {l : NumberedLiteral} {old start now : Progress} {j : ℕ} (new : Progress) → Assigns l old start → j < length (entries_against d l) → new.list ≡ now.list → new.candidates ≡ now.candidates → new.visits ≤ now.visits + 1 → IsPutting d (entries_against d l) start now j → Costs d 0 0 old new
-putting-costs {d} {l} {old} {start} {now} {j} new a room lists candidates visits p =
-    let pushed = spent-push d l old start a in
-    let listed : new.list ≡ old.list ++ (l ∷ []) = lists ∙ p.list ∙ a.list in
-    let same = ap (spent d.lists) (lists ∙ p.list) in
-    let sums = ap sum (candidates ∙ p.candidates ∙ a.candidates) in
-    record {
-      extends = extends-one old.list new.list l listed;
-      single = λ s. rw listed (more l s a.absent);
-      paid = omega (arith, visits, p.upper, a.visits, room, pushed, same, sums);
     }
 
 -- a form whose open sum is too small is falsified, also while entries are still to be subtracted

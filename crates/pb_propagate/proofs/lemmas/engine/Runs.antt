@@ -16,10 +16,7 @@ sum_by-two : {X : Type 0} (f g h : X → ℕ) → ((x : X) → f x ≡ g x + h x
 sum_by-two f g h e [] = refl
 sum_by-two f g h e (x ∷ xs) =
     let more = sum_by-two f g h e xs in
-    rw (sum_by-cons f x xs, sum_by-cons g x xs, sum_by-cons h x xs) (regroup (f x) (g x) (h x) (sum_by f xs) (sum_by g xs) (sum_by h xs) (e x) more)
-  where
-    regroup : (a b c p q r : ℕ) → a ≡ b + c → p ≡ q + r → a + p ≡ (b + q) + (c + r)
-    regroup a b c p q r h k = omega arith
+    rw (sum_by-cons f x xs, sum_by-cons g x xs, sum_by-cons h x xs) (omega (arith, e x, more))
 
 pub term_weight-same : (l : NumberedLiteral) (t : Term) → same t.literal l ≡ true → term_weight l t ≡ t.coefficient
 unfolding term_weight

@@ -88,16 +88,13 @@ visiting-next {d} {aside} {form} {start} {now} {f} {t} {c} seen mid p forced cou
       advances = advances-as 0 0 (omega arith) (advances-then p.advances (advances-then visit (advances-then a (advances-pass d mid (set mid.candidates form (c + 1)) sizes raised))));
       tidy = Tidy-pass d aside form mid f c t at room forced.is forced.here (adopted-done (get_or f.terms c t).literal now.list mid.list adopted_f) (λ gone. p.there (a.absent form gone)) (tidy aside form p.tidy);
       there = λ gone. p.there (a.absent form gone);
-      found = λ few. found_from now.visits seen mid.visits start.visits (length start.list) (length now.list) (length mid.list) count a.rising few p.found (adopted-length t.literal now.list mid.list adopted);
+      found = λ few.
+          let small : now.visits < 2 ^ 64 - 1 = omega (arith, count, a.rising, few) in
+          let before = p.found small in
+          omega (arith, count, a.rising, few, before, adopted-length t.literal now.list mid.list adopted);
       opens = a.opens ∙ p.opens;
       candidates = sizes ∙ ap length same ∙ p.candidates;
     }
-  where
-    found_from : (v s w v0 n0 n1 n2 : ℕ) → s ≡ min (v + 1) (2 ^ 64 - 1) → s ≤ w → w < 2 ^ 64 - 1 → (v < 2 ^ 64 - 1 → n1 + v0 ≤ n0 + v) → n2 ≤ n1 + 1 → n2 + v0 ≤ n0 + w
-    found_from v s w v0 n0 n1 n2 e up few before one =
-        let small : v < 2 ^ 64 - 1 = omega (arith, e, up, few) in
-        let old = before small in
-        omega (arith, e, up, few, old, one)
 
 -- the visit ends at a calm form
 pub visiting-settled : {d : Database} {aside : List ℕ} {form : ℕ} {start now : Progress} (f : Shape) (n : ℕ) → length d.forms ≡ n → ((x : Shape) → get_or d.forms form x ≡ f) → IsCalm f (get_or now.opens form 0) (get_or now.candidates form 0) → IsVisiting d aside form start now → IsTidyAt d aside n now

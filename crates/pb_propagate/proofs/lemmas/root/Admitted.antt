@@ -220,21 +220,15 @@ clause-rooted store clauses run rests waiting walked slot inside bare none r = r
     | inl one ↦ ap (λ j. get_or run.opens.items j 0) one ∙ none ∙ sym (ap (λ j. open_sum run.assignment.list.items (get_or (shapes_of store.stored.items) j d).terms) one ∙ ap (open_sum run.assignment.list.items) (bare d).0)
     | inr other ↦ r.counted s d less other
   ];
-  tidy = record {
-    calm = λ s d less apart off gone. elim (cases_eq s slot) [
-      | inl one ↦
-          let terms = ap (λ j. (get_or (shapes_of store.stored.items) j d).terms) one ∙ (bare d).0 in
-          let degree = ap (λ j. (get_or (shapes_of store.stored.items) j d).degree) one ∙ (bare d).1 in
-          record { met = omega (arith, degree); waiting = λ e h. absurd (omega (arith, h, ap length terms)) }
-      | inr other ↦ r.tidy.calm s d less other off gone
-    ];
-    passed = r.tidy.passed;
-    bounded = r.tidy.bounded;
-    clean = r.tidy.clean;
-    named = r.tidy.named;
-    marked = r.tidy.marked;
-    traced = r.tidy.traced;
-  };
+  tidy = Tidy-rest r.opens r.starts (length-map store.stored.items stored_shape ∙ sym r.open_sizes)
+      (λ s d less apart off gone. elim (cases_eq s slot) [
+        | inl one ↦
+            let terms = ap (λ j. (get_or (shapes_of store.stored.items) j d).terms) one ∙ (bare d).0 in
+            let degree = ap (λ j. (get_or (shapes_of store.stored.items) j d).degree) one ∙ (bare d).1 in
+            record { met = omega (arith, degree); waiting = λ e h. absurd (omega (arith, h, ap length terms)) }
+        | inr other ↦ r.tidy.calm s d less other off gone
+      ])
+      r.tidy.passed r.tidy.bounded;
   work = r.work;
   trail = r.trail;
   next = r.next;

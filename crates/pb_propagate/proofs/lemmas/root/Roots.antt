@@ -90,15 +90,7 @@ new-rooted store clauses run rests waiting walked none variables values list ope
       open_sizes = ap length opens ∙ sym empty;
       start_sizes = ap length cands ∙ sym empty;
       counted = λ s d less apart. absurd (omega (arith, less, empty));
-      tidy = record {
-        calm = λ s d less busy off gone. absurd (omega (arith, less, empty, shapes));
-        passed = λ s d less. absurd (omega (arith, less, empty, shapes));
-        bounded = λ s d less. absurd (omega (arith, less, empty, shapes));
-        clean = λ s d less gone. absurd (omega (arith, less, empty, shapes));
-        named = λ i d less. absurd (omega (arith, less));
-        marked = λ i d less. absurd (omega (arith, less));
-        traced = λ s gone. gone;
-      };
+      tidy = Tidy-rest (opens ∙ sym rest_opens) (cands ∙ sym rest_starts) (shapes ∙ empty ∙ sym (ap length opens)) (λ s d less. absurd (omega (arith, less, empty, shapes))) (λ s d less. absurd (omega (arith, less, empty, shapes))) (λ s d less. absurd (omega (arith, less, empty, shapes)));
       work = work;
       trail = trail;
       next = next;
