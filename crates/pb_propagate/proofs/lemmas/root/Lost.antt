@@ -11,7 +11,7 @@ use Rattle.pb_propagate.specs.engine.Engine.Root.{HasRemoved, IsRootOf}
 use Rattle.pb_propagate.proofs.lemmas.clauses.Heads.{KeepsFallen, walks-kept}
 use Rattle.pb_propagate.proofs.lemmas.clauses.Shapes.{joined-at}
 use Rattle.pb_propagate.proofs.lemmas.clauses.Slots.{joined-cleared}
-use Rattle.pb_propagate.proofs.lemmas.root.Admitted.{no-watch, form-kept}
+use Rattle.pb_propagate.proofs.lemmas.root.Added.{no-watch, form-kept}
 use Rattle.pb_propagate.proofs.lemmas.store.Gets.{get-set_other}
 use Rattle.pb_propagate.proofs.lemmas.engine.Reasoned.{IsMoved, moved-same, reasons-moved}
 use Rattle.pb_propagate.proofs.lemmas.clauses.Reasons.{stored-joined}

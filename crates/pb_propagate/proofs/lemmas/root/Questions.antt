@@ -16,7 +16,7 @@ use Rattle.pb_propagate.proofs.lemmas.engine.Reasoned.{reasons-derive}
 use Rattle.pb_propagate.proofs.lemmas.engine.Values.{opposite}
 use Rattle.pb_propagate.proofs.lemmas.clauses.Killed.{IsOneSided, risen, killed-both}
 use Rattle.pb_propagate.proofs.lemmas.engine.Bounds.{joined-terms}
-use Rattle.pb_propagate.proofs.lemmas.root.Admitted.{slot-counted, slot-tidy}
+use Rattle.pb_propagate.proofs.lemmas.root.Added.{slot-counted, slot-tidy}
 use Rattle.pb_propagate.proofs.lemmas.root.Extends.{killed-longer}
 use Rattle.pb_propagate.proofs.lemmas.root.Rooted.{owned, derives-within, root-short, both-le}
 
@@ -77,9 +77,9 @@ module _ {g : Form} {store store' : Store} {root : Root} {run' : Run} {n : ℕ} 
       let its : get_or (shapes_of store'.stored.items) s d ≡ stored_shape e.entered.kept = ap (λ xs. get_or xs s d) (entered-shapes store.stored.items store'.stored.items e.entered.kept e.entered.keeps) ∙ get_or_push (shapes_of store.stored.items) (stored_shape e.entered.kept) d s (omega (arith, one, e.at, length-map store.stored.items stored_shape)) in
       total ∙ stored-sum e.entered.kept ∙ sym (ap (λ (x : Shape). size x.terms) its) ∙ sym (get_or_past root.rests.opens.items s (size (get_or (shapes_of store'.stored.items) s d).terms) (omega (arith, one, open-size, ap length e.rooted.opens)))
 
-  -- the open sums after the goal is laid on the root
-  pub laid-counted : (lowered : List ℕ) → ((d : Shape) → lowered ≡ set run'.opens.items n (open_sum (list_of root.run) (get_or (shapes_of store'.stored.items) n d).terms)) → IsCounted (shapes_of store'.stored.items) lowered (list_of root.run) []
-  laid-counted lowered low =
+  -- the open sums once the goal has that under the root
+  pub opened-counted : (lowered : List ℕ) → ((d : Shape) → lowered ≡ set run'.opens.items n (open_sum (list_of root.run) (get_or (shapes_of store'.stored.items) n d).terms)) → IsCounted (shapes_of store'.stored.items) lowered (list_of root.run) []
+  opened-counted lowered low =
       slot-counted (shapes_of store'.stored.items) run'.opens.items lowered (list_of root.run) n (omega (arith, open-size, ap length e.entered.opened, length-append root.run.opens.items (stored_total e.entered.kept ∷ []))) (λ s d inside other.
       let less = below s inside other in
       open-other s less ∙ e.rooted.counted s d (omega (arith, less, e.at)) (λ same. absurd (omega (arith, same, less, e.at))) ∙ ap (λ (f : Shape). open_sum (list_of root.run) f.terms) (sym (shape s d less))) low
@@ -116,13 +116,13 @@ module _ {g : Form} {store store' : Store} {root : Root} {run' : Run} {n : ℕ} 
     traced = λ s gone. gone;
   }
 
-  -- what a propagation needs of the forms after the goal is laid on the root
-  pub laid-tidy : (laid : Run) →
-      ((d : Shape) → laid.opens.items ≡ set run'.opens.items n (open_sum (list_of root.run) (get_or (shapes_of store'.stored.items) n d).terms)) →
-      Grown ((d : Shape) (c : ℕ) → IsCalm (get_or (shapes_of store'.stored.items) n d) (open_sum (list_of root.run) (get_or (shapes_of store'.stored.items) n d).terms) c) n [] laid.work.items → laid.trail.items ≡ n ∷ [] →
-      IsTidy (beside root.rests []) (shapes_of store'.stored.items) laid.opens.items run'.candidates.items (list_of root.run) laid.work.items laid.trail.items 0 (length store'.stored.items)
-  laid-tidy laid low queued noted =
-      let tidy = slot-tidy root.rests [] (shapes_of store'.stored.items) run'.opens.items run'.candidates.items laid.opens.items (list_of root.run) laid.work.items laid.trail.items n (omega (arith, entered-length)) (omega (arith, open-size, ap length e.entered.opened, length-append root.run.opens.items (stored_total e.entered.kept ∷ []))) entered-tidy low queued noted in
+  -- what a propagation needs of the forms then
+  pub opened-tidy : (opened : Run) →
+      ((d : Shape) → opened.opens.items ≡ set run'.opens.items n (open_sum (list_of root.run) (get_or (shapes_of store'.stored.items) n d).terms)) →
+      Grown ((d : Shape) (c : ℕ) → IsCalm (get_or (shapes_of store'.stored.items) n d) (open_sum (list_of root.run) (get_or (shapes_of store'.stored.items) n d).terms) c) n [] opened.work.items → opened.trail.items ≡ n ∷ [] →
+      IsTidy (beside root.rests []) (shapes_of store'.stored.items) opened.opens.items run'.candidates.items (list_of root.run) opened.work.items opened.trail.items 0 (length store'.stored.items)
+  opened-tidy opened low queued noted =
+      let tidy = slot-tidy root.rests [] (shapes_of store'.stored.items) run'.opens.items run'.candidates.items opened.opens.items (list_of root.run) opened.work.items opened.trail.items n (omega (arith, entered-length)) (omega (arith, open-size, ap length e.entered.opened, length-append root.run.opens.items (stored_total e.entered.kept ∷ []))) entered-tidy low queued noted in
       rw (length-map store'.stored.items stored_shape) at tidy
 
 -- after a question each form is as it was
@@ -197,16 +197,16 @@ updated-most {store} {clauses} {old} {new} s visits costs =
     omega (arith, most, costs.visits)
 
 -- The visits of both parts of a question: what the first has read is not paid again.
-pub both-parts : (store store' : Store) (clauses between : Clauses) (old mid : Root) (laid new : Run) (at : Heads) → at ≡ heads_at (length (list_of mid.run)) → clauses_of between ≡ clauses_of clauses → AreLonger store.occurrences.items store'.occurrences.items → list_of laid ≡ list_of mid.run → sum laid.candidates.items ≡ sum mid.run.candidates.items → laid.visits ≡ mid.run.visits →
-    old.run.work.items ≡ [] → length laid.work.items ≤ 1 → old.run.visits ≡ length (list_of old.run) →
-    HasUpdated store clauses between old mid → RunSpends store' mid.rests between at [] laid new →
+pub both-parts : (store store' : Store) (clauses between : Clauses) (old mid : Root) (opened new : Run) (at : Heads) → at ≡ heads_at (length (list_of mid.run)) → clauses_of between ≡ clauses_of clauses → AreLonger store.occurrences.items store'.occurrences.items → list_of opened ≡ list_of mid.run → sum opened.candidates.items ≡ sum mid.run.candidates.items → opened.visits ≡ mid.run.visits →
+    old.run.work.items ≡ [] → length opened.work.items ≤ 1 → old.run.visits ≡ length (list_of old.run) →
+    HasUpdated store clauses between old mid → RunSpends store' mid.rests between at [] opened new →
     new.visits ≤ length (list_of old.run) + (length old.waiting.list.items + 1) + sum new.candidates.items + 2 * spent (entries_of (shapes_of store'.stored.items) store'.occurrences.items) (list_of new) + 2 * fallen (clauses_of clauses) (list_of new) + sum_by length (clauses_of clauses)
-both-parts store store' clauses between old mid laid new at heads same longer list cands visits work few begun first second =
+both-parts store store' clauses between old mid opened new at heads same longer list cands visits work few begun first second =
     let kept = list_of mid.run in
     let more = spent-longer (shapes_of store.stored.items) (shapes_of store'.stored.items) store.occurrences.items store'.occurrences.items kept longer in
     let now = ap (spent (entries_of (shapes_of store'.stored.items) store'.occurrences.items)) list in
-    let walked : take (length kept) (list_of laid) ≡ kept = ap (take (length kept)) list ∙ take_all (length kept) kept (omega arith) in
-    let seen_mid : reached (clauses_of between) at (list_of laid) ≡ fallen (clauses_of clauses) kept = ap (λ h. reached (clauses_of between) h (list_of laid)) heads ∙ ap (λ cs. fallen cs (take (length kept) (list_of laid))) same ∙ ap (fallen (clauses_of clauses)) walked in
+    let walked : take (length kept) (list_of opened) ≡ kept = ap (take (length kept)) list ∙ take_all (length kept) kept (omega arith) in
+    let seen_mid : reached (clauses_of between) at (list_of opened) ≡ fallen (clauses_of clauses) kept = ap (λ h. reached (clauses_of between) h (list_of opened)) heads ∙ ap (λ cs. fallen cs (take (length kept) (list_of opened))) same ∙ ap (fallen (clauses_of clauses)) walked in
     let seen_new : fallen (clauses_of between) (list_of new) ≡ fallen (clauses_of clauses) (list_of new) = ap (λ cs. fallen cs (list_of new)) same in
     let sizes : sum_by length (clauses_of between) ≡ sum_by length (clauses_of clauses) = ap (sum_by length) same in
     omega (arith, first.pays.upper, second.upper, more, now, seen_mid, seen_new, sizes, cands, visits, ap length work, few, begun)

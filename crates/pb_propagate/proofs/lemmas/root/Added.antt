@@ -238,7 +238,7 @@ clause-rooted store clauses run rests waiting walked slot inside bare none r = r
   live = r.live;
 }
 
--- what a propagation needs after a form was laid on the root
+-- what a propagation needs once a form has its open sum under the root
 pub slot-counted : (forms : List Shape) (opens lowered : List ℕ) (list : List NumberedLiteral) (n : ℕ) → n < length opens → ((s : ℕ) (d : Shape) → s < length forms → (s ≡ n → ⊥) → get_or opens s 0 ≡ open_sum list (get_or forms s d).terms) → ((d : Shape) → lowered ≡ set opens n (open_sum list (get_or forms n d).terms)) → IsCounted forms lowered list []
 slot-counted forms opens lowered list n room counted low = record {
   each = λ s d inside.
