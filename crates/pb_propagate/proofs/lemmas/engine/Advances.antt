@@ -28,19 +28,6 @@ costs-then {d} {m} {n} {k} {l} {a} {b} {c} p q = record {
 pub costs-as : {d : Database} {m n : ℕ} {a b : Progress} (k l : ℕ) → n + k ≤ l + m → Costs d m n a b → Costs d k l a b
 costs-as k l h p = record { extends = p.extends; single = p.single; paid = omega (arith, p.paid, h) }
 
-pub advances-refl : (d : Database) (p : Progress) → Advances d 0 0 p p
-advances-refl d p = record {
-  costs = costs-refl d p;
-  values = refl;
-  opens = refl;
-  candidates = refl;
-  next = refl;
-  absent = λ s gone. gone;
-  longer = omega arith;
-  work = omega arith;
-  rising = omega arith;
-}
-
 pub advances-then : {d : Database} {m n k l : ℕ} {a b c : Progress} → Advances d m n a b → Advances d k l b c → Advances d (m + k) (n + l) a c
 advances-then p q = record {
   costs = costs-then p.costs q.costs;
@@ -80,6 +67,9 @@ advances-counted d p passed seen m n sizes rising most = record {
   work = omega arith;
   rising = rising;
 }
+
+pub advances-refl : (d : Database) (p : Progress) → Advances d 0 0 p p
+advances-refl d p = advances-counted d p p.candidates p.visits 0 0 refl (omega arith) (omega arith)
 
 -- some visits were made
 pub advances-visit : (d : Database) (p : Progress) (seen m n : ℕ) → p.visits ≤ seen → seen + m ≤ p.visits + n → Advances d m n p (visited_to seen p)

@@ -87,6 +87,12 @@ pub absent-cons : (x : ℕ) (xs : List ℕ) (s : ℕ) → (x ≡ s → ⊥) → 
 absent-cons x xs s apart gone zero from less at = apart at
 absent-cons x xs s apart gone (suc i) from less at = gone i (omega arith) (omega (arith, less)) at
 
+pub absent-from : (work : List ℕ) (i s : ℕ) → (get_or work i 0 ≡ s → ⊥) → IsAbsent work (i + 1) s → IsAbsent work i s
+absent-from work i s other gone j after less at = elim (cases_eq j i) [
+  | inl here ↦ other (sym (ap (λ k. get_or work k 0) here) ∙ at)
+  | inr later ↦ gone j (omega (arith, lt_of_apart i j after later)) less at
+]
+
 pub done-push : (list : List NumberedLiteral) (l k : NumberedLiteral) → IsDone list k → IsDone (list ++ (l ∷ [])) k
 done-push list l k h =
     elim (or_cases (has list k) (has list (negation k)) h) [
@@ -230,10 +236,7 @@ Tidy-pass d aside busy now f c e at room is here done there r = record {
 -- the next form of the work list is visited
 pub Tidy-next : (d : Database) (aside : List ℕ) (now : Progress) → IsTidyAt d aside (length d.forms) now → IsTidyAt d aside (get_or now.work now.next 0) (taken_to (now.next + 1) now)
 Tidy-next d aside now r = record {
-  calm = λ s x inside idle off gone. r.calm s x inside (λ e. absurd (omega (arith, e, inside))) off (λ i from less at. elim (cases_eq i now.next) [
-    | inl here ↦ idle (sym at ∙ ap (λ j. get_or now.work j 0) here)
-    | inr later ↦ gone i (omega (arith, lt_of_apart now.next i from later)) less at
-  ]);
+  calm = λ s x inside idle off gone. r.calm s x inside (λ e. absurd (omega (arith, e, inside))) off (absent-from now.work now.next s (λ e. idle (sym e)) gone);
   passed = r.passed;
   bounded = r.bounded;
   clean = r.clean;

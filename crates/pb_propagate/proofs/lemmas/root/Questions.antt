@@ -49,7 +49,7 @@ module _ {g : Form} {store store' : Store} {root : Root} {run' : Run} {n : ℕ} 
   start-size : length root.run.candidates.items ≡ n
   start-size = e.rooted.start_sizes ∙ sym e.at
 
-  -- the forms before it, and its own number
+  -- the other forms are those before it
   below : (s : ℕ) → s < length (shapes_of store'.stored.items) → (s ≡ n → ⊥) → s < n
   below s inside other = elim (cases_lt s n) [
     | inl less ↦ less

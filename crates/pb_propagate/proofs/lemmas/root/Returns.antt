@@ -12,7 +12,7 @@ use Rattle.pb_propagate.proofs.lemmas.clauses.Counts.{passed-most}
 use Rattle.pb_propagate.proofs.lemmas.clauses.Walks.{grows-listed}
 use Rattle.pb_propagate.proofs.lemmas.engine.Reasoned.{reasons-keep}
 use Rattle.pb_propagate.proofs.lemmas.root.Extends.{extends-then, extends-within, spent-extends, killed-longer}
-use Rattle.pb_propagate.proofs.lemmas.root.Roots.{keep-all}
+use Rattle.pb_propagate.proofs.lemmas.root.Roots.{keep-all, rooted-as}
 
 -- values of a longer list
 pub assigned-grow : (old new : Assignment) → Extends old.list.items new.list.items → Grows old.values.items new.values.items
@@ -102,39 +102,9 @@ question-back root {store} {between} {mid} {after} {done} {last} {count} r p b c
 
 -- the same forms wait
 pub rooted-waiting : {store : Store} {clauses : Clauses} {run : Run} {rests : Rests} {walked : Walked} {busy : ℕ} (waiting waiting' : Waiting) → waiting'.list ≡ waiting.list → waiting'.positions ≡ waiting.positions → IsRooted store clauses run rests waiting walked busy → IsRooted store clauses run rests waiting' walked busy
-rooted-waiting waiting waiting' list positions r = record {
-  values = r.values;
-  opens = r.opens;
-  starts = r.starts;
-  open_sizes = r.open_sizes;
-  start_sizes = r.start_sizes;
-  counted = r.counted;
-  tidy = rw list r.tidy;
-  work = r.work;
-  trail = r.trail;
-  next = r.next;
-  reasoned = r.reasoned;
-  walks = r.walks;
-  positions = rw positions r.positions;
-  live = rw list r.live;
-}
+rooted-waiting {store} {clauses} {run} waiting waiting' list positions r = rooted-as {run = run} run.assignment run.visits waiting' refl refl r.reasoned list positions r
 
 -- other reasons for the same literals
 pub reasoned-rooted : {store : Store} {clauses : Clauses} {run : Run} {rests : Rests} {waiting : Waiting} {walked : Walked} {busy : ℕ} (a : Assignment) → a.list ≡ run.assignment.list → a.values ≡ run.assignment.values → HaveReasons (all_of store clauses) a.reasons.items [] a.list.items → IsRooted store clauses run rests waiting walked busy →
     IsRooted store clauses (record run { assignment = a }) rests waiting walked busy
-reasoned-rooted a list values reasoned r = record {
-  values = rw values r.values;
-  opens = r.opens;
-  starts = r.starts;
-  open_sizes = r.open_sizes;
-  start_sizes = r.start_sizes;
-  counted = rw list r.counted;
-  tidy = rw list r.tidy;
-  work = r.work;
-  trail = r.trail;
-  next = r.next;
-  reasoned = reasoned;
-  walks = rw list r.walks;
-  positions = r.positions;
-  live = r.live;
-}
+reasoned-rooted {store} {clauses} {run} {rests} {waiting} a list values reasoned r = rooted-as {waiting = waiting} a run.visits waiting list values reasoned refl refl r

@@ -1,15 +1,14 @@
 -- The state to which questions return becomes that of the run.
 use Rattle.pb_propagate.proofs.Common.{ℕ, ◌+◌, ◌<◌, ◌∙◌, ◌≡◌, ◌≤◌, ◌⊎◌, [], ap, arith, get_or, get_or-set_other, get_or-set_same, inl, inr, length}
-use Rattle.pb_propagate.proofs.Common.{List, set, sym, slice_get, slice_get_within, Some, cases_eq, ext_get_or, get_or_default, get_or_read}
+use Rattle.pb_propagate.proofs.Common.{List, refl, set, sym, slice_get, slice_get_within, Some, cases_eq, ext_get_or, get_or_default, get_or_read}
 use Rattle.pb_propagate.proofs.Common.{length-map, Assignment, Clauses, Waiting, Rests, Run, Store, all_of, Walked, IsWalkedTo}
 use Rattle.pb_propagate.proofs.Common.{heads_at, IsAbsent, IsCounted, IsUndone, rest_open, rest_start, shapes_of, stored_shape}
 use Rattle.pb_propagate.proofs.Common.{HaveReasons, KeepsReasons, Shape, size, from_given, HasForm, IsRooted}
 use Rattle.pb_propagate.specs.engine.Engine.Progress.{RunIsCalm}
 use Rattle.pb_propagate.specs.engine.Engine.Propagation.{IsSaved}
 use Rattle.pb_propagate.proofs.lemmas.clauses.Heads.{walks-none}
-use Rattle.pb_propagate.proofs.lemmas.store.Gets.{lt_of_apart}
 use Rattle.pb_propagate.proofs.lemmas.engine.Reasoned.{reasons-keep}
-use Rattle.pb_propagate.proofs.lemmas.engine.Runs.{Tidy-rest}
+use Rattle.pb_propagate.proofs.lemmas.engine.Runs.{Tidy-rest, absent-from}
 use Rattle.pb_propagate.proofs.lemmas.engine.VisitSteps.{open-now}
 
 -- one form more
@@ -23,10 +22,7 @@ keep-next rests rests' forms opens cands trail i form o c inside is room roomc o
         let start : get_or rests'.starts.items s 0 ≡ c = ap (λ xs. get_or xs s 0) started ∙ rw one (get_or-set_same rests.starts.items form c 0 (omega (arith, roomc, ssizes))) in
         (ap (λ k. get_or opens k 0) one ∙ sym (get_or_read opens form o room open_is 0) ∙ sym here, ap (λ k. get_or cands k 0) one ∙ sym (get_or_read cands form c roomc cand_is 0) ∙ sym start)
     clean_at s d less gone (inr other) =
-        let before : IsAbsent trail i s = λ j after short at. elim (cases_eq j i) [
-          | inl here ↦ other (sym at ∙ ap (λ x. get_or trail x 0) here ∙ sym (get_or_read trail i form inside is 0))
-          | inr later ↦ gone j (omega (arith, lt_of_apart i j after later)) short at
-        ] in
+        let before = absent-from trail i s (λ e. other (sym e ∙ sym (get_or_read trail i form inside is 0))) gone in
         let was = u.clean s d less before in
         (was.0 ∙ sym (ap (λ xs. get_or xs s (size (get_or forms s d).terms)) opened ∙ get_or-set_other rests.opens.items form s o (size (get_or forms s d).terms) other), was.1 ∙ sym (ap (λ xs. get_or xs s 0) started ∙ get_or-set_other rests.starts.items form s c 0 other))
 
@@ -100,24 +96,28 @@ new-rooted store clauses run rests waiting walked none variables values list ope
       live = λ i s at. absurd (omega (arith, slice_get_within waiting.list.items i s at, ap length waits));
     }
 
--- a run with another count of visits
-pub rooted-counted : {store : Store} {clauses : Clauses} {run : Run} {rests : Rests} {waiting : Waiting} {walked : Walked} {busy : ℕ} (visits : ℕ) → IsRooted store clauses run rests waiting walked busy → IsRooted store clauses (record run { visits = visits }) rests waiting walked busy
-rooted-counted visits r = record {
-  values = r.values;
+-- other reasons for the same literals, another count of visits, and the same forms that wait
+pub rooted-as : {store : Store} {clauses : Clauses} {run : Run} {rests : Rests} {waiting : Waiting} {walked : Walked} {busy : ℕ} (a : Assignment) (visits : ℕ) (waiting' : Waiting) → a.list ≡ run.assignment.list → a.values ≡ run.assignment.values → HaveReasons (all_of store clauses) a.reasons.items [] a.list.items → waiting'.list ≡ waiting.list → waiting'.positions ≡ waiting.positions → IsRooted store clauses run rests waiting walked busy →
+    IsRooted store clauses (record run { assignment = a; visits = visits }) rests waiting' walked busy
+rooted-as a visits waiting' list values reasoned waits positions r = record {
+  values = rw values r.values;
   opens = r.opens;
   starts = r.starts;
   open_sizes = r.open_sizes;
   start_sizes = r.start_sizes;
-  counted = r.counted;
-  tidy = r.tidy;
+  counted = rw list r.counted;
+  tidy = rw (list, waits) r.tidy;
   work = r.work;
   trail = r.trail;
   next = r.next;
-  reasoned = r.reasoned;
-  walks = r.walks;
-  positions = r.positions;
-  live = r.live;
+  reasoned = reasoned;
+  walks = rw list r.walks;
+  positions = rw positions r.positions;
+  live = rw waits r.live;
 }
+
+pub rooted-counted : {store : Store} {clauses : Clauses} {run : Run} {rests : Rests} {waiting : Waiting} {walked : Walked} {busy : ℕ} (visits : ℕ) → IsRooted store clauses run rests waiting walked busy → IsRooted store clauses (record run { visits = visits }) rests waiting walked busy
+rooted-counted {store} {clauses} {run} {rests} {waiting} visits r = rooted-as {run = run} {waiting = waiting} run.assignment visits waiting refl refl r.reasoned refl refl r
 
 -- one more variable, which has no value
 pub widened-rooted : (store store' : Store) (clauses clauses' : Clauses) (run : Run) (assignment : Assignment) (rests : Rests) (waiting : Waiting) (walked : Walked) → store'.stored ≡ store.stored → store'.variables ≡ store.variables + 1 → clauses'.blocks.literals ≡ clauses.blocks.literals → clauses'.blocks.watches ≡ clauses.blocks.watches → assignment.list.items ≡ run.assignment.list.items → length assignment.values.items ≡ length run.assignment.values.items + 1 → KeepsReasons run.assignment.list.items run.assignment.reasons.items assignment.reasons.items →
