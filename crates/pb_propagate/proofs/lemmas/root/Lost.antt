@@ -1,9 +1,9 @@
 -- The form of a slot goes, and the root stays.
 use Rattle.pb_propagate.proofs.Common.{ℕ, ◌/◌, ◌<◌, ◌∙◌, ◌≡◌, [], ap, arith, get_or, get_or-set_other, get_or-set_same, Global, inl, inr}
-use Rattle.pb_propagate.proofs.Common.{length, length-set, List, map, refl, set, subst, sym, Vec, Contains, slice_get, Some, cases_eq}
-use Rattle.pb_propagate.proofs.Common.{get_or-map, get_or_default, length-map, map-set, sum_by-cons, get_or_from_slice_get, slice_get-get_or}
+use Rattle.pb_propagate.proofs.Common.{length, length-set, List, refl, set, subst, sym, Vec, Contains, slice_get, Some, cases_eq}
+use Rattle.pb_propagate.proofs.Common.{length-map, map-set, sum_by-cons, get_or_from_slice_get, slice_get-get_or}
 use Rattle.pb_propagate.proofs.Common.{NumberedLiteral, Assignment, Clauses, Store, StoredForm, Term, list_at, watch_at}
-use Rattle.pb_propagate.proofs.Common.{watch_lists, AreReady, all_of, AreJoined, clauses_of, joined, literal_at, one_term, slot_shape}
+use Rattle.pb_propagate.proofs.Common.{watch_lists, AreReady, all_of, AreJoined, clauses_of, joined, slot_shape}
 use Rattle.pb_propagate.proofs.Common.{shapes_of, stored_shape, HaveReasons, open_part, open_sum, Shape}
 use Rattle.pb_propagate.proofs.Common.{HasCleared, IsNeedless, IsOtherUnit, IsSameWatch}
 use Rattle.pb_propagate.specs.declared.engine.root.Root.{Root}
@@ -17,14 +17,6 @@ use Rattle.pb_propagate.proofs.lemmas.engine.Reasoned.{IsMoved, moved-same, reas
 use Rattle.pb_propagate.proofs.lemmas.clauses.Reasons.{stored-joined}
 use Rattle.pb_propagate.proofs.lemmas.engine.Literals.{open_part-open}
 use Rattle.pb_propagate.proofs.lemmas.engine.Runs.{Tidy-rest}
-
--- a term of a clause is one of its literals, with coefficient 1
-pub clause-term : (codes : List ℕ) (l : NumberedLiteral) (c : ℕ) → Contains (map one_term codes) (record { literal = l; coefficient = c }) → (x : ℕ) × Contains codes x × (literal_at x ≡ l) × (c ≡ 1)
-clause-term codes l c (k, within, at) =
-    let t : Term = record { literal = l; coefficient = c } in
-    let inside : k < length codes = omega (arith, within, length-map codes one_term) in
-    let one : one_term (get_or codes k 0) ≡ t = sym (get_or-map one_term codes k 0 t inside) ∙ at in
-    (get_or codes k 0, (k, inside, get_or_default codes k (get_or codes k 0) 0 inside), ap (λ (y : Term). y.literal) one, sym (ap (λ (y : Term). y.coefficient) one))
 
 -- a unit puts its literal
 pub unit-moved : (shapes : List Shape) (clauses : List (List ℕ)) (slot unit : ℕ) (l : NumberedLiteral) (reasons : List ℕ) (x : Shape) → AreJoined shapes clauses → IsOtherUnit shapes slot l unit → slice_get reasons l.variable ≡ Some unit → IsMoved (joined shapes clauses) reasons l x

@@ -3,13 +3,12 @@ use Rattle.pb_propagate.proofs.Common.{stored_form}
 use Rattle.pb_propagate.proofs.Common.{ℕ, ◌++◌, ◌+◌, ◌<◌, ◌∙◌, ◌∷◌, ◌≡◌, ◌≤◌, [], ap, arith, Bool, false, get_or, inl, inr, Global, length, Vec}
 use Rattle.pb_propagate.proofs.Common.{cases_eq, coefficient_at, drop, drop_more, get_or-set_other, get_or-set_same, if◌then◌else◌, set, sum_by-le-sum_by, list_of}
 use Rattle.pb_propagate.proofs.Common.{List, None, refl, subst, sym, take, true, Option, slice_get, Some, cases_lt}
-use Rattle.pb_propagate.proofs.Common.{or_cases, or_left, or_right, get_or_default, get_or_from_slice_get, get_or_past, length-map, length-append, slice_get-get_or, slice_get_within}
+use Rattle.pb_propagate.proofs.Common.{or_cases, or_left, or_right, get_or_default, get_or_from_slice_get, get_or_past, length-map, length-append, slice_get-get_or}
 use Rattle.pb_propagate.proofs.Common.{sum_by-cons, take_all, take-append-le, get_or-map, map, Occurrence, weighted, Waiting, Rests, NumberedLiteral, negation, Form, Assignment, Clauses, Store, Term, all_of, clauses_of}
 use Rattle.pb_propagate.proofs.Common.{IsCalm, place, weight_in, entries_of, forms_of, IsSound, shapes_of, spots_of, stored_shape, terms_at}
 use Rattle.pb_propagate.proofs.Common.{HaveReasons, open_sum, Shape, size, Weighted, AreSlots, HasForm, IsWalkedTo, from_given, by_reason}
 use Rattle.pb_propagate.specs.declared.engine.root.Root.{Root}
 use Rattle.pb_propagate.specs.engine.Engine.Counts.{entry_weight, IsDone}
-use Rattle.pb_propagate.specs.engine.Engine.Links.{term_cross}
 use Rattle.pb_propagate.specs.engine.Engine.Lists.{has, open_part}
 use Rattle.pb_propagate.specs.engine.Engine.Refreshed.{AreRefreshed, IsRefreshed, Lacks}
 use Rattle.pb_propagate.specs.engine.Engine.Root.{IsRootOf, IsSized}
@@ -17,7 +16,7 @@ use Rattle.pb_propagate.proofs.lemmas.clauses.Slots.{slots-vacant}
 use Rattle.pb_propagate.proofs.lemmas.engine.Literals.{has-push_cases, negation-negation}
 use Rattle.pb_propagate.proofs.lemmas.engine.Runs.{Tidy-rest, entry_weight-other, entry_weight-same, open_sum-push}
 use Rattle.pb_propagate.proofs.lemmas.engine.Puts.{entries-at, form-within, place-inside}
-use Rattle.pb_propagate.proofs.lemmas.store.Unlinks.{entry-back}
+use Rattle.pb_propagate.proofs.lemmas.root.Rooted.{term-entry}
 use Rattle.pb_propagate.proofs.lemmas.store.Weights.{index-within}
 
 -- forms are refreshed one after another
@@ -69,20 +68,6 @@ refreshed-then store a b c p q = record {
     | inr old ↦ p.live old.0 s old.1
   ];
 }
-
--- a term has an entry
-term-entry : (store : Store) (s k : ℕ) (t : Term) → IsSound store → s < length (shapes_of store.stored.items) → slice_get (terms_at (shapes_of store.stored.items) s) k ≡ Some t →
-    (j : ℕ) × (e : Weighted) × (slice_get (get_or (entries_of (shapes_of store.stored.items) store.occurrences.items) (place t.literal) []) j ≡ Some e) × (e.form ≡ s)
-term-entry store s k t sound inside at =
-    let forms = shapes_of store.stored.items in
-    let spots = spots_of store.spots.items in
-    let lists = entries_of forms store.occurrences.items in
-    let room : k < length (get_or spots s []) = omega (arith, sound.rooms s inside, slice_get_within (terms_at forms s) k t at) in
-    let q = get_or (get_or spots s []) k 0 in
-    let spot : slice_get (get_or spots s []) k ≡ Some q = slice_get-get_or (get_or spots s []) k 0 room in
-    let named = ap (λ o. term_cross o (slice_get (get_or spots s []) k)) at ∙ ap (term_cross (Some t)) spot in
-    let found = entry-back (slice_get (get_or lists (place t.literal) []) q) s k t.coefficient ((sound.whole.crossed s k (place t.literal) q t.coefficient).0 named) in
-    (q, found.entry, found.is, found.form)
 
 -- a slot with terms has a form
 terms-form : (store : Store) (clauses : Clauses) (s : ℕ) → AreSlots (forms_of store.stored.items) (all_of store clauses) → 0 < length (terms_at (shapes_of store.stored.items) s) → HasForm store s
@@ -210,7 +195,7 @@ retracted-rooted store clauses old mid new first l listed absent reasoned sound 
     -- a term of the literal's variable is none before the candidate
     none-passed : (s k : ℕ) (t : Term) → s < length (shapes_of store.stored.items) → slice_get (terms_at (shapes_of store.stored.items) s) k ≡ Some t → AllRefreshed store new t.literal → k < get_or new.run.candidates.items s 0 → ⊥
     none-passed s k t less at all early =
-        let e = term-entry store s k t sound less at in
+        let e = term-entry s k t sound less at in
         let n = subst (IsRefreshed store new) e.3 (all e.0 e.1 e.2) in
         omega (arith, early, n.passed)
 
