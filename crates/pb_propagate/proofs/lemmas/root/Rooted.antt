@@ -1,8 +1,8 @@
 -- Literals that forms force with nothing assumed.
 use Rattle.pb_propagate.proofs.Common.{ℕ, ◌++◌, ◌+◌, ◌<◌, ◌∙◌, ◌∷◌, ◌≡◌, ◌≤◌, [], ap, arith, Bool, false, get_or, get_or-set_other, inl, inr, length}
 use Rattle.pb_propagate.proofs.Common.{length-append, List, map, set, subst, sym, true, Contains, slice_get, slice_index_or, Some, sum_by}
-use Rattle.pb_propagate.proofs.Common.{both_ways, cases_lt, get_or-map, get_or_default, get_or_past, length-map, set_past}
-use Rattle.pb_propagate.proofs.Common.{sum_by-set, sum_by_push, slice_get-get_or, slice_get_within, NumberedLiteral, negation, Long, Short}
+use Rattle.pb_propagate.proofs.Common.{both_ways, get_or-map, get_or_default, length-map}
+use Rattle.pb_propagate.proofs.Common.{sum_by_push, slice_get-get_or, slice_get_within, NumberedLiteral, negation, Long, Short}
 use Rattle.pb_propagate.proofs.Common.{Term, list_at, code_in, joined, literal_at, one_term, AreSingle, more, none, place, spent}
 use Rattle.pb_propagate.proofs.Common.{IsStored, term_cross, terms_at, begin, Derives, put, Puts, Shape, Weighted}
 use Rattle.pb_propagate.specs.engine.Engine.Lists.{has}
@@ -10,7 +10,7 @@ use Rattle.pb_propagate.proofs.lemmas.engine.Derivations.{puts-other}
 use Rattle.pb_propagate.proofs.lemmas.engine.Literals.{negation-negation, has-push_old, has-push_new}
 use Rattle.pb_propagate.proofs.lemmas.store.Unlinks.{entry-back}
 use Rattle.pb_propagate.proofs.lemmas.root.Cuts.{absent-before}
-use Rattle.pb_propagate.proofs.lemmas.engine.Spent.{place-injective, sum_by-agree}
+use Rattle.pb_propagate.proofs.lemmas.engine.Spent.{lists-clear, place-injective, sum_by-agree}
 use Rattle.pb_propagate.proofs.lemmas.clauses.Literals.{code-of}
 use Rattle.pb_propagate.proofs.lemmas.clauses.Counts.{occurs}
 use Rattle.pb_propagate.proofs.lemmas.clauses.Shapes.{joined-source}
@@ -81,21 +81,8 @@ root-short forms spots lists variables clauses _ stored (put {list} l d m) =
     let killings = risen-push clauses list l m.absent in
     omega (arith, rest, here, entries, killings, length-append list (l ∷ []))
 
--- the lists of a list's literals and of their negations are different lists
-lists-clear : (lists : List (List Weighted)) (p : ℕ) → sum_by length (set lists p []) + length (get_or lists p []) ≡ sum_by length lists
-lists-clear lists p =
-    let empty : List Weighted = [] in
-    elim (cases_lt p (length lists)) [
-      | inl inside ↦
-          let change = sum_by-set (λ (xs : List Weighted). length xs) lists p empty empty inside in
-          omega (arith, change)
-      | inr past ↦
-          let zero_there = get_or_past lists p empty past in
-          let same_list : set lists p empty ≡ lists = set_past lists p empty past in
-          omega (arith, ap length zero_there, ap (sum_by length) same_list)
-    ]
-
--- the lists of a literal and of its negation are emptied
+-- The lists of a list's literals and of their negations are different lists. Those of a literal and of its negation are
+-- emptied.
 abbrev without : List (List Weighted) → NumberedLiteral → List (List Weighted)
 without lists l = set (set lists (place (negation l)) []) (place l) []
 
