@@ -6,7 +6,6 @@ pub mod Bounds
 pub mod Bridge
 pub mod Derivations
 pub mod Ends
-pub mod Laws
 pub mod Literals
 pub mod VisitSteps
 pub mod Propagated

@@ -1,5 +1,5 @@
 -- Lemmas of the root, which questions continue from.
-pub mod Admitted
+pub mod Added
 pub mod Cuts
 pub mod Extends
 pub mod Gained

@@ -28,19 +28,6 @@ costs-then {d} {m} {n} {k} {l} {a} {b} {c} p q = record {
 pub costs-as : {d : Database} {m n : ℕ} {a b : Progress} (k l : ℕ) → n + k ≤ l + m → Costs d m n a b → Costs d k l a b
 costs-as k l h p = record { extends = p.extends; single = p.single; paid = omega (arith, p.paid, h) }
 
-pub advances-refl : (d : Database) (p : Progress) → Advances d 0 0 p p
-advances-refl d p = record {
-  costs = costs-refl d p;
-  values = refl;
-  opens = refl;
-  candidates = refl;
-  next = refl;
-  absent = λ s gone. gone;
-  longer = omega arith;
-  work = omega arith;
-  rising = omega arith;
-}
-
 pub advances-then : {d : Database} {m n k l : ℕ} {a b c : Progress} → Advances d m n a b → Advances d k l b c → Advances d (m + k) (n + l) a c
 advances-then p q = record {
   costs = costs-then p.costs q.costs;
@@ -67,24 +54,10 @@ advances-as k l h p = record {
   rising = p.rising;
 }
 
--- some visits were made
-pub advances-visit : (d : Database) (p : Progress) (seen m n : ℕ) → p.visits ≤ seen → seen + m ≤ p.visits + n → Advances d m n p (visited_to seen p)
-advances-visit d p seen m n rising most = record {
+-- some visits were made, and terms passed
+advances-counted : (d : Database) (p : Progress) (passed : List ℕ) (seen m n : ℕ) → length passed ≡ length p.candidates → p.visits ≤ seen → seen + m + sum p.candidates ≤ p.visits + n + sum passed → Advances d m n p (record p { candidates = passed; visits = seen })
+advances-counted d p passed seen m n sizes rising most = record {
   costs = record { extends = extends-none p.list; single = λ s. s; paid = omega (arith, most) };
-  values = refl;
-  opens = refl;
-  candidates = refl;
-  next = refl;
-  absent = λ s gone. gone;
-  longer = omega arith;
-  work = omega arith;
-  rising = rising;
-}
-
--- a term was passed
-pub advances-pass : (d : Database) (p : Progress) (passed : List ℕ) → length passed ≡ length p.candidates → sum passed ≡ sum p.candidates + 1 → Advances d 1 0 p (passed_to passed p)
-advances-pass d p passed sizes more = record {
-  costs = record { extends = extends-none p.list; single = λ s. s; paid = omega (arith, more) };
   values = refl;
   opens = refl;
   candidates = sizes;
@@ -92,5 +65,16 @@ advances-pass d p passed sizes more = record {
   absent = λ s gone. gone;
   longer = omega arith;
   work = omega arith;
-  rising = omega arith;
+  rising = rising;
 }
+
+pub advances-refl : (d : Database) (p : Progress) → Advances d 0 0 p p
+advances-refl d p = advances-counted d p p.candidates p.visits 0 0 refl (omega arith) (omega arith)
+
+-- some visits were made
+pub advances-visit : (d : Database) (p : Progress) (seen m n : ℕ) → p.visits ≤ seen → seen + m ≤ p.visits + n → Advances d m n p (visited_to seen p)
+advances-visit d p seen m n rising most = advances-counted d p p.candidates seen m n refl rising (omega (arith, most))
+
+-- a term was passed
+pub advances-pass : (d : Database) (p : Progress) (passed : List ℕ) → length passed ≡ length p.candidates → sum passed ≡ sum p.candidates + 1 → Advances d 1 0 p (passed_to passed p)
+advances-pass d p passed sizes more = advances-counted d p passed p.visits 1 0 sizes (omega arith) (omega (arith, more))

@@ -80,9 +80,6 @@ rising-only n v b (x ∷ xs) r h =
           later x xs (record { variable = v; negated = b; coefficient = total (only v b) xs }) (record { variable = v; negated = b; coefficient = total (only v b) (x ∷ xs) }) (entry_ext (record { variable = v; negated = b; coefficient = total (only v b) xs }) v b (total (only v b) (x ∷ xs)) refl refl (sym same_total)) rest
     ]
   where
-    made : ℕ → Bool → ℕ → Entry
-    made a c d = record { variable = a; negated = c; coefficient = d }
-
     entry_ext : (y : Entry) (a : ℕ) (c : Bool) (d : ℕ) → y.variable ≡ a → y.negated ≡ c → y.coefficient ≡ d → y ≡ record { variable = a; negated = c; coefficient = d }
     entry_ext y a c d e f g = rw (← e, ← f, ← g) refl
 

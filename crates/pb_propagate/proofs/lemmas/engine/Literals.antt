@@ -98,22 +98,16 @@ pub open_sum-within : (a b : List NumberedLiteral) → IsWithin a b → (terms :
 open_sum-within a b w terms =
     sum_by-le-sum_by (open_part b) (open_part a) terms (open_part-within a b w)
 
-shuffle_here : (fx gx a b : ℕ) → a ≤ b → (fx + a) + gx ≤ (gx + b) + fx
-shuffle_here fx gx a b h = omega arith
-
-shuffle_there : (fx gx a b p q : ℕ) → fx ≤ gx → a + q ≤ b + p → (fx + a) + q ≤ (gx + b) + p
-shuffle_there fx gx a b p q h k = omega arith
-
 -- if one part of a sum is lower, and no other is higher
 sum_by-lower_at : {X : Type 0} (f g : X → ℕ) → ((x : X) → f x ≤ g x) → (xs : List X) (k : ℕ) (d : X) → k < length xs → sum_by f xs + g (get_or xs k d) ≤ sum_by g xs + f (get_or xs k d)
 sum_by-lower_at f g le [] k d h = absurd (omega (arith, h))
 sum_by-lower_at f g le (x ∷ xs) zero d h =
     let low : sum_by f xs ≤ sum_by g xs = sum_by-le-sum_by f g xs le in
-    rw (sum_by-cons f x xs, sum_by-cons g x xs) (shuffle_here (f x) (g x) (sum_by f xs) (sum_by g xs) low)
+    rw (sum_by-cons f x xs, sum_by-cons g x xs) (omega (arith, low))
 sum_by-lower_at f g le (x ∷ xs) (suc k) d h =
     let here : k < length xs = omega (arith, h) in
     let more = sum_by-lower_at f g le xs k d here in
-    rw (sum_by-cons f x xs, sum_by-cons g x xs) (shuffle_there (f x) (g x) (sum_by f xs) (sum_by g xs) (f (get_or xs k d)) (g (get_or xs k d)) (le x) more)
+    rw (sum_by-cons f x xs, sum_by-cons g x xs) (omega (arith, le x, more))
 
 -- a literal that the longer list falsifies takes its coefficient from the open sum
 pub open_sum-lower : (a b : List NumberedLiteral) → IsWithin a b → (terms : List Term) (t : Term) → Contains terms t → has a (negation t.literal) ≡ false → has b (negation t.literal) ≡ true → open_sum b terms + t.coefficient ≤ open_sum a terms

@@ -1,7 +1,7 @@
 use Rattle.pb_propagate.proofs.Common.{ℕ, ◌*◌, ◌++◌, ◌+◌, ◌-◌, ◌<◌, ◌^◌, ◌∙◌, ◌∷◌, ◌≡◌, ◌≤◌, [], ap, arith, Bool, drop, false, get_or, Global}
 use Rattle.pb_propagate.proofs.Common.{if◌then◌else◌, length, length-set, List, map, min, refl, subst, sym, true, Vec, All, Option, sum, drop_more}
 use Rattle.pb_propagate.proofs.Common.{get_or-map, length-map, Contains-get_or, sum_by_push, NumberedLiteral, negation, Rests, Occurrence, Store}
-use Rattle.pb_propagate.proofs.Common.{beside, IsAbsent, IsCounted, more, place, spent, entries_of, IsSound, lists_of, shapes_of, spots_of}
+use Rattle.pb_propagate.proofs.Common.{IsAbsent, IsCounted, more, place, spent, entries_of, IsSound, lists_of, shapes_of, spots_of}
 use Rattle.pb_propagate.proofs.Common.{coefficient_at, terms_at, weighted, broken, Conflicts, has, Shape, Weighted, Advances, assigned_to, Costs}
 use Rattle.pb_propagate.proofs.Common.{Database, database, entries_against, Lowers, Progress, StaysTidy, visited_to}
 use Rattle.std.proofs.Math.ListN.{get_or-map as get_or-map-default}
@@ -9,7 +9,7 @@ use Rattle.pb_propagate.specs.declared.store.Visited.{Visited}
 use Rattle.pb_propagate.specs.engine.Engine.Fields.{entry_at}
 use Rattle.pb_propagate.proofs.lemmas.root.Extends.{extends-one}
 use Rattle.pb_propagate.proofs.lemmas.store.Weights.{index-within}
-use Rattle.pb_propagate.proofs.lemmas.engine.Runs.{Counted-fits, Counted-lower, Tidy-lower, Tidy-put, grown-before, grown-length}
+use Rattle.pb_propagate.proofs.lemmas.engine.Runs.{Counted-fits, Counted-lower, Tidy-lower, done-push, grown-before, grown-length}
 
 -- the literal is on the list, and nothing else has changed
 pub record Assigns (l : NumberedLiteral) (old new : Progress) : Type 0 where
@@ -92,64 +92,57 @@ putting-next {d} {es} {start} {now} {j} seen e after read within count rising p 
     record {
       within = omega (arith, read.inside);
       counted = rw l.list (Counted-lower d.forms now.opens after.opens now.list entry (drop (j + 1) es) l.opens inside (subst (IsCounted d.forms now.opens now.list) ahead p.counted));
-      tidy = λ aside busy t. rw (l.candidates, l.list, l.next) (Tidy-lower (beside d.rests aside) d.forms now.opens after.opens now.candidates now.list now.work after.work now.trail after.trail now.next busy e.form (get_or now.opens e.form 0 - coefficient_at d.forms e.form e.index) l.opens read.form inside (omega (arith, p.longer, within, p.next)) l.work l.trail (p.tidy aside busy t));
+      tidy = λ aside busy t. Tidy-lower d aside busy e l read.form inside (omega (arith, p.longer, within, p.next)) (p.tidy aside busy t);
       absent = λ s gone. p.absent s (grown-before e.form now.work after.work s l.work gone);
       sizes = ap length l.opens ∙ length-set now.opens e.form (get_or now.opens e.form 0 - coefficient_at d.forms e.form e.index) ∙ p.sizes;
       grown = omega (arith, queued.1, p.grown);
       longer = omega (arith, queued.0, p.longer);
-      upper = least_upper now.visits seen start.visits j after.visits count p.upper visits;
+      upper = omega (arith, count, p.upper, visits);
       rising = omega (arith, rising, p.rising, visits);
       candidates = l.candidates ∙ p.candidates;
       values = values ∙ p.values;
       list = l.list ∙ p.list;
       next = l.next ∙ p.next;
     }
-  where
-    least_upper : (v w a i x : ℕ) → w ≡ min (v + 1) (2 ^ 64 - 1) → v ≤ a + i → x ≡ w → x ≤ a + (i + 1)
-    least_upper v w a i x e h k = omega arith
 
 spent-push : (d : Database) (l : NumberedLiteral) (old start : Progress) → Assigns l old start → spent d.lists start.list ≡ spent d.lists old.list + length (entries_against d l)
 spent-push d l old start a = ap (spent d.lists) a.list ∙ sum_by_push (λ (k : NumberedLiteral). length (get_or d.lists (place (negation k)) [])) old.list l
 
 pub assigned-tidy : (d : Database) {l : NumberedLiteral} {old start : Progress} → Assigns l old start → StaysTidy d old start
 assigned-tidy d {l} {old} {start} a aside busy t =
-    rw (a.opens, a.candidates, a.work, a.trail, a.next) (Tidy-put (beside d.rests aside) d.forms old.opens old.candidates old.list start.list old.work old.trail old.next busy l a.list t)
+    rw (a.opens, a.candidates, a.work, a.trail, a.next, a.list) (record {
+      calm = t.calm;
+      passed = λ s x inside k f before within. done-push old.list l (get_or (get_or d.forms s x).terms k f).literal (t.passed s x inside k f before within);
+      bounded = t.bounded;
+      clean = t.clean;
+      named = t.named;
+      marked = t.marked;
+      traced = t.traced;
+    })
 
--- what has happened once some entries were subtracted
+-- what has been paid once some entries were subtracted, also if an allocation fails at the next one
+pub putting-costs : {d : Database} {l : NumberedLiteral} {old start now : Progress} {j : ℕ} (new : Progress) → Assigns l old start → new.list ≡ now.list → new.candidates ≡ now.candidates → new.visits + j ≤ now.visits + length (entries_against d l) → IsPutting d (entries_against d l) start now j → Costs d 0 0 old new
+putting-costs {d} {l} {old} {start} {now} {j} new a lists candidates visits p =
+    let listed : new.list ≡ old.list ++ (l ∷ []) = lists ∙ p.list ∙ a.list in
+    record {
+      extends = extends-one old.list new.list l listed;
+      single = λ s. rw listed (more l s a.absent);
+      paid = omega (arith, visits, p.upper, a.visits, spent-push d l old start a, ap (spent d.lists) (lists ∙ p.list), ap sum (candidates ∙ p.candidates ∙ a.candidates));
+    }
+
 pub putting-advances : {d : Database} {l : NumberedLiteral} {old start now : Progress} {j : ℕ} → Assigns l old start → length old.opens ≡ length d.forms → IsPutting d (entries_against d l) start now j → Advances d 0 0 old now
 putting-advances {d} {l} {old} {start} {now} {j} a sizes p =
-    let pushed = spent-push d l old start a in
-    let listed : now.list ≡ old.list ++ (l ∷ []) = p.list ∙ a.list in
-    let same = ap (spent d.lists) p.list in
     let works = ap length a.work in
-    let sums = ap sum (p.candidates ∙ a.candidates) in
     record {
-      costs = record {
-        extends = extends-one old.list now.list l listed;
-        single = λ s. rw listed (more l s a.absent);
-        paid = omega (arith, p.upper, a.visits, p.within, pushed, same, sums);
-      };
+      costs = putting-costs now a refl refl (omega (arith, p.within)) p;
       values = ap length p.values ∙ a.values;
       opens = p.sizes ∙ sym sizes;
       candidates = ap length (p.candidates ∙ a.candidates);
       next = p.next ∙ a.next;
       absent = λ s gone. rw a.work at (p.absent s gone);
       longer = omega (arith, p.longer, works);
-      work = omega (arith, p.grown, works, p.within, pushed, same);
+      work = omega (arith, p.grown, works, p.within, spent-push d l old start a, ap (spent d.lists) p.list);
       rising = omega (arith, p.rising, a.visits);
-    }
-
--- an allocation failed at an entry
-pub putting-costs : {d : Database} {l : NumberedLiteral} {old start now : Progress} {j : ℕ} (new : Progress) → Assigns l old start → j < length (entries_against d l) → new.list ≡ now.list → new.candidates ≡ now.candidates → new.visits ≤ now.visits + 1 → IsPutting d (entries_against d l) start now j → Costs d 0 0 old new
-putting-costs {d} {l} {old} {start} {now} {j} new a room lists candidates visits p =
-    let pushed = spent-push d l old start a in
-    let listed : new.list ≡ old.list ++ (l ∷ []) = lists ∙ p.list ∙ a.list in
-    let same = ap (spent d.lists) (lists ∙ p.list) in
-    let sums = ap sum (candidates ∙ p.candidates ∙ a.candidates) in
-    record {
-      extends = extends-one old.list new.list l listed;
-      single = λ s. rw listed (more l s a.absent);
-      paid = omega (arith, visits, p.upper, a.visits, room, pushed, same, sums);
     }
 
 -- a form whose open sum is too small is falsified, also while entries are still to be subtracted

@@ -1,27 +1,15 @@
 -- Lists of literals with their reasons.
-use Rattle.pb_propagate.proofs.Common.{ℕ, ◌<◌, ◌∙◌, ◌∷◌, ◌≡◌, [], ap, arith, false, inl, inr, length, List, set, subst, suc, sym, true, zero}
+use Rattle.pb_propagate.proofs.Common.{ℕ, ◌<◌, ◌∙◌, ◌∷◌, ◌≡◌, [], ap, arith, false, inl, inr, length, List, set, subst, sym, true}
 use Rattle.pb_propagate.proofs.Common.{Contains, slice_get, Some, both_ways, get_or_from_slice_get, slice_get_within, NumberedLiteral, negation, Run}
 use Rattle.pb_propagate.proofs.Common.{begin, by_reason, Derives, from_given, has, HaveReasons, IsDue, IsWithin, KeepsReasons, put, Puts, Shape}
 use Rattle.pb_propagate.proofs.Common.{list_of, reasons_of, RunReasons, RunRecords}
+use Rattle.pb_propagate.proofs.lemmas.engine.Derivations.{only-itself, puts-other}
 use Rattle.pb_propagate.proofs.lemmas.engine.Literals.{has-none, has-push_old, has-push_new, has-push_cases}
 use Rattle.pb_propagate.proofs.lemmas.engine.Values.{has-neither}
 use Rattle.pb_propagate.proofs.lemmas.store.Gets.{get-set_same, get-set_other}
 
--- some element is the only one of a list
-only-itself : (x y : Shape) → Contains (x ∷ []) y → x ≡ y
-only-itself x y (zero, inside, is) = is
-only-itself x y (suc k, inside, is) = absurd (omega (arith, inside))
-
 puts-among : (forms : List Shape) (s : ℕ) (x : Shape) (list : List NumberedLiteral) (l : NumberedLiteral) → slice_get forms s ≡ Some x → Puts (x ∷ []) list l → Puts forms list l
-puts-among forms s x list l at m = record {
-  absent = m.absent;
-  not_falsified = m.not_falsified;
-  form = m.form;
-  among = subst (Contains forms) (only-itself x m.form m.among) (s, slice_get_within forms s x at, get_or_from_slice_get forms s x x at);
-  coefficient = m.coefficient;
-  term = m.term;
-  forced = m.forced;
-}
+puts-among forms s x list l at m = puts-other (x ∷ []) forms list l m (subst (Contains forms) (only-itself x m.form m.among) (s, slice_get_within forms s x at, get_or_from_slice_get forms s x x at))
 
 -- a constraint that puts a literal has a term of it
 pub puts-term : (x : Shape) (list : List NumberedLiteral) (l : NumberedLiteral) (m : Puts (x ∷ []) list l) → Contains x.terms (record { literal = l; coefficient = m.coefficient })

@@ -2,7 +2,7 @@
 use Rattle.pb_propagate.proofs.Common.{ℕ, ◌++◌, ◌-◌, ◌<◌, ◌∙◌, ◌∷◌, ◌≡◌, ◌⊎◌, [], ap, arith, false, get_or, inl, inr, length, length-append, List}
 use Rattle.pb_propagate.proofs.Common.{map, None, refl, set, subst, suc, sym, take, true, zero, All, Contains, Option, slice_get, Some}
 use Rattle.pb_propagate.proofs.Common.{take-append_seam, get_or-map, length-map, map-append, Contains-append_left, Contains-push_cases, same_Some}
-use Rattle.pb_propagate.proofs.Common.{Entry, Form, opposite, StoredForm, AreJoined, HasEntered, shapes_of, stored_shape, IsStoredAs, Shape, Live}
+use Rattle.pb_propagate.proofs.Common.{Entry, Form, opposite, StoredForm, AreJoined, shapes_of, stored_shape, IsStoredAs, Shape, Live}
 use Rattle.pb_propagate.proofs.Common.{AreSlots, IsSlot, With}
 use Rattle.pb_propagate.proofs.lemmas.engine.Bridge.{AreKept}
 use Rattle.pb_propagate.proofs.lemmas.store.Gets.{last-is}
@@ -26,8 +26,8 @@ slots-more [] (y ∷ ys) p x a k = absurd (let e : true ≡ false = a in cc)
 slots-more (o ∷ os) [] p x a k = absurd (let e : true ≡ false = a in cc)
 slots-more (o ∷ os) (y ∷ ys) p x a k = (a.0, slots-more os ys p x a.1 k)
 
-pub joined-entered : (f : Form) (keep keep' : List StoredForm) (clauses : List (List ℕ)) (opens opens' cands cands' : List ℕ) → HasEntered f keep keep' opens opens' cands cands' → AreJoined (shapes_of keep) clauses → AreJoined (shapes_of keep') clauses
-joined-entered f keep keep' clauses opens opens' cands cands' h j = rw (h.keeps, map-append stored_shape keep (h.kept ∷ [])) (AreJoined-push (shapes_of keep) clauses (stored_shape h.kept) j)
+pub joined-entered : (keep keep' : List StoredForm) (k : StoredForm) (clauses : List (List ℕ)) → keep' ≡ keep ++ (k ∷ []) → AreJoined (shapes_of keep) clauses → AreJoined (shapes_of keep') clauses
+joined-entered keep keep' k clauses keeps j = rw (keeps, map-append stored_shape keep (k ∷ [])) (AreJoined-push (shapes_of keep) clauses (stored_shape k) j)
 
 pub slots-length : (os : List (Option Form)) (xs : List Shape) → AreSlots os xs → length xs ≡ length os
 slots-length [] [] a = refl

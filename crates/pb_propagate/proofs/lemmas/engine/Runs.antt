@@ -1,10 +1,12 @@
 use Rattle.pb_propagate.proofs.Common.{ℕ, ◌++◌, ◌+◌, ◌-◌, ◌<◌, ◌∙◌, ◌∷◌, ◌≡◌, ◌≤◌, ◌⊎◌, [], ap, arith, eq-eqb, false, get_or, get_or-set_other}
 use Rattle.pb_propagate.proofs.Common.{get_or-set_same, inl, inr, length, length-append, List, refl, set, suc, sym, true, zero, ◌==◌, All, sum_by}
 use Rattle.pb_propagate.proofs.Common.{both_ways, cases_Bool, cases_eq, cases_lt, ne_eqb, or_cases, or_left, or_right, get_or_append_left}
-use Rattle.pb_propagate.proofs.Common.{get_or_default, get_or_push, All-push, sum_by-cons, NumberedLiteral, negation, Term, AreFalling, Aside, Grown}
-use Rattle.pb_propagate.proofs.Common.{IsAbsent, IsCalm, IsCounted, IsDone, IsTidy, pushed, rest_open, spared, weight_in, weight_on, has, IsSettled}
+use Rattle.pb_propagate.proofs.Common.{get_or_default, get_or_push, All-push, sum_by-cons, NumberedLiteral, negation, Term, AreFalling, beside, Database, Grown, IsTidy, Rests, size}
+use Rattle.pb_propagate.proofs.Common.{IsAbsent, IsCalm, IsCounted, IsDone, IsTidyAt, Lowers, passed_to, Progress, pushed, spared, taken_to, weight_in, weight_on, has, IsSettled}
 use Rattle.pb_propagate.proofs.Common.{open_part, open_sum, same, Shape, Weighted}
+use Rattle.pb_propagate.specs.declared.store.Visited.{Visited}
 use Rattle.pb_propagate.specs.engine.Engine.Counts.{entry_weight, term_weight, ArePassed}
+use Rattle.pb_propagate.specs.engine.Engine.Links.{coefficient_at}
 use Rattle.pb_propagate.proofs.lemmas.engine.Derivations.{settled-of_terms}
 use Rattle.pb_propagate.proofs.lemmas.engine.Literals.{negation-negation, has-push, has-push_old, has-push_new, same-true, same-refl, open_part-falsified, open_part-open}
 use Rattle.pb_propagate.proofs.lemmas.store.Gets.{lt_of_apart}
@@ -14,10 +16,7 @@ sum_by-two : {X : Type 0} (f g h : X → ℕ) → ((x : X) → f x ≡ g x + h x
 sum_by-two f g h e [] = refl
 sum_by-two f g h e (x ∷ xs) =
     let more = sum_by-two f g h e xs in
-    rw (sum_by-cons f x xs, sum_by-cons g x xs, sum_by-cons h x xs) (regroup (f x) (g x) (h x) (sum_by f xs) (sum_by g xs) (sum_by h xs) (e x) more)
-  where
-    regroup : (a b c p q r : ℕ) → a ≡ b + c → p ≡ q + r → a + p ≡ (b + q) + (c + r)
-    regroup a b c p q r h k = omega arith
+    rw (sum_by-cons f x xs, sum_by-cons g x xs, sum_by-cons h x xs) (omega (arith, e x, more))
 
 pub term_weight-same : (l : NumberedLiteral) (t : Term) → same t.literal l ≡ true → term_weight l t ≡ t.coefficient
 unfolding term_weight
@@ -88,7 +87,13 @@ pub absent-cons : (x : ℕ) (xs : List ℕ) (s : ℕ) → (x ≡ s → ⊥) → 
 absent-cons x xs s apart gone zero from less at = apart at
 absent-cons x xs s apart gone (suc i) from less at = gone i (omega arith) (omega (arith, less)) at
 
-done-push : (list : List NumberedLiteral) (l k : NumberedLiteral) → IsDone list k → IsDone (list ++ (l ∷ [])) k
+pub absent-from : (work : List ℕ) (i s : ℕ) → (get_or work i 0 ≡ s → ⊥) → IsAbsent work (i + 1) s → IsAbsent work i s
+absent-from work i s other gone j after less at = elim (cases_eq j i) [
+  | inl here ↦ other (sym (ap (λ k. get_or work k 0) here) ∙ at)
+  | inr later ↦ gone j (omega (arith, lt_of_apart i j after later)) less at
+]
+
+pub done-push : (list : List NumberedLiteral) (l k : NumberedLiteral) → IsDone list k → IsDone (list ++ (l ∷ [])) k
 done-push list l k h =
     elim (or_cases (has list k) (has list (negation k)) h) [
       | inl on ↦ or_left (has (list ++ (l ∷ [])) k) (has (list ++ (l ∷ [])) (negation k)) (has-push_old list l k on)
@@ -107,17 +112,6 @@ Counted-put forms opens list next l entries e absent linked r = rw e (record {
       let taken = open_sum-push list l absent (get_or forms s d).terms in
       let link = linked s d inside in
       omega (arith, before, none, taken, link);
-})
-
-pub Tidy-put : (aside : Aside) (forms : List Shape) (opens cands : List ℕ) (list longer : List NumberedLiteral) (work trail : List ℕ) (next busy : ℕ) (l : NumberedLiteral) → longer ≡ list ++ (l ∷ []) → IsTidy aside forms opens cands list work trail next busy → IsTidy aside forms opens cands longer work trail next busy
-Tidy-put aside forms opens cands list longer work trail next busy l e r = rw e (record {
-  calm = r.calm;
-  passed = λ s d inside k f before within. done-push list l (get_or (get_or forms s d).terms k f).literal (r.passed s d inside k f before within);
-  bounded = r.bounded;
-  clean = r.clean;
-  named = r.named;
-  marked = r.marked;
-  traced = r.traced;
 })
 
 -- an entry is subtracted from its form's open sum
@@ -169,80 +163,80 @@ grown-length x old _ (spared p) = (omega arith, omega arith)
 pub grown-before : {needless : Type 0} (x : ℕ) (old new : List ℕ) (s : ℕ) → Grown needless x old new → IsAbsent new 0 s → IsAbsent old 0 s
 grown-before x old new s g gone = grown-absent x old new 0 s g gone
 
-pub Tidy-lower : (aside : Aside) (forms : List Shape) (opens lower cands : List ℕ) (list : List NumberedLiteral) (work more trail longer : List ℕ) (next busy x y : ℕ) → lower ≡ set opens x y → x < length forms → x < length opens → next ≤ length work →
-    Grown ((d : Shape) (c : ℕ) → IsCalm (get_or forms x d) y c) x work more → Grown ((d : Shape) → get_or opens x 0 ≡ rest_open aside.rests x (get_or forms x d) → ⊥) x trail longer →
-    IsTidy aside forms opens cands list work trail next busy → IsTidy aside forms lower cands list more longer next busy
-Tidy-lower aside forms opens lower cands list work more trail longer next busy x y is inside_x room within queued noted r = rw is (record {
-  calm = λ s d inside idle off gone. elim (cases_eq s x) [
+-- an entry is subtracted
+pub Tidy-lower : (d : Database) (aside : List ℕ) (busy : ℕ) (e : Visited) {old new : Progress} → Lowers d e old new → e.form < length d.forms → e.form < length old.opens → old.next ≤ length old.work → IsTidyAt d aside busy old → IsTidyAt d aside busy new
+Tidy-lower d aside busy e {old} {new} l inside_x room within r = rw (l.opens, l.candidates, l.list, l.next) (record {
+  calm = λ s f inside idle off gone. elim (cases_eq s e.form) [
     | inl one ↦
-        let needless = grown-new x work more next s within one queued gone in
-        let now : get_or (set opens x y) s 0 ≡ y = rw one (get_or-set_same opens x y 0 room) in
-        rw (now, one) (needless d (get_or cands x 0))
-    | inr apart ↦ rw (get_or-set_other opens x s y 0 apart) (r.calm s d inside idle off (grown-absent x work more next s queued gone))
+        let needless = grown-new e.form old.work new.work old.next s within one l.work gone in
+        let now : get_or (set old.opens e.form left) s 0 ≡ left = rw one (get_or-set_same old.opens e.form left 0 room) in
+        rw (now, one) (needless f (get_or old.candidates e.form 0))
+    | inr apart ↦ rw (get_or-set_other old.opens e.form s left 0 apart) (r.calm s f inside idle off (grown-absent e.form old.work new.work old.next s l.work gone))
   ];
   passed = r.passed;
   bounded = r.bounded;
-  clean = λ s d inside gone. elim (cases_eq s x) [
+  clean = λ s f inside gone. elim (cases_eq s e.form) [
     | inl one ↦ absurd (changed s one gone)
-    | inr apart ↦ rw (get_or-set_other opens x s y 0 apart) (r.clean s d inside (grown-absent x trail longer 0 s noted gone))
+    | inr apart ↦ rw (get_or-set_other old.opens e.form s left 0 apart) (r.clean s f inside (grown-absent e.form old.trail new.trail 0 s l.trail gone))
   ];
-  named = grown-all (λ s. s < length forms) x work more inside_x queued r.named;
-  marked = grown-all (λ s. s < length forms) x trail longer inside_x noted r.marked;
-  traced = λ s gone. grown-still x work more s (λ one. changed s one gone) queued (r.traced s (grown-absent x trail longer 0 s noted gone));
+  named = grown-all (λ s. s < length d.forms) e.form old.work new.work inside_x l.work r.named;
+  marked = grown-all (λ s. s < length d.forms) e.form old.trail new.trail inside_x l.trail r.marked;
+  traced = λ s gone. grown-still e.form old.work new.work s (λ one. changed s one gone) l.work (r.traced s (grown-absent e.form old.trail new.trail 0 s l.trail gone));
 })
   where
-    changed : (s : ℕ) → s ≡ x → IsAbsent longer 0 s → ⊥
+    left : ℕ
+    left = get_or old.opens e.form 0 - coefficient_at d.forms e.form e.index
+
+    changed : (s : ℕ) → s ≡ e.form → IsAbsent new.trail 0 s → ⊥
     changed s one gone =
-        let d : Shape = record { terms = []; degree = 0 } in
-        let before = grown-absent x trail longer 0 s noted gone in
-        grown-new x trail longer 0 s (omega arith) one noted gone d (r.clean x d inside_x (rw one at before)).0
+        let f : Shape = record { terms = []; degree = 0 } in
+        let before = grown-absent e.form old.trail new.trail 0 s l.trail gone in
+        grown-new e.form old.trail new.trail 0 s (omega arith) one l.trail gone f (r.clean e.form f inside_x (rw one at before)).0
 
 -- the busy form's candidate changes
-pub Tidy-pass : (aside : Aside) (forms : List Shape) (opens cands passed : List ℕ) (list : List NumberedLiteral) (work trail : List ℕ) (next busy c : ℕ) (terms : List Term) (e : Term) → passed ≡ set cands busy (c + 1) → c ≡ get_or cands busy 0 → busy < length cands → ((d : Shape) → busy < length forms → (get_or forms busy d).terms ≡ terms) → c < length terms → IsDone list (get_or terms c e).literal → (IsAbsent work 0 busy → ⊥) → IsTidy aside forms opens cands list work trail next busy → IsTidy aside forms opens passed list work trail next busy
-Tidy-pass aside forms opens cands passed list work trail next busy c terms e is at room same here done there r = rw is (record {
-  calm = λ s d inside idle off gone. rw (get_or-set_other cands busy s (c + 1) 0 idle) (r.calm s d inside idle off gone);
-  passed = λ s d inside k f before within. elim (cases_eq s busy) [
+pub Tidy-pass : (d : Database) (aside : List ℕ) (busy : ℕ) (now : Progress) (f : Shape) (c : ℕ) (e : Term) → c ≡ get_or now.candidates busy 0 → busy < length now.candidates → ((x : Shape) → get_or d.forms busy x ≡ f) → c < length f.terms → IsDone now.list (get_or f.terms c e).literal → (IsAbsent now.work 0 busy → ⊥) → IsTidyAt d aside busy now → IsTidyAt d aside busy (passed_to (set now.candidates busy (c + 1)) now)
+Tidy-pass d aside busy now f c e at room is here done there r = record {
+  calm = λ s x inside idle off gone. rw (get_or-set_other now.candidates busy s (c + 1) 0 idle) (r.calm s x inside idle off gone);
+  passed = λ s x inside k t before within. elim (cases_eq s busy) [
     | inr other ↦
-        let kept = r.passed s d inside in
-        kept k f (rw (get_or-set_other cands busy s (c + 1) 0 other) at before) within
+        let kept = r.passed s x inside in
+        kept k t (rw (get_or-set_other now.candidates busy s (c + 1) 0 other) at before) within
     | inl one ↦
-        let old = r.passed s d inside in
-        let now : get_or (set cands busy (c + 1)) s 0 ≡ c + 1 = rw one (get_or-set_same cands busy (c + 1) 0 room) in
-        let was : get_or cands s 0 ≡ c = rw one (sym at) in
+        let old = r.passed s x inside in
+        let was : get_or now.candidates s 0 ≡ c = rw one (sym at) in
         elim (cases_lt k c) [
-          | inl less ↦ old k f (rw was less) within
+          | inl less ↦ old k t (rw was less) within
           | inr more ↦
-              let last : k ≡ c = last_one k c more (omega (arith, now, before)) in
-              let those : (get_or forms s d).terms ≡ terms = rw one (same d (rw one at inside)) in
-              let value : get_or (get_or forms s d).terms k f ≡ get_or terms c e = rw (those, last) (get_or_default terms c f e here) in
+              let last : k ≡ c = last_one k c more (omega (arith, raised s one, before)) in
+              let value : get_or (get_or d.forms s x).terms k t ≡ get_or f.terms c e = rw (those s x one, last) (get_or_default f.terms c t e here) in
               rw value done
         ]
   ];
-  bounded = λ s d inside. elim (cases_eq s busy) [
-    | inr other ↦ rw (get_or-set_other cands busy s (c + 1) 0 other) (r.bounded s d inside)
-    | inl one ↦
-        let now : get_or (set cands busy (c + 1)) s 0 ≡ c + 1 = rw one (get_or-set_same cands busy (c + 1) 0 room) in
-        let those : (get_or forms s d).terms ≡ terms = rw one (same d (rw one at inside)) in
-        omega (arith, now, ap length those, here)
+  bounded = λ s x inside. elim (cases_eq s busy) [
+    | inr other ↦ rw (get_or-set_other now.candidates busy s (c + 1) 0 other) (r.bounded s x inside)
+    | inl one ↦ omega (arith, raised s one, ap length (those s x one), here)
   ];
-  clean = λ s d inside gone.
+  clean = λ s x inside gone.
       let apart : s ≡ busy → ⊥ = λ e. there (rw e at (r.traced s gone)) in
-      rw (get_or-set_other cands busy s (c + 1) 0 apart) (r.clean s d inside gone);
+      rw (get_or-set_other now.candidates busy s (c + 1) 0 apart) (r.clean s x inside gone);
   named = r.named;
   marked = r.marked;
   traced = r.traced;
-})
+}
   where
     last_one : (a b : ℕ) → b ≤ a → a < b + 1 → a ≡ b
     last_one a b h k = grind arith
 
+    raised : (s : ℕ) → s ≡ busy → get_or (set now.candidates busy (c + 1)) s 0 ≡ c + 1
+    raised s one = rw one (get_or-set_same now.candidates busy (c + 1) 0 room)
+
+    those : (s : ℕ) (x : Shape) → s ≡ busy → (get_or d.forms s x).terms ≡ f.terms
+    those s x one = rw one (ap (λ (y : Shape). y.terms) (is x))
+
 -- the next form of the work list is visited
-pub Tidy-next : (aside : Aside) (forms : List Shape) (opens cands : List ℕ) (list : List NumberedLiteral) (work trail : List ℕ) (next : ℕ) → IsTidy aside forms opens cands list work trail next (length forms) → IsTidy aside forms opens cands list work trail (next + 1) (get_or work next 0)
-Tidy-next aside forms opens cands list work trail next r = record {
-  calm = λ s d inside idle off gone. r.calm s d inside (λ e. absurd (omega (arith, e, inside))) off (λ i from less at. elim (cases_eq i next) [
-    | inl here ↦ idle (sym at ∙ ap (λ j. get_or work j 0) here)
-    | inr later ↦ gone i (omega (arith, lt_of_apart next i from later)) less at
-  ]);
+pub Tidy-next : (d : Database) (aside : List ℕ) (now : Progress) → IsTidyAt d aside (length d.forms) now → IsTidyAt d aside (get_or now.work now.next 0) (taken_to (now.next + 1) now)
+Tidy-next d aside now r = record {
+  calm = λ s x inside idle off gone. r.calm s x inside (λ e. absurd (omega (arith, e, inside))) off (absent-from now.work now.next s (λ e. idle (sym e)) gone);
   passed = r.passed;
   bounded = r.bounded;
   clean = r.clean;
@@ -251,11 +245,11 @@ Tidy-next aside forms opens cands list work trail next r = record {
   traced = r.traced;
 }
 
-pub Tidy-settle : (aside : Aside) (forms : List Shape) (opens cands : List ℕ) (list : List NumberedLiteral) (work trail : List ℕ) (next busy : ℕ) (e : Shape) → IsCalm (get_or forms busy e) (get_or opens busy 0) (get_or cands busy 0) → IsTidy aside forms opens cands list work trail next busy → IsTidy aside forms opens cands list work trail next (length forms)
-Tidy-settle aside forms opens cands list work trail next busy e calm r = record {
-  calm = λ s d inside idle off gone. elim (cases_eq s busy) [
-    | inl one ↦ rw (one, get_or_default forms busy d e (rw one at inside)) calm
-    | inr other ↦ r.calm s d inside other off gone
+pub Tidy-settle : (d : Database) (aside : List ℕ) (busy : ℕ) (now : Progress) (e : Shape) → IsCalm (get_or d.forms busy e) (get_or now.opens busy 0) (get_or now.candidates busy 0) → IsTidyAt d aside busy now → IsTidyAt d aside (length d.forms) now
+Tidy-settle d aside busy now e calm r = record {
+  calm = λ s x inside idle off gone. elim (cases_eq s busy) [
+    | inl one ↦ rw (one, get_or_default d.forms busy x e (rw one at inside)) calm
+    | inr other ↦ r.calm s x inside other off gone
   ];
   passed = r.passed;
   bounded = r.bounded;
@@ -263,6 +257,20 @@ Tidy-settle aside forms opens cands list work trail next busy e calm r = record 
   named = r.named;
   marked = r.marked;
   traced = r.traced;
+}
+
+-- no form is on the work list or the trail, and each is as it is at rest
+pub Tidy-rest : {rests : Rests} {aside : List ℕ} {forms : List Shape} {opens cands : List ℕ} {list : List NumberedLiteral} {busy : ℕ} → opens ≡ rests.opens.items → cands ≡ rests.starts.items → length forms ≡ length opens →
+    ((s : ℕ) (d : Shape) → s < length forms → (s ≡ busy → ⊥) → IsAbsent aside 0 s → IsAbsent [] 0 s → IsCalm (get_or forms s d) (get_or opens s 0) (get_or cands s 0)) →
+    ((s : ℕ) (d : Shape) → s < length forms → ArePassed (get_or forms s d).terms (get_or cands s 0) list) → ((s : ℕ) (d : Shape) → s < length forms → get_or cands s 0 ≤ length (get_or forms s d).terms) → IsTidy (beside rests aside) forms opens cands list [] [] 0 busy
+Tidy-rest {rests} {aside} {forms} {opens} {cands} {list} {busy} opened started long calm passed bounded = record {
+  calm = calm;
+  passed = passed;
+  bounded = bounded;
+  clean = λ s d less gone. (get_or_default opens s 0 (size (get_or forms s d).terms) (omega (arith, less, long)) ∙ ap (λ xs. get_or xs s (size (get_or forms s d).terms)) opened, ap (λ xs. get_or xs s 0) started);
+  named = λ i d less. absurd (omega (arith, less));
+  marked = λ i d less. absurd (omega (arith, less));
+  traced = λ s gone. gone;
 }
 
 -- a calm form is settled, since its coefficients fall

@@ -1,6 +1,6 @@
 use Rattle.pb_propagate.proofs.Common.{ℕ, ◌*◌, ◌+◌, ◌<◌, ◌∙◌, ◌∷◌, ◌≡◌, ◌≤◌, [], ap, arith, Bool, false, get_or, get_or-set_other, if◌then◌else◌, inl}
-use Rattle.pb_propagate.proofs.Common.{inr, length, List, map, refl, set, suc, sym, true, zero, sum, sum_by, both_ways, cases_lt, or_left, or_right}
-use Rattle.pb_propagate.proofs.Common.{get_or_past, set_past, sum-map, sum_by-cons, sum_by-set, sum_by_push, NumberedLiteral, negation, AreSingle}
+use Rattle.pb_propagate.proofs.Common.{inr, length, List, refl, set, suc, sym, true, sum, sum_by, both_ways, cases_lt, or_left, or_right}
+use Rattle.pb_propagate.proofs.Common.{get_or_past, set_past, sum_by-cons, sum_by-set, sum_by_push, NumberedLiteral, negation, AreSingle}
 use Rattle.pb_propagate.proofs.Common.{more, none, place, spent, begin, Derives, put, same, Shape, Weighted}
 use Rattle.pb_propagate.specs.engine.Engine.Lists.{has}
 use Rattle.pb_propagate.proofs.lemmas.engine.Literals.{literal_ext, negation-negation, same-refl}
@@ -13,7 +13,7 @@ has-tail : (x : NumberedLiteral) (xs : List NumberedLiteral) (k : NumberedLitera
 unfolding has
 has-tail x xs k h = or_right (same x k) (has xs k) h
 
-sum_by-agree : (f g : NumberedLiteral → ℕ) (list : List NumberedLiteral) → ((k : NumberedLiteral) → has list k ≡ true → f k ≡ g k) → sum_by f list ≡ sum_by g list
+pub sum_by-agree : (f g : NumberedLiteral → ℕ) (list : List NumberedLiteral) → ((k : NumberedLiteral) → has list k ≡ true → f k ≡ g k) → sum_by f list ≡ sum_by g list
 sum_by-agree f g [] e = refl
 sum_by-agree f g (x ∷ xs) e =
     let rest = sum_by-agree f g xs (λ k h. e k (has-tail x xs k h)) in
@@ -36,48 +36,31 @@ place-injective k l e =
     let parts = place-parts k.negated l.negated k.variable l.variable e in
     literal_ext k l parts.0 parts.1
 
-sum-clear : (xs : List ℕ) (p : ℕ) → sum (set xs p 0) + get_or xs p 0 ≡ sum xs
-sum-clear xs p =
-    elim (cases_lt p (length xs)) [
+-- a list of entries is emptied
+pub lists-clear : (lists : List (List Weighted)) (p : ℕ) → sum_by length (set lists p []) + length (get_or lists p []) ≡ sum_by length lists
+lists-clear lists p =
+    let empty : List Weighted = [] in
+    elim (cases_lt p (length lists)) [
       | inl inside ↦
-          let e : sum (set xs p 0) + get_or xs p 0 ≡ sum xs + 0 = sum_by-set (λ x. x) xs p 0 0 inside in
-          omega (arith, e)
+          let change = sum_by-set (λ (xs : List Weighted). length xs) lists p empty empty inside in
+          omega (arith, change)
       | inr past ↦
-          let zero_there = get_or_past xs p 0 past in
-          let same_list : set xs p 0 ≡ xs = set_past xs p 0 past in
-          omega (arith, zero_there, ap sum same_list)
+          let same_list : set lists p empty ≡ lists = set_past lists p empty past in
+          omega (arith, ap length (get_or_past lists p empty past), ap (sum_by length) same_list)
     ]
 
 -- the lists of different literals are counted once
-single-sum : (list : List NumberedLiteral) → AreSingle list → (xs : List ℕ) → sum_by (λ l. get_or xs (place (negation l)) 0) list ≤ sum xs
-single-sum _ none xs = omega arith
-single-sum _ (more {list} l d absent) xs =
-    let p = place (negation l) in
-    let earlier = single-sum list d (set xs p 0) in
-    let agree : sum_by (λ k. get_or xs (place (negation k)) 0) list ≡ sum_by (λ k. get_or (set xs p 0) (place (negation k)) 0) list =
-    sum_by-agree (λ k. get_or xs (place (negation k)) 0) (λ k. get_or (set xs p 0) (place (negation k)) 0) list (λ k h.
-    sym (get_or-set_other xs p (place (negation k)) 0 0 (λ e.
-    let one : k ≡ l = sym (negation-negation k) ∙ ap negation (place-injective (negation k) (negation l) e) ∙ negation-negation l in
-    both_ways _ absent (rw one at h)))) in
-    let pushed = sum_by_push (λ k. get_or xs (place (negation k)) 0) list l in
-    let cleared = sum-clear xs p in
-    omega (arith, earlier, agree, pushed, cleared)
-
 pub spent-le : (lists : List (List Weighted)) (list : List NumberedLiteral) → AreSingle list → spent lists list ≤ sum_by length lists
-spent-le lists list single =
-    let bound = single-sum list single (map length lists) in
-    let agree : spent lists list ≡ sum_by (λ l. get_or (map length lists) (place (negation l)) 0) list =
-    sum_by-agree (λ l. length (get_or lists (place (negation l)) [])) (λ l. get_or (map length lists) (place (negation l)) 0) list (λ k h. sym (length-at (place (negation k)))) in
-    let total = sum-map length lists in
-    omega (arith, bound, agree, total)
-  where
-    length-at : (p : ℕ) → get_or (map length lists) p 0 ≡ length (get_or lists p [])
-    length-at p = mapped lists p
-      where
-        mapped : (ys : List (List Weighted)) (q : ℕ) → get_or (map length ys) q 0 ≡ length (get_or ys q [])
-        mapped [] q = refl
-        mapped (y ∷ ys) zero = refl
-        mapped (y ∷ ys) (suc q) = mapped ys q
+spent-le lists _ none = omega arith
+spent-le lists _ (more {list} l d absent) =
+    let p = place (negation l) in
+    let earlier = spent-le (set lists p []) list d in
+    let apart : (k : NumberedLiteral) → has list k ≡ true → place (negation k) ≡ p → ⊥ = λ k h e.
+    let one : k ≡ l = sym (negation-negation k) ∙ ap negation (place-injective (negation k) (negation l) e) ∙ negation-negation l in
+    both_ways _ absent (rw one at h) in
+    let agree : spent lists list ≡ spent (set lists p []) list = sum_by-agree (λ k. length (get_or lists (place (negation k)) [])) (λ k. length (get_or (set lists p []) (place (negation k)) [])) list (λ k h. ap length (sym (get_or-set_other lists p (place (negation k)) [] [] (apart k h)))) in
+    let pushed = sum_by_push (λ k. length (get_or lists (place (negation k)) [])) list l in
+    omega (arith, earlier, agree, pushed, lists-clear lists p)
 
 pub derivation-single : (forms : List Shape) (a b : List NumberedLiteral) → AreSingle a → Derives forms a b → AreSingle b
 derivation-single forms a _ s begin = s

@@ -4,16 +4,15 @@ use Rattle.pb_propagate.proofs.Common.{ℕ, ◌+◌, ◌<◌, ◌∙◌, ◌≡�
 use Rattle.pb_propagate.proofs.Common.{sym, cases_eq, get_or_read, length-map, Rests, StoredForm, IsAbsent, IsUndone, rest_open, rest_start}
 use Rattle.pb_propagate.proofs.Common.{shapes_of, stored_shape, Shape, size}
 use Rattle.pb_propagate.proofs.lemmas.engine.VisitSteps.{shape-at}
-use Rattle.pb_propagate.proofs.lemmas.store.Gets.{lt_of_apart}
+use Rattle.pb_propagate.proofs.lemmas.engine.Runs.{absent-from}
 
-pub undo-form : (rests : Rests) (keep : List StoredForm) (opens cands work : List ℕ) (i form : ℕ) → i < length work → form ≡ get_or work i form → IsUndone rests (shapes_of keep) opens cands work i → form < length keep
-undo-form rests keep opens cands work i form inside is u =
-    let named = u.named i form inside in
-    omega (arith, named, is, length-map keep stored_shape)
-
-pub undo-next : (rests : Rests) (keep : List StoredForm) (opens cands opens' cands' work : List ℕ) (i form opened back : ℕ) (k : StoredForm) → i < length work → form ≡ get_or work i form → form < length keep → k ≡ get_or keep form k → opened ≡ get_or rests.opens.items form (stored_total k) → back ≡ get_or rests.starts.items form 0 → length opens ≡ length keep → length cands ≡ length keep → opens' ≡ set opens form opened → cands' ≡ set cands form back → IsUndone rests (shapes_of keep) opens cands work i → IsUndone rests (shapes_of keep) opens' cands' work (i + 1)
-undo-next rests keep opens cands opens' cands' work i form opened back k inside is named at whole first o c lower again u = rw (lower, again) (record { clean = λ s d in_forms gone. clean_at s d in_forms gone (cases_eq s form); named = u.named })
+-- one form more is as it was
+pub undo-next : (rests : Rests) (keep : List StoredForm) (opens cands work : List ℕ) (i form opened back : ℕ) (k : StoredForm) → i < length work → form ≡ get_or work i form → k ≡ get_or keep form k → opened ≡ get_or rests.opens.items form (stored_total k) → back ≡ get_or rests.starts.items form 0 → length opens ≡ length keep → length cands ≡ length keep → IsUndone rests (shapes_of keep) opens cands work i → IsUndone rests (shapes_of keep) (set opens form opened) (set cands form back) work (i + 1)
+undo-next rests keep opens cands work i form opened back k inside is at whole first o c u = record { clean = λ s d in_forms gone. clean_at s d in_forms gone (cases_eq s form); named = u.named }
   where
+    named : form < length keep
+    named = let less = u.named i form inside in omega (arith, less, is, length-map keep stored_shape)
+
     clean_at : (s : ℕ) (d : Shape) → s < length (shapes_of keep) → IsAbsent work (i + 1) s → (s ≡ form) ⊎ (s ≡ form → ⊥) → (get_or (set opens form opened) s 0 ≡ rest_open rests s (get_or (shapes_of keep) s d)) × (get_or (set cands form back) s 0 ≡ rest_start rests s)
     clean_at s d in_forms gone (inl one) =
         let room : form < length opens = omega (arith, named, o) in
@@ -25,9 +24,6 @@ undo-next rests keep opens cands opens' cands' work i form opened back k inside 
         let here : get_or rests.opens.items form (stored_total k) ≡ rest_open rests s (get_or (shapes_of keep) s d) = rw one (ap (get_or rests.opens.items form) (rw one at sum)) in
         (is_open ∙ whole ∙ here, is_start ∙ first ∙ ap (λ x. get_or rests.starts.items x 0) (sym one))
     clean_at s d in_forms gone (inr other) =
-        let before : IsAbsent work i s = λ j after less place. elim (cases_eq j i) [
-          | inl here ↦ other (sym place ∙ ap (λ x. get_or work x 0) here ∙ sym (get_or_read work i form inside is 0))
-          | inr later ↦ gone j (omega (arith, lt_of_apart i j after later)) less place
-        ] in
+        let before = absent-from work i s (λ e. other (sym e ∙ sym (get_or_read work i form inside is 0))) gone in
         let kept_clean = u.clean s d in_forms before in
         (get_or-set_other opens form s opened 0 other ∙ kept_clean.0, get_or-set_other cands form s back 0 other ∙ kept_clean.1)

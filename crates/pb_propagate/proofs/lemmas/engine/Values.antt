@@ -1,10 +1,11 @@
-use Rattle.pb_propagate.proofs.Common.{ℕ, ◌++◌, ◌+◌, ◌-◌, ◌<◌, ◌||◌, ◌∙◌, ◌∷◌, ◌≡◌, ◌≤◌, ◌⊎◌, [], ap, arith, Bool, cond, drop, eq-eqb, false, get_or}
+use Rattle.pb_propagate.proofs.Common.{ℕ, ◌++◌, ◌+◌, ◌<◌, ◌||◌, ◌∙◌, ◌∷◌, ◌≡◌, ◌≤◌, ◌⊎◌, [], ap, arith, Bool, cond, drop, eq-eqb, false, get_or}
 use Rattle.pb_propagate.proofs.Common.{get_or-set_other, get_or-set_same, inl, inr, length, length-append, List, None, not, refl, set, suc, sym, true}
-use Rattle.pb_propagate.proofs.Common.{zero, ◌==◌, Option, Some, sum_by, not-not, or-false, both_ways, cases_eq, cases_lt, ne_eqb, drop_all}
-use Rattle.pb_propagate.proofs.Common.{drop_more, get_or-append_right, get_or_append_left, get_or_past, set_past, sum_by-cons, sum_by-set}
+use Rattle.pb_propagate.proofs.Common.{◌==◌, Option, Some, sum_by, not-not, or-false, both_ways, cases_eq, cases_lt, ne_eqb, drop_all}
+use Rattle.pb_propagate.proofs.Common.{drop_more, get_or_past, set_past, sum_by-cons, sum_by-set}
 use Rattle.pb_propagate.proofs.Common.{sum_by_push, beq, list_any, NumberedLiteral, negation, holds, vacancy}
 use Rattle.pb_propagate.specs.engine.Engine.Lists.{same, has, says}
 use Rattle.pb_propagate.proofs.lemmas.engine.Literals.{has-none, has-push, has-get, beq-refl, literal_ext}
+use Rattle.pb_propagate.proofs.lemmas.engine.Sources.{get_or-push_default}
 
 -- the values are those that the list gives
 abbrev pub Agree : List (Option Bool) → List NumberedLiteral → Type 0
@@ -86,7 +87,7 @@ has-neither list l k absent open' e =
       | inr o ↦ ap (has list) (literal_ext k (negation l) e o) ∙ open'
     ]
 
-says-apart : (xs : List (Option Bool)) (v : ℕ) (o : Option Bool) (q : NumberedLiteral) → (q.variable ≡ v → ⊥) → says (set xs v o) q ≡ says xs q
+pub says-apart : (xs : List (Option Bool)) (v : ℕ) (o : Option Bool) (q : NumberedLiteral) → (q.variable ≡ v → ⊥) → says (set xs v o) q ≡ says xs q
 unfolding says
 says-apart xs v o q apart = ap (λ x. holds x q.negated) (get_or-set_other xs v q.variable o None apart)
 
@@ -123,21 +124,10 @@ says-inside values l h =
       | inr past ↦ absurd (both_ways _ (says-none values l (get_or_past values l.variable None past)) h)
     ]
 
-one_none : (j : ℕ) → (let o : List (Option Bool) = None ∷ [] in get_or o j None ≡ None)
-one_none zero = refl
-one_none (suc j) = refl
-
-value-widen : (values : List (Option Bool)) (k : ℕ) → get_or (values ++ (None ∷ [])) k None ≡ get_or values k None
-value-widen values k =
-    elim (cases_lt k (length values)) [
-      | inl less ↦ get_or_append_left values (None ∷ []) None k less
-      | inr more ↦ get_or-append_right values (None ∷ []) (length values) k None refl more ∙ one_none (k - length values) ∙ sym (get_or_past values k None more)
-    ]
-
 -- one more variable
 pub Agree-widen : (values : List (Option Bool)) (list : List NumberedLiteral) → Agree values list → Agree (values ++ (None ∷ [])) list
 unfolding says
-Agree-widen values list a l = a l ∙ ap (λ o. holds o l.negated) (sym (value-widen values l.variable))
+Agree-widen values list a l = a l ∙ ap (λ o. holds o l.negated) (sym (get_or-push_default values None l.variable))
 
 -- some values were removed
 abbrev pub Forgotten : List (Option Bool) → List NumberedLiteral → Type 0

@@ -3,7 +3,7 @@ use Rattle.pb_propagate.proofs.lemmas.store.Stored.{stored-sum, stored-idle}
 use Rattle.pb_propagate.proofs.Common.{ℕ, ◌+◌, ◌-◌, ◌<◌, ◌^◌, ◌∙◌, ◌∷◌, ◌≡◌, ◌≤◌, [], ap, arith, false, get_or, length, length-append, length-set}
 use Rattle.pb_propagate.proofs.Common.{List, min, refl, set, subst, sym, All, Contains, slice_get, Some, sum, get_or-map, get_or_default, get_or_read}
 use Rattle.pb_propagate.proofs.Common.{length-map, Contains-get_or, sum_by-set, slice_get-get_or, NumberedLiteral, negation, Rests, Store, StoredForm}
-use Rattle.pb_propagate.proofs.Common.{Term, added, Adopted, beside, Grown, IsAbsent, IsCalm, IsCounted, IsDone, kept, pushed, rest_open, spared}
+use Rattle.pb_propagate.proofs.Common.{Term, added, Adopted, Grown, IsAbsent, IsCalm, IsCounted, IsDone, kept, pushed, rest_open, spared}
 use Rattle.pb_propagate.proofs.Common.{weight_in, shapes_of, stored_shape, coefficient_at, AreInside, broken, by_reason, Conflicts, has, HaveReasons}
 use Rattle.pb_propagate.proofs.Common.{KeepsReasons, open_sum, Shape, size, Advances, Database, database, IsOpen, IsTidyAt, passed_to, Progress}
 use Rattle.pb_propagate.proofs.Common.{StaysTidy, visited_to, VisitsEach}
@@ -76,33 +76,30 @@ visiting-reasons {d} {form} {now} {f} {t} {c} given _ reasons reasons' forced co
     })
 
 -- a forced literal was tried, and its term is passed
-pub visiting-next : {d : Database} {aside : List ℕ} {form : ℕ} {start now : Progress} {f : Shape} {t : Term} {c : ℕ} (seen : ℕ) (mid : Progress) (passed : List ℕ) → IsVisiting d aside form start now → IsForced d form now f t c → IsOpen d now → seen ≡ min (now.visits + 1) (2 ^ 64 - 1) → now.visits ≤ seen → Adopted t.literal now.list mid.list → Advances d 0 0 (visited_to seen now) mid → StaysTidy d (visited_to seen now) mid → mid.candidates ≡ now.candidates → passed ≡ set mid.candidates form (c + 1) → IsVisiting d aside form start (passed_to passed mid)
-visiting-next {d} {aside} {form} {start} {now} {f} {t} {c} seen mid passed p forced counted count rising adopted a tidy same is =
+pub visiting-next : {d : Database} {aside : List ℕ} {form : ℕ} {start now : Progress} {f : Shape} {t : Term} {c : ℕ} (seen : ℕ) (mid : Progress) → IsVisiting d aside form start now → IsForced d form now f t c → IsOpen d now → seen ≡ min (now.visits + 1) (2 ^ 64 - 1) → now.visits ≤ seen → Adopted t.literal now.list mid.list → Advances d 0 0 (visited_to seen now) mid → StaysTidy d (visited_to seen now) mid → mid.candidates ≡ now.candidates → IsVisiting d aside form start (passed_to (set mid.candidates form (c + 1)) mid)
+visiting-next {d} {aside} {form} {start} {now} {f} {t} {c} seen mid p forced counted count rising adopted a tidy same =
     let room : form < length mid.candidates = omega (arith, forced.inside, p.candidates, ap length same) in
     let at : c ≡ get_or mid.candidates form 0 = forced.candidate ∙ ap (λ xs. get_or xs form 0) (sym same) in
     let adopted_f : Adopted (get_or f.terms c t).literal now.list mid.list = rw (← forced.item) adopted in
-    let sizes : length passed ≡ length mid.candidates = ap length is ∙ length-set mid.candidates form (c + 1) in
-    let raised : sum passed ≡ sum mid.candidates + 1 = ap sum (is ∙ ap (λ x. set mid.candidates form (x + 1)) at) ∙ sum-raise mid.candidates form room in
+    let sizes = length-set mid.candidates form (c + 1) in
+    let raised : sum (set mid.candidates form (c + 1)) ≡ sum mid.candidates + 1 = ap (λ x. sum (set mid.candidates form (x + 1))) at ∙ sum-raise mid.candidates form room in
     let visit = advances-visit d now seen 0 1 rising (omega (arith, count)) in
     record {
-      advances = advances-as 0 0 (omega arith) (advances-then p.advances (advances-then visit (advances-then a (advances-pass d mid passed sizes raised))));
-      tidy = Tidy-pass (beside d.rests aside) d.forms mid.opens mid.candidates passed mid.list mid.work mid.trail mid.next form c f.terms t is at room (λ x h. ap (λ (y : Shape). y.terms) (forced.is x)) forced.here (adopted-done (get_or f.terms c t).literal now.list mid.list adopted_f) (λ gone. p.there (a.absent form gone)) (tidy aside form p.tidy);
+      advances = advances-as 0 0 (omega arith) (advances-then p.advances (advances-then visit (advances-then a (advances-pass d mid (set mid.candidates form (c + 1)) sizes raised))));
+      tidy = Tidy-pass d aside form mid f c t at room forced.is forced.here (adopted-done (get_or f.terms c t).literal now.list mid.list adopted_f) (λ gone. p.there (a.absent form gone)) (tidy aside form p.tidy);
       there = λ gone. p.there (a.absent form gone);
-      found = λ few. found_from now.visits seen mid.visits start.visits (length start.list) (length now.list) (length mid.list) count a.rising few p.found (adopted-length t.literal now.list mid.list adopted);
+      found = λ few.
+          let small : now.visits < 2 ^ 64 - 1 = omega (arith, count, a.rising, few) in
+          let before = p.found small in
+          omega (arith, count, a.rising, few, before, adopted-length t.literal now.list mid.list adopted);
       opens = a.opens ∙ p.opens;
       candidates = sizes ∙ ap length same ∙ p.candidates;
     }
-  where
-    found_from : (v s w v0 n0 n1 n2 : ℕ) → s ≡ min (v + 1) (2 ^ 64 - 1) → s ≤ w → w < 2 ^ 64 - 1 → (v < 2 ^ 64 - 1 → n1 + v0 ≤ n0 + v) → n2 ≤ n1 + 1 → n2 + v0 ≤ n0 + w
-    found_from v s w v0 n0 n1 n2 e up few before one =
-        let small : v < 2 ^ 64 - 1 = omega (arith, e, up, few) in
-        let old = before small in
-        omega (arith, e, up, few, old, one)
 
 -- the visit ends at a calm form
 pub visiting-settled : {d : Database} {aside : List ℕ} {form : ℕ} {start now : Progress} (f : Shape) (n : ℕ) → length d.forms ≡ n → ((x : Shape) → get_or d.forms form x ≡ f) → IsCalm f (get_or now.opens form 0) (get_or now.candidates form 0) → IsVisiting d aside form start now → IsTidyAt d aside n now
 visiting-settled {d} {aside} {form} {start} {now} f n e is calm p =
-    rw (← e) (Tidy-settle (beside d.rests aside) d.forms now.opens now.candidates now.list now.work now.trail now.next form f (rw (is f) calm) p.tidy)
+    rw (← e) (Tidy-settle d aside form now f (rw (is f) calm) p.tidy)
 
 pub Visiting-conflict : (forms : List Shape) (opens : List ℕ) (list : List NumberedLiteral) (form : ℕ) (f : Shape) → form < length forms → ((d : Shape) → get_or forms form d ≡ f) → IsCounted forms opens list [] → get_or opens form 0 < f.degree → Conflicts forms list
 Visiting-conflict forms opens list form f inside is c low =

@@ -1,14 +1,9 @@
 -- One more variable.
-use Rattle.pb_propagate.proofs.Common.{ℕ, ◌*◌, ◌++◌, ◌+◌, ◌/◌, ◌<◌, ◌∙◌, ◌∷◌, ◌≡◌, [], ap, arith, get_or, Global, length, length-append, List, map}
-use Rattle.pb_propagate.proofs.Common.{refl, subst, suc, sym, Vec, zero, All, slice_get, map-append, sum_by_push, Occurrence, place, weight_in}
+use Rattle.pb_propagate.proofs.Common.{ℕ, ◌*◌, ◌++◌, ◌+◌, ◌/◌, ◌<◌, ◌∙◌, ◌∷◌, ◌≡◌, [], ap, arith, Global, length, length-append, List, map}
+use Rattle.pb_propagate.proofs.Common.{subst, sym, Vec, All, slice_get, map-append, sum_by_push, Occurrence, place, weight_in}
 use Rattle.pb_propagate.proofs.Common.{entries_of, AreCrossed, entry_at, entry_cross, IsLinked, IsStored, term_at, weighted, Shape, Weighted}
+use Rattle.pb_propagate.proofs.lemmas.engine.Sources.{get_or-push_default}
 use Rattle.pb_propagate.proofs.lemmas.store.Crosses.{Grid}
-
-push-nothing : (lists : List (List Weighted)) (p : ℕ) → get_or (lists ++ ([] ∷ [])) p [] ≡ get_or lists p []
-push-nothing [] zero = refl
-push-nothing [] (suc p) = refl
-push-nothing (x ∷ xs) zero = refl
-push-nothing (x ∷ xs) (suc p) = push-nothing xs p
 
 crossed-entries : (f g g' : Grid) → ((p q : ℕ) → g' p q ≡ g p q) → AreCrossed f g → AreCrossed f g'
 crossed-entries f g g' e old s i p q w =
@@ -16,9 +11,9 @@ crossed-entries f g g' e old s i p q w =
 
 pub stored-push : (forms : List Shape) (spots : List (List ℕ)) (lists : List (List Weighted)) → IsLinked forms spots lists → IsLinked forms spots (lists ++ ([] ∷ []))
 stored-push forms spots lists old = record {
-  linked = λ s d l less. ap (weight_in s) (push-nothing lists (place l)) ∙ old.linked s d l less;
+  linked = λ s d l less. ap (weight_in s) (get_or-push_default lists [] (place l)) ∙ old.linked s d l less;
   totals = omega (arith, sum_by_push length lists [], old.totals);
-  crossed = crossed-entries (term_at forms spots) (entry_at lists) (entry_at (lists ++ ([] ∷ []))) (λ p q. ap (λ (xs : List Weighted). entry_cross (slice_get xs q)) (push-nothing lists p)) old.crossed;
+  crossed = crossed-entries (term_at forms spots) (entry_at lists) (entry_at (lists ++ ([] ∷ []))) (λ p q. ap (λ (xs : List Weighted). entry_cross (slice_get xs q)) (get_or-push_default lists [] p)) old.crossed;
   sizes = old.sizes;
 }
 
@@ -29,7 +24,7 @@ widened-stored forms spots occ occ1 occ2 u v n m one two a b more old =
     let nothing : List Weighted = [] in
     rw (second, more) (record {
       whole = stored-push forms spots (entries_of forms occ ++ ([] ∷ [])) (stored-push forms spots (entries_of forms occ) old.whole);
-      named = λ p. subst (λ xs. All (λ e. e.form < length forms) xs) (sym (push-nothing (entries_of forms occ ++ ([] ∷ [])) p ∙ push-nothing (entries_of forms occ) p)) (old.named p);
+      named = λ p. subst (λ xs. All (λ e. e.form < length forms) xs) (sym (get_or-push_default (entries_of forms occ ++ ([] ∷ [])) [] p ∙ get_or-push_default (entries_of forms occ) [] p)) (old.named p);
       places = omega (arith, old.places, length-append (entries_of forms occ) (nothing ∷ []), length-append (entries_of forms occ ++ (nothing ∷ [])) (nothing ∷ []));
       inside = λ k d h i e less. let was = old.inside k d h i e less in omega (arith, was);
       rooms = old.rooms;

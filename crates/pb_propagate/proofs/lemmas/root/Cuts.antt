@@ -1,11 +1,12 @@
 -- The last literal of a list is removed.
-use Rattle.pb_propagate.proofs.Common.{ℕ, ◌++◌, ◌+◌, ◌<◌, ◌∙◌, ◌∷◌, ◌≡◌, ◌≤◌, ◌⊎◌, [], ap, arith, Bool, drop, false, get_or, get_or-set_other}
-use Rattle.pb_propagate.proofs.Common.{get_or-set_same, inl, inr, length, length-append, length-set, List, min, None, not, refl, set, subst, suc, sym}
+use Rattle.pb_propagate.proofs.Common.{ℕ, ◌++◌, ◌+◌, ◌<◌, ◌∙◌, ◌∷◌, ◌≡◌, ◌≤◌, [], ap, arith, Bool, drop, false, get_or}
+use Rattle.pb_propagate.proofs.Common.{get_or-set_same, inl, inr, length, length-append, length-set, List, min, None, refl, set, subst, suc, sym}
 use Rattle.pb_propagate.proofs.Common.{take, true, zero, Option, Some, sum_by, both_ways, cases_Bool, cases_eq, cases_lt, length-take-le, set_past}
-use Rattle.pb_propagate.proofs.Common.{take_all, take_more, sum_by-set, NumberedLiteral, negation, has, holds, vacancy}
+use Rattle.pb_propagate.proofs.Common.{take_all, take_more, sum_by-set, NumberedLiteral, negation, has, vacancy}
+use Rattle.std.proofs.lemmas.List.{take-take}
 use Rattle.pb_propagate.specs.engine.Engine.Lists.{says}
-use Rattle.pb_propagate.proofs.lemmas.engine.Literals.{literal_ext, has-push_old, has-push_new, has-push_cases}
-use Rattle.pb_propagate.proofs.lemmas.engine.Values.{Agree, Forgotten, says-none, says-inside, opposite, forget-next, forget-none, vacancy-none}
+use Rattle.pb_propagate.proofs.lemmas.engine.Literals.{has-push_old, has-push_new, has-push_cases}
+use Rattle.pb_propagate.proofs.lemmas.engine.Values.{Agree, Forgotten, has-neither, says-apart, says-none, says-inside, opposite, forget-next, forget-none, vacancy-none}
 
 -- a list has a literal for each variable with a value, so it is at least as long
 long-from : (n i : ℕ) (values : List (Option Bool)) (list : List NumberedLiteral) → length list ≡ i + n → Forgotten values (drop i list) → length values ≤ n + sum_by vacancy values
@@ -44,16 +45,6 @@ absent-before xs l k h = elim (cases_Bool (has xs k)) [
   | inr gone ↦ gone
 ]
 
-one-of-two : (m n : Bool) → (m ≡ n) ⊎ (m ≡ not n)
-one-of-two true true = inl refl
-one-of-two true false = inr refl
-one-of-two false true = inr refl
-one-of-two false false = inl refl
-
-says-elsewhere : (values : List (Option Bool)) (v : ℕ) (k : NumberedLiteral) → (k.variable ≡ v → ⊥) → says (set values v None) k ≡ says values k
-unfolding says
-says-elsewhere values v k apart = ap (λ x. holds x k.negated) (get_or-set_other values v k.variable None None apart)
-
 has-elsewhere : (xs : List NumberedLiteral) (l k : NumberedLiteral) → (k.variable ≡ l.variable → ⊥) → has (xs ++ (l ∷ [])) k ≡ has xs k
 has-elsewhere xs l k apart = by (has (xs ++ (l ∷ [])) k) refl
   where
@@ -66,18 +57,12 @@ has-elsewhere xs l k apart = by (has (xs ++ (l ∷ [])) k) refl
 
 pub Agree-pop : (values : List (Option Bool)) (xs : List NumberedLiteral) (l : NumberedLiteral) → Agree values (xs ++ (l ∷ [])) → has xs l ≡ false → Agree (set values l.variable None) xs
 Agree-pop values xs l a fresh k = elim (cases_eq k.variable l.variable) [
-  | inr apart ↦ sym (has-elsewhere xs l k apart) ∙ a k ∙ sym (says-elsewhere values l.variable k apart)
-  | inl here ↦ gone here ∙ sym (says-none (set values l.variable None) k (cleared here))
+  | inr apart ↦ sym (has-elsewhere xs l k apart) ∙ a k ∙ sym (says-apart values l.variable None k apart)
+  | inl here ↦ has-neither xs l k fresh opposed here ∙ sym (says-none (set values l.variable None) k (cleared here))
 ]
   where
     opposed : has xs (negation l) ≡ false
     opposed = absent-before xs l (negation l) (opposite values (xs ++ (l ∷ [])) l a (has-push_new xs l))
-
-    gone : k.variable ≡ l.variable → has xs k ≡ false
-    gone here = elim (one-of-two k.negated l.negated) [
-      | inl s ↦ ap (has xs) (literal_ext k l here s) ∙ fresh
-      | inr o ↦ ap (has xs) (literal_ext k (negation l) here o) ∙ opposed
-    ]
 
     cleared : k.variable ≡ l.variable → get_or (set values l.variable None) k.variable None ≡ None
     cleared here = ap (λ v. get_or (set values l.variable None) v None) here ∙ get_or-set_same values l.variable None None (says-inside values l (sym (a l) ∙ has-push_new xs l))
@@ -100,14 +85,6 @@ pub record IsCut (values0 : List (Option Bool)) (list0 : List NumberedLiteral) (
   pub first : list ≡ take (length list) list0
   pub within : length list ≤ length list0
   pub enough : min count (length list0) ≤ length list
-
-take-take : {X : Type 0} (m n : ℕ) (xs : List X) → m ≤ n → take m (take n xs) ≡ take m xs
-take-take zero n [] h = refl
-take-take zero zero (x ∷ xs) h = refl
-take-take zero (suc n) (x ∷ xs) h = refl
-take-take (suc m) zero xs h = absurd (omega (arith, h))
-take-take (suc m) (suc n) [] h = refl
-take-take (suc m) (suc n) (x ∷ xs) h = ap (λ ys. x ∷ ys) (take-take m n xs (omega (arith, h)))
 
 pub last-split : (list : List NumberedLiteral) (n : ℕ) (l : NumberedLiteral) → length list ≡ n + 1 → l ≡ get_or list n l → list ≡ take n list ++ (l ∷ [])
 last-split list n l e is =

@@ -1,7 +1,7 @@
 -- A clause that is asked about, by its literals.
 use Rattle.pb_propagate.proofs.Common.{ℕ, ◌++◌, ◌+◌, ◌-◌, ◌<◌, ◌^◌, ◌∙◌, ◌∷◌, ◌≡◌, ◌≤◌, [], ap, arith, false, get_or, inl, inr, length, length-append}
 use Rattle.pb_propagate.proofs.Common.{List, map, min, refl, subst, suc, sym, true, zero, All, Contains, both_ways, cases_Bool, cases_eq, or_cases}
-use Rattle.pb_propagate.proofs.Common.{get_or-map, length-map, Contains-append_left, Contains-push, Contains-push_cases, IsPermutation-refl}
+use Rattle.pb_propagate.proofs.Common.{get_or-map, get_or_default, length-map, Contains-append_left, Contains-push, Contains-push_cases, IsPermutation-refl}
 use Rattle.pb_propagate.proofs.Common.{sum_by-cons, Entry, NumberedLiteral, each, Form, IsNormal, total, negation, negation_of, opposite, Term}
 use Rattle.pb_propagate.proofs.Common.{AreJoined, joined, added, Adopted, AreFound, kept, AreDenied, denial_of, IsDisjunction, IsHit, IsOne, as_term}
 use Rattle.pb_propagate.proofs.Common.{entry_of, IsStoredAs, broken, Conflicts, Derives, has, IsSettled, IsWithin, open_part, open_sum, opposed, put}
@@ -105,14 +105,9 @@ adopted-keeps l old _ (added absent opened) = λ k h. has-push_old old l k h
 pub denied-more : (goal : List Entry) (l : NumberedLiteral) (old new : List NumberedLiteral) (i : ℕ) (d : Entry) → i < length goal → l ≡ literal_of (get_or goal i d) → Adopted (negation l) old new → has new (negation l) ≡ true → ((k : ℕ) (e : Entry) → k < i → has old (negation (literal_of (get_or goal k e))) ≡ true) →
     (k : ℕ) (e : Entry) → k < i + 1 → has new (negation (literal_of (get_or goal k e))) ≡ true
 denied-more goal l old new i d inside is adopted here before k e less = elim (cases_eq k i) [
-  | inl one ↦ ap (λ j. has new (negation (literal_of (get_or goal j e)))) one ∙ ap (λ x. has new (negation (literal_of x))) (default_at goal i e d inside) ∙ sym (ap (λ x. has new (negation x)) is) ∙ here
+  | inl one ↦ ap (λ j. has new (negation (literal_of (get_or goal j e)))) one ∙ ap (λ x. has new (negation (literal_of x))) (get_or_default goal i e d inside) ∙ sym (ap (λ x. has new (negation x)) is) ∙ here
   | inr other ↦ adopted-keeps (negation l) old new adopted _ (before k e (grind (arith, less, other)))
 ]
-  where
-    default_at : (xs : List Entry) (n : ℕ) (a b : Entry) → n < length xs → get_or xs n a ≡ get_or xs n b
-    default_at [] n a b h = absurd (omega (arith, h))
-    default_at (x ∷ xs) zero a b h = refl
-    default_at (x ∷ xs) (suc n) a b h = default_at xs n a b (omega (arith, h))
 
 pub conflicts-within : (a b : List Shape) (list : List NumberedLiteral) → ((x : Shape) → Contains a x → Contains b x) → Conflicts a list → Conflicts b list
 conflicts-within a b list more (opposed l here there) = opposed l here there

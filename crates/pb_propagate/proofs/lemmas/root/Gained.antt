@@ -1,31 +1,16 @@
 -- A form came into a slot.
 use Rattle.pb_propagate.proofs.Common.{stored_form}
-use Rattle.pb_propagate.proofs.Common.{ℕ, ◌*◌, ◌++◌, ◌+◌, ◌/◌, ◌<◌, ◌∙◌, ◌∷◌, ◌≡◌, ◌≤◌, ◌⊎◌, [], ap, arith, get_or, get_or-set_other, get_or-set_same, inl}
-use Rattle.pb_propagate.proofs.Common.{inr, length, length-append, length-set, List, None, set, sym, slice_get, Some, cases_eq, cases_lt}
-use Rattle.pb_propagate.proofs.Common.{get_or_append_left, get_or_past, get_or_push, length-map, get_or_from_slice_get, slice_get_within, Form}
+use Rattle.pb_propagate.proofs.Common.{ℕ, ◌*◌, ◌+◌, ◌/◌, ◌<◌, ◌∙◌, ◌∷◌, ◌≡◌, ◌⊎◌, [], ap, arith, get_or, get_or-set_other, get_or-set_same, inl}
+use Rattle.pb_propagate.proofs.Common.{inr, length, length-append, length-set, List, None, set, sym, slice_get, Some, cases_eq}
+use Rattle.pb_propagate.proofs.Common.{get_or_past, length-map, get_or_from_slice_get, slice_get_within, Form}
 use Rattle.pb_propagate.proofs.Common.{Clauses, Watch, Store, StoredForm, idle, list_at, watch_at, all_of, clauses_of, joined, slot_shape, forms_of}
 use Rattle.pb_propagate.proofs.Common.{shapes_of, stored_shape, Shape, HasGained, HasWidened, form_at}
 use Rattle.pb_propagate.proofs.lemmas.store.Changes.{forms-filled, forms-length}
 use Rattle.pb_propagate.proofs.lemmas.clauses.Shapes.{joined-at, joined-length}
 use Rattle.pb_propagate.proofs.lemmas.clauses.Slots.{IsVacant}
 use Rattle.pb_propagate.proofs.lemmas.clauses.Truths.{flip-even, same-slot}
+use Rattle.pb_propagate.proofs.lemmas.engine.Sources.{get_or-push_default}
 use Rattle.pb_propagate.proofs.lemmas.store.Gets.{get-set_other, get-push_other}
-
--- two idle watches after the others change nothing
-pub idle-push : (ws : List Watch) (e : ℕ) → watch_at (ws ++ (idle ∷ [])) e ≡ watch_at ws e
-idle-push ws e = elim (cases_lt e (length ws)) [
-  | inl less ↦ get_or_append_left ws (idle ∷ []) idle e less
-  | inr past ↦ elim (cases_eq e (length ws)) [
-    | inl at ↦ get_or_push ws idle idle e (sym at) ∙ sym (get_or_past ws e idle past)
-    | inr apart ↦ get_or_past (ws ++ (idle ∷ [])) e idle (omega (arith, beyond e (length ws) past apart, length-append ws (idle ∷ []))) ∙ sym (get_or_past ws e idle past)
-  ]
-]
-  where
-    beyond : (a b : ℕ) → b ≤ a → (a ≡ b → ⊥) → b < a
-    beyond a b h n = elim (cases_lt b a) [
-      | inl less ↦ less
-      | inr above ↦ absurd (n (omega (arith, h, above)))
-    ]
 
 -- the two watches of a slot are set
 pub watches-apart : (ws mid new : List Watch) (slot e : ℕ) (a b : Watch) → mid ≡ set ws (2 * slot) a → new ≡ set mid (2 * slot + 1) b → (e / 2 ≡ slot → ⊥) → watch_at new e ≡ watch_at ws e
@@ -83,25 +68,10 @@ gained-both before mid store old between clauses slot variables w g = elim w.kep
       | inr more ↦ absurd (omega (arith, more.1, new.0, ap length new.2, length-append before.stored.items (new.1 ∷ [])))
     ];
     kept = λ s apart. g.kept s apart ∙ ap (λ xs. slice_get xs s) new.2 ∙ get-push_other before.stored.items s new.1 (λ is. apart (is ∙ sym new.0));
-    filled = λ s apart. g.filled s apart ∙ ap (λ cs. list_at cs s) new.3 ∙ none-push (clauses_of old) s;
+    filled = λ s apart. g.filled s apart ∙ ap (λ cs. list_at cs s) new.3 ∙ get_or-push_default (clauses_of old) [] s;
     bare = λ x at. absurd (omega (arith, slice_get_within (all_of before old) slot x at, new.0, joined-length (shapes_of before.stored.items) (clauses_of old), length-map before.stored.items stored_shape));
     empty = λ h. absurd (let e : None ≡ Some h.0 = sym (get_or_past (forms_of before.stored.items) slot None (omega (arith, new.0, forms-length before.stored.items))) ∙ h.1 in cc);
     full = g.full;
     watched = λ e apart. g.watched e apart ∙ w.watched e;
   }
 ]
-  where
-    none-push : (cs : List (List ℕ)) (s : ℕ) → list_at (cs ++ ([] ∷ [])) s ≡ list_at cs s
-    none-push cs s = elim (cases_lt s (length cs)) [
-      | inl less ↦ get_or_append_left cs ([] ∷ []) [] s less
-      | inr past ↦ elim (cases_eq s (length cs)) [
-        | inl at ↦ get_or_push cs [] [] s (sym at) ∙ sym (get_or_past cs s [] past)
-        | inr apart ↦ get_or_past (cs ++ ([] ∷ [])) s [] (omega (arith, beyond s (length cs) past apart, length-append cs ([] ∷ []))) ∙ sym (get_or_past cs s [] past)
-      ]
-    ]
-      where
-        beyond : (a b : ℕ) → b ≤ a → (a ≡ b → ⊥) → b < a
-        beyond a b h n = elim (cases_lt b a) [
-          | inl less ↦ less
-          | inr above ↦ absurd (n (omega (arith, h, above)))
-        ]

@@ -11,7 +11,7 @@ use Rattle.pb_propagate.proofs.lemmas.engine.Literals.{open_part-open, has-get, 
 use Rattle.pb_propagate.proofs.lemmas.engine.Spent.{derivation-single}
 use Rattle.pb_propagate.proofs.lemmas.engine.Values.{opposite, says-inside}
 use Rattle.pb_propagate.proofs.lemmas.engine.Reasoned.{reasons-derive, reasons-keep, recorded}
-use Rattle.pb_propagate.proofs.lemmas.root.Admitted.{gained-at, gained-reasons}
+use Rattle.pb_propagate.proofs.lemmas.root.Added.{gained-at, gained-reasons}
 use Rattle.pb_propagate.proofs.lemmas.root.Lost.{vacated-all, lost-reasons}
 use Rattle.pb_propagate.proofs.lemmas.root.Questions.{root-few}
 use Rattle.pb_propagate.proofs.lemmas.store.Gets.{get-set_same, get-set_other}

@@ -8,7 +8,8 @@ use Rattle.pb_propagate.proofs.lemmas.clauses.Shapes.{shape-some}
 use Rattle.pb_propagate.proofs.lemmas.engine.Reasoned.{IsMoved, moved-same, reasons-moved, due-term}
 use Rattle.pb_propagate.proofs.lemmas.engine.Values.{one-literal}
 use Rattle.pb_propagate.proofs.lemmas.engine.VisitSteps.{shape-at}
-use Rattle.pb_propagate.proofs.lemmas.root.Lost.{unit-moved, clause-term, slot-is}
+use Rattle.pb_propagate.proofs.lemmas.root.Lost.{unit-moved, slot-is}
+use Rattle.pb_propagate.proofs.lemmas.root.Rooted.{clause-term}
 use Rattle.pb_propagate.proofs.lemmas.store.Gets.{get-set_same, get-set_other}
 
 -- nothing is replaced

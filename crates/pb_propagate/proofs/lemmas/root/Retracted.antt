@@ -1,23 +1,22 @@
 -- The last literal of the root's list is taken off.
 use Rattle.pb_propagate.proofs.Common.{stored_form}
 use Rattle.pb_propagate.proofs.Common.{ℕ, ◌++◌, ◌+◌, ◌<◌, ◌∙◌, ◌∷◌, ◌≡◌, ◌≤◌, [], ap, arith, Bool, false, get_or, inl, inr, Global, length, Vec}
-use Rattle.pb_propagate.proofs.Common.{cases_eq, coefficient_at, drop, drop_more, get_or-set_other, get_or-set_same, if◌then◌else◌, take_more, set, sum_by-le-sum_by, list_of}
-use Rattle.pb_propagate.proofs.Common.{List, None, refl, subst, suc, sym, take, true, ◌==◌, Option, slice_get, Some, cases_lt, eqb-true}
-use Rattle.pb_propagate.proofs.Common.{or_cases, or_left, or_right, get_or_default, get_or_from_slice_get, get_or_past, length-map, length-append, slice_get-get_or, slice_get_within}
+use Rattle.pb_propagate.proofs.Common.{cases_eq, coefficient_at, drop, drop_more, get_or-set_other, get_or-set_same, if◌then◌else◌, set, sum_by-le-sum_by, list_of}
+use Rattle.pb_propagate.proofs.Common.{List, None, refl, subst, sym, take, true, Option, slice_get, Some, cases_lt}
+use Rattle.pb_propagate.proofs.Common.{or_cases, or_left, or_right, get_or_default, get_or_from_slice_get, get_or_past, length-map, length-append, slice_get-get_or}
 use Rattle.pb_propagate.proofs.Common.{sum_by-cons, take_all, take-append-le, get_or-map, map, Occurrence, weighted, Waiting, Rests, NumberedLiteral, negation, Form, Assignment, Clauses, Store, Term, all_of, clauses_of}
 use Rattle.pb_propagate.proofs.Common.{IsCalm, place, weight_in, entries_of, forms_of, IsSound, shapes_of, spots_of, stored_shape, terms_at}
 use Rattle.pb_propagate.proofs.Common.{HaveReasons, open_sum, Shape, size, Weighted, AreSlots, HasForm, IsWalkedTo, from_given, by_reason}
 use Rattle.pb_propagate.specs.declared.engine.root.Root.{Root}
 use Rattle.pb_propagate.specs.engine.Engine.Counts.{entry_weight, IsDone}
-use Rattle.pb_propagate.specs.engine.Engine.Links.{term_cross}
 use Rattle.pb_propagate.specs.engine.Engine.Lists.{has, open_part}
 use Rattle.pb_propagate.specs.engine.Engine.Refreshed.{AreRefreshed, IsRefreshed, Lacks}
 use Rattle.pb_propagate.specs.engine.Engine.Root.{IsRootOf, IsSized}
 use Rattle.pb_propagate.proofs.lemmas.clauses.Slots.{slots-vacant}
 use Rattle.pb_propagate.proofs.lemmas.engine.Literals.{has-push_cases, negation-negation}
-use Rattle.pb_propagate.proofs.lemmas.engine.Runs.{entry_weight-other, entry_weight-same, open_sum-push}
+use Rattle.pb_propagate.proofs.lemmas.engine.Runs.{Tidy-rest, entry_weight-other, entry_weight-same, open_sum-push}
 use Rattle.pb_propagate.proofs.lemmas.engine.Puts.{entries-at, form-within, place-inside}
-use Rattle.pb_propagate.proofs.lemmas.store.Unlinks.{entry-back}
+use Rattle.pb_propagate.proofs.lemmas.root.Rooted.{term-entry}
 use Rattle.pb_propagate.proofs.lemmas.store.Weights.{index-within}
 
 -- forms are refreshed one after another
@@ -70,35 +69,6 @@ refreshed-then store a b c p q = record {
   ];
 }
 
--- a form with a weight among some entries has one of them
-weight-entry : (s : ℕ) (es : List Weighted) → 0 < weight_in s es → (j : ℕ) × (e : Weighted) × (slice_get es j ≡ Some e) × (e.form ≡ s)
-unfolding entry_weight
-weight-entry s [] h = absurd (omega (arith, h))
-weight-entry s (e ∷ es) h = by (e.form == s) refl (weight-entry s es)
-  where
-    none-of : (e.form == s) ≡ false → entry_weight s e ≡ 0
-    none-of is = rw is
-
-    by : (b : Bool) → (e.form == s) ≡ b → (0 < weight_in s es → (j : ℕ) × (x : Weighted) × (slice_get es j ≡ Some x) × (x.form ≡ s)) → (j : ℕ) × (x : Weighted) × (slice_get (e ∷ es) j ≡ Some x) × (x.form ≡ s)
-    by true is rest = (0, e, refl, eqb-true e.form s is)
-    by false is rest =
-        let more = rest (omega (arith, h, sum_by-cons (entry_weight s) e es, none-of is)) in
-        (suc more.0, more.1, more.2, more.3)
-
--- a term has an entry
-term-entry : (store : Store) (s k : ℕ) (t : Term) → IsSound store → s < length (shapes_of store.stored.items) → slice_get (terms_at (shapes_of store.stored.items) s) k ≡ Some t →
-    (j : ℕ) × (e : Weighted) × (slice_get (get_or (entries_of (shapes_of store.stored.items) store.occurrences.items) (place t.literal) []) j ≡ Some e) × (e.form ≡ s)
-term-entry store s k t sound inside at =
-    let forms = shapes_of store.stored.items in
-    let spots = spots_of store.spots.items in
-    let lists = entries_of forms store.occurrences.items in
-    let room : k < length (get_or spots s []) = omega (arith, sound.rooms s inside, slice_get_within (terms_at forms s) k t at) in
-    let q = get_or (get_or spots s []) k 0 in
-    let spot : slice_get (get_or spots s []) k ≡ Some q = slice_get-get_or (get_or spots s []) k 0 room in
-    let named = ap (λ o. term_cross o (slice_get (get_or spots s []) k)) at ∙ ap (term_cross (Some t)) spot in
-    let found = entry-back (slice_get (get_or lists (place t.literal) []) q) s k t.coefficient ((sound.whole.crossed s k (place t.literal) q t.coefficient).0 named) in
-    (q, found.entry, found.is, found.form)
-
 -- a slot with terms has a form
 terms-form : (store : Store) (clauses : Clauses) (s : ℕ) → AreSlots (forms_of store.stored.items) (all_of store clauses) → 0 < length (terms_at (shapes_of store.stored.items) s) → HasForm store s
 terms-form store clauses s slots some = by (slice_get (forms_of store.stored.items) s) refl
@@ -147,12 +117,6 @@ pub record IsCut (old mid : Root) (first : List NumberedLiteral) : Type 0 where
 abbrev pub AllRefreshed : Store → Root → NumberedLiteral → Type 0
 AllRefreshed store r l = (j : ℕ) (e : Weighted) → slice_get (get_or (entries_of (shapes_of store.stored.items) store.occurrences.items) (place l) []) j ≡ Some e → IsRefreshed store r e.form
 
--- the last literal of a list
-pub listed-last : (list : List NumberedLiteral) (n : ℕ) (l : NumberedLiteral) → n + 1 ≡ length list → l ≡ get_or list n l → list ≡ take n list ++ (l ∷ [])
-listed-last list n l size is =
-    let inside : n < length list = omega (arith, size) in
-    sym (take_all (n + 1) list (omega (arith, size))) ∙ take_more list n l inside ∙ ap (λ (k : NumberedLiteral). take n list ++ (k ∷ [])) (sym is)
-
 -- after the cut the open sums lack the coefficients of the literal that was falsified
 pub cut-lacks : (store : Store) (clauses : Clauses) (old mid : Root) (first : List NumberedLiteral) (l : NumberedLiteral) → old.run.assignment.list.items ≡ first ++ (l ∷ []) → has first l ≡ false → IsSound store → IsRootOf store clauses old → IsCut old mid first →
     Lacks store mid (get_or (entries_of (shapes_of store.stored.items) store.occurrences.items) (place (negation l)) [])
@@ -175,31 +139,23 @@ retracted-rooted store clauses old mid new first l listed absent reasoned sound 
   counted = λ s d less apart.
       let none : weight_in s [] ≡ 0 = refl in
       omega (arith, lacks s d less, none);
-  tidy = record {
-    calm = λ s d less idle off gone. elim (f.each s) [
-      | inl u ↦
-          let calm = r.tidy.calm s d less idle (rw (ap (λ (w : Waiting). w.list.items) cut.waiting) at (u.absent off)) gone in
-          rw (u.opened ∙ was-open s, u.passed ∙ was-start s) calm
-      | inr n ↦ n.calm off d (get_or new.run.candidates.items s 0)
-    ];
-    passed = λ s d less k t early within. elim (f.each s) [
-      | inl u ↦
-          let done = r.tidy.passed s d less k t (omega (arith, early, u.passed, was-start s)) within in
-          rw now (done-first s d k t less within early (rw listed at done))
-      | inr n ↦ absurd (omega (arith, early, n.passed))
-    ];
-    bounded = λ s d less. elim (f.each s) [
-      | inl u ↦ omega (arith, r.tidy.bounded s d less, u.passed, was-start s)
-      | inr n ↦ omega (arith, n.passed)
-    ];
-    clean = λ s d less gone. (
-      get_or_default new.run.opens.items s 0 (size (get_or shapes s d).terms) (omega (arith, less, long, f.sized.opens)) ∙ ap (λ xs. get_or xs s (size (get_or shapes s d).terms)) opens_same,
-      ap (λ xs. get_or xs s 0) starts_same,
-    );
-    named = λ i d less. absurd (omega (arith, less));
-    marked = λ i d less. absurd (omega (arith, less));
-    traced = λ s gone. gone;
-  };
+  tidy = Tidy-rest opens_same starts_same (long ∙ sym f.sized.opens)
+      (λ s d less idle off gone. elim (f.each s) [
+        | inl u ↦
+            let calm = r.tidy.calm s d less idle (rw (ap (λ (w : Waiting). w.list.items) cut.waiting) at (u.absent off)) gone in
+            rw (u.opened ∙ was-open s, u.passed ∙ was-start s) calm
+        | inr n ↦ n.calm off d (get_or new.run.candidates.items s 0)
+      ])
+      (λ s d less k t early within. elim (f.each s) [
+        | inl u ↦
+            let done = r.tidy.passed s d less k t (omega (arith, early, u.passed, was-start s)) within in
+            rw now (done-first s d k t less within early (rw listed at done))
+        | inr n ↦ absurd (omega (arith, early, n.passed))
+      ])
+      (λ s d less. elim (f.each s) [
+        | inl u ↦ omega (arith, r.tidy.bounded s d less, u.passed, was-start s)
+        | inr n ↦ omega (arith, n.passed)
+      ]);
   work = ap (λ (v : Vec ℕ Global). v.items) (f.work ∙ cut.work) ∙ r.work;
   trail = ap (λ (v : Vec ℕ Global). v.items) (f.trail ∙ cut.trail) ∙ r.trail;
   next = f.next ∙ cut.next ∙ r.next;
@@ -239,7 +195,7 @@ retracted-rooted store clauses old mid new first l listed absent reasoned sound 
     -- a term of the literal's variable is none before the candidate
     none-passed : (s k : ℕ) (t : Term) → s < length (shapes_of store.stored.items) → slice_get (terms_at (shapes_of store.stored.items) s) k ≡ Some t → AllRefreshed store new t.literal → k < get_or new.run.candidates.items s 0 → ⊥
     none-passed s k t less at all early =
-        let e = term-entry store s k t sound less at in
+        let e = term-entry s k t sound less at in
         let n = subst (IsRefreshed store new) e.3 (all e.0 e.1 e.2) in
         omega (arith, early, n.passed)
 

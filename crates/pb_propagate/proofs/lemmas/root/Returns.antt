@@ -3,14 +3,16 @@ use Rattle.pb_propagate.proofs.Common.{ℕ, ◌*◌, ◌+◌, ◌<◌, ◌∙◌
 use Rattle.pb_propagate.proofs.Common.{sum_by, take-append_seam, length-map, NumberedLiteral}
 use Rattle.pb_propagate.proofs.Common.{Assignment, Long, Short, Clauses, Waiting, Rests, Run, Store, Heads, Walked, IsWalkedTo, AreWithin, Grows, passed_of, clauses_of}
 use Rattle.pb_propagate.proofs.Common.{fallen, falsified_code, heads_at, reached, AreSingle, IsCounted, spent, weight_in, RunRefutes, entries_of}
-use Rattle.pb_propagate.proofs.Common.{shapes_of, stored_shape, Extends, HaveReasons, all_of, KeepsReasons, same, Advances, Costs, database, progress, RunPays}
+use Rattle.pb_propagate.proofs.Common.{shapes_of, stored_shape, Extends, HaveReasons, all_of, KeepsReasons, same, Advances, Costs, database, progress}
 use Rattle.pb_propagate.proofs.Common.{RunSpends, IsRooted, GoesBack, Propagates, list_of, reasons_of, values_of, Global, Vec, subst}
+use Rattle.pb_propagate.specs.declared.engine.root.Root.{Root}
+use Rattle.pb_propagate.specs.engine.Engine.Root.{HasUpdated, IsRootOf}
 use Rattle.pb_propagate.proofs.lemmas.clauses.Heads.{visits-back, walks-kept}
 use Rattle.pb_propagate.proofs.lemmas.clauses.Counts.{passed-most}
 use Rattle.pb_propagate.proofs.lemmas.clauses.Walks.{grows-listed}
 use Rattle.pb_propagate.proofs.lemmas.engine.Reasoned.{reasons-keep}
 use Rattle.pb_propagate.proofs.lemmas.root.Extends.{extends-then, extends-within, spent-extends, killed-longer}
-use Rattle.pb_propagate.proofs.lemmas.root.Roots.{keep-all}
+use Rattle.pb_propagate.proofs.lemmas.root.Roots.{keep-all, rooted-as}
 
 -- values of a longer list
 pub assigned-grow : (old new : Assignment) → Extends old.list.items new.list.items → Grows old.values.items new.values.items
@@ -47,14 +49,14 @@ refutes-long store rests c count from old mid new start work next a s =
     }
 
 -- The visits of an update and a question after it: what the first has read is not paid again.
-pub both-costs : (store : Store) (clauses between : Clauses) (rests rests' : Rests) (waiting : List ℕ) (from : Heads) (count : ℕ) (old mid new : Run) → clauses_of between ≡ clauses_of clauses → old.work.items ≡ [] → old.visits ≡ length old.assignment.list.items →
-    RunPays store rests clauses between from waiting old mid → RunRefutes store rests' between count mid new →
-    new.visits ≤ length old.assignment.list.items + (length waiting + count) + sum new.candidates.items + 2 * spent (entries_of (shapes_of store.stored.items) store.occurrences.items) new.assignment.list.items + 2 * fallen (clauses_of clauses) new.assignment.list.items + sum_by length (clauses_of clauses)
-both-costs store clauses between rests rests' waiting from count old mid new same work begun first second =
-    let seen_mid : fallen (clauses_of between) mid.assignment.list.items ≡ fallen (clauses_of clauses) mid.assignment.list.items = ap (λ cs. fallen cs mid.assignment.list.items) same in
+pub both-costs : (store : Store) (clauses between : Clauses) (old mid : Root) (count : ℕ) (new : Run) → clauses_of between ≡ clauses_of clauses → old.run.work.items ≡ [] → old.run.visits ≡ length (list_of old.run) →
+    HasUpdated store clauses between old mid → RunRefutes store mid.rests between count mid.run new →
+    new.visits ≤ length (list_of old.run) + (length old.waiting.list.items + count) + sum new.candidates.items + 2 * spent (entries_of (shapes_of store.stored.items) store.occurrences.items) new.assignment.list.items + 2 * fallen (clauses_of clauses) new.assignment.list.items + sum_by length (clauses_of clauses)
+both-costs store clauses between old mid count new same work begun first second =
+    let seen_mid : fallen (clauses_of between) (list_of mid.run) ≡ fallen (clauses_of clauses) (list_of mid.run) = ap (λ cs. fallen cs (list_of mid.run)) same in
     let seen_new : fallen (clauses_of between) new.assignment.list.items ≡ fallen (clauses_of clauses) new.assignment.list.items = ap (λ cs. fallen cs new.assignment.list.items) same in
     let sizes : sum_by length (clauses_of between) ≡ sum_by length (clauses_of clauses) = ap (sum_by length) same in
-    omega (arith, first.upper, second.upper, seen_mid, seen_new, sizes, ap length work, begun)
+    omega (arith, first.pays.upper, second.upper, seen_mid, seen_new, sizes, ap length work, begun)
 
 -- the open sums of the root are those of its list
 pub root-counted : (store : Store) (clauses : Clauses) (run : Run) (rests : Rests) (waiting : Waiting) (walked : Walked) → IsRooted store clauses run rests waiting walked (length store.stored.items) → IsCounted (shapes_of store.stored.items) run.opens.items run.assignment.list.items []
@@ -66,11 +68,12 @@ root-counted store clauses run rests waiting walked r = record {
 }
 
 -- a question that was undone leaves the root
-pub back-rooted : {store : Store} {between mid after : Clauses} {run done last : Run} {rests : Rests} {waiting : Waiting} {walked walked' : Walked} {count : ℕ} → IsRooted store between run rests waiting walked (length store.stored.items) → Propagates store rests between mid run done → GoesBack store rests mid after count done last → count ≡ length (list_of run) → mid.blocks.literals ≡ between.blocks.literals → IsWalkedTo after (list_of run) walked' → IsRooted store after last rests waiting walked' (length store.stored.items)
-back-rooted {store} {between} {mid} {after} {run} {done} {last} {rests} {waiting} {walked} {walked'} {count} r p b count_is literals walks =
+pub back-rooted : (root : Root) {store : Store} {between mid after : Clauses} {done last : Run} {walked' : Walked} {count : ℕ} → IsRootOf store between root → Propagates store root.rests between mid root.run done → GoesBack store root.rests mid after count done last → count ≡ length (list_of root.run) → mid.blocks.literals ≡ between.blocks.literals → IsWalkedTo after (list_of root.run) walked' → IsRooted store after last root.rests root.waiting walked' (length store.stored.items)
+back-rooted root {store} {between} {mid} {after} {done} {last} {walked'} {count} r p b count_is literals walks =
+    let run = root.run in
     let shapes = shapes_of store.stored.items in
     let long = length-map store.stored.items stored_shape in
-    let same = keep-all rests shapes last.opens.items last.candidates.items [] 0 (omega arith) (omega (arith, long, b.opens)) (omega (arith, b.opens, b.candidates)) (omega (arith, ap length r.opens, r.open_sizes, b.opens)) (omega (arith, ap length r.starts, r.start_sizes, b.candidates)) b.undone in
+    let same = keep-all root.rests shapes last.opens.items last.candidates.items [] 0 (omega arith) (omega (arith, long, b.opens)) (omega (arith, b.opens, b.candidates)) (omega (arith, ap length r.opens, r.open_sizes, b.opens)) (omega (arith, ap length r.starts, r.start_sizes, b.candidates)) b.undone in
     let opens_is : last.opens.items ≡ run.opens.items = sym same.0 ∙ sym r.opens in
     let starts_is : last.candidates.items ≡ run.candidates.items = sym same.1 ∙ sym r.starts in
     let list_is : list_of last ≡ list_of run = b.list ∙ ap (λ n. take n (list_of done)) count_is ∙ ap (take (length (list_of run))) p.extends.1 ∙ take-append_seam (list_of run) p.extends.0 in
@@ -93,45 +96,15 @@ back-rooted {store} {between} {mid} {after} {run} {done} {last} {rests} {waiting
     }
 
 -- the same if its literals are walked as before
-pub question-back : {store : Store} {between mid after : Clauses} {run done last : Run} {rests : Rests} {waiting : Waiting} {walked : Walked} {count : ℕ} → IsRooted store between run rests waiting walked (length store.stored.items) → Propagates store rests between mid run done → GoesBack store rests mid after count done last → count ≡ length (list_of run) → mid.blocks.literals ≡ between.blocks.literals → IsRooted store after last rests waiting walked (length store.stored.items)
-question-back {store} {between} {mid} {after} {run} {done} {last} {rests} {waiting} {walked} {count} r p b count_is literals =
-    back-rooted r p b count_is literals (walks-kept between after (list_of run) walked (visits-back (values_of run) between mid after (list_of run) run.assignment.agrees (b.literals ∙ literals) b.watches p.kept) r.walks)
+pub question-back : (root : Root) {store : Store} {between mid after : Clauses} {done last : Run} {count : ℕ} → IsRootOf store between root → Propagates store root.rests between mid root.run done → GoesBack store root.rests mid after count done last → count ≡ length (list_of root.run) → mid.blocks.literals ≡ between.blocks.literals → IsRooted store after last root.rests root.waiting root.walked (length store.stored.items)
+question-back root {store} {between} {mid} {after} {done} {last} {count} r p b count_is literals =
+    back-rooted root r p b count_is literals (walks-kept between after (list_of root.run) root.walked (visits-back (values_of root.run) between mid after (list_of root.run) root.run.assignment.agrees (b.literals ∙ literals) b.watches p.kept) r.walks)
 
 -- the same forms wait
 pub rooted-waiting : {store : Store} {clauses : Clauses} {run : Run} {rests : Rests} {walked : Walked} {busy : ℕ} (waiting waiting' : Waiting) → waiting'.list ≡ waiting.list → waiting'.positions ≡ waiting.positions → IsRooted store clauses run rests waiting walked busy → IsRooted store clauses run rests waiting' walked busy
-rooted-waiting waiting waiting' list positions r = record {
-  values = r.values;
-  opens = r.opens;
-  starts = r.starts;
-  open_sizes = r.open_sizes;
-  start_sizes = r.start_sizes;
-  counted = r.counted;
-  tidy = rw list r.tidy;
-  work = r.work;
-  trail = r.trail;
-  next = r.next;
-  reasoned = r.reasoned;
-  walks = r.walks;
-  positions = rw positions r.positions;
-  live = rw list r.live;
-}
+rooted-waiting {store} {clauses} {run} waiting waiting' list positions r = rooted-as {run = run} run.assignment run.visits waiting' refl refl r.reasoned list positions r
 
 -- other reasons for the same literals
 pub reasoned-rooted : {store : Store} {clauses : Clauses} {run : Run} {rests : Rests} {waiting : Waiting} {walked : Walked} {busy : ℕ} (a : Assignment) → a.list ≡ run.assignment.list → a.values ≡ run.assignment.values → HaveReasons (all_of store clauses) a.reasons.items [] a.list.items → IsRooted store clauses run rests waiting walked busy →
-    IsRooted store clauses (record { opens = run.opens; candidates = run.candidates; assignment = a; work = run.work; next = run.next; trail = run.trail; visits = run.visits }) rests waiting walked busy
-reasoned-rooted a list values reasoned r = record {
-  values = rw values r.values;
-  opens = r.opens;
-  starts = r.starts;
-  open_sizes = r.open_sizes;
-  start_sizes = r.start_sizes;
-  counted = rw list r.counted;
-  tidy = rw list r.tidy;
-  work = r.work;
-  trail = r.trail;
-  next = r.next;
-  reasoned = reasoned;
-  walks = rw list r.walks;
-  positions = r.positions;
-  live = r.live;
-}
+    IsRooted store clauses (record run { assignment = a }) rests waiting walked busy
+reasoned-rooted {store} {clauses} {run} {rests} {waiting} a list values reasoned r = rooted-as {waiting = waiting} a run.visits waiting list values reasoned refl refl r

@@ -1,30 +1,20 @@
 -- Literals that forms force with nothing assumed.
 use Rattle.pb_propagate.proofs.Common.{ℕ, ◌++◌, ◌+◌, ◌<◌, ◌∙◌, ◌∷◌, ◌≡◌, ◌≤◌, [], ap, arith, Bool, false, get_or, get_or-set_other, inl, inr, length}
-use Rattle.pb_propagate.proofs.Common.{length-append, List, map, refl, set, subst, sym, true, Contains, slice_get, slice_index_or, Some, sum_by}
-use Rattle.pb_propagate.proofs.Common.{both_ways, cases_lt, or_left, or_right, get_or-map, get_or_default, get_or_past, length-map, set_past}
-use Rattle.pb_propagate.proofs.Common.{sum_by-cons, sum_by-set, sum_by_push, slice_get-get_or, slice_get_past, NumberedLiteral, negation, Long, Short}
-use Rattle.pb_propagate.proofs.Common.{Term, list_at, code_in, joined, literal_at, one_term, AreSingle, more, none, place, spent, entry_at}
-use Rattle.pb_propagate.proofs.Common.{entry_cross, IsStored, term_at, term_cross, terms_at, begin, Derives, put, Puts, same, Shape, Weighted}
+use Rattle.pb_propagate.proofs.Common.{length-append, List, map, set, subst, sym, true, Contains, slice_get, slice_index_or, Some, sum_by}
+use Rattle.pb_propagate.proofs.Common.{both_ways, get_or-map, get_or_default, length-map}
+use Rattle.pb_propagate.proofs.Common.{sum_by_push, slice_get-get_or, slice_get_within, NumberedLiteral, negation, Long, Short}
+use Rattle.pb_propagate.proofs.Common.{Term, list_at, code_in, joined, literal_at, one_term, AreSingle, more, none, place, spent}
+use Rattle.pb_propagate.proofs.Common.{IsStored, term_cross, terms_at, begin, Derives, put, Puts, Shape, Weighted}
 use Rattle.pb_propagate.specs.engine.Engine.Lists.{has}
-use Rattle.pb_propagate.proofs.lemmas.engine.Literals.{same-refl, negation-negation, has-push_old, has-push_new}
-use Rattle.pb_propagate.proofs.lemmas.store.Crosses.{to, to-none}
+use Rattle.pb_propagate.proofs.lemmas.engine.Derivations.{puts-other}
+use Rattle.pb_propagate.proofs.lemmas.engine.Literals.{negation-negation, has-push_old, has-push_new}
+use Rattle.pb_propagate.proofs.lemmas.store.Unlinks.{entry-back}
 use Rattle.pb_propagate.proofs.lemmas.root.Cuts.{absent-before}
-use Rattle.pb_propagate.proofs.lemmas.engine.Spent.{place-injective}
+use Rattle.pb_propagate.proofs.lemmas.engine.Spent.{lists-clear, place-injective, sum_by-agree}
 use Rattle.pb_propagate.proofs.lemmas.clauses.Literals.{code-of}
 use Rattle.pb_propagate.proofs.lemmas.clauses.Counts.{occurs}
 use Rattle.pb_propagate.proofs.lemmas.clauses.Shapes.{joined-source}
 use Rattle.pb_propagate.proofs.lemmas.clauses.Killed.{IsOneSided, risen, risen-push, occurs-some}
-
-pub puts-other : (a b : List Shape) (list : List NumberedLiteral) (l : NumberedLiteral) (m : Puts a list l) → Contains b m.form → Puts b list l
-puts-other a b list l m among = record {
-  absent = m.absent;
-  not_falsified = m.not_falsified;
-  form = m.form;
-  among = among;
-  coefficient = m.coefficient;
-  term = m.term;
-  forced = m.forced;
-}
 
 -- a derivation holds among more constraints
 pub derives-within : (a b : List Shape) (given list : List NumberedLiteral) → ((x : Shape) → Contains a x → Contains b x) → Derives a given list → Derives b given list
@@ -35,41 +25,41 @@ derives-within a b given _ h (put {list} l d m) = put l (derives-within a b give
 abbrev pub owned : List (List Weighted) → List NumberedLiteral → ℕ
 owned lists list = sum_by (λ l. length (slice_index_or lists (place l) [])) list
 
--- an entry that is named is there
-entry-inside : (lists : List (List Weighted)) (p q a b w : ℕ) → entry_at lists p q ≡ to a b w → q < length (get_or lists p [])
-entry-inside lists p q a b w is = elim (cases_lt q (length (get_or lists p []))) [
-  | inl inside ↦ inside
-  | inr past ↦ absurd (to-none a b w (sym is ∙ ap entry_cross (slice_get_past (get_or lists p []) q past)))
-]
+-- a term has an entry
+pub term-entry : {forms : List Shape} {spots : List (List ℕ)} {lists : List (List Weighted)} {variables : ℕ} (s k : ℕ) (t : Term) → IsStored forms spots lists variables → s < length forms → slice_get (terms_at forms s) k ≡ Some t → (j : ℕ) × (e : Weighted) × (slice_get (get_or lists (place t.literal) []) j ≡ Some e) × (e.form ≡ s)
+term-entry {forms} {spots} {lists} {variables} s k t stored inside at =
+    let room : k < length (get_or spots s []) = omega (arith, stored.rooms s inside, slice_get_within (terms_at forms s) k t at) in
+    let q = get_or (get_or spots s []) k 0 in
+    let spot : slice_get (get_or spots s []) k ≡ Some q = slice_get-get_or (get_or spots s []) k 0 room in
+    let named = ap (λ o. term_cross o (slice_get (get_or spots s []) k)) at ∙ ap (term_cross (Some t)) spot in
+    let found = entry-back (slice_get (get_or lists (place t.literal) []) q) s k t.coefficient ((stored.whole.crossed s k (place t.literal) q t.coefficient).0 named) in
+    (q, found.entry, found.is, found.form)
 
 -- a literal of a stored form has an entry
 pub stored-listed : (forms : List Shape) (spots : List (List ℕ)) (lists : List (List Weighted)) (variables : ℕ) (f : Shape) (l : NumberedLiteral) (c : ℕ) → IsStored forms spots lists variables → Contains forms f → Contains f.terms (record { literal = l; coefficient = c }) → 1 ≤ length (get_or lists (place l) [])
 stored-listed forms spots lists variables f l c stored (s, inside, is) (i, within, at) =
     let t : Term = record { literal = l; coefficient = c } in
-    let bare : Shape = record { terms = []; degree = 0 } in
-    let here : terms_at forms s ≡ f.terms = ap (λ (x : Shape). x.terms) (get_or_default forms s bare f inside ∙ is) in
-    let room : i < length (get_or spots s []) = omega (arith, stored.rooms s inside, ap length here, within) in
-    let q = get_or (get_or spots s []) i 0 in
-    let spot : slice_get (get_or spots s []) i ≡ Some q = slice_get-get_or (get_or spots s []) i 0 room in
+    let here : terms_at forms s ≡ f.terms = ap (λ (x : Shape). x.terms) (get_or_default forms s (record { terms = []; degree = 0 }) f inside ∙ is) in
     let term : slice_get (terms_at forms s) i ≡ Some t = ap (λ (xs : List Term). slice_get xs i) here ∙ slice_get-get_or f.terms i t within ∙ ap (λ (x : Term). Some x) at in
-    let named : term_at forms spots s i ≡ to (place l) q c = ap (λ o. term_cross o (slice_get (get_or spots s []) i)) term ∙ ap (term_cross (Some t)) spot in
-    omega (arith, entry-inside lists (place l) q s i c ((stored.whole.crossed s i (place l) q c).0 named))
+    let e = term-entry s i t stored inside term in
+    let less = slice_get_within (get_or lists (place l) []) e.0 e.1 e.2 in
+    omega (arith, less)
+
+-- a term of a clause is one of its literals, with coefficient 1
+pub clause-term : (codes : List ℕ) (l : NumberedLiteral) (c : ℕ) → Contains (map one_term codes) (record { literal = l; coefficient = c }) → (x : ℕ) × Contains codes x × (literal_at x ≡ l) × (c ≡ 1)
+clause-term codes l c (k, within, at) =
+    let t : Term = record { literal = l; coefficient = c } in
+    let inside : k < length codes = omega (arith, within, length-map codes one_term) in
+    let one : one_term (get_or codes k 0) ≡ t = sym (get_or-map one_term codes k 0 t inside) ∙ at in
+    (get_or codes k 0, (k, inside, get_or_default codes k (get_or codes k 0) 0 inside), ap (λ (y : Term). y.literal) one, sym (ap (λ (y : Term). y.coefficient) one))
 
 -- a literal of a clause occurs
 pub clause-occurs : (clauses : List (List ℕ)) (s : ℕ) (l : NumberedLiteral) (c : ℕ) → 0 < length (list_at clauses s) → Contains (map one_term (list_at clauses s)) (record { literal = l; coefficient = c }) → 1 ≤ occurs clauses (code_in Short l) + occurs clauses (code_in Long l)
-clause-occurs clauses s l c some (k, within, at) =
-    let codes = list_at clauses s in
-    let inside : k < length codes = omega (arith, within, length-map codes one_term) in
-    let t : Term = record { literal = l; coefficient = c } in
-    let one : one_term (get_or codes k 0) ≡ t = sym (get_or-map one_term codes k 0 t inside) ∙ at in
-    let mine : literal_at (get_or codes k 0) ≡ l = ap (λ (x : Term). x.literal) one in
-    elim (code-of (get_or codes k 0)) [
-      | inl is ↦
-          let there : get_or codes k 0 ≡ code_in Short l = sym is ∙ ap (code_in Short) mine in
-          omega (arith, occurs-some clauses s (code_in Short l) some (k, inside, get_or_default codes k (code_in Short l) 0 inside ∙ there))
-      | inr is ↦
-          let there : get_or codes k 0 ≡ code_in Long l = sym is ∙ ap (code_in Long) mine in
-          omega (arith, occurs-some clauses s (code_in Long l) some (k, inside, get_or_default codes k (code_in Long l) 0 inside ∙ there))
+clause-occurs clauses s l c some there =
+    let x = clause-term (list_at clauses s) l c there in
+    elim (code-of x.0) [
+      | inl is ↦ omega (arith, occurs-some clauses s (code_in Short l) some (subst (Contains (list_at clauses s)) (sym is ∙ ap (code_in Short) x.2) x.1))
+      | inr is ↦ omega (arith, occurs-some clauses s (code_in Long l) some (subst (Contains (list_at clauses s)) (sym is ∙ ap (code_in Long) x.2) x.1))
     ]
 
 -- a literal that was put has an entry, or occurs in a clause
@@ -91,36 +81,8 @@ root-short forms spots lists variables clauses _ stored (put {list} l d m) =
     let killings = risen-push clauses list l m.absent in
     omega (arith, rest, here, entries, killings, length-append list (l ∷ []))
 
--- the lists of a list's literals and of their negations are different lists
-has-head : (x : NumberedLiteral) (xs : List NumberedLiteral) → has (x ∷ xs) x ≡ true
-unfolding has
-has-head x xs = or_left (same x x) (has xs x) (same-refl x)
-
-has-tail : (x : NumberedLiteral) (xs : List NumberedLiteral) (k : NumberedLiteral) → has xs k ≡ true → has (x ∷ xs) k ≡ true
-unfolding has
-has-tail x xs k h = or_right (same x k) (has xs k) h
-
-sum-agree : (f g : NumberedLiteral → ℕ) (list : List NumberedLiteral) → ((k : NumberedLiteral) → has list k ≡ true → f k ≡ g k) → sum_by f list ≡ sum_by g list
-sum-agree f g [] e = refl
-sum-agree f g (x ∷ xs) e =
-    let rest = sum-agree f g xs (λ k h. e k (has-tail x xs k h)) in
-    let here = e x (has-head x xs) in
-    rw (sum_by-cons f x xs, sum_by-cons g x xs) (omega (arith, rest, here))
-
-lists-clear : (lists : List (List Weighted)) (p : ℕ) → sum_by length (set lists p []) + length (get_or lists p []) ≡ sum_by length lists
-lists-clear lists p =
-    let empty : List Weighted = [] in
-    elim (cases_lt p (length lists)) [
-      | inl inside ↦
-          let change = sum_by-set (λ (xs : List Weighted). length xs) lists p empty empty inside in
-          omega (arith, change)
-      | inr past ↦
-          let zero_there = get_or_past lists p empty past in
-          let same_list : set lists p empty ≡ lists = set_past lists p empty past in
-          omega (arith, ap length zero_there, ap (sum_by length) same_list)
-    ]
-
--- the lists of a literal and of its negation are emptied
+-- The lists of a list's literals and of their negations are different lists. Those of a literal and of its negation are
+-- emptied.
 abbrev without : List (List Weighted) → NumberedLiteral → List (List Weighted)
 without lists l = set (set lists (place (negation l)) []) (place l) []
 
@@ -154,8 +116,8 @@ both-le lists _ (more {list} l d absent) one =
     let opposed : has list (negation l) ≡ false = absent-before list l (negation l) (one l (has-push_new list l)) in
     let apart : (k : NumberedLiteral) → has list k ≡ true → k ≡ l → ⊥ = λ k h e. both_ways _ absent (ap (has list) (sym e) ∙ h) in
     let apart' : (k : NumberedLiteral) → has list k ≡ true → k ≡ negation l → ⊥ = λ k h e. both_ways _ opposed (ap (has list) (sym e) ∙ h) in
-    let a : spent lists list ≡ spent (without lists l) list = sum-agree (λ k. length (get_or lists (place (negation k)) [])) (λ k. length (get_or (without lists l) (place (negation k)) [])) list (λ k h. without-other lists l (negation k) (λ e. apart' k h (sym (negation-negation k) ∙ ap negation e)) (λ e. apart k h (sym (negation-negation k) ∙ ap negation e ∙ negation-negation l))) in
-    let b : owned lists list ≡ owned (without lists l) list = sum-agree (λ k. length (get_or lists (place k) [])) (λ k. length (get_or (without lists l) (place k) [])) list (λ k h. without-other lists l k (apart k h) (apart' k h)) in
+    let a : spent lists list ≡ spent (without lists l) list = sum_by-agree (λ k. length (get_or lists (place (negation k)) [])) (λ k. length (get_or (without lists l) (place (negation k)) [])) list (λ k h. without-other lists l (negation k) (λ e. apart' k h (sym (negation-negation k) ∙ ap negation e)) (λ e. apart k h (sym (negation-negation k) ∙ ap negation e ∙ negation-negation l))) in
+    let b : owned lists list ≡ owned (without lists l) list = sum_by-agree (λ k. length (get_or lists (place k) [])) (λ k. length (get_or (without lists l) (place k) [])) list (λ k h. without-other lists l k (apart k h) (apart' k h)) in
     let left = sum_by_push (λ k. length (get_or lists (place (negation k)) [])) list l in
     let right = sum_by_push (λ k. length (get_or lists (place k) [])) list l in
     omega (arith, earlier, a, b, left, right, without-total lists l)

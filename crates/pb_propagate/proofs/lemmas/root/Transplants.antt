@@ -1,7 +1,7 @@
 -- What the root forces is derived again from given literals, which may be opposite to some of it.
 use Rattle.pb_propagate.proofs.Common.{ℕ, ◌++◌, ◌∙◌, ◌∷◌, ◌≡◌, ◌⊎◌, [], ap, arith, Bool, false, inl, inr, List, None, sym, true, IfNone, IfSome}
 use Rattle.pb_propagate.proofs.Common.{Option, Some, both_ways, cases_Bool, NumberedLiteral, negation, AreJoined, joined, begin, broken, Conflicts}
-use Rattle.pb_propagate.proofs.Common.{Derives, has, IsSettled, IsWithin, opposed, put, Shape, HasClash, HasEnded, IsCovered, IsFrom, IsMade, derived}
+use Rattle.pb_propagate.proofs.Common.{Derives, has, IsSettled, IsWithin, opposed, put, Puts, Shape, HasClash, HasEnded, IsCovered, IsFrom, IsMade, derived}
 use Rattle.pb_propagate.proofs.Common.{IsRefuted}
 use Rattle.std.specs.Cmp.{both_ways as same_answers}
 use Rattle.pb_propagate.proofs.lemmas.clauses.Shapes.{derives-joined, conflicts-joined}
@@ -30,6 +30,18 @@ opposed-more a b l o = record {
   ];
 }
 
+-- what may be put still may on a longer list, unless its variable has a value
+puts-longer : (forms : List Shape) (a b : List NumberedLiteral) (l : NumberedLiteral) → IsWithin a b → has b l ≡ false → has b (negation l) ≡ false → Puts forms a l → Puts forms b l
+puts-longer forms a b l within absent free m = record {
+  absent = absent;
+  not_falsified = free;
+  form = m.form;
+  among = m.among;
+  coefficient = m.coefficient;
+  term = m.term;
+  forced = omega (arith, open_sum-within a b within m.form.terms, m.forced);
+}
+
 pub planted : (forms : List Shape) (a b given : List NumberedLiteral) → IsWithin a given → Derives forms a b → Planted forms given b
 planted forms a _ given within begin = grown given begin within (λ l h. inr h)
 planted forms a _ given within (put {list} l d m) = by (planted forms a list given within d)
@@ -47,16 +59,7 @@ planted forms a _ given within (put {list} l d m) = by (planted forms a list giv
               there = older (negation l) (from (negation l) against);
             })
         | inr free ↦
-            let few = open_sum-within list whole all m.form.terms in
-            grown (whole ++ (l ∷ [])) (put l dv (record {
-              absent = absent;
-              not_falsified = free;
-              form = m.form;
-              among = m.among;
-              coefficient = m.coefficient;
-              term = m.term;
-              forced = omega (arith, few, m.forced);
-            })) (push-within list (whole ++ (l ∷ [])) l (λ k h. has-push_old whole l k (all k h)) (has-push_new whole l)) (λ k h. elim (has-push_cases whole l k h) [
+            grown (whole ++ (l ∷ [])) (put l dv (puts-longer forms list whole l all absent free m)) (push-within list (whole ++ (l ∷ [])) l (λ k h. has-push_old whole l k (all k h)) (has-push_new whole l)) (λ k h. elim (has-push_cases whole l k h) [
               | inl old ↦ older k (from k old)
               | inr is ↦ inl (ap (has (list ++ (l ∷ []))) (sym is) ∙ has-push_new list l)
             ])
@@ -71,6 +74,13 @@ conflicts-longer : (forms : List Shape) (a b : List NumberedLiteral) → IsWithi
 conflicts-longer forms a b within (opposed l here there) = opposed l (within l here) (within (negation l) there)
 conflicts-longer forms a b within (broken f among low) = broken f among (omega (arith, low, open_sum-within a b within f.terms))
 
+-- literals of one list or of another
+from-within : (a b list c : List NumberedLiteral) → IsFrom a b list → IsWithin a c → IsWithin b c → IsWithin list c
+from-within a b list c from first second l on = elim (from l on) [
+  | inl forced ↦ first l forced
+  | inr mine ↦ second l mine
+]
+
 -- a conflict after literals that are forced, or given
 pub clash-refuted : (forms : List Shape) (root given : List NumberedLiteral) → Derives forms [] root → HasClash forms root given → (list : List NumberedLiteral) × IsRefuted forms given list
 clash-refuted forms root given d clash = by (planted forms [] root given (λ l h. absurd (both_ways _ (has-none l) h)) d)
@@ -83,10 +93,7 @@ clash-refuted forms root given d clash = by (planted forms [] root given (λ l h
     by (grown whole dv all from) = second (planted forms clash.reached.first clash.list whole first_in clash.reached.derived)
       where
         first_in : IsWithin clash.reached.first whole
-        first_in l h = elim (clash.reached.within l h) [
-          | inl forced ↦ all l forced
-          | inr mine ↦ derivation-keeps forms given whole dv l mine
-        ]
+        first_in = from-within root given clash.reached.first whole clash.reached.within all (derivation-keeps forms given whole dv)
 
         second : Planted forms whole clash.list → (list : List NumberedLiteral) × IsRefuted forms given list
         second (clashed more ev c o) = from-given more (derivation-then forms given whole more dv ev) c
@@ -96,15 +103,7 @@ clash-refuted forms root given d clash = by (planted forms [] root given (λ l h
 settled-same : (f : Shape) (a b : List NumberedLiteral) → IsWithin a b → IsWithin b a → IsSettled f a → IsSettled f b
 settled-same f a b ab ba s = record {
   met = omega (arith, s.met, open_sum-within b a ba f.terms);
-  idle = λ l m. s.idle l (record {
-    absent = off l m.absent;
-    not_falsified = off (negation l) m.not_falsified;
-    form = m.form;
-    among = m.among;
-    coefficient = m.coefficient;
-    term = m.term;
-    forced = omega (arith, m.forced, open_sum-within a b ab m.form.terms, open_sum-within b a ba m.form.terms);
-  });
+  idle = λ l m. s.idle l (puts-longer (f ∷ []) b a l ba (off l m.absent) (off (negation l) m.not_falsified) m);
 }
   where
     off : (l : NumberedLiteral) → has b l ≡ false → has a l ≡ false
@@ -131,24 +130,15 @@ ended-made forms root given values d h = by (planted forms [] root given (λ l o
     by (grown whole dv all from) = second (planted forms e.reached.first h.list whole first_in e.reached.derived)
       where
         first_in : IsWithin e.reached.first whole
-        first_in l on = elim (e.reached.within l on) [
-          | inl forced ↦ all l forced
-          | inr mine ↦ derivation-keeps forms given whole dv l mine
-        ]
+        first_in = from-within root given e.reached.first whole e.reached.within all (derivation-keeps forms given whole dv)
 
         whole_in : IsWithin whole h.list
-        whole_in l on = elim (from l on) [
-          | inl forced ↦ e.keeps l forced
-          | inr mine ↦ e.covers l mine
-        ]
+        whole_in = from-within root given whole h.list from e.keeps e.covers
 
         second : Planted forms whole h.list → IsMade forms given values
         second (clashed more ev c o) = absurd (never h.list whole (λ l on. on) whole_in o)
         second (grown more ev longer since) =
-            let back : IsWithin more h.list = λ l on. elim (since l on) [
-              | inl mine ↦ mine
-              | inr older ↦ whole_in l older
-            ] in
+            let back = from-within h.list whole more h.list since (λ l on. on) whole_in in
             record {
               list = more;
               ended = record {

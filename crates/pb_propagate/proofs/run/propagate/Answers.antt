@@ -5,12 +5,11 @@ use Rattle.pb_propagate.proofs.Common.{shapes_of, stored_shape, Conflicts, IsSet
 use Rattle.pb_propagate.proofs.lemmas.engine.Derivations.{derivation-keeps}
 use Rattle.pb_propagate.proofs.lemmas.engine.Reasoned.{reasons-derive, run-reasons-none, run-reasons-then}
 use Rattle.pb_propagate.proofs.lemmas.clauses.Reasons.{run-reasons-joined}
-use Rattle.pb_propagate.proofs.lemmas.engine.Propagated.{propagating-start, propagating-visit, propagating-next, propagating-walk, propagating-bound, propagating-take, propagating-settled, propagating-spends}
-use Rattle.pb_propagate.proofs.lemmas.engine.Stopped.{stopped, form-stopped, walk-stopped}
+use Rattle.pb_propagate.proofs.lemmas.engine.Propagated.{propagating-start, propagating-visit, propagating-next, propagating-bound, propagating-take, propagating-settled, propagating-spends, forms-falling}
+use Rattle.pb_propagate.proofs.lemmas.engine.Stopped.{candidates-bounded, stopped, form-stopped, walk-stopped}
 use Rattle.pb_propagate.proofs.lemmas.engine.Watched.{walk-covered}
 use Rattle.pb_propagate.proofs.lemmas.root.Extends.{extends-none, extends-then}
 use Rattle.pb_propagate.proofs.lemmas.root.Ready.{gains-then}
-use Rattle.pb_propagate.proofs.lemmas.engine.Spent.{sum-bounded}
 use Rattle.pb_propagate.proofs.lemmas.engine.Values.{opposite}
 use Rattle.pb_propagate.proofs.lemmas.clauses.Shapes.{derives-joined, conflicts-joined, joined-source}
 use Rattle.pb_propagate.proofs.lemmas.clauses.Heads.{mark-walked, walked-mark, marking-start, marking-grow, marking-found, marking-next}
@@ -29,7 +28,7 @@ work-init c =
       taken = omega arith;
       watching = watching-start c.args.clauses.now run.assignment.values.items run.assignment.list.items c.args.from c.requires.ready.running c.requires.ready.walked.short c.requires.ready.walked.long (mark-walked run.assignment.values.items c.args.clauses.now.blocks.literals c.args.clauses.now.blocks.watches run.assignment.list.items c.args.from run.assignment.agrees c.requires.ready.walked);
       reasons = run-reasons-none (all_of store c.args.clauses.now) run;
-      state = propagating-start (database c.args.store.now c.args.rests.now) c.args.waiting.now (length store.stored.items) (cost c.args.clauses.now c.args.clauses.now c.args.from run.assignment.list.items) (progress run) c.requires.ready.sums.counted c.requires.ready.tidy c.requires.ready.sums.opens c.requires.ready.sums.candidates c.requires.ready.sums.next;
+      state = propagating-start _ (record { sized = length-map store.stored.items stored_shape; single = c.requires.ready.single; within = c.requires.ready.sums.next }) c.requires.ready.sums.counted c.requires.ready.tidy c.requires.ready.sums.opens c.requires.ready.sums.candidates;
     }
 
 pub next_walk-requires : goal.next_walk-requires
@@ -71,7 +70,7 @@ work-smaller-in-Some c =
     let state = c.work.invariant.state in
     let w = c.work.invariant.watching in
     let a = subst (λ xs. IsAhead c.work.heads xs c.in-Some.ahead) c.as_slice.ensures.value c.in-Some.ensures.some in
-    let bound = propagating-bound c.requires.ready.single state in
+    let bound = propagating-bound state in
     let sum = ap (λ (h : Heads). h.short + h.long) a.after ∙ advanced-sum a.group c.work.heads in
     omega (arith, bound, c.in_ok-walk.ensures.walks.advances.next, state.within, sum, w.short, w.long, ahead-room a.group c.work.heads (length run.assignment.list.items) a.inside w.short w.long, c.work.invariant.taken, state.values, run.assignment.room)
 
@@ -107,7 +106,7 @@ work-preserved-in-Some c =
       taken = c.work.invariant.taken;
       watching = watching;
       reasons = run-reasons-then c.work.invariant.reasons reasons;
-      state = propagating-walk (cost c.args.clauses.now c.walk.new.clauses c.in-Some.ahead.heads done.assignment.list.items) state ((reported.walked c.if-branch-2.false).0.counted) (reported.walks.tidy (drop c.work.taken c.args.waiting.now) (length store.stored.items) state.tidy) reported.walks.advances reported.walks.found same paid;
+      state = propagating-next (cost c.args.clauses.now c.walk.new.clauses c.in-Some.ahead.heads done.assignment.list.items) run.next state ((reported.walked c.if-branch-2.false).0.counted) (reported.walks.tidy (drop c.work.taken c.args.waiting.now) (length store.stored.items) state.tidy) reported.walks.advances reported.walks.found (omega arith) state.within (omega (arith, paid, ap sum same));
     }
 
 pub visit_form-requires-clause-tidy : goal.visit_form-requires-clause-tidy
@@ -132,7 +131,7 @@ work-smaller-else-branch c =
     let state = c.work.invariant.state in
     let w = c.work.invariant.watching in
     let inside : run.next + 1 ≤ length run.work.items = omega (arith, c.if-run-len.true, c.len.ensures, run.work.ok.0) in
-    let bound = propagating-bound c.requires.ready.single state in
+    let bound = propagating-bound state in
     omega (arith, bound, c.in_ok-visit_form.ensures.visits.advances.next, inside, c.work.invariant.taken, state.values, run.assignment.room, w.short, w.long)
 
 pub work-preserved-else-branch : goal.work-preserved-else-branch
@@ -154,7 +153,7 @@ work-preserved-else-branch c =
       taken = c.work.invariant.taken;
       watching = watching-grow (all_of store c.args.clauses.now) c.args.clauses.now c.work.clauses run.assignment.values.items done.assignment.values.items run.assignment.list.items done.assignment.list.items c.work.heads c.in_ok-visit_form.ensures.visits.advances.values grows derived w;
       reasons = run-reasons-then c.work.invariant.reasons (run-reasons-joined (shapes_of store.stored.items) (clauses_of c.args.clauses.now) run done c.requires.ready.joined reported.visits.reasons.kept reported.visits.reasons.added);
-      state = propagating-next (cost c.args.clauses.now c.work.clauses c.work.heads done.assignment.list.items) state (reported.counted c.if-branch.false) tidy reported.visits.advances reported.visits.found (omega (arith, inside)) (cost-grow (all_of store c.args.clauses.now) c.args.clauses.now c.work.clauses run.assignment.list.items done.assignment.list.items c.work.heads w.short w.long derived);
+      state = propagating-next (cost c.args.clauses.now c.work.clauses c.work.heads done.assignment.list.items) (run.next + 1) state (reported.counted c.if-branch.false) tidy reported.visits.advances reported.visits.found (omega arith) inside (omega (arith, reported.visits.advances.costs.paid, cost-grow (all_of store c.args.clauses.now) c.args.clauses.now c.work.clauses run.assignment.list.items done.assignment.list.items c.work.heads w.short w.long derived));
     }
 
 pub work-smaller : goal.work-smaller
@@ -162,7 +161,7 @@ work-smaller c =
     let run = c.work.run in
     let state = c.work.invariant.state in
     let w = c.work.invariant.watching in
-    let bound = propagating-bound c.requires.ready.single state in
+    let bound = propagating-bound state in
     omega (arith, bound, state.within, c.if-taken-waiting.true, w.short, w.long, state.values, run.assignment.room)
 
 pub work-preserved : goal.work-preserved
@@ -200,34 +199,34 @@ overflow_sub-count c =
     omega (arith, c.work.invariant.marking.within, c.len-count.ensures, ap length e.1, length-append c.work.run.assignment.list.items e.0)
 
 pub returns-in_err-push-clause-costs : goal.returns-in_err-push-clause-costs
-returns-in_err-push-clause-costs c = stopped c.args.store.now c.args.rests.now c.args.clauses.now c.work.clauses c.work.heads _ c.requires.ready.single c.requires.ready.sums.next c.work.invariant.state c.work.invariant.watching refl refl refl
+returns-in_err-push-clause-costs c = stopped c.args.clauses.now c.work.clauses c.work.heads _ c.work.invariant.state c.work.invariant.watching refl refl refl
 
 pub returns-in_err-push-2-clause-costs : goal.returns-in_err-push-2-clause-costs
-returns-in_err-push-2-clause-costs c = stopped c.args.store.now c.args.rests.now c.args.clauses.now c.work.clauses c.work.heads _ c.requires.ready.single c.requires.ready.sums.next c.work.invariant.state c.work.invariant.watching refl refl refl
+returns-in_err-push-2-clause-costs c = stopped c.args.clauses.now c.work.clauses c.work.heads _ c.work.invariant.state c.work.invariant.watching refl refl refl
 
 pub returns-else-taken-waiting-clause-costs : goal.returns-else-taken-waiting-clause-costs
-returns-else-taken-waiting-clause-costs c = stopped c.args.store.now c.args.rests.now c.args.clauses.now c.work.clauses c.work.heads _ c.requires.ready.single c.requires.ready.sums.next c.work.invariant.state c.work.invariant.watching refl refl refl
+returns-else-taken-waiting-clause-costs c = stopped c.args.clauses.now c.work.clauses c.work.heads _ c.work.invariant.state c.work.invariant.watching refl refl refl
 
 pub returns-in_err-visit_form-clause-costs : goal.returns-in_err-visit_form-clause-costs
-returns-in_err-visit_form-clause-costs c = form-stopped c.args.store.now c.args.rests.now c.args.clauses.now c.work.clauses c.work.heads (progress c.visit_form.new.run) c.requires.ready.single c.requires.ready.sums.next c.work.invariant.state c.work.invariant.watching (omega (arith, c.if-run-len.true, c.len.ensures, c.work.run.work.ok.0)) c.visit_form.ensures.bounded c.in_err-visit_form.ensures.costs
+returns-in_err-visit_form-clause-costs c = form-stopped c.args.clauses.now c.work.clauses c.work.heads (progress c.visit_form.new.run) c.work.invariant.state c.work.invariant.watching (omega (arith, c.if-run-len.true, c.len.ensures, c.work.run.work.ok.0)) c.visit_form.ensures.bounded c.in_err-visit_form.ensures.costs
 
 pub returns-then-branch-clause-costs : goal.returns-then-branch-clause-costs
-returns-then-branch-clause-costs c = form-stopped c.args.store.now c.args.rests.now c.args.clauses.now c.work.clauses c.work.heads (progress c.visit_form.new.run) c.requires.ready.single c.requires.ready.sums.next c.work.invariant.state c.work.invariant.watching (omega (arith, c.if-run-len.true, c.len.ensures, c.work.run.work.ok.0)) c.visit_form.ensures.bounded c.in_ok-visit_form.ensures.visits.advances.costs
+returns-then-branch-clause-costs c = form-stopped c.args.clauses.now c.work.clauses c.work.heads (progress c.visit_form.new.run) c.work.invariant.state c.work.invariant.watching (omega (arith, c.if-run-len.true, c.len.ensures, c.work.run.work.ok.0)) c.visit_form.ensures.bounded c.in_ok-visit_form.ensures.visits.advances.costs
 
 pub returns-in_err-walk-clause-costs : goal.returns-in_err-walk-clause-costs
 returns-in_err-walk-clause-costs c =
     let a = subst (λ xs. IsAhead c.work.heads xs c.in-Some.ahead) c.as_slice.ensures.value c.in-Some.ensures.some in
-    walk-stopped c.args.store.now c.args.rests.now c.args.clauses.now c.work.clauses c.walk.new.clauses c.work.heads c.in-Some.ahead (progress c.walk.new.run) c.requires.ready.single c.requires.ready.sums.next c.work.invariant.state c.work.invariant.watching a c.walk.ensures.bounded (ap (λ (v : Vec ℕ Global). v.items) c.walk.ensures.candidates) c.in_err-walk.ensures.costs
+    walk-stopped c.args.clauses.now c.work.clauses c.walk.new.clauses c.work.heads c.in-Some.ahead (progress c.walk.new.run) c.work.invariant.state c.work.invariant.watching a c.walk.ensures.bounded (ap (λ (v : Vec ℕ Global). v.items) c.walk.ensures.candidates) c.in_err-walk.ensures.costs
 
 pub returns-then-branch-2-clause-costs : goal.returns-then-branch-2-clause-costs
 returns-then-branch-2-clause-costs c =
     let a = subst (λ xs. IsAhead c.work.heads xs c.in-Some.ahead) c.as_slice.ensures.value c.in-Some.ensures.some in
-    walk-stopped c.args.store.now c.args.rests.now c.args.clauses.now c.work.clauses c.walk.new.clauses c.work.heads c.in-Some.ahead (progress c.walk.new.run) c.requires.ready.single c.requires.ready.sums.next c.work.invariant.state c.work.invariant.watching a c.walk.ensures.bounded (ap (λ (v : Vec ℕ Global). v.items) c.walk.ensures.candidates) c.in_ok-walk.ensures.walks.advances.costs
+    walk-stopped c.args.clauses.now c.work.clauses c.walk.new.clauses c.work.heads c.in-Some.ahead (progress c.walk.new.run) c.work.invariant.state c.work.invariant.watching a c.walk.ensures.bounded (ap (λ (v : Vec ℕ Global). v.items) c.walk.ensures.candidates) c.in_ok-walk.ensures.walks.advances.costs
 
 pub returns-in_err-mark-clause-costs : goal.returns-in_err-mark-clause-costs
 returns-in_err-mark-clause-costs c =
     let a = subst (λ xs. IsAhead c.work.heads xs c.in-Some.ahead) c.as_slice.ensures.value c.in-Some.ensures.some in
-    walk-stopped c.args.store.now c.args.rests.now c.args.clauses.now c.work.clauses c.walk.new.clauses c.work.heads c.in-Some.ahead (progress c.walk.new.run) c.requires.ready.single c.requires.ready.sums.next c.work.invariant.state c.work.invariant.watching a c.walk.ensures.bounded (ap (λ (v : Vec ℕ Global). v.items) c.walk.ensures.candidates) c.in_ok-walk.ensures.walks.advances.costs
+    walk-stopped c.args.clauses.now c.work.clauses c.walk.new.clauses c.work.heads c.in-Some.ahead (progress c.walk.new.run) c.work.invariant.state c.work.invariant.watching a c.walk.ensures.bounded (ap (λ (v : Vec ℕ Global). v.items) c.walk.ensures.candidates) c.in_ok-walk.ensures.walks.advances.costs
 
 -- the run can be undone
 pub returns-then-branch-clause-left : goal.returns-then-branch-clause-left
@@ -303,12 +302,11 @@ returns-else-taken-waiting-clause-settled c = λ found.
     let all : length run.work.items ≤ run.next = omega (arith, c.if-run-len.false, c.len.ensures, run.work.ok.0) in
     let none_waits : length c.args.waiting.now ≤ c.work.taken = omega (arith, c.if-taken-waiting.false) in
     let end = subst (λ (xs : List NumberedLiteral). (length xs ≤ c.work.heads.short) × (length xs ≤ c.work.heads.long)) c.as_slice.ensures.value c.in_default.ensures.none in
-    let bounded = sum-bounded (shapes_of store.stored.items) run.candidates.items (state.candidate_sizes ∙ sym (length-map store.stored.items stored_shape)) state.tidy.bounded in
     record {
       walked = walked-mark run.assignment.values.items c.work.clauses.blocks.literals c.work.clauses.blocks.watches run.assignment.list.items (heads_at (length run.assignment.list.items)) run.assignment.agrees (omega arith) (omega arith) (walked-whole run.assignment.values.items c.work.clauses.blocks.literals c.work.clauses.blocks.watches run.assignment.list.items c.work.heads (omega (arith, w.short, end.0)) (omega (arith, w.long, end.1)) w.served);
-      pays = propagating-spends (clauses_of c.args.clauses.now) c.work.heads (sum (passed_of c.work.clauses)) (progress run) 0 c.requires.ready.single c.requires.ready.sums.next state (extends-none run.assignment.list.items) (λ s. s) bounded (omega (arith, state.within)) (omega arith);
+      pays = propagating-spends (clauses_of c.args.clauses.now) c.work.heads (sum (passed_of c.work.clauses)) (progress run) 0 state (extends-none run.assignment.list.items) (λ s. s) (candidates-bounded state) (omega (arith, state.within)) (omega arith);
       settled = λ f has. elim (joined-source (shapes_of store.stored.items) (clauses_of c.args.clauses.now) f has) [
-        | inl kept ↦ propagating-settled store c.args.rests.now state all none_waits f kept
+        | inl kept ↦ propagating-settled state all none_waits f kept (forms-falling store.stored.items f kept)
         | inr clause ↦ subst (λ g. IsSettled g c.work.run.assignment.list.items) clause.2 (watching-settled c.args.clauses.now c.work.clauses run.assignment.values.items run.assignment.list.items c.work.heads clause.0 run.assignment.agrees (λ k on. opposite run.assignment.values.items run.assignment.list.items k run.assignment.agrees on) end.0 end.1 clause.1 w)
       ];
       counted = state.counted;

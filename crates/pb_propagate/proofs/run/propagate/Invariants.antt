@@ -13,7 +13,13 @@ invariant-work l = record {
   kept : KeepsWalked l.initial.run.assignment.values.items l.initial.clauses l.clauses;
   reasons : RunReasons (all_of l.store l.initial.clauses) l.initial.run l.run;
   marking : IsMarking l.initial.clauses l.clauses l.initial.run.assignment.list.items l.run.assignment.list.items l.initial.marks.items l.marks.items l.marked l.heads;
-  state : IsPropagating (database l.store l.rests) l.waiting (length l.store.stored.items) (seen_to l.initial.clauses l.fn.from l.initial.run.assignment.list.items) (cost l.initial.clauses l.clauses l.heads l.run.assignment.list.items) l.taken (progress l.initial.run) (progress l.run);
+  state : IsPropagating (record {
+    base = database l.store l.rests;
+    waiting = l.waiting;
+    count = length l.store.stored.items;
+    before = seen_to l.initial.clauses l.fn.from l.initial.run.assignment.list.items;
+    start = progress l.initial.run;
+  }) (cost l.initial.clauses l.clauses l.heads l.run.assignment.list.items) l.taken (progress l.run);
 }
 
 abbrev pub decreases-work : goal.decreases-work

@@ -68,7 +68,7 @@ returns-in_err-put-clause-costs c = on-err _ (costs-none (progress c.args.run.no
 
 pub returns-in_err-lower-clause-costs : goal.returns-in_err-lower-clause-costs
 returns-in_err-lower-clause-costs c =
-    on-err _ (putting-costs (progress c.lower.new.run) (assigns c.put.new.self.values.items c.put.new.self.list.items c.args.literal (progress c.args.run.now) c.in_ok-put.ensures.ok c.requires.absent c.put.ensures.values) (read (goal.at.returns-in_err-lower-clause-costs c).After-visit-entry).inside (ap (λ (a : Assignment). a.list.items) c.lower.ensures.assignment) (ap (λ (v : Vec ℕ Global). v.items) c.lower.ensures.candidates) (omega (arith, c.lower.ensures.visits, c.visit-entry.ensures.count)) c.entries.invariant.putting)
+    on-err _ (putting-costs (progress c.lower.new.run) (assigns c.put.new.self.values.items c.put.new.self.list.items c.args.literal (progress c.args.run.now) c.in_ok-put.ensures.ok c.requires.absent c.put.ensures.values) (ap (λ (a : Assignment). a.list.items) c.lower.ensures.assignment) (ap (λ (v : Vec ℕ Global). v.items) c.lower.ensures.candidates) (omega (arith, c.lower.ensures.visits, c.visit-entry.ensures.count, (read (goal.at.returns-in_err-lower-clause-costs c).After-visit-entry).inside)) c.entries.invariant.putting)
 
 -- where the loop ends early: one entry more was subtracted
 lowered : (c : goal.Then-branch) → IsPutting (database c.args.store.now c.args.rests.now) (entries_against (database c.args.store.now c.args.rests.now) c.args.literal) (assigned_to c.put.new.self.values.items c.put.new.self.list.items (progress c.args.run.now)) (progress c.lower.new.run) (c.entries.j + 1)

@@ -26,9 +26,9 @@ passed : (c : In_ok-found) → IsVisiting (database c.args.store.now c.args.rest
 passed c =
     let in_visit = c.terms.invariant.in_visit in
     let reported = c.in_ok-found.ensures in
-    visiting-next c.visit_term-term.new.visits (progress c.try_put.new.run) (set c.try_put.new.run.candidates.items c.args.form (c.index-candidate.result.now + 1)) in_visit
+    visiting-next c.visit_term-term.new.visits (progress c.try_put.new.run) in_visit
     (forced-read c.args.store.now c.args.rests.now c.args.form (progress c.terms.run) c.index-kept.result.now c.index-opened.result.now c.index-candidate.result.now c.visit_term-term.result c.requires.form c.index-kept.ensures in_visit.opens in_visit.candidates c.index-opened.ensures c.index-candidate.ensures (omega (arith, c.if-candidate-len.false, c.len.ensures)) (c.visit_term-term.ensures.item c.visit_term-term.result) (rw c.degree-degree.ensures at (c.is_below-demands.ensures.below c.if-not-demands.false)))
-    c.terms.invariant.counted c.visit_term-term.ensures.count c.visit_term-term.ensures.rising reported.adopted reported.puts.advances reported.puts.tidy (ap (λ (v : Vec ℕ Global). v.items) reported.candidates) refl
+    c.terms.invariant.counted c.visit_term-term.ensures.count c.visit_term-term.ensures.rising reported.adopted reported.puts.advances reported.puts.tidy (ap (λ (v : Vec ℕ Global). v.items) reported.candidates)
 
 -- the literal has the form as its reason
 reasoned : (c : In_ok-found) → RunReasons (shapes_of c.args.store.now.stored.items) c.args.run.now c.try_put.new.run

@@ -3,7 +3,7 @@ use Rattle.pb_propagate.proofs.Common.{list_at, watch_at, watch_lists, clauses_o
 use Rattle.pb_propagate.proofs.lemmas.store.Changes.{forms-filled}
 use Rattle.pb_propagate.proofs.lemmas.store.Slots.{slots-bare, rest-filled, rest-watched, rest-refitted}
 use Rattle.pb_propagate.proofs.lemmas.clauses.Slots.{slots-vacant}
-use Rattle.pb_propagate.proofs.lemmas.root.Admitted.{no-watch, pair-free}
+use Rattle.pb_propagate.proofs.lemmas.root.Added.{no-watch, pair-free}
 use Rattle.pb_propagate.proofs.lemmas.root.Gained.{gained-filled}
 use Rattle.pb_propagate.proofs.slots.add_form.Goals as goal
 

@@ -44,19 +44,19 @@ progress r = record {
 -- a run with other values and literals, another count of visits, other candidates, another work list and trail, or another
 -- next form
 abbrev pub assigned_to : List (Option Bool) → List NumberedLiteral → Progress → Progress
-assigned_to values list p = record { opens = p.opens; candidates = p.candidates; work = p.work; trail = p.trail; values = values; list = list; next = p.next; visits = p.visits }
+assigned_to values list p = record p { values = values; list = list }
 
 abbrev pub visited_to : ℕ → Progress → Progress
-visited_to visits p = record { opens = p.opens; candidates = p.candidates; work = p.work; trail = p.trail; values = p.values; list = p.list; next = p.next; visits = visits }
+visited_to visits p = record p { visits = visits }
 
 abbrev pub passed_to : List ℕ → Progress → Progress
-passed_to candidates p = record { opens = p.opens; candidates = candidates; work = p.work; trail = p.trail; values = p.values; list = p.list; next = p.next; visits = p.visits }
+passed_to candidates p = record p { candidates = candidates }
 
 abbrev pub queued_to : List ℕ → List ℕ → Progress → Progress
-queued_to work trail p = record { opens = p.opens; candidates = p.candidates; work = work; trail = trail; values = p.values; list = p.list; next = p.next; visits = p.visits }
+queued_to work trail p = record p { work = work; trail = trail }
 
 abbrev pub taken_to : ℕ → Progress → Progress
-taken_to next p = record { opens = p.opens; candidates = p.candidates; work = p.work; trail = p.trail; values = p.values; list = p.list; next = next; visits = p.visits }
+taken_to next p = record p { next = next }
 
 -- what a run reads: forms, the entries of each literal, and the state to which forms return
 pub record Database : Type 0 where

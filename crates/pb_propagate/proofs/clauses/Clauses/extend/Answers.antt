@@ -1,5 +1,5 @@
 use Rattle.pb_propagate.proofs.Common.{◌++◌, ◌∙◌, ◌∷◌, [], ap, List, Watch, idle, watch_at}
-use Rattle.pb_propagate.proofs.lemmas.root.Gained.{idle-push}
+use Rattle.pb_propagate.proofs.lemmas.engine.Sources.{get_or-push_default}
 use Rattle.pb_propagate.proofs.lemmas.clauses.Stores.{rest-extend}
 use Rattle.pb_propagate.proofs.clauses.Clauses.extend.Goals as goal
 
@@ -9,4 +9,4 @@ returns-clause-rest c =
 
 pub returns-clause-watches : goal.returns-clause-watches
 returns-clause-watches c = λ e.
-    ap (λ (ws : List Watch). watch_at ws e) c.in_ok-extend.ensures.watches ∙ idle-push (c.args.self.now.blocks.watches ++ (idle ∷ [])) e ∙ idle-push c.args.self.now.blocks.watches e
+    ap (λ (ws : List Watch). watch_at ws e) c.in_ok-extend.ensures.watches ∙ get_or-push_default (c.args.self.now.blocks.watches ++ (idle ∷ [])) idle e ∙ get_or-push_default c.args.self.now.blocks.watches idle e

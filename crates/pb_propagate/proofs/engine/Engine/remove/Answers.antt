@@ -19,8 +19,7 @@ invariant_of-self c = λ ready.
     let room : c.index-slot.result.now < length e.store.stored.items = omega (arith, c.if-slot-len.false, c.len.ensures, e.store.stored.ok.0) in (
       c.remove_form.ensures.rest,
       rw c.remove_form.ensures.forms (placed-left (forms_of e.store.stored.items) e.places.items c.args.number c.index-slot.result.now t r.1),
-      let l = c.remove.ensures in
-          rw l.walked (lost-rooted e.store c.remove_form.new.store e.clauses c.remove_form.new.clauses l.mid.run c.remove.new.self.run l.mid.rests c.remove.new.self.rests l.mid.waiting c.remove.new.self.waiting l.mid.walked c.index-slot.result.now room (omega (arith, room, r.0.known)) c.remove_form.ensures.rest.ready c.remove_form.ensures.vacated l.lost l.waiting l.positions l.needless l.rooted),
+      lost-rooted e.store c.remove_form.new.store e.clauses c.remove_form.new.clauses c.index-slot.result.now c.remove.new.self room (omega (arith, room, r.0.known)) c.remove_form.ensures.rest.ready c.remove_form.ensures.vacated c.remove.ensures,
       lost-kept e.store c.remove_form.new.store e.clauses c.remove_form.new.clauses c.index-slot.result.now c.remove-2.new.self c.remove_form.ensures.vacated c.remove-2.ensures.spare c.remove-2.ensures.unbroken c.remove-2.ensures.kept,
     )
 

@@ -57,5 +57,5 @@ returns-clause-left c =
       ready = c.back.ensures.ready;
       lists = omega (arith, ap (λ (v : Vec (Vec Listed Global) Global). length v.items) c.back.ensures.lists, left.running.sizes, left.values, r.values, c.requires.standing.widths);
       conflict = c.in_ok-update.ensures.kept;
-      rooted = question-back r left c.back.ensures (omega (arith, c.len-count.ensures, run.assignment.list.ok.0)) c.propagate_given.ensures.literals;
+      rooted = question-back c.update.new.self r left c.back.ensures (omega (arith, c.len-count.ensures, run.assignment.list.ok.0)) c.propagate_given.ensures.literals;
     }

@@ -1,7 +1,7 @@
 use Rattle.pb_propagate.proofs.Common.{stored_total}
 use Rattle.pb_propagate.proofs.Common.{ℕ, ◌++◌, ◌+◌, ◌∙◌, ◌∷◌, ◌≡◌, [], ap, arith, get_or, Global, length, length-append, length-set, List, refl}
 use Rattle.pb_propagate.proofs.Common.{rules, set, subst, sym, take, Vec, Contains, sum, sum_by, take-append_seam, length-map, sum_by_push}
-use Rattle.pb_propagate.proofs.Common.{NumberedLiteral, Assignment, Listed, KeepsWalked, IsMark, all_of, clauses_of, joined, beside, IsTidy, none}
+use Rattle.pb_propagate.proofs.Common.{NumberedLiteral, Assignment, Listed, KeepsWalked, IsMark, all_of, clauses_of, joined, none}
 use Rattle.pb_propagate.proofs.Common.{forms_of, shapes_of, stored_shape, Conflicts, Derives, KeepsReasons, open_sum, Shape, list_of, reasons_of}
 use Rattle.pb_propagate.proofs.Common.{alone, posed, ArePlaced, numbered, ◌*◌, ◌≤◌}
 use Rattle.pb_propagate.proofs.lemmas.clauses.Heads.{heads-is, visits-back, walks-kept}
@@ -13,7 +13,7 @@ use Rattle.pb_propagate.proofs.lemmas.engine.Spent.{derivation-single}
 use Rattle.pb_propagate.proofs.lemmas.engine.Values.{opposite}
 use Rattle.pb_propagate.proofs.lemmas.root.Extends.{extends-then}
 use Rattle.pb_propagate.proofs.lemmas.root.Kept.{conflict-answered}
-use Rattle.pb_propagate.proofs.lemmas.root.Questions.{entered-shapes, laid-counted, laid-tidy, undone-same, derives-entered, kept-terms, found-after, found-both, question-most, updated-most, both-parts}
+use Rattle.pb_propagate.proofs.lemmas.root.Questions.{IsEntered, entered-shapes, opened-counted, opened-tidy, undone-same, derives-entered, kept-terms, found-after, found-both, question-most, updated-most, both-parts}
 use Rattle.pb_propagate.proofs.lemmas.store.Placed.{numbered-entered}
 use Rattle.pb_propagate.proofs.lemmas.engine.Reasoned.{reasons-derive, reasons-keep}
 use Rattle.pb_propagate.specs.engine.Engine.Root.{terms_of_all}
@@ -68,29 +68,28 @@ posed-most c =
     let keep = store.stored.items in
     let root = c.update.new.self in
     let run = root.run in
-    let rests = root.rests in
     let between = c.update.new.clauses in
     let r = c.in_ok-update.ensures.rooted in
     let new = c.enter.new in
     let h = c.in_ok-enter.ensures.entered in
     let list_is = ap (λ (a : Assignment). a.list.items) c.enter.ensures.rest.0 in
-    let laid_is = ap (λ (a : Assignment). a.list.items) (c.open_form.ensures.assignment ∙ c.enter.ensures.rest.0) in
+    let opened_is = ap (λ (a : Assignment). a.list.items) (c.open_form.ensures.assignment ∙ c.enter.ensures.rest.0) in
     let number_is : c.len-number.result ≡ length keep = omega (arith, c.len-number.ensures, store.stored.ok.0) in
     let lit : clauses_of between ≡ clauses_of c.args.clauses.now = c.update.ensures.literals in
     let count_is : c.len-count.result ≡ length run.assignment.list.items = omega (arith, c.len-count.ensures, run.assignment.list.ok.0) in
     let clauses = clauses_of c.args.clauses.now in
     let whole : all_of new.store c.args.clauses.now ≡ all_of store c.args.clauses.now ++ (stored_shape h.kept ∷ []) =
-    ap (λ xs. joined xs clauses) (entered-shapes c.args.form keep new.store.stored.items run.opens.items new.run.opens.items run.candidates.items new.run.candidates.items h) ∙ joined-push (shapes_of keep) clauses (stored_shape h.kept) c.requires.standing.joined.short in
+    ap (λ xs. joined xs clauses) (entered-shapes keep new.store.stored.items h.kept h.keeps) ∙ joined-push (shapes_of keep) clauses (stored_shape h.kept) c.requires.standing.joined.short in
     let start : Derives (all_of new.store c.args.clauses.now) [] c.args.root.now.run.assignment.list.items = rw whole (derives-entered (all_of store c.args.clauses.now) (stored_shape h.kept) [] c.args.root.now.run.assignment.list.items (reasons-derive c.requires.standing.rooted.reasoned)) in
     let done = c.propagate.new.run in
     let work_is = ap (λ (v : Vec ℕ Global). v.items) c.enter.ensures.rest.1 ∙ r.work in
     let few = grown-length c.len-number.result c.enter.new.run.work.items c.open_form.new.run.work.items c.in_ok-open_form.ensures.work in
     let spends = rw (c.as_slice.ensures.value ∙ c.new-none.ensures.items) at c.propagate.ensures.costs in
     let cands = ap (λ (v : Vec ℕ Global). sum v.items) c.open_form.ensures.candidates ∙ ap sum h.candidates ∙ sum_by_push (λ (n : ℕ). n) run.candidates.items 0 in
-    let upper = both-parts store new.store c.args.clauses.now between c.args.root.now.rests rests c.args.root.now.waiting.list.items c.args.root.now.walked.heads c.args.root.now.run run c.open_form.new.run done c.at.result (heads-is c.at.result (length run.assignment.list.items) (c.at.ensures.0 ∙ count_is) (c.at.ensures.1 ∙ count_is)) lit c.in_ok-enter.ensures.longer laid_is (omega (arith, cands)) (c.open_form.ensures.visits ∙ c.enter.ensures.rest.3) c.requires.standing.rooted.work (omega (arith, few.1, ap length work_is)) c.requires.visits (c.in_ok-update.ensures.updated c.if-branch.false).pays spends in
-    let extends = extends-then c.args.root.now.run.assignment.list.items run.assignment.list.items done.assignment.list.items (c.in_ok-update.ensures.updated c.if-branch.false).pays.extends (rw laid_is at spends.extends) in
+    let upper = both-parts store new.store c.args.clauses.now between c.args.root.now root c.open_form.new.run done c.at.result (heads-is c.at.result (length run.assignment.list.items) (c.at.ensures.0 ∙ count_is) (c.at.ensures.1 ∙ count_is)) lit c.in_ok-enter.ensures.longer opened_is (omega (arith, cands)) (c.open_form.ensures.visits ∙ c.enter.ensures.rest.3) c.requires.standing.rooted.work (omega (arith, few.1, ap length work_is)) c.requires.visits (c.in_ok-update.ensures.updated c.if-branch.false) spends in
+    let extends = extends-then c.args.root.now.run.assignment.list.items run.assignment.list.items done.assignment.list.items (c.in_ok-update.ensures.updated c.if-branch.false).pays.extends (rw opened_is at spends.extends) in
     let most = question-most new.store clauses c.args.root.now.run.assignment.list.items done.assignment.list.items done.visits (length c.args.root.now.waiting.list.items + 1) (sum done.candidates.items) c.in_ok-enter.ensures.sound
-    (joined-entered c.args.form keep new.store.stored.items clauses run.opens.items new.run.opens.items run.candidates.items new.run.candidates.items h c.requires.standing.joined) spends.single (λ l on. opposite done.assignment.values.items done.assignment.list.items l done.assignment.agrees on) extends start spends.bounded upper in
+    (joined-entered keep new.store.stored.items h.kept clauses h.keeps c.requires.standing.joined) spends.single (λ l on. opposite done.assignment.values.items done.assignment.list.items l done.assignment.agrees on) extends start spends.bounded upper in
     let more = ap (sum_by (λ (f : Shape). length f.terms)) whole ∙ sum_by_push (λ (f : Shape). length f.terms) (all_of store c.args.clauses.now) (stored_shape h.kept) in
     omega (arith, most, more, kept-terms c.args.form (stored_shape h.kept) h.is)
 
@@ -111,22 +110,22 @@ returns-clause-asked c =
     let new = c.enter.new in
     let h = c.in_ok-enter.ensures.entered in
     let list_is = ap (λ (a : Assignment). a.list.items) c.enter.ensures.rest.0 in
-    let laid_is = ap (λ (a : Assignment). a.list.items) (c.open_form.ensures.assignment ∙ c.enter.ensures.rest.0) in
+    let opened_is = ap (λ (a : Assignment). a.list.items) (c.open_form.ensures.assignment ∙ c.enter.ensures.rest.0) in
     let number_is : c.len-number.result ≡ length keep = omega (arith, c.len-number.ensures, store.stored.ok.0) in
     let lit : clauses_of between ≡ clauses_of c.args.clauses.now = c.update.ensures.literals in
     let clauses = clauses_of c.args.clauses.now in
     let whole : all_of new.store c.args.clauses.now ≡ all_of store c.args.clauses.now ++ (stored_shape h.kept ∷ []) =
-    ap (λ xs. joined xs clauses) (entered-shapes c.args.form keep new.store.stored.items run.opens.items new.run.opens.items run.candidates.items new.run.candidates.items h) ∙ joined-push (shapes_of keep) clauses (stored_shape h.kept) c.requires.standing.joined.short in
+    ap (λ xs. joined xs clauses) (entered-shapes keep new.store.stored.items h.kept h.keeps) ∙ joined-push (shapes_of keep) clauses (stored_shape h.kept) c.requires.standing.joined.short in
     let whole_now : all_of new.store between ≡ all_of store c.args.clauses.now ++ (stored_shape h.kept ∷ []) = ap (joined (shapes_of new.store.stored.items)) lit ∙ whole in
     let start : Derives (all_of new.store c.args.clauses.now) [] run.assignment.list.items = rw whole (derives-entered (all_of store c.args.clauses.now) (stored_shape h.kept) [] run.assignment.list.items (subst (λ xs. Derives xs [] run.assignment.list.items) (ap (joined (shapes_of keep)) lit) (reasons-derive r.reasoned))) in
     let done = c.propagate.new.run in
     let reported = c.in_ok-found.ensures in
-    let derived : Derives (all_of new.store c.args.clauses.now) run.assignment.list.items done.assignment.list.items = rw (laid_is, lit) at (reasons-derive reported.reasons.added) in
+    let derived : Derives (all_of new.store c.args.clauses.now) run.assignment.list.items done.assignment.list.items = rw (opened_is, lit) at (reasons-derive reported.reasons.added) in
     let all = derivation-then (all_of new.store c.args.clauses.now) [] run.assignment.list.items done.assignment.list.items start derived in
     posed (stored_shape h.kept) h.is (record {
       list = done.assignment.list.items;
       derived = rw whole at all;
-      few = omega (arith, found-after (length done.assignment.list.items) done.visits (length c.args.root.now.run.assignment.list.items) (found-both (length c.args.root.now.run.assignment.list.items) (length run.assignment.list.items) (length c.open_form.new.run.assignment.list.items) (length done.assignment.list.items) c.args.root.now.run.visits run.visits c.open_form.new.run.visits done.visits c.requires.visits (ap length laid_is) (c.open_form.ensures.visits ∙ c.enter.ensures.rest.3) (c.in_ok-update.ensures.updated c.if-branch.false).found reported.gains.found c.in_ok-found.ensures.gains.rising) (omega (arith, done.assignment.list.ok.0, done.assignment.list.ok.1)), c.back.ensures.visits, c.leave.ensures.rest.3);
+      few = omega (arith, found-after (length done.assignment.list.items) done.visits (length c.args.root.now.run.assignment.list.items) (found-both (length c.args.root.now.run.assignment.list.items) (length run.assignment.list.items) (length c.open_form.new.run.assignment.list.items) (length done.assignment.list.items) c.args.root.now.run.visits run.visits c.open_form.new.run.visits done.visits c.requires.visits (ap length opened_is) (c.open_form.ensures.visits ∙ c.enter.ensures.rest.3) (c.in_ok-update.ensures.updated c.if-branch.false).found reported.gains.found c.in_ok-found.ensures.gains.rising) (omega (arith, done.assignment.list.ok.0, done.assignment.list.ok.1)), c.back.ensures.visits, c.leave.ensures.rest.3);
       one_sided = λ l on. opposite done.assignment.values.items done.assignment.list.items l done.assignment.agrees on;
       conflict = λ found. subst (λ xs. Conflicts xs done.assignment.list.items) (whole_now) (reported.conflict found);
       settled = λ found f has. (reported.settled found).settled f (subst (λ xs. Contains xs f) (sym whole_now) has);
@@ -154,14 +153,14 @@ returns-clause-left c =
     let new = c.enter.new in
     let h = c.in_ok-enter.ensures.entered in
     let list_is = ap (λ (a : Assignment). a.list.items) c.enter.ensures.rest.0 in
-    let laid_is = ap (λ (a : Assignment). a.list.items) (c.open_form.ensures.assignment ∙ c.enter.ensures.rest.0) in
+    let opened_is = ap (λ (a : Assignment). a.list.items) (c.open_form.ensures.assignment ∙ c.enter.ensures.rest.0) in
     let number_is : c.len-number.result ≡ length keep = omega (arith, c.len-number.ensures, store.stored.ok.0) in
     let count_is : c.len-count.result ≡ length run.assignment.list.items = omega (arith, c.len-count.ensures, run.assignment.list.ok.0) in
     let done = c.propagate.new.run in
     let reported = c.in_ok-found.ensures in
     let b = c.back.new in
     let last = c.leave.new in
-    let extends = rw laid_is at c.propagate.ensures.costs.extends in
+    let extends = rw opened_is at c.propagate.ensures.costs.extends in
     let long : length new.store.stored.items ≡ length keep + 1 = omega (arith, ap length h.keeps, length-append keep (h.kept ∷ [])) in
     let same = undone-same rests (shapes_of new.store.stored.items) b.run.opens.items b.run.candidates.items (length keep) c.back.ensures.undone (omega (arith, long, length-map new.store.stored.items stored_shape)) (omega (arith, long, c.back.ensures.opens)) (omega (arith, long, c.back.ensures.candidates)) (omega (arith, ap length r.opens, r.open_sizes)) (omega (arith, ap length r.starts, r.start_sizes)) in
     let kept_is : last.store.stored.items ≡ keep = c.leave.ensures.kept ∙ prefix-of new.store.stored.items keep h.kept h.keeps in
@@ -213,16 +212,14 @@ propagate-requires-clause-ready c =
     let opens = run.opens.items in
     let d : Shape = record { terms = []; degree = 0 } in
     let between = c.update.new.clauses in
-    let laid_is = ap (λ (a : Assignment). a.list.items) (c.open_form.ensures.assignment ∙ c.enter.ensures.rest.0) in
+    let opened_is = ap (λ (a : Assignment). a.list.items) (c.open_form.ensures.assignment ∙ c.enter.ensures.rest.0) in
     let number_is : c.len-number.result ≡ length keep = omega (arith, c.len-number.ensures, store.stored.ok.0) in
-    let rests = root.rests in
     let low = λ (d : Shape). c.in_ok-open_form.ensures.opens d ∙ ap (λ (xs : List NumberedLiteral). set new.run.opens.items c.len-number.result (open_sum xs (get_or (shapes_of new.store.stored.items) c.len-number.result d).terms)) list_is in
     let work_is = ap (λ (v : Vec ℕ Global). v.items) c.enter.ensures.rest.1 ∙ r.work in
     let queued = rw (list_is, work_is) at c.in_ok-open_form.ensures.work in
     let trail_is = c.in_ok-open_form.ensures.trail ∙ ap (λ (xs : List ℕ). xs ++ (c.len-number.result ∷ [])) (ap (λ (v : Vec ℕ Global). v.items) c.enter.ensures.trail ∙ r.trail) in
-    let none_waits = (c.in_ok-update.ensures.updated c.if-branch.false).none in
-    let before : IsTidy (beside rests []) (shapes_of keep) run.opens.items run.candidates.items run.assignment.list.items [] [] 0 c.len-number.result = rw number_is (rw none_waits at r.tidy) in
-    let tidy = laid-tidy rests c.args.form keep new.store.stored.items run.opens.items new.run.opens.items run.candidates.items new.run.candidates.items c.open_form.new.run.opens.items run.assignment.list.items c.open_form.new.run.work.items c.open_form.new.run.trail.items c.len-number.result h number_is r.open_sizes r.start_sizes (omega (arith, ap length r.opens, r.open_sizes)) (omega (arith, ap length r.starts, r.start_sizes)) before low queued trail_is in
+    let e : IsEntered c.args.form store new.store root new.run c.len-number.result = record { entered = h; clauses = between; rooted = r; none = (c.in_ok-update.ensures.updated c.if-branch.false).none; at = number_is } in
+    let tidy = opened-tidy e c.open_form.new.run low queued trail_is in
     let cands_is = ap (λ (v : Vec ℕ Global). v.items) c.open_form.ensures.candidates in
     let lit : clauses_of between ≡ clauses_of c.args.clauses.now = c.update.ensures.literals in
     let values_is = ap (λ (a : Assignment). a.values.items) (c.open_form.ensures.assignment ∙ c.enter.ensures.rest.0) in
@@ -237,12 +234,11 @@ propagate-requires-clause-ready c =
         opens = omega (arith, ap length (c.in_ok-open_form.ensures.opens d), length-set c.enter.new.run.opens.items c.len-number.result (open_sum c.enter.new.run.assignment.list.items (get_or (shapes_of c.enter.new.store.stored.items) c.len-number.result d).terms), ap length h.opened, length-append opens (stored_total h.kept ∷ []), r.open_sizes, ap length h.keeps, length-append keep (h.kept ∷ []));
         candidates = omega (arith, ap (λ (v : Vec ℕ Global). length v.items) c.open_form.ensures.candidates, ap length h.candidates, length-append run.candidates.items (0 ∷ []), r.start_sizes, ap length h.keeps, length-append keep (h.kept ∷ []));
         next = omega (arith, next_is);
-        counted = rw laid_is (laid-counted c.args.form keep new.store.stored.items run.opens.items new.run.opens.items run.candidates.items new.run.candidates.items c.open_form.new.run.opens.items run.assignment.list.items c.len-number.result h number_is r.open_sizes
-            (λ s d less. r.counted s d less (λ e. absurd (omega (arith, e, less)))) (λ d. c.in_ok-open_form.ensures.opens d ∙ ap (λ (xs : List NumberedLiteral). set new.run.opens.items c.len-number.result (open_sum xs (get_or (shapes_of new.store.stored.items) c.len-number.result d).terms)) list_is));
+        counted = rw opened_is (opened-counted e c.open_form.new.run.opens.items low);
       };
-      single = rw laid_is (derivation-single (all_of store between) [] run.assignment.list.items none (reasons-derive r.reasoned));
-      tidy = rw (c.as_slice.ensures.value, c.new-none.ensures.items, laid_is, cands_is, c.open_form.ensures.next ∙ c.enter.ensures.rest.2 ∙ r.next) tidy;
-      joined = rw lit (joined-entered c.args.form keep new.store.stored.items (clauses_of c.args.clauses.now) run.opens.items new.run.opens.items run.candidates.items new.run.candidates.items h c.requires.standing.joined);
+      single = rw opened_is (derivation-single (all_of store between) [] run.assignment.list.items none (reasons-derive r.reasoned));
+      tidy = rw (c.as_slice.ensures.value, c.new-none.ensures.items, opened_is, cands_is, c.open_form.ensures.next ∙ c.enter.ensures.rest.2 ∙ r.next) tidy;
+      joined = rw lit (joined-entered keep new.store.stored.items h.kept (clauses_of c.args.clauses.now) h.keeps c.requires.standing.joined);
       running = rw values_is (c.in_ok-update.ensures.updated c.if-branch.false).running;
-      walked = rw (laid_is, heads) whole;
+      walked = rw (opened_is, heads) whole;
     }

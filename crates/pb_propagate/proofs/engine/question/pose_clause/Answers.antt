@@ -52,7 +52,7 @@ posed-most c =
     let lit : clauses_of between ≡ clauses_of c.args.clauses.now = c.update.ensures.literals in
     let entries = ap (λ (xs : List Entry). length xs) c.terms.ensures.terms in
     let costs = c.refute.ensures.costs in
-    let upper = both-costs store c.args.clauses.now between c.args.root.now.rests root.rests c.args.root.now.waiting.list.items c.args.root.now.walked.heads (length c.terms.result.now) start root.run done lit c.requires.standing.rooted.work c.requires.visits (c.in_ok-update.ensures.updated c.if-branch.false).pays costs in
+    let upper = both-costs store c.args.clauses.now between c.args.root.now root (length c.terms.result.now) done lit c.requires.standing.rooted.work c.requires.visits (c.in_ok-update.ensures.updated c.if-branch.false) costs in
     let extends = extends-then start.assignment.list.items root.run.assignment.list.items done.assignment.list.items (c.in_ok-update.ensures.updated c.if-branch.false).pays.extends costs.extends in
     let most = question-most store (clauses_of c.args.clauses.now) start.assignment.list.items done.assignment.list.items done.visits (length c.args.root.now.waiting.list.items + length c.terms.result.now) (sum done.candidates.items) c.requires.standing.sound c.requires.standing.joined costs.single (λ l on. opposite done.assignment.values.items done.assignment.list.items l done.assignment.agrees on) extends (reasons-derive c.requires.standing.rooted.reasoned) costs.bounded upper in
     omega (arith, most, entries)
@@ -111,5 +111,5 @@ returns-clause-left c =
       ready = c.back.ensures.ready;
       lists = omega (arith, ap (λ (v : Vec (Vec Listed Global) Global). length v.items) c.back.ensures.lists, left.running.sizes, left.values, r.values, c.requires.standing.widths);
       conflict = c.in_ok-update.ensures.kept;
-      rooted = question-back r left c.back.ensures (omega (arith, c.len-count.ensures, run.assignment.list.ok.0)) c.refute.ensures.literals;
+      rooted = question-back c.update.new.self r left c.back.ensures (omega (arith, c.len-count.ensures, run.assignment.list.ok.0)) c.refute.ensures.literals;
     }

@@ -1,9 +1,8 @@
 use Rattle.pb_propagate.proofs.Common.{ℕ, ◌++◌, ◌∙◌, ◌∷◌, ◌≡◌, [], ap, arith, get_or, Global, inl, inr, length, length-set, List, subst, sym, Vec}
-use Rattle.pb_propagate.proofs.Common.{slice_get, cases_eq, length-map, Assignment, both_ways, beside, IsTidy, shapes_of}
+use Rattle.pb_propagate.proofs.Common.{slice_get, cases_eq, length-map, Assignment, beside, IsTidy, shapes_of}
 use Rattle.pb_propagate.proofs.Common.{stored_shape, open_sum, Shape, HasForm, IsRooted}
-use Rattle.pb_propagate.proofs.lemmas.clauses.Heads.{walks-kept}
 use Rattle.pb_propagate.proofs.lemmas.root.Roots.{kept-rooted}
-use Rattle.pb_propagate.proofs.lemmas.root.Admitted.{arrived, gained-keeps, gained-rooted, admitted-rooted, clause-rooted, slot-counted, slot-tidy, grown-off}
+use Rattle.pb_propagate.proofs.lemmas.root.Added.{arrived, gained-rooted, clause-rooted, slot-counted, slot-tidy, grown-off}
 use Rattle.pb_propagate.proofs.lemmas.engine.Runs.{absent-push, absent-new}
 use Rattle.pb_propagate.proofs.lemmas.store.Positions.{get-absent, push-older}
 use Rattle.pb_propagate.proofs.engine.root.Root.add.Goals.{Else-is_filled, In_ok-open_form}
@@ -12,43 +11,27 @@ use Rattle.pb_propagate.proofs.engine.root.Root.add.Goals as goal
 pub returns-then-is_filled : goal.returns-then-is_filled
 returns-then-is_filled c =
     let store = c.args.store.now in
-    let g = c.requires.gained in
     let me = c.args.self.now in
-    let run = me.run in
-    let r = g.2 in
-    let reached = c.in_ok-widen_run.ensures in
     let filled = c.is_filled.ensures.yes c.if-is_filled.true in
-    let keeps = gained-keeps run.assignment.values.items run.assignment.list.items g.0 store g.1 c.args.clauses.now c.args.slot run.assignment.agrees g.3 (λ e here live failed. absurd (both_ways _ (g.4 e here live) failed)) in
-    let walks = walks-kept g.1 c.args.clauses.now run.assignment.list.items me.walked keeps r.walks in
-    let rooted = gained-rooted g.0 store g.1 c.args.clauses.now run c.widen_run.new.run me.rests c.widen_run.new.rests me.waiting c.widen_run.new.waiting me.walked c.args.slot c.requires.slot r g.3 reached walks in
-    let there = arrived g.0 store g.1 c.args.clauses.now run c.widen_run.new.run me.rests c.widen_run.new.rests me.waiting c.widen_run.new.waiting me.walked c.args.slot c.requires.slot r g.3 reached in
+    let rooted = gained-rooted store c.args.clauses.now me c.widen_run.new.run c.widen_run.new.rests c.widen_run.new.waiting c.args.slot c.requires.gained c.requires.slot c.in_ok-widen_run.ensures in
+    let there = arrived store c.args.clauses.now me c.widen_run.new.run c.widen_run.new.rests c.widen_run.new.waiting c.args.slot c.requires.gained c.requires.slot c.in_ok-widen_run.ensures in
     clause-rooted store c.args.clauses.now c.widen_run.new.run c.widen_run.new.rests c.widen_run.new.waiting me.walked c.args.slot c.requires.slot (λ d. c.requires.joined.apart c.args.slot d (omega (arith, c.requires.slot, length-map store.stored.items stored_shape)) filled) there.open_none rooted
 
 -- the slot is the only one whose open sum is not that of the root's literals; then it is too
-admitted : (c : Else-is_filled) → IsRooted c.args.store.now c.args.clauses.now c.widen_run.new.run c.widen_run.new.rests c.widen_run.new.waiting c.args.self.now.walked c.args.slot
-admitted c =
-    let store = c.args.store.now in
-    let g = c.requires.gained in
-    let me = c.args.self.now in
-    admitted-rooted g.0 store g.1 c.args.clauses.now me.run c.widen_run.new.run me.rests c.widen_run.new.rests me.waiting c.widen_run.new.waiting me.walked c.args.slot c.requires.slot g.2 g.3 c.in_ok-widen_run.ensures c.requires.ready (c.is_filled.ensures.no c.if-is_filled.false)
+added : (c : Else-is_filled) → IsRooted c.args.store.now c.args.clauses.now c.widen_run.new.run c.widen_run.new.rests c.widen_run.new.waiting c.args.self.now.walked c.args.slot
+added c = gained-rooted c.args.store.now c.args.clauses.now c.args.self.now c.widen_run.new.run c.widen_run.new.rests c.widen_run.new.waiting c.args.slot c.requires.gained c.requires.slot c.in_ok-widen_run.ensures
 
-laid-size : (c : In_ok-open_form) → length c.open_form.new.run.opens.items ≡ length c.args.store.now.stored.items
-laid-size c =
+opened-size : (c : In_ok-open_form) → length c.open_form.new.run.opens.items ≡ length c.args.store.now.stored.items
+opened-size c =
     let store = c.args.store.now in
-    let g = c.requires.gained in
-    let me = c.args.self.now in
-    let r = admitted-rooted g.0 store g.1 c.args.clauses.now me.run c.widen_run.new.run me.rests c.widen_run.new.rests me.waiting c.widen_run.new.waiting me.walked c.args.slot c.requires.slot g.2 g.3 c.in_ok-widen_run.ensures c.requires.ready (c.is_filled.ensures.no c.if-is_filled.false) in
+    let r = gained-rooted store c.args.clauses.now c.args.self.now c.widen_run.new.run c.widen_run.new.rests c.widen_run.new.waiting c.args.slot c.requires.gained c.requires.slot c.in_ok-widen_run.ensures in
     let d : Shape = record { terms = []; degree = 0 } in
     ap length (c.in_ok-open_form.ensures.opens d) ∙ length-set c.widen_run.new.run.opens.items c.args.slot (open_sum c.widen_run.new.run.assignment.list.items (get_or (shapes_of store.stored.items) c.args.slot d).terms) ∙ r.open_sizes
 
-laid : (c : In_ok-open_form) → IsTidy (beside c.widen_run.new.rests c.widen_run.new.waiting.list.items) (shapes_of c.args.store.now.stored.items) c.open_form.new.run.opens.items c.open_form.new.run.candidates.items c.open_form.new.run.assignment.list.items c.open_form.new.run.work.items c.open_form.new.run.trail.items c.open_form.new.run.next (length c.args.store.now.stored.items)
-laid c =
+opened : (c : In_ok-open_form) → IsTidy (beside c.widen_run.new.rests c.widen_run.new.waiting.list.items) (shapes_of c.args.store.now.stored.items) c.open_form.new.run.opens.items c.open_form.new.run.candidates.items c.open_form.new.run.assignment.list.items c.open_form.new.run.work.items c.open_form.new.run.trail.items c.open_form.new.run.next (length c.args.store.now.stored.items)
+opened c =
     let store = c.args.store.now in
-    let g = c.requires.gained in
-    let me = c.args.self.now in
-    let r = admitted-rooted g.0 store g.1 c.args.clauses.now me.run c.widen_run.new.run me.rests c.widen_run.new.rests me.waiting c.widen_run.new.waiting me.walked c.args.slot c.requires.slot g.2 g.3 c.in_ok-widen_run.ensures c.requires.ready (c.is_filled.ensures.no c.if-is_filled.false) in
-    let d : Shape = record { terms = []; degree = 0 } in
-    let opens_now = ap length (c.in_ok-open_form.ensures.opens d) ∙ length-set c.widen_run.new.run.opens.items c.args.slot (open_sum c.widen_run.new.run.assignment.list.items (get_or (shapes_of store.stored.items) c.args.slot d).terms) ∙ r.open_sizes in
+    let r = gained-rooted store c.args.clauses.now c.args.self.now c.widen_run.new.run c.widen_run.new.rests c.widen_run.new.waiting c.args.slot c.requires.gained c.requires.slot c.in_ok-widen_run.ensures in
     let run = c.open_form.new.run in
     let list_is = ap (λ (a : Assignment). a.list.items) c.open_form.ensures.assignment in
     let cands_is = ap (λ (v : Vec ℕ Global). v.items) c.open_form.ensures.candidates in
@@ -60,13 +43,13 @@ laid c =
     rw (list_is, cands_is, c.open_form.ensures.next ∙ r.next) (rw long at tidy)
 
 pub open_form-requires-clause-opens : goal.open_form-requires-clause-opens
-open_form-requires-clause-opens c = (admitted (goal.at.open_form-requires-clause-opens c).Else-is_filled).open_sizes
+open_form-requires-clause-opens c = (added (goal.at.open_form-requires-clause-opens c).Else-is_filled).open_sizes
 
 pub open_form-requires-clause-values : goal.open_form-requires-clause-values
-open_form-requires-clause-values c = (admitted (goal.at.open_form-requires-clause-values c).Else-is_filled).values
+open_form-requires-clause-values c = (added (goal.at.open_form-requires-clause-values c).Else-is_filled).values
 
 pub defer-requires-clause-inside : goal.defer-requires-clause-inside
-defer-requires-clause-inside c = omega (arith, c.requires.slot, (admitted (goal.at.defer-requires-clause-inside c).Else-is_filled).positions)
+defer-requires-clause-inside c = omega (arith, c.requires.slot, (added (goal.at.defer-requires-clause-inside c).Else-is_filled).positions)
 
 pub defer-requires-clause-absent : goal.defer-requires-clause-absent
 defer-requires-clause-absent c =
@@ -75,30 +58,30 @@ defer-requires-clause-absent c =
 
 pub save-requires-clause-opens : goal.save-requires-clause-opens
 save-requires-clause-opens c =
-    let r = admitted (goal.at.save-requires-clause-opens c).Else-is_filled in
-    let opens_now = laid-size (goal.at.save-requires-clause-opens c).In_ok-open_form in
+    let r = added (goal.at.save-requires-clause-opens c).Else-is_filled in
+    let opens_now = opened-size (goal.at.save-requires-clause-opens c).In_ok-open_form in
     sym (ap length r.opens) ∙ r.open_sizes ∙ sym opens_now
 
 pub save-requires-clause-starts : goal.save-requires-clause-starts
 save-requires-clause-starts c =
-    let r = admitted (goal.at.save-requires-clause-starts c).Else-is_filled in
+    let r = added (goal.at.save-requires-clause-starts c).Else-is_filled in
     sym (ap length r.starts) ∙ ap (λ (v : Vec ℕ Global). length v.items) (sym c.open_form.ensures.candidates)
 
 pub save-requires-clause-sizes : goal.save-requires-clause-sizes
 save-requires-clause-sizes c =
-    let r = admitted (goal.at.save-requires-clause-sizes c).Else-is_filled in
-    let opens_now = laid-size (goal.at.save-requires-clause-sizes c).In_ok-open_form in
+    let r = added (goal.at.save-requires-clause-sizes c).Else-is_filled in
+    let opens_now = opened-size (goal.at.save-requires-clause-sizes c).In_ok-open_form in
     ap (λ (v : Vec ℕ Global). length v.items) c.open_form.ensures.candidates ∙ r.start_sizes ∙ sym opens_now
 
 pub save-requires-clause-undone : goal.save-requires-clause-undone
 save-requires-clause-undone c =
-    let tidy = laid (goal.at.save-requires-clause-undone c).In_ok-open_form in
-    (shapes_of c.args.store.now.stored.items, length-map c.args.store.now.stored.items stored_shape ∙ sym (laid-size (goal.at.save-requires-clause-undone c).In_ok-open_form), record { clean = tidy.clean; named = tidy.marked })
+    let tidy = opened (goal.at.save-requires-clause-undone c).In_ok-open_form in
+    (shapes_of c.args.store.now.stored.items, length-map c.args.store.now.stored.items stored_shape ∙ sym (opened-size (goal.at.save-requires-clause-undone c).In_ok-open_form), record { clean = tidy.clean; named = tidy.marked })
 
 pub returns : goal.returns
 returns c =
-    let r = admitted (goal.at.returns c).Else-is_filled in
-    let opens_now = laid-size (goal.at.returns c).In_ok-open_form in
+    let r = added (goal.at.returns c).Else-is_filled in
+    let opens_now = opened-size (goal.at.returns c).In_ok-open_form in
     let store = c.args.store.now in
     let g = c.requires.gained in
     let me = c.args.self.now in
@@ -117,7 +100,7 @@ returns c =
       reasoned = rw c.open_form.ensures.assignment r.reasoned;
       walks = rw c.open_form.ensures.assignment r.walks;
     })
-    (laid (goal.at.returns c).In_ok-open_form)
+    (opened (goal.at.returns c).In_ok-open_form)
     (λ s off. elim c.defer.ensures.list [
       | inl same ↦ (rw same.1 at off, λ i from less found. absurd (omega (arith, less, ap length (sym c.as_slice.ensures.value ∙ same.0))))
       | inr more ↦

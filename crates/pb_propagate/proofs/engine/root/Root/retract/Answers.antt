@@ -4,7 +4,8 @@ use Rattle.pb_propagate.proofs.lemmas.clauses.Heads.{take-whole, walks-cut}
 use Rattle.pb_propagate.proofs.lemmas.clauses.Watching.{fresh-take, listed-small}
 use Rattle.pb_propagate.proofs.lemmas.engine.Reasoned.{reasons-derive}
 use Rattle.pb_propagate.proofs.lemmas.engine.Spent.{derivation-single}
-use Rattle.pb_propagate.proofs.lemmas.root.Retracted.{AllRefreshed, cut-lacks, listed-last, reasons-first, refreshed-stays, refreshed-then, retracted-rooted}
+use Rattle.pb_propagate.proofs.lemmas.root.Cuts.{last-split}
+use Rattle.pb_propagate.proofs.lemmas.root.Retracted.{AllRefreshed, cut-lacks, reasons-first, refreshed-stays, refreshed-then, retracted-rooted}
 use Rattle.pb_propagate.proofs.engine.root.Root.retract.Goals as goal
 
 pub lift_all-requires : goal.lift_all-requires
@@ -32,7 +33,7 @@ lift_all-requires c =
         rest_starts = sym (ap length r.starts) ∙ r.start_sizes;
         positions = r.positions;
       };
-      lacks = rw c.negation.ensures (cut-lacks store clauses me (record me { run = record me.run { assignment = c.cut.new.self }; walked = c.cut-2.new.self }) (take last list) l (listed-last list last l size c.index-literal.ensures) absent c.requires.sound r (record {
+      lacks = rw c.negation.ensures (cut-lacks store clauses me (record me { run = record me.run { assignment = c.cut.new.self }; walked = c.cut-2.new.self }) (take last list) l (last-split list last l (sym size) c.index-literal.ensures) absent c.requires.sound r (record {
         opens = refl;
         candidates = refl;
         rests = refl;
@@ -79,7 +80,7 @@ returns-clause-shortened c =
           let l = c.index-literal.result.now in
           let size : last + 1 ≡ length list = omega (arith, c.len-count.ensures, me.run.assignment.list.ok.0, c.requires.some) in
           let inside : last < length list = omega (arith, size) in
-          let listed = listed-last list last l size c.index-literal.ensures in
+          let listed = last-split list last l (sym size) c.index-literal.ensures in
           let single = derivation-single (all_of store clauses) [] list none (reasons-derive r.reasoned) in
           let absent = fresh-take list last l single inside c.index-literal.ensures in
           let walks = walks-cut clauses list last me.walked c.cut-2.new.self inside r.walks c.cut-2.ensures.heads c.cut-2.ensures.marks in

@@ -54,8 +54,8 @@ returns-then-found-clause-rooted c =
     let done = c.propagate.new.run in
     let reported = c.in_ok-found.ensures in
     let count_is : c.len-count.result ≡ length run.assignment.list.items = omega (arith, c.len-count.ensures, run.assignment.list.ok.0) in
-    back-rooted (rooted-waiting me.waiting _ refl refl r) reported.left c.back.ensures count_is c.propagate.ensures.literals
-    (walks-back c.args.clauses.now c.back.new.clauses run.assignment.list.items done.assignment.list.items me.walked (record { heads = me.walked.heads; marks = c.truncate.new.self }) c.propagate.new.marks.items r.walks c.propagate.ensures.costs.extends (visits-back run.assignment.values.items c.args.clauses.now c.propagate.new.clauses c.back.new.clauses run.assignment.list.items run.assignment.agrees (c.back.ensures.literals ∙ c.propagate.ensures.literals) c.back.ensures.watches reported.left.kept) (λ long old. rw (c.back.ensures.literals, c.back.ensures.watches) (reported.marks long old)) refl (c.truncate.ensures.items ∙ ap (λ n. take n c.propagate.new.marks.items) count_is))
+    rooted-waiting me.waiting _ refl refl (back-rooted me r reported.left c.back.ensures count_is c.propagate.ensures.literals
+    (walks-back c.args.clauses.now c.back.new.clauses run.assignment.list.items done.assignment.list.items me.walked (record { heads = me.walked.heads; marks = c.truncate.new.self }) c.propagate.new.marks.items r.walks c.propagate.ensures.costs.extends (visits-back run.assignment.values.items c.args.clauses.now c.propagate.new.clauses c.back.new.clauses run.assignment.list.items run.assignment.agrees (c.back.ensures.literals ∙ c.propagate.ensures.literals) c.back.ensures.watches reported.left.kept) (λ long old. rw (c.back.ensures.literals, c.back.ensures.watches) (reported.marks long old)) refl (c.truncate.ensures.items ∙ ap (λ n. take n c.propagate.new.marks.items) count_is)))
 
 pub returns-then-found-clause-kept : goal.returns-then-found-clause-kept
 returns-then-found-clause-kept c =

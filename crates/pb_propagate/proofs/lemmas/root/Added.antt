@@ -1,17 +1,20 @@
 -- A form that was added comes to the root.
 use Rattle.pb_propagate.proofs.Common.{stored_form}
-use Rattle.pb_propagate.proofs.Common.{ℕ, ◌++◌, ◌+◌, ◌/◌, ◌<◌, ◌∙◌, ◌∷◌, ◌≡◌, ◌≤◌, ◌⊎◌, [], ap, arith, Bool, get_or, get_or-set_other}
+use Rattle.pb_propagate.proofs.Common.{ℕ, ◌++◌, ◌/◌, ◌<◌, ◌∙◌, ◌∷◌, ◌≡◌, ◌≤◌, [], ap, arith, Bool, get_or, get_or-set_other}
 use Rattle.pb_propagate.proofs.Common.{get_or-set_same, Global, inl, inr, length, length-append, List, refl, set, subst, suc, sym, true, Vec}
-use Rattle.pb_propagate.proofs.Common.{zero, All, Option, slice_get, Some, cases_eq, cases_lt, get_or-map, get_or_append_left}
-use Rattle.pb_propagate.proofs.Common.{get_or_default, get_or_push, length-map, get_or_from_slice_get, slice_get-get_or, slice_get_within}
+use Rattle.pb_propagate.proofs.Common.{zero, All, both_ways, Option, slice_get, Some, cases_eq, cases_lt, get_or-map, get_or_append_left}
+use Rattle.pb_propagate.proofs.Common.{get_or_push, length-map, get_or_from_slice_get, slice_get-get_or, slice_get_within}
 use Rattle.pb_propagate.proofs.Common.{NumberedLiteral, Form, Assignment, Clauses, Watch, Waiting, Rests, Run, Store, StoredForm, list_at, watch_at}
-use Rattle.pb_propagate.proofs.Common.{watch_lists, AreReady, AreStored, all_of, clauses_of, joined, one_term, slot_shape}
-use Rattle.pb_propagate.proofs.Common.{false_at, Walked, IsWalkedTo, beside, Grown, IsAbsent, IsCalm, IsCounted, IsTidy, pushed, spared}
-use Rattle.pb_propagate.proofs.Common.{weight_in, forms_of, shapes_of, stored_shape, HaveReasons, open_sum, Shape, size, HasForm, HasGained}
-use Rattle.pb_propagate.proofs.Common.{RunIsWidened, IsRooted, form_at, AreFree, AreSet, IsFreePair, IfSome, None, Pair}
+use Rattle.pb_propagate.proofs.Common.{AreStored, all_of, clauses_of, joined, one_term, slot_shape}
+use Rattle.pb_propagate.proofs.Common.{false_at, Walked, beside, Grown, IsAbsent, IsCalm, IsCounted, IsTidy, pushed, spared}
+use Rattle.pb_propagate.proofs.Common.{weight_in, forms_of, shapes_of, stored_shape, HaveReasons, open_sum, Shape, HasForm, HasGained}
+use Rattle.pb_propagate.proofs.Common.{RunIsWidened, IsRooted, form_at, AreFree, AreSet, IsFreePair, None, Pair}
+use Rattle.pb_propagate.specs.declared.engine.root.Root.{Root}
+use Rattle.pb_propagate.specs.engine.Engine.Root.{WasRootOf}
 use Rattle.pb_propagate.proofs.lemmas.clauses.Heads.{KeepsFallen, walks-kept}
 use Rattle.pb_propagate.proofs.lemmas.clauses.Literals.{Agree, false-listed}
 use Rattle.pb_propagate.proofs.lemmas.clauses.Shapes.{joined-at, joined-length}
+use Rattle.pb_propagate.proofs.lemmas.engine.Runs.{Tidy-rest}
 use Rattle.pb_propagate.proofs.lemmas.engine.Rests.{element}
 use Rattle.pb_propagate.proofs.lemmas.engine.Reasoned.{moved-same, reasons-moved}
 
@@ -39,7 +42,7 @@ bare-slot keep clauses s d less bare =
     bare-parts (get_or (shapes_of keep) s d) (list_at clauses s) (ap (λ (f : Shape). f.terms) (sym (joined-at (shapes_of keep) clauses s d inside)) ∙ none)
 
 -- the lists after an entry was added for a new slot
-pub record Arrived (before store : Store) (old clauses : Clauses) (run run' : Run) (slot : ℕ) : Type 0 where
+pub record Arrived (before store : Store) (run run' : Run) (slot : ℕ) : Type 0 where
   pub sizes : length run'.opens.items ≡ length store.stored.items
   pub csizes : length run'.candidates.items ≡ length store.stored.items
   pub older : (s : ℕ) → s < length store.stored.items → (s ≡ slot → ⊥) → s < length before.stored.items
@@ -48,21 +51,13 @@ pub record Arrived (before store : Store) (old clauses : Clauses) (run run' : Ru
   pub open_none : get_or run'.opens.items slot 0 ≡ 0
   pub cand_none : get_or run'.candidates.items slot 0 ≡ 0
 
-pub arrived : (before store : Store) (old clauses : Clauses) (run run' : Run) (rests rests' : Rests) (waiting waiting' : Waiting) (walked : Walked) (slot : ℕ) → slot < length store.stored.items → IsRooted before old run rests waiting walked (length before.stored.items) → HasGained before old store clauses slot → RunIsWidened run run' rests rests' waiting waiting' slot → Arrived before store old clauses run run' slot
-arrived before store old clauses run run' rests rests' waiting waiting' walked slot inside r g h = elim h.lists [
-  | inl stay ↦ by_longer stay g.longer
-  | inr grown ↦ by_new grown g.longer
-]
-  where
-    none : Shape
-    none = record { terms = []; degree = 0 }
-
-    by_longer : (slot < length run.opens.items) × (run'.opens.items ≡ run.opens.items) × (run'.candidates.items ≡ run.candidates.items) × (rests'.opens.items ≡ rests.opens.items) × (rests'.starts.items ≡ rests.starts.items) → (length store.stored.items ≡ length before.stored.items) ⊎ ((length store.stored.items ≡ length before.stored.items + 1) × (slot ≡ length before.stored.items)) → Arrived before store old clauses run run' slot
-    by_longer stay (inr new) = absurd (omega (arith, stay.0, new.1, r.open_sizes))
-    by_longer stay (inl same) =
+pub arrived : (store : Store) (clauses : Clauses) (root : Root) (run' : Run) (rests' : Rests) (waiting' : Waiting) (slot : ℕ) (g : WasRootOf store clauses slot root) → slot < length store.stored.items → RunIsWidened root.run run' root.rests rests' root.waiting waiting' slot → Arrived g.0 store root.run run' slot
+arrived store clauses root run' rests' waiting' slot (before, old, r, g, free) inside h = elim h.lists [
+  | inl stay ↦ elim g.longer [
+    | inr new ↦ absurd (omega (arith, stay.0, new.1, r.open_sizes))
+    | inl same ↦
         let less : slot < length before.stored.items = omega (arith, inside, same) in
         let terms = bare-slot before.stored.items (clauses_of old) slot none less g.bare in
-        let zero_open : open_sum run.assignment.list.items (get_or (shapes_of before.stored.items) slot none).terms ≡ 0 = ap (open_sum run.assignment.list.items) terms in
         let few = r.tidy.bounded slot none (omega (arith, less, length-map before.stored.items stored_shape)) in
         record {
           sizes = ap length stay.1 ∙ r.open_sizes ∙ sym same;
@@ -70,25 +65,29 @@ arrived before store old clauses run run' rests rests' waiting waiting' walked s
           older = λ s h n. omega (arith, h, same);
           opens = λ s h n. ap (λ xs. get_or xs s 0) stay.1;
           cands = λ s h n. ap (λ xs. get_or xs s 0) stay.2;
-          open_none = ap (λ xs. get_or xs slot 0) stay.1 ∙ r.counted slot none less (λ e. absurd (omega (arith, e, less))) ∙ zero_open;
+          open_none = ap (λ xs. get_or xs slot 0) stay.1 ∙ r.counted slot none less (λ e. absurd (omega (arith, e, less))) ∙ ap (open_sum root.run.assignment.list.items) terms;
           cand_none = omega (arith, ap (λ xs. get_or xs slot 0) stay.2, few, ap length terms);
         }
-
-    by_new : (length run.opens.items ≤ slot) × (run'.opens.items ≡ run.opens.items ++ (0 ∷ [])) × (run'.candidates.items ≡ run.candidates.items ++ (0 ∷ [])) × (rests'.opens.items ≡ rests.opens.items ++ (0 ∷ [])) × (rests'.starts.items ≡ rests.starts.items ++ (0 ∷ [])) → (length store.stored.items ≡ length before.stored.items) ⊎ ((length store.stored.items ≡ length before.stored.items + 1) × (slot ≡ length before.stored.items)) → Arrived before store old clauses run run' slot
-    by_new grown (inl same) = absurd (omega (arith, grown.0, inside, same, r.open_sizes))
-    by_new grown (inr new) = record {
-      sizes = omega (arith, ap length grown.1, length-append run.opens.items (0 ∷ []), r.open_sizes, new.0);
-      csizes = omega (arith, ap length grown.2, length-append run.candidates.items (0 ∷ []), r.start_sizes, new.0);
-      older = λ s h n. older_at s h n (cases_lt s (length before.stored.items));
-      opens = λ s h n. ap (λ xs. get_or xs s 0) grown.1 ∙ get_or_append_left run.opens.items (0 ∷ []) 0 s (omega (arith, h, r.open_sizes));
-      cands = λ s h n. ap (λ xs. get_or xs s 0) grown.2 ∙ get_or_append_left run.candidates.items (0 ∷ []) 0 s (omega (arith, h, r.start_sizes));
-      open_none = ap (λ xs. get_or xs slot 0) grown.1 ∙ get_or_push run.opens.items 0 0 slot (omega (arith, new.1, r.open_sizes));
-      cand_none = ap (λ xs. get_or xs slot 0) grown.2 ∙ get_or_push run.candidates.items 0 0 slot (omega (arith, new.1, r.start_sizes));
+  ]
+  | inr grown ↦ elim g.longer [
+    | inl same ↦ absurd (omega (arith, grown.0, inside, same, r.open_sizes))
+    | inr new ↦ record {
+      sizes = omega (arith, ap length grown.1, length-append root.run.opens.items (0 ∷ []), r.open_sizes, new.0);
+      csizes = omega (arith, ap length grown.2, length-append root.run.candidates.items (0 ∷ []), r.start_sizes, new.0);
+      older = λ s h n. elim (cases_lt s (length before.stored.items)) [
+        | inl less ↦ less
+        | inr past ↦ absurd (n (omega (arith, h, past, new.0, new.1)))
+      ];
+      opens = λ s h n. ap (λ xs. get_or xs s 0) grown.1 ∙ get_or_append_left root.run.opens.items (0 ∷ []) 0 s (omega (arith, h, r.open_sizes));
+      cands = λ s h n. ap (λ xs. get_or xs s 0) grown.2 ∙ get_or_append_left root.run.candidates.items (0 ∷ []) 0 s (omega (arith, h, r.start_sizes));
+      open_none = ap (λ xs. get_or xs slot 0) grown.1 ∙ get_or_push root.run.opens.items 0 0 slot (omega (arith, new.1, r.open_sizes));
+      cand_none = ap (λ xs. get_or xs slot 0) grown.2 ∙ get_or_push root.run.candidates.items 0 0 slot (omega (arith, new.1, r.start_sizes));
     }
-      where
-        older_at : (s : ℕ) → s < length store.stored.items → (s ≡ slot → ⊥) → (s < length before.stored.items) ⊎ (length before.stored.items ≤ s) → s < length before.stored.items
-        older_at s h n (inl less) = less
-        older_at s h n (inr past) = absurd (n (omega (arith, h, past, new.0, new.1)))
+  ]
+]
+  where
+    none : Shape
+    none = record { terms = []; degree = 0 }
 
 -- a form that stays in its slot
 pub form-kept : (before store : Store) (s : ℕ) {X : Type 0} → X → (X → slice_get store.stored.items s ≡ slice_get before.stored.items s) → HasForm before s → HasForm store s
@@ -131,10 +130,18 @@ gained-reasons before store old clauses slot reasons list g h = reasons-moved (a
   | inr apart ↦ moved-same (all_of store clauses) reasons l s x at (gained-at before store old clauses slot s x g apart stored)
 ]) h
 
+-- no watch of the slot is falsified, and the others are as they were
+gained-keeps : (values : List (Option Bool)) (list : List NumberedLiteral) (before store : Store) (old clauses : Clauses) (slot : ℕ) → Agree values list → HasGained before old store clauses slot → AreFree values clauses.blocks.watches slot → KeepsFallen old clauses list
+gained-keeps values list before store old clauses slot a g free e live failed = elim (cases_eq (e / 2) slot) [
+  | inl here ↦ absurd (both_ways _ (free e here live) (false-listed values list (watch_at clauses.blocks.watches e).literal a ∙ failed))
+  | inr apart ↦
+      let same = g.watched e apart in
+      ((ap (λ (x : Watch). x.live) same, ap (λ (x : Watch). x.literal) same), g.filled (e / 2) apart)
+]
+
 -- the root for all forms but the new one
-pub gained-rooted : (before store : Store) (old clauses : Clauses) (run run' : Run) (rests rests' : Rests) (waiting waiting' : Waiting) (walked : Walked) (slot : ℕ) → slot < length store.stored.items → IsRooted before old run rests waiting walked (length before.stored.items) → HasGained before old store clauses slot → RunIsWidened run run' rests rests' waiting waiting' slot →
-    IsWalkedTo clauses run.assignment.list.items walked → IsRooted store clauses run' rests' waiting' walked slot
-gained-rooted before store old clauses run run' rests rests' waiting waiting' walked slot inside r g h walks = record {
+pub gained-rooted : (store : Store) (clauses : Clauses) (root : Root) (run' : Run) (rests' : Rests) (waiting' : Waiting) (slot : ℕ) → WasRootOf store clauses slot root → slot < length store.stored.items → RunIsWidened root.run run' root.rests rests' root.waiting waiting' slot → IsRooted store clauses run' rests' waiting' root.walked slot
+gained-rooted store clauses root run' rests' waiting' slot (before, old, r, g, free) inside h = record {
   values = ap (λ (x : Assignment). length x.values.items) h.assignment ∙ r.values ∙ sym g.variables;
   opens = opens_same;
   starts = starts_same;
@@ -142,44 +149,36 @@ gained-rooted before store old clauses run run' rests rests' waiting waiting' wa
   start_sizes = a.csizes;
   counted = λ s d less apart.
       let was = a.older s less apart in
-      rw h.assignment (a.opens s was apart ∙ r.counted s d was (λ e. absurd (omega (arith, e, was))) ∙ ap (λ (f : Shape). open_sum run.assignment.list.items f.terms) (sym (shape s d was apart)));
-  tidy = record {
-    calm = λ s d less apart off gone.
-        let was = a.older s (omega (arith, less, length-map store.stored.items stored_shape)) apart in
-        let calm = r.tidy.calm s d (omega (arith, was, length-map before.stored.items stored_shape)) (λ e. absurd (omega (arith, e, was))) (rw h.waits at off) gone in
-        rw (shape s d was apart, a.opens s was apart, a.cands s was apart) calm;
-    passed = λ s d less k f early within. elim (cases_eq s slot) [
-      | inl one ↦ absurd (omega (arith, early, ap (λ j. get_or run'.candidates.items j 0) one, a.cand_none))
-      | inr apart ↦
-          let was = a.older s (omega (arith, less, length-map store.stored.items stored_shape)) apart in
-          let done = r.tidy.passed s d (omega (arith, was, length-map before.stored.items stored_shape)) k f (omega (arith, early, a.cands s was apart)) (omega (arith, within, ap (λ (x : Shape). length x.terms) (shape s d was apart))) in
-          rw (shape s d was apart, h.assignment) done
-    ];
-    bounded = λ s d less. elim (cases_eq s slot) [
-      | inl one ↦ omega (arith, ap (λ j. get_or run'.candidates.items j 0) one, a.cand_none)
-      | inr apart ↦
-          let was = a.older s (omega (arith, less, length-map store.stored.items stored_shape)) apart in
-          omega (arith, r.tidy.bounded s d (omega (arith, was, length-map before.stored.items stored_shape)), a.cands s was apart, ap (λ (x : Shape). length x.terms) (shape s d was apart))
-    ];
-    clean = λ s d less gone. (
-      get_or_default run'.opens.items s 0 (size (get_or (shapes_of store.stored.items) s d).terms) (omega (arith, less, length-map store.stored.items stored_shape, a.sizes)) ∙ ap (λ xs. get_or xs s (size (get_or (shapes_of store.stored.items) s d).terms)) opens_same,
-      ap (λ xs. get_or xs s 0) starts_same,
-    );
-    named = λ i d less. absurd (omega (arith, less));
-    marked = λ i d less. absurd (omega (arith, less));
-    traced = λ s gone. gone;
-  };
+      rw h.assignment (a.opens s was apart ∙ r.counted s d was (λ e. absurd (omega (arith, e, was))) ∙ ap (λ (f : Shape). open_sum root.run.assignment.list.items f.terms) (sym (shape s d was apart)));
+  tidy = Tidy-rest opens_same starts_same (length-map store.stored.items stored_shape ∙ sym a.sizes)
+      (λ s d less apart off gone.
+      let was = a.older s (omega (arith, less, length-map store.stored.items stored_shape)) apart in
+      let calm = r.tidy.calm s d (omega (arith, was, length-map before.stored.items stored_shape)) (λ e. absurd (omega (arith, e, was))) (rw h.waits at off) gone in
+      rw (shape s d was apart, a.opens s was apart, a.cands s was apart) calm)
+      (λ s d less k f early within. elim (cases_eq s slot) [
+        | inl one ↦ absurd (omega (arith, early, ap (λ j. get_or run'.candidates.items j 0) one, a.cand_none))
+        | inr apart ↦
+            let was = a.older s (omega (arith, less, length-map store.stored.items stored_shape)) apart in
+            let done = r.tidy.passed s d (omega (arith, was, length-map before.stored.items stored_shape)) k f (omega (arith, early, a.cands s was apart)) (omega (arith, within, ap (λ (x : Shape). length x.terms) (shape s d was apart))) in
+            rw (shape s d was apart, h.assignment) done
+      ])
+      (λ s d less. elim (cases_eq s slot) [
+        | inl one ↦ omega (arith, ap (λ j. get_or run'.candidates.items j 0) one, a.cand_none)
+        | inr apart ↦
+            let was = a.older s (omega (arith, less, length-map store.stored.items stored_shape)) apart in
+            omega (arith, r.tidy.bounded s d (omega (arith, was, length-map before.stored.items stored_shape)), a.cands s was apart, ap (λ (x : Shape). length x.terms) (shape s d was apart))
+      ]);
   work = ap (λ (v : Vec ℕ Global). v.items) h.work ∙ r.work;
   trail = ap (λ (v : Vec ℕ Global). v.items) h.trail ∙ r.trail;
   next = h.next ∙ r.next;
-  reasoned = rw h.assignment (gained-reasons before store old clauses slot run.assignment.reasons.items run.assignment.list.items g r.reasoned);
-  walks = rw h.assignment walks;
+  reasoned = rw h.assignment (gained-reasons before store old clauses slot root.run.assignment.reasons.items root.run.assignment.list.items g r.reasoned);
+  walks = rw h.assignment (walks-kept old clauses root.run.assignment.list.items root.walked (gained-keeps root.run.assignment.values.items root.run.assignment.list.items before store old clauses slot root.run.assignment.agrees g free) r.walks);
   positions = h.positions (r.positions ∙ sym r.open_sizes) ∙ a.sizes;
   live = λ i s at. form-kept before store s (λ one. g.empty (subst (HasForm before) one (r.live i s (rw h.waits at at)))) (g.kept s) (r.live i s (rw h.waits at at));
 }
   where
-    a : Arrived before store old clauses run run' slot
-    a = arrived before store old clauses run run' rests rests' waiting waiting' walked slot inside r g h
+    a : Arrived before store root.run run' slot
+    a = arrived store clauses root run' rests' waiting' slot (before, old, r, g, free) inside h
 
     opens_same : run'.opens.items ≡ rests'.opens.items
     opens_same = elim h.lists [
@@ -196,27 +195,11 @@ gained-rooted before store old clauses run run' rests rests' waiting waiting' wa
     shape : (s : ℕ) (d : Shape) → s < length before.stored.items → (s ≡ slot → ⊥) → get_or (shapes_of store.stored.items) s d ≡ get_or (shapes_of before.stored.items) s d
     shape s d less apart = same-shape store.stored.items before.stored.items s d less (g.kept s apart)
 
--- no watch of the slot is falsified, and the others are as they were
-pub gained-keeps : (values : List (Option Bool)) (list : List NumberedLiteral) (before store : Store) (old clauses : Clauses) (slot : ℕ) → Agree values list → HasGained before old store clauses slot → ((e : ℕ) → e / 2 ≡ slot → (watch_at clauses.blocks.watches e).live ≡ true → false_at values (watch_at clauses.blocks.watches e).literal ≡ true → ⊥) → KeepsFallen old clauses list
-gained-keeps values list before store old clauses slot a g free e live failed = elim (cases_eq (e / 2) slot) [
-  | inl here ↦ absurd (free e here live (false-listed values list (watch_at clauses.blocks.watches e).literal a ∙ failed))
-  | inr apart ↦
-      let same = g.watched e apart in
-      ((ap (λ (x : Watch). x.live) same, ap (λ (x : Watch). x.literal) same), g.filled (e / 2) apart)
-]
-
 -- a slot without a clause has no watch
 pub no-watch : (clauses : List (List ℕ)) (ws : List Watch) (ls : List (List ℕ)) (slot e : ℕ) → AreStored clauses ws ls → list_at clauses slot ≡ [] → e / 2 ≡ slot → (watch_at ws e).live ≡ true → ⊥
 no-watch clauses ws ls slot e stored none here live =
     let there = stored.watched e live in
     omega (arith, there.1, ap length (ap (list_at clauses) here ∙ none))
-
--- the root for all forms but the new one, which is no clause
-pub admitted-rooted : (before store : Store) (old clauses : Clauses) (run run' : Run) (rests rests' : Rests) (waiting waiting' : Waiting) (walked : Walked) (slot : ℕ) → slot < length store.stored.items → IsRooted before old run rests waiting walked (length before.stored.items) → HasGained before old store clauses slot → RunIsWidened run run' rests rests' waiting waiting' slot →
-    AreReady clauses → list_at (clauses_of clauses) slot ≡ [] → IsRooted store clauses run' rests' waiting' walked slot
-admitted-rooted before store old clauses run run' rests rests' waiting waiting' walked slot inside r g h ready none =
-    let keeps = gained-keeps run.assignment.values.items run.assignment.list.items before store old clauses slot run.assignment.agrees g (λ e here live failed. no-watch (clauses_of clauses) clauses.blocks.watches (watch_lists clauses.lists.items) slot e ready.stored none here live) in
-    gained-rooted before store old clauses run run' rests rests' waiting waiting' walked slot inside r g h (walks-kept old clauses run.assignment.list.items walked keeps r.walks)
 
 -- two literals that are not falsified are watched
 pub pair-free : (values : List (Option Bool)) (old new : List Watch) (s : ℕ) (literals : List ℕ) (p : Pair) → IsFreePair values literals p → AreSet old new s literals p → AreFree values new s
@@ -224,11 +207,6 @@ pair-free values old new s literals p free set e here live = elim (set.mine e he
   | inl is ↦ ap (false_at values) is ∙ free.first
   | inr is ↦ ap (false_at values) is ∙ free.second
 ]
-
--- what holds of a value that is there
-pub some-map : {X : Type 0} (o : Option X) (A B : X → Type 0) → ((a : X) → A a → B a) → IfSome o A → IfSome o B
-some-map None A B f h = h
-some-map (Some a) A B f h = f a h
 
 -- a clause adds nothing to the occurrence lists
 pub clause-rooted : (store : Store) (clauses : Clauses) (run : Run) (rests : Rests) (waiting : Waiting) (walked : Walked) (slot : ℕ) → slot < length store.stored.items → ((d : Shape) → ((get_or (shapes_of store.stored.items) slot d).terms ≡ []) × ((get_or (shapes_of store.stored.items) slot d).degree ≡ 0)) → get_or run.opens.items slot 0 ≡ 0 → IsRooted store clauses run rests waiting walked slot → IsRooted store clauses run rests waiting walked (length store.stored.items)
@@ -242,21 +220,15 @@ clause-rooted store clauses run rests waiting walked slot inside bare none r = r
     | inl one ↦ ap (λ j. get_or run.opens.items j 0) one ∙ none ∙ sym (ap (λ j. open_sum run.assignment.list.items (get_or (shapes_of store.stored.items) j d).terms) one ∙ ap (open_sum run.assignment.list.items) (bare d).0)
     | inr other ↦ r.counted s d less other
   ];
-  tidy = record {
-    calm = λ s d less apart off gone. elim (cases_eq s slot) [
-      | inl one ↦
-          let terms = ap (λ j. (get_or (shapes_of store.stored.items) j d).terms) one ∙ (bare d).0 in
-          let degree = ap (λ j. (get_or (shapes_of store.stored.items) j d).degree) one ∙ (bare d).1 in
-          record { met = omega (arith, degree); waiting = λ e h. absurd (omega (arith, h, ap length terms)) }
-      | inr other ↦ r.tidy.calm s d less other off gone
-    ];
-    passed = r.tidy.passed;
-    bounded = r.tidy.bounded;
-    clean = r.tidy.clean;
-    named = r.tidy.named;
-    marked = r.tidy.marked;
-    traced = r.tidy.traced;
-  };
+  tidy = Tidy-rest r.opens r.starts (length-map store.stored.items stored_shape ∙ sym r.open_sizes)
+      (λ s d less apart off gone. elim (cases_eq s slot) [
+        | inl one ↦
+            let terms = ap (λ j. (get_or (shapes_of store.stored.items) j d).terms) one ∙ (bare d).0 in
+            let degree = ap (λ j. (get_or (shapes_of store.stored.items) j d).degree) one ∙ (bare d).1 in
+            record { met = omega (arith, degree); waiting = λ e h. absurd (omega (arith, h, ap length terms)) }
+        | inr other ↦ r.tidy.calm s d less other off gone
+      ])
+      r.tidy.passed r.tidy.bounded;
   work = r.work;
   trail = r.trail;
   next = r.next;
@@ -266,7 +238,7 @@ clause-rooted store clauses run rests waiting walked slot inside bare none r = r
   live = r.live;
 }
 
--- what a propagation needs after a form was laid on the root
+-- what a propagation needs once a form has its open sum under the root
 pub slot-counted : (forms : List Shape) (opens lowered : List ℕ) (list : List NumberedLiteral) (n : ℕ) → n < length opens → ((s : ℕ) (d : Shape) → s < length forms → (s ≡ n → ⊥) → get_or opens s 0 ≡ open_sum list (get_or forms s d).terms) → ((d : Shape) → lowered ≡ set opens n (open_sum list (get_or forms n d).terms)) → IsCounted forms lowered list []
 slot-counted forms opens lowered list n room counted low = record {
   each = λ s d inside.
