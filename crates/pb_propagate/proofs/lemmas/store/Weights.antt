@@ -1,4 +1,5 @@
 -- Entries and the coefficients of their terms.
+use Rattle.pb_propagate.proofs.Common.{map-append}
 use Rattle.pb_propagate.proofs.Common.{ℕ, ◌++◌, ◌-◌, ◌<◌, ◌∙◌, ◌∷◌, ◌≡◌, [], ap, arith, false, get_or, get_or-set_other, Global, length, List, map}
 use Rattle.pb_propagate.proofs.Common.{refl, set, suc, sym, take, Vec, zero, All, option_map, slice_get, Some, swap_remove, get_or_default}
 use Rattle.pb_propagate.proofs.Common.{length-map, map-set, take-map, slice_get-get_or, slice_get-map, slice_get_within, Occurrence, Term, NameForms}
@@ -35,13 +36,22 @@ swap-map f xs q d =
     ∙ ap (take n) (map-set f xs q x ∙ ap (set (map f xs) q) (sym (get_or-map f xs n d)))
     ∙ ap (λ m. take (m - 1) (set (map f xs) q (get_or (map f xs) (m - 1) (f d)))) (sym (length-map xs f))
 
+entries-set : (forms : List Shape) (occ occ' : List (Vec Occurrence Global)) (p : ℕ) (os : List Occurrence) → lists_of occ' ≡ set (lists_of occ) p os → entries_of forms occ' ≡ set (entries_of forms occ) p (map (weighted forms) os)
+entries-set forms occ occ' p os h =
+    let w = weighted forms in
+    entries-lists forms occ' ∙ ap (map (map w)) h ∙ map-set (map w) (lists_of occ) p os ∙ ap (λ ys. set ys p (map w os)) (sym (entries-lists forms occ))
+
 pub entries-taken : (forms : List Shape) (occ occ' : List (Vec Occurrence Global)) (p q : ℕ) (o : Occurrence) → lists_of occ' ≡ set (lists_of occ) p (swap_remove (get_or (lists_of occ) p []) q o) → entries_of forms occ' ≡ set (entries_of forms occ) p (swap_remove (get_or (entries_of forms occ) p []) q (weighted forms o))
 entries-taken forms occ occ' p q o h =
     let w = weighted forms in
     let os = get_or (lists_of occ) p [] in
-    entries-lists forms occ' ∙ ap (map (map w)) h ∙ map-set (map w) (lists_of occ) p (swap_remove os q o)
-    ∙ ap (λ xs. set (map (map w) (lists_of occ)) p xs) (swap-map w os q o ∙ ap (λ xs. swap_remove xs q (w o)) (sym (entries-get forms occ p)))
-    ∙ ap (λ ys. set ys p (swap_remove (get_or (entries_of forms occ) p []) q (w o))) (sym (entries-lists forms occ))
+    entries-set forms occ occ' p (swap_remove os q o) h ∙ ap (set (entries_of forms occ) p) (swap-map w os q o ∙ ap (λ xs. swap_remove xs q (w o)) (sym (entries-get forms occ p)))
+
+pub entries-pushed : (forms : List Shape) (occ occ' : List (Vec Occurrence Global)) (p : ℕ) (o : Occurrence) → lists_of occ' ≡ set (lists_of occ) p (get_or (lists_of occ) p [] ++ (o ∷ [])) → entries_of forms occ' ≡ set (entries_of forms occ) p (get_or (entries_of forms occ) p [] ++ (weighted forms o ∷ []))
+entries-pushed forms occ occ' p o h =
+    let w = weighted forms in
+    let os = get_or (lists_of occ) p [] in
+    entries-set forms occ occ' p (os ++ (o ∷ [])) h ∙ ap (set (entries_of forms occ) p) (map-append w os (o ∷ []) ∙ ap (λ xs. xs ++ (w o ∷ [])) (sym (entries-get forms occ p)))
 
 pub item-taken : (forms : List Shape) (occ : List (Vec Occurrence Global)) (p q : ℕ) (o : Occurrence) → o ≡ get_or (get_or (lists_of occ) p []) q o → weighted forms o ≡ get_or (get_or (entries_of forms occ) p []) q (weighted forms o)
 item-taken forms occ p q o is =
