@@ -1,6 +1,7 @@
 -- What a propagation costs that ends: at a visit to a form, in a walk, or between them.
+use Rattle.pb_propagate.proofs.Common.{refl}
 use Rattle.pb_propagate.proofs.Common.{ℕ, ◌*◌, ◌+◌, ◌≡◌, ◌≤◌, ◌∙◌, ap, arith, length, List, sym, length-map, sum, sum_by, Clauses, Heads, Rests, Store}
-use Rattle.pb_propagate.proofs.Common.{advanced, AreSingle, AreWithin, clauses_of, Costs, database, falsified_code, IsAhead, passed_of, Progress, queued}
+use Rattle.pb_propagate.proofs.Common.{AreSingle, AreWithin, clauses_of, Costs, database, IsAhead, passed_of, Progress, queued}
 use Rattle.pb_propagate.proofs.Common.{seen, shapes_of, spent, Spends, stored_shape, taken_to}
 use Rattle.pb_propagate.specs.declared.heads.Ahead.{Ahead}
 use Rattle.pb_propagate.proofs.lemmas.clauses.Watching.{IsWatching, cost, cost-broken, cost-most}
@@ -28,8 +29,7 @@ form-stopped store rests {waiting} {before} {taken} {start} {now} c0 c h after s
 pub walk-stopped : (store : Store) (rests : Rests) {waiting : List ℕ} {before taken : ℕ} {start now : Progress} (c0 c c' : Clauses) (h : Heads) (a : Ahead) (after : Progress) → AreSingle start.list → start.next ≤ length start.work → IsPropagating (database store rests) waiting (length store.stored.items) before (cost c0 c h now.list) taken start now → IsWatching c0 c now.values now.list h → IsAhead h now.list a → AreWithin (passed_of c') (clauses_of c) → after.candidates ≡ now.candidates → Costs (database store rests) (sum (passed_of c)) (2 * size_at c a.code + sum (passed_of c')) now after →
     Spends (database store rests) before (queued waiting start + seen c0 after.list (sum_by length (clauses_of c0))) start after
 walk-stopped store rests {waiting} {before} {taken} {start} {now} c0 c c' h ahead after single begun s w a within same costs =
-    let lists = (database store rests).lists in
     let few = bounded store rests s in
-    let covered = walk-covered (database store rests) c c' ahead.code (falsified_code a.group a.literal) same a.code costs in
-    let broken = cost-broken c0 c c' now.values now.list a.group h now.visits after.visits (spent lists now.list) (spent lists after.list) a.literal (s.costs.single single) a.inside a.is within covered w in
-    propagating-spends (clauses_of c0) (advanced a.group h) (sum_by length (clauses_of c0)) after 0 single begun s costs.extends costs.single (omega (arith, few, ap sum same)) (omega (arith, s.within)) (omega (arith, broken, ap sum same))
+    let covered = walk-covered (database store rests) c c' ahead.code ahead.code same refl costs in
+    let broken = cost-broken c' (s.costs.single single) a within w in
+    propagating-spends (clauses_of c0) ahead.heads (sum_by length (clauses_of c0)) after 0 single begun s costs.extends costs.single (omega (arith, few, ap sum same)) (omega (arith, s.within)) (omega (arith, covered, broken, ap sum same))
