@@ -5,7 +5,6 @@ pub mod BlocksWritten
 pub mod Codes
 pub mod Counts
 pub mod Few
-pub mod Gets
 pub mod Heads
 pub mod Killed
 pub mod Linked

@@ -4,7 +4,7 @@ use Rattle.pb_propagate.proofs.Common.{inl, inr, length, length-set, List, refl,
 use Rattle.pb_propagate.proofs.Common.{AreBlocks, Contents, contents, idle, nowhere, number_at, rewatched, rewritten, Search, search_at, searched}
 use Rattle.pb_propagate.proofs.Common.{stored_clause, stored_search, stored_watch, Watch, watch_of, watch_place}
 use Rattle.pb_propagate.proofs.lemmas.clauses.Tables.{slice-is, slice-same, table-same, table-set}
-use Rattle.pb_propagate.proofs.lemmas.clauses.Blocks.{contents-are, IsOwn, IsSame, passed-none, passed-own, room-inside, room-start, same-block, search-behind, search-made, watch-made}
+use Rattle.pb_propagate.proofs.lemmas.clauses.Blocks.{contents-are, IsOwn, IsSame, passed-none, passed-own, room-inside, room-start, same-block, search-stored, search-made, watch-made}
 
 -- words from one position to another are written
 pub record IsWritten (from to : ℕ) (old new : List ℕ) : Type 0 where
@@ -312,7 +312,7 @@ module _ {words starts rooms : List ℕ} {run s a : ℕ} {v : Contents} (old : A
       (omega arith) (omega arith) _ (omega arith) (omega arith) (other (b + 6) (λ h. absurd (omega (arith, h))))
       (omega (arith, other (b + 7) (λ h. absurd (omega (arith, h))), old.begun_by s slot))
       (search-made _ _ _ _ (other (b + 4) (λ h. absurd (omega (arith, h)))
-      ∙ ap (λ (x : Search). x.position) (search-behind old is s slot))
+      ∙ ap (λ (x : Search). x.position) (search-stored old is s slot))
       (passed-none run _ _ (get_or-set_same words (b + 5) 0 0 (omega (arith, inside-block))))))
 
   pub clear-written : Store (set words (a + 6) 0) starts rooms run (rewritten v s [])
@@ -357,5 +357,5 @@ shared-begun {words} {starts} {rooms} {run} s old is inside none =
     subst (λ (u : Contents). u ≡ searched u s (record { position = (search_at u.searches s).position; passed = 0 })) is
     (contents-are _ _ refl
     (table-set (length starts) (stored_search words starts run) (stored_search words starts run) s _
-    (search-made _ _ _ _ (ap (λ (x : Search). x.position) (search-behind old refl s inside)) (passed-none run _ _ q))
+    (search-made _ _ _ _ (ap (λ (x : Search). x.position) (search-stored old refl s inside)) (passed-none run _ _ q))
     (λ j h n. refl)) refl refl)

@@ -4,7 +4,7 @@ use Rattle.pb_propagate.proofs.Common.{inl, inr, length, length-append, length-s
 use Rattle.pb_propagate.proofs.Common.{cases_eq, ne_eqb, nat_tests, get_or_past, AreMarked, is_failed, is_met}
 use Rattle.std.proofs.lemmas.Grind.{get_or-set_at}
 use Rattle.pb_propagate.specs.engine.Clauses.Truths.{flip, true_at, false_at}
-use Rattle.pb_propagate.proofs.lemmas.clauses.Gets.{push-default}
+use Rattle.pb_propagate.proofs.lemmas.store.Gets.{push-default}
 use Rattle.pb_propagate.proofs.lemmas.clauses.Truths.{flip-variable}
 
 -- a literal is true at the value at which the other one of its variable is falsified

@@ -6,7 +6,7 @@ use Rattle.pb_propagate.proofs.Common.{cases_eq, eqb-true, get_or_append_left, I
 use Rattle.pb_propagate.proofs.Common.{IsNormal, IsRising, Group, Long, Short, list_at, AreDifferent, AreJoined, clause_shape, code, codes_of_terms}
 use Rattle.pb_propagate.proofs.Common.{group_by, IsClause, IsLight, joined, offset, one_term, slot_shape, entry_of, IsStoredAs, Shape, AreSlots}
 use Rattle.pb_propagate.proofs.Common.{IsSlot}
-use Rattle.pb_propagate.proofs.lemmas.clauses.Gets.{push-default}
+use Rattle.pb_propagate.proofs.lemmas.store.Gets.{push-default}
 use Rattle.pb_propagate.proofs.lemmas.clauses.Literals.{half-of, parity-of}
 use Rattle.pb_propagate.proofs.lemmas.clauses.Shapes.{joined-at, joined-length, shape-some}
 use Rattle.pb_propagate.proofs.lemmas.clauses.Stores.{slot-room}

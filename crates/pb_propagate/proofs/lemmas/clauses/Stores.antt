@@ -10,7 +10,7 @@ use Rattle.pb_propagate.proofs.lemmas.clauses.Linked.{list-within}
 use Rattle.pb_propagate.proofs.lemmas.clauses.Listed.{lists-length, watch-entries, listed-live, blocked-set}
 use Rattle.pb_propagate.proofs.lemmas.clauses.Truths.{flip-half, flip-flip, flip-even}
 use Rattle.pb_propagate.proofs.lemmas.clauses.Readings.{running-bounded, searches-length}
-use Rattle.pb_propagate.proofs.lemmas.clauses.Gets.{push-default}
+use Rattle.pb_propagate.proofs.lemmas.store.Gets.{push-default}
 use Rattle.pb_propagate.proofs.lemmas.clauses.Searches.{passed-at, round-inside}
 
 -- what is known of clauses depends only on the element at each position

@@ -8,10 +8,10 @@ use Rattle.pb_propagate.proofs.Common.{get_or_from_slice_get, slice_get-get_or, 
 use Rattle.pb_propagate.proofs.Common.{Spots, spots_in, lists_of, shapes_of, spots_of, stored_shape, cut, IsLinked, last, Moved, terms_at, weighted, Shape}
 use Rattle.pb_propagate.proofs.Common.{Weighted}
 use Rattle.pb_propagate.specs.engine.Engine.Links.{none}
-use Rattle.pb_propagate.proofs.lemmas.store.Gets.{get-push_same, get-push_other}
+use Rattle.pb_propagate.proofs.lemmas.store.Gets.{get-push_same, get-push_other, swap-here, swap-length}
 use Rattle.pb_propagate.proofs.lemmas.store.Crosses.{Same}
 use Rattle.pb_propagate.proofs.lemmas.store.Links.{IsTerm, entry_for, link-next, cut-length}
-use Rattle.pb_propagate.proofs.lemmas.store.Unlinks.{swap-here, swap-length, unlink-next, named-spot, named-entry, EntryNamed, Leaving}
+use Rattle.pb_propagate.proofs.lemmas.store.Unlinks.{unlink-next, named-spot, named-entry, EntryNamed, Leaving}
 use Rattle.pb_propagate.proofs.lemmas.engine.VisitSteps.{shape-at, term-inside}
 use Rattle.pb_propagate.proofs.lemmas.engine.Puts.{lists-at, place-inside}
 use Rattle.pb_propagate.proofs.lemmas.store.Weights.{entries-size, entry-weighted, entries-pushed, entries-taken, item-taken, shifted}

@@ -2,35 +2,12 @@
 use Rattle.pb_propagate.proofs.Common.{subst}
 use Rattle.pb_propagate.proofs.Common.{ℕ, ◌+◌, ◌-◌, ◌<◌, ◌∙◌, ◌≡◌, [], ap, arith, get_or, get_or-set_other, get_or-set_same, inl, inr, length}
 use Rattle.pb_propagate.proofs.Common.{length-set, List, None, refl, set, sym, Option, slice_get, Some, sum_by, swap_remove, cases_eq, cases_lt}
-use Rattle.pb_propagate.proofs.Common.{get_or_past, length-take-le, sum_by-set, sum_by-swap_remove, get_or_from_slice_get, same_Some, slice_get_past}
+use Rattle.pb_propagate.proofs.Common.{get_or_past, sum_by-set, sum_by-swap_remove, get_or_from_slice_get, same_Some}
 use Rattle.pb_propagate.proofs.Common.{slice_get_within, Term, entry_weight, place, weight_in, AreCrossed, cut, entry_at, entry_cross, IsLinked}
 use Rattle.pb_propagate.proofs.Common.{term_at, term_cross, terms_at, Shape, Weighted}
-use Rattle.pb_propagate.proofs.lemmas.store.Gets.{lt_of_apart, get-take_less, get-take_past, get-set_same, get-set_other}
+use Rattle.pb_propagate.proofs.lemmas.store.Gets.{get-set_same, get-set_other, swap-other, swap-last, swap-here, swap-length}
 use Rattle.pb_propagate.proofs.lemmas.store.Links.{Gains, IsTerm, entry_for, linked-less, totals-next, term-here, term-none, term-other, terms-step, entry-is, cut-length}
 use Rattle.pb_propagate.proofs.lemmas.store.Crosses.{to, to-parts, to-none, Same, crossed-drop, crossed-move}
-
--- a list without one of its entries
-pub swap-other : {X : Type 0} (es : List X) (q k : ℕ) (d : X) → (k ≡ q → ⊥) → (k ≡ length es - 1 → ⊥) → slice_get (swap_remove es q d) k ≡ slice_get es k
-swap-other es q k d n m =
-    elim (cases_lt k (length es - 1)) [
-      | inl less ↦ get-take_less (set es q (get_or es (length es - 1) d)) (length es - 1) k less ∙ get-set_other es q k (get_or es (length es - 1) d) n
-      | inr more ↦ get-take_past (set es q (get_or es (length es - 1) d)) (length es - 1) k more ∙ sym (slice_get_past es k (omega (arith, lt_of_apart (length es - 1) k more m)))
-    ]
-
-pub swap-last : {X : Type 0} (es : List X) (q : ℕ) (d : X) → slice_get (swap_remove es q d) (length es - 1) ≡ None
-swap-last es q d = get-take_past (set es q (get_or es (length es - 1) d)) (length es - 1) (length es - 1) (omega arith)
-
-pub swap-here : {X : Type 0} (es : List X) (q : ℕ) (d e : X) → q + 1 < length es → slice_get es (length es - 1) ≡ Some e → slice_get (swap_remove es q d) q ≡ Some e
-swap-here es q d e more is =
-    get-take_less (set es q (get_or es (length es - 1) d)) (length es - 1) q (omega (arith, more))
-    ∙ get-set_same es q (get_or es (length es - 1) d) (omega (arith, more))
-    ∙ ap (λ x. Some x) (get_or_from_slice_get es (length es - 1) e d is)
-
-pub swap-length : {X : Type 0} (es : List X) (q : ℕ) (d : X) → q < length es → length (swap_remove es q d) + 1 ≡ length es
-swap-length es q d inside =
-    let put = length-set es q (get_or es (length es - 1) d) in
-    let rest = length-take-le (length es - 1) (set es q (get_or es (length es - 1) d)) (omega (arith, put)) in
-    omega (arith, rest, inside)
 
 -- the entry that a name refers to
 pub record EntryNamed (o : Option Weighted) (s i w : ℕ) : Type 0 where

@@ -1,10 +1,11 @@
 -- Entries and the coefficients of their terms.
 use Rattle.pb_propagate.proofs.Common.{map-append}
 use Rattle.pb_propagate.proofs.Common.{ℕ, ◌++◌, ◌-◌, ◌<◌, ◌∙◌, ◌∷◌, ◌≡◌, [], ap, arith, false, get_or, get_or-set_other, Global, length, List, map}
-use Rattle.pb_propagate.proofs.Common.{refl, set, suc, sym, take, Vec, zero, All, option_map, slice_get, Some, swap_remove, get_or_default}
-use Rattle.pb_propagate.proofs.Common.{length-map, map-set, take-map, slice_get-get_or, slice_get-map, slice_get_within, Occurrence, Term, NameForms}
+use Rattle.pb_propagate.proofs.Common.{refl, set, suc, sym, Vec, zero, All, option_map, slice_get, Some, swap_remove, get_or_default}
+use Rattle.pb_propagate.proofs.Common.{length-map, map-set, slice_get-get_or, slice_get-map, slice_get_within, Occurrence, Term, NameForms}
 use Rattle.pb_propagate.proofs.Common.{entries_of, lists_of, cut, IsLinked, last, Moved, terms_at, weighted, Shape, Weighted}
 use Rattle.std.proofs.Math.ListN.{get_or-map}
+use Rattle.pb_propagate.proofs.lemmas.store.Gets.{swap-map}
 use Rattle.pb_propagate.specs.engine.Engine.Links.{none}
 use Rattle.pb_propagate.proofs.lemmas.store.Links.{cut-here}
 use Rattle.pb_propagate.proofs.lemmas.store.Unlinks.{Shifted, stays, goes, named-term}
@@ -28,14 +29,6 @@ pub entries-size : (forms : List Shape) (occ : List (Vec Occurrence Global)) (p 
 entries-size forms occ p = ap length (entries-get forms occ p) ∙ length-map (get_or (lists_of occ) p []) (weighted forms)
 
 -- an entry that is removed, and the one that moves
-swap-map : {X Y : Type 0} (f : X → Y) (xs : List X) (q : ℕ) (d : X) → map f (swap_remove xs q d) ≡ swap_remove (map f xs) q (f d)
-swap-map f xs q d =
-    let n = length xs - 1 in
-    let x = get_or xs n d in
-    sym (take-map f n (set xs q x))
-    ∙ ap (take n) (map-set f xs q x ∙ ap (set (map f xs) q) (sym (get_or-map f xs n d)))
-    ∙ ap (λ m. take (m - 1) (set (map f xs) q (get_or (map f xs) (m - 1) (f d)))) (sym (length-map xs f))
-
 entries-set : (forms : List Shape) (occ occ' : List (Vec Occurrence Global)) (p : ℕ) (os : List Occurrence) → lists_of occ' ≡ set (lists_of occ) p os → entries_of forms occ' ≡ set (entries_of forms occ) p (map (weighted forms) os)
 entries-set forms occ occ' p os h =
     let w = weighted forms in
