@@ -2,7 +2,6 @@
 pub mod Blocks
 pub mod BlocksFitted
 pub mod BlocksWritten
-pub mod Codes
 pub mod Counts
 pub mod Few
 pub mod Heads

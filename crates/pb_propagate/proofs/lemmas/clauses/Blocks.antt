@@ -71,6 +71,16 @@ bare-watch {words} starts e bare = ap (watch_of (number_at words (watch_place st
   | inr odd ↦ ap (number_at words) (omega (arith, odd)) ∙ bare.second
 ])
 
+pub bare-kept : {words words' : List ℕ} → ((i : ℕ) → i < 8 → number_at words' i ≡ number_at words i) → IsBare words 0 → IsBare words' 0
+bare-kept kept b = record {
+  first = kept 1 (omega arith) ∙ b.first;
+  second = kept 3 (omega arith) ∙ b.second;
+  position = kept 4 (omega arith) ∙ b.position;
+  passed = kept 5 (omega arith) ∙ b.passed;
+  count = kept 6 (omega arith) ∙ b.count;
+  run = kept 7 (omega arith) ∙ b.run;
+}
+
 -- what is stored of a slot is as before
 pub record IsSame (words words' starts starts' : List ℕ) (run s : ℕ) : Type 0 where
   pub clause : stored_clause words' starts' s ≡ stored_clause words starts s

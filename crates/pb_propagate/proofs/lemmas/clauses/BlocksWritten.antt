@@ -4,7 +4,7 @@ use Rattle.pb_propagate.proofs.Common.{inl, inr, length, length-set, List, refl,
 use Rattle.pb_propagate.proofs.Common.{AreBlocks, Contents, contents, idle, nowhere, number_at, rewatched, rewritten, Search, search_at, searched}
 use Rattle.pb_propagate.proofs.Common.{stored_clause, stored_search, stored_watch, Watch, watch_of, watch_place}
 use Rattle.pb_propagate.proofs.lemmas.clauses.Tables.{slice-is, slice-same, table-same, table-set}
-use Rattle.pb_propagate.proofs.lemmas.clauses.Blocks.{contents-are, IsOwn, IsSame, passed-none, passed-own, room-inside, room-start, same-block, search-stored, search-made, watch-made}
+use Rattle.pb_propagate.proofs.lemmas.clauses.Blocks.{bare-kept, contents-are, IsOwn, IsSame, passed-none, passed-own, room-inside, room-start, same-block, search-stored, search-made, watch-made}
 
 -- words from one position to another are written
 pub record IsWritten (from to : ℕ) (old new : List ℕ) : Type 0 where
@@ -53,14 +53,7 @@ module _ {words words' starts rooms : List ℕ} {run from to : ℕ} {v : Content
       number_at words' (number_at starts s + 7) ≤ run → AreBlocks words' starts rooms run
   blocks-kept most stamp = record {
     sizes = old.sizes;
-    common = λ any. let o = old.common any in record {
-      first = low 1 (omega arith) ∙ o.first;
-      second = low 3 (omega arith) ∙ o.second;
-      position = low 4 (omega arith) ∙ o.position;
-      passed = low 5 (omega arith) ∙ o.passed;
-      count = low 6 (omega arith) ∙ o.count;
-      run = low 7 (omega arith) ∙ o.run;
-    };
+    common = λ any. bare-kept (λ i h. outside i (inl (omega (arith, h, room-start old s some)))) (old.common any);
     shared = old.shared;
     small = old.small;
     apart = old.apart;
@@ -75,9 +68,6 @@ module _ {words words' starts rooms : List ℕ} {run from to : ℕ} {v : Content
     ];
   }
     where
-      low : (i : ℕ) → i < 8 → number_at words' i ≡ number_at words i
-      low i h = outside i (inl (omega (arith, h, room-start old s some)))
-
       other : (t : ℕ) → (t ≡ s → ⊥) → (i : ℕ) → i < 8 →
           number_at words' (number_at starts t + i) ≡ number_at words (number_at starts t + i)
       other t n i h = elim (old.apart s t (λ is. n (sym is)) some) [

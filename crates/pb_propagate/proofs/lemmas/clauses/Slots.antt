@@ -1,4 +1,5 @@
 -- The constraints of all slots when a constraint is added or removed.
+use Rattle.pb_propagate.proofs.Common.{same_Some}
 use Rattle.pb_propagate.proofs.Common.{ℕ, ◌*◌, ◌++◌, ◌+◌, ◌/◌, ◌<◌, ◌∙◌, ◌∷◌, ◌≡◌, ◌≤◌, ◌⊎◌, [], ap, arith, Bool, cond, eq-eqb, false, get_or}
 use Rattle.pb_propagate.proofs.Common.{get_or-set_other, get_or-set_same, inl, inr, length, length-append, length-set, List, map, None, not, refl}
 use Rattle.pb_propagate.proofs.Common.{set, subst, suc, sym, true, zero, ◌%◌, ◌==◌, All, count_by, IsPermutation, Option, slice_get, Some, cases_Bool}
@@ -15,10 +16,7 @@ use Rattle.pb_propagate.proofs.lemmas.clauses.Stores.{slot-room}
 pub slots-at : (os : List (Option Form)) (xs : List Shape) (s : ℕ) (p : Option Form) (d : Shape) → AreSlots os xs → slice_get os s ≡ Some p → (s < length xs) × IsSlot p (get_or xs s d)
 slots-at [] xs s p d a h = absurd (let less = slice_get_within [] s p h in omega (arith, less))
 slots-at (o ∷ os) [] s p d a h = absurd (let e : true ≡ false = a in cc)
-slots-at (o ∷ os) (x ∷ xs) zero p d a h = (omega arith, subst (λ q. IsSlot q x) (same-some o p h) a.0)
-  where
-    same-some : (q r : Option Form) → ◌≡◌ {A = Option (Option Form)} (Some q) (Some r) → q ≡ r
-    same-some q r e = cc e
+slots-at (o ∷ os) (x ∷ xs) zero p d a h = (omega arith, subst (λ q. IsSlot q x) (same_Some o p h) a.0)
 slots-at (o ∷ os) (x ∷ xs) (suc s) p d a h = let rest = slots-at os xs s p d a.1 h in (omega (arith, rest.0), rest.1)
 
 -- an empty slot has neither a clause nor terms

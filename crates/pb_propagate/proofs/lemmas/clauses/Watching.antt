@@ -1,8 +1,9 @@
 -- The first literals of the list are walked.
+use Rattle.pb_propagate.proofs.Common.{cases_Bool}
 use Rattle.pb_propagate.proofs.Common.{AreWithin, Extends, IsAhead, Run, list_of, values_of}
 use Rattle.pb_propagate.proofs.Common.{ℕ, ◌*◌, ◌++◌, ◌+◌, ◌/◌, ◌<◌, ◌∙◌, ◌∷◌, ◌≡◌, ◌≤◌, [], ap, arith, Bool, false, get_or, if◌then◌else◌, inl, inr}
-use Rattle.pb_propagate.proofs.Common.{length, length-append, List, map, refl, subst, suc, sym, take, true, ◌==◌, Contains, Option, sum, sum_by}
-use Rattle.pb_propagate.proofs.Common.{both_ways, cases_eq, cases_lt, eqb-true, or_cases, or_left, or_right, get_or-map, get_or_append_left}
+use Rattle.pb_propagate.proofs.Common.{length, length-append, List, map, refl, subst, suc, sym, take, true, Contains, Option, sum, sum_by}
+use Rattle.pb_propagate.proofs.Common.{both_ways, cases_lt, or_cases, get_or-map, get_or_append_left}
 use Rattle.pb_propagate.proofs.Common.{length-map, map-append, take-append-le, take_all, take_more, Contains-append_cases, Contains-append_left}
 use Rattle.pb_propagate.proofs.Common.{Contains-append_right, Contains-push, Contains-push_cases, NumberedLiteral, negation, Group, Long, Short}
 use Rattle.pb_propagate.proofs.Common.{Clauses, Watch, Search, Heads, list_at, watch_at, watch_lists, AreReady, AreServed, AreStored, AreWalked}
@@ -12,15 +13,16 @@ use Rattle.pb_propagate.specs.declared.heads.Ahead.{Ahead}
 use Rattle.pb_propagate.specs.engine.Engine.Lists.{has}
 use Rattle.pb_propagate.specs.engine.Engine.Progress.{HasWalked}
 pub use Rattle.pb_propagate.specs.engine.Clauses.Walked.{falsified_code, heads_at, reached_codes, reached, head, advanced}
-use Rattle.pb_propagate.proofs.lemmas.engine.Literals.{same-true, same-refl, negation-negation, has-get}
+use Rattle.pb_propagate.proofs.lemmas.engine.Literals.{same-true, negation-negation, has-get}
 use Rattle.pb_propagate.proofs.lemmas.engine.Values.{says-inside}
 use Rattle.pb_propagate.proofs.lemmas.store.Gets.{last-is}
 use Rattle.pb_propagate.proofs.lemmas.clauses.Readings.{running-bounded}
 use Rattle.pb_propagate.proofs.lemmas.clauses.Searches.{ready-round, passed-at}
 use Rattle.pb_propagate.proofs.lemmas.clauses.Turned.{turned-count}
 use Rattle.pb_propagate.proofs.lemmas.clauses.Truths.{flip-half}
-use Rattle.pb_propagate.proofs.lemmas.clauses.Codes.{has as stands}
+use Rattle.pb_propagate.specs.engine.Clauses.Walked.{has as stands}
 use Rattle.pb_propagate.proofs.lemmas.clauses.Counts.{killed, killed-more, occurs, list-short, passed-most}
+use Rattle.pb_propagate.proofs.lemmas.clauses.Killed.{stands-source}
 use Rattle.pb_propagate.proofs.lemmas.clauses.Literals.{Agree, false-listed, false-code, code-injective, code-of}
 use Rattle.pb_propagate.proofs.lemmas.clauses.Shapes.{Served, met, free, served-settled}
 use Rattle.pb_propagate.proofs.lemmas.clauses.Walks.{running-grow, walked-grow}
@@ -138,22 +140,6 @@ walked-within values clauses ws a b within w = record {
 }
 
 -- the next literal is not walked yet
-stands-tail : (y : ℕ) (ys : List ℕ) (x : ℕ) → (y ≡ x → ⊥) → stands (y ∷ ys) x ≡ true → stands ys x ≡ true
-stands-tail y ys x n h = elim (or_cases (y == x) (stands ys x) h) [
-  | inl is ↦ absurd (n (eqb-true y x is))
-  | inr old ↦ old
-]
-
-has-some : (g : Group) (xs : List NumberedLiteral) (l : NumberedLiteral) → stands (map (falsified_code g) xs) (falsified_code g l) ≡ true → has xs l ≡ true
-unfolding has
-has-some g [] l h = absurd (both_ways _ refl h)
-has-some g (x ∷ xs) l h = elim (cases_eq (falsified_code g x) (falsified_code g l)) [
-  | inl is ↦
-      let one : x ≡ l = sym (negation-negation x) ∙ ap negation (code-injective g (negation x) (negation l) is) ∙ negation-negation l in
-      or_left (same x l) (has xs l) (ap (λ k. same k l) one ∙ same-refl l)
-  | inr n ↦ or_right (same x l) (has xs l) (has-some g xs l (stands-tail (falsified_code g x) (map (falsified_code g) xs) (falsified_code g l) n h))
-]
-
 pub fresh-take : (list : List NumberedLiteral) (n : ℕ) (l : NumberedLiteral) → AreSingle list → n < length list → l ≡ get_or list n l → has (take n list) l ≡ false
 fresh-take _ n l none inside is = absurd (omega (arith, inside))
 fresh-take _ n l (more {list} k s absent) inside is = elim (cases_lt n (length list)) [
@@ -165,11 +151,13 @@ fresh-take _ n l (more {list} k s absent) inside is = elim (cases_lt n (length l
 ]
 
 fresh : (g : Group) (list : List NumberedLiteral) (n : ℕ) (l : NumberedLiteral) → AreSingle list → n < length list → l ≡ get_or list n l → stands (map (falsified_code g) (take n list)) (falsified_code g l) ≡ false
-fresh g list n l single inside is = by (stands (map (falsified_code g) (take n list)) (falsified_code g l)) refl
-  where
-    by : (b : Bool) → stands (map (falsified_code g) (take n list)) (falsified_code g l) ≡ b → stands (map (falsified_code g) (take n list)) (falsified_code g l) ≡ false
-    by true h = absurd (both_ways _ (fresh-take list n l single inside is) (has-some g (take n list) l h))
-    by false h = h
+fresh g list n l single inside is = elim (cases_Bool (stands (map (falsified_code g) (take n list)) (falsified_code g l))) [
+  | inl there ↦
+      let w = stands-source (falsified_code g) (take n list) (falsified_code g l) there in
+      let same : l ≡ w.0 = sym (negation-negation l) ∙ ap negation (sym (code-injective g (negation w.0) (negation l) w.2)) ∙ negation-negation w.0 in
+      absurd (both_ways _ (fresh-take list n l single inside is) (ap (has (take n list)) same ∙ w.1))
+  | inr absent ↦ absent
+]
 
 -- the next literal is falsified
 code-small : (g : Group) (v n : ℕ) (b : Bool) → v < n → 4 * v + offset g + (if b then 1 else 0) < 4 * n

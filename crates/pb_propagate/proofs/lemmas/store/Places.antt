@@ -1,4 +1,5 @@
 -- Adding and removing terms, in terms of what the program reads.
+use Rattle.pb_propagate.proofs.Common.{AreLonger, length-append}
 use Rattle.pb_propagate.proofs.Common.{IsSound, Option, Store}
 use Rattle.pb_propagate.proofs.Common.{stored_terms}
 use Rattle.pb_propagate.proofs.Common.{ℕ, ◌++◌, ◌+◌, ◌-◌, ◌<◌, ◌∙◌, ◌∷◌, ◌≡◌, ◌≤◌, ◌⊎◌, [], ap, arith, false, get_or, get_or-set_other}
@@ -26,6 +27,12 @@ entries-length forms occ = length-map occ (λ (v : Vec Occurrence Global). map (
 pub pushed-lists : (occ : List (Vec Occurrence Global)) (p : ℕ) (v0 v1 : Vec Occurrence Global) (o : Occurrence) → p < length occ → v0 ≡ get_or occ p v0 → v1.items ≡ v0.items ++ (o ∷ []) → lists_of (set occ p v1) ≡ set (lists_of occ) p (get_or (lists_of occ) p [] ++ (o ∷ []))
 pushed-lists occ p v0 v1 o room value pushed =
     map-set (λ (v : Vec Occurrence Global). v.items) occ p v1 ∙ ap (λ xs. set (lists_of occ) p xs) (pushed ∙ ap (λ xs. xs ++ (o ∷ [])) (sym (lists-at occ p p v0 room value refl)))
+
+pub longer-push : (occ occ' : List (Vec Occurrence Global)) (p : ℕ) (o : Occurrence) → p < length occ → lists_of occ' ≡ set (lists_of occ) p (get_or (lists_of occ) p [] ++ (o ∷ [])) → AreLonger occ occ'
+longer-push occ occ' p o room pushed q = elim (cases_eq q p) [
+  | inl here ↦ rw (here, pushed, get_or-set_same (lists_of occ) p (get_or (lists_of occ) p [] ++ (o ∷ [])) [] (omega (arith, room, lists-length occ))) (omega (arith, length-append (get_or (lists_of occ) p []) (o ∷ [])))
+  | inr other ↦ rw (pushed, get_or-set_other (lists_of occ) p q (get_or (lists_of occ) p [] ++ (o ∷ [])) [] other) (omega arith)
+]
 
 pub link-by : {base : List Shape} {form i : ℕ} {t : Term} (all : List (List ℕ)) (occ occ' : List (Vec Occurrence Global)) (spots spots' : List ℕ) → IsTerm base form i t → form < length all → place t.literal < length occ →
     lists_of occ' ≡ set (lists_of occ) (place t.literal) (get_or (lists_of occ) (place t.literal) [] ++ (record { form = form; index = i } ∷ [])) → spots' ≡ spots ++ (length (get_or (lists_of occ) (place t.literal) []) ∷ []) → length spots ≡ i →

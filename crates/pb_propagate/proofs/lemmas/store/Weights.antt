@@ -5,21 +5,18 @@ use Rattle.pb_propagate.proofs.Common.{refl, set, suc, sym, Vec, zero, All, opti
 use Rattle.pb_propagate.proofs.Common.{length-map, map-set, slice_get-get_or, slice_get-map, slice_get_within, Occurrence, Term, NameForms}
 use Rattle.pb_propagate.proofs.Common.{entries_of, lists_of, cut, IsLinked, last, Moved, terms_at, weighted, Shape, Weighted}
 use Rattle.std.proofs.Math.ListN.{get_or-map}
+use Rattle.std.proofs.lemmas.Simd.{map-map}
 use Rattle.pb_propagate.proofs.lemmas.store.Gets.{swap-map}
 use Rattle.pb_propagate.specs.engine.Engine.Links.{none}
 use Rattle.pb_propagate.proofs.lemmas.store.Links.{cut-here}
 use Rattle.pb_propagate.proofs.lemmas.store.Unlinks.{Shifted, stays, goes, named-term}
 
 -- the lists with and without the coefficients
-pub entries-get : (forms : List Shape) (occ : List (Vec Occurrence Global)) (p : ℕ) → get_or (entries_of forms occ) p [] ≡ map (weighted forms) (get_or (lists_of occ) p [])
-entries-get forms [] zero = refl
-entries-get forms [] (suc p) = refl
-entries-get forms (v ∷ occ) zero = refl
-entries-get forms (v ∷ occ) (suc p) = entries-get forms occ p
-
 entries-lists : (forms : List Shape) (occ : List (Vec Occurrence Global)) → entries_of forms occ ≡ map (map (weighted forms)) (lists_of occ)
-entries-lists forms [] = refl
-entries-lists forms (v ∷ occ) = ap (λ xs. map (weighted forms) v.items ∷ xs) (entries-lists forms occ)
+entries-lists forms occ = sym (map-map (map (weighted forms)) (λ (v : Vec Occurrence Global). v.items) occ)
+
+pub entries-get : (forms : List Shape) (occ : List (Vec Occurrence Global)) (p : ℕ) → get_or (entries_of forms occ) p [] ≡ map (weighted forms) (get_or (lists_of occ) p [])
+entries-get forms occ p = ap (λ es. get_or es p []) (entries-lists forms occ) ∙ get_or-map (map (weighted forms)) (lists_of occ) p []
 
 pub entry-weighted : (forms : List Shape) (occ : List (Vec Occurrence Global)) (p q : ℕ) (o : Occurrence) → slice_get (get_or (lists_of occ) p []) q ≡ Some o → slice_get (get_or (entries_of forms occ) p []) q ≡ Some (weighted forms o)
 entry-weighted forms occ p q o h =
