@@ -1,7 +1,6 @@
 -- A list of different numbers below a bound is no longer than the bound.
-use Rattle.pb_propagate.proofs.Common.{slice_get-get_or}
-use Rattle.pb_propagate.proofs.Common.{ℕ, ◌<◌, ◌∙◌, ◌∷◌, ◌≡◌, ◌≤◌, [], ap, arith, get_or, inl, inr, length, List, refl, suc}
-use Rattle.pb_propagate.proofs.Common.{sym, true, zero, ◌==◌, slice_get, Some, both_ways, cases_Bool, eqb-true, or_cases, list_any}
+use Rattle.pb_propagate.proofs.Common.{slice_get-get_or, ℕ, ◌<◌, ◌∙◌, ◌∷◌, ◌≡◌, ◌≤◌, [], ap, arith, get_or, inl, inr, length, List, refl, suc, sym}
+use Rattle.pb_propagate.proofs.Common.{true, zero, ◌==◌, slice_get, Some, both_ways, cases_Bool, eqb-true, or_cases, list_any}
 use Rattle.std.proofs.lemmas.Map.Keys.{IsDistinct-from_apart}
 use Rattle.std.proofs.lemmas.Map.Steps.{length-le_from_distinct_below}
 

@@ -1,9 +1,8 @@
 -- The occurrences of the literals on a list, and of their negations.
-use Rattle.pb_propagate.proofs.Common.{count_by-le-length, sum_by-le-sum_by}
-use Rattle.pb_propagate.proofs.Common.{ℕ, ◌++◌, ◌+◌, ◌<◌, ◌||◌, ◌∙◌, ◌∷◌, ◌≡◌, ◌≤◌, ◌⊎◌, [], ap, arith, Bool, cond, false, inl, inr, length, List}
-use Rattle.pb_propagate.proofs.Common.{map, refl, subst, sym, true, ◌==◌, Contains, count_by, sum_by, both_ways, cases_Bool, eqb-true, or_cases}
-use Rattle.pb_propagate.proofs.Common.{or_left, or_right, map-append, get_or-le-sum_by, NumberedLiteral, negation, Group, Long, Short}
-use Rattle.pb_propagate.proofs.Common.{list_at, code_in, fallen, falsified_code, same}
+use Rattle.pb_propagate.proofs.Common.{count_by-le-length, sum_by-le-sum_by, ℕ, ◌++◌, ◌+◌, ◌<◌, ◌||◌, ◌∙◌, ◌∷◌, ◌≡◌, ◌≤◌, ◌⊎◌, [], ap, arith, Bool}
+use Rattle.pb_propagate.proofs.Common.{cond, false, inl, inr, length, List, map, refl, subst, sym, true, ◌==◌, Contains, count_by, sum_by, both_ways}
+use Rattle.pb_propagate.proofs.Common.{cases_Bool, eqb-true, or_cases, or_left, or_right, map-append, get_or-le-sum_by, NumberedLiteral, negation}
+use Rattle.pb_propagate.proofs.Common.{Group, Long, Short, list_at, code_in, fallen, falsified_code, same}
 use Rattle.pb_propagate.specs.engine.Engine.Lists.{has}
 use Rattle.pb_propagate.proofs.lemmas.engine.Literals.{same-refl}
 use Rattle.pb_propagate.proofs.lemmas.clauses.Literals.{code-injective, groups-apart}

@@ -1,9 +1,8 @@
 -- Entries of lists are written, added and removed.
-use Rattle.pb_propagate.proofs.Common.{slice_get-get_or}
-use Rattle.pb_propagate.proofs.Common.{ℕ, ◌++◌, ◌-◌, ◌/◌, ◌<◌, ◌∙◌, ◌∷◌, ◌≡◌, ◌⊎◌, [], ap, arith, get_or, get_or-set_other, get_or-set_same, Global}
-use Rattle.pb_propagate.proofs.Common.{inl, inr, length, length-set, List, map, refl, set, subst, suc, sym, true, Vec, zero, Contains}
-use Rattle.pb_propagate.proofs.Common.{option_map, slice_get, Some, swap_remove, cases_eq, cases_lt, get_or-map, length-map, map-set, set-get_or}
-use Rattle.pb_propagate.proofs.Common.{get_or_from_slice_get, none-some, same_Some, slice_get-map, slice_get_within, Listed, Watch}
+use Rattle.pb_propagate.proofs.Common.{slice_get-get_or, ℕ, ◌++◌, ◌-◌, ◌/◌, ◌<◌, ◌∙◌, ◌∷◌, ◌≡◌, ◌⊎◌, [], ap, arith, get_or, get_or-set_other}
+use Rattle.pb_propagate.proofs.Common.{get_or-set_same, Global, inl, inr, length, length-set, List, map, refl, set, subst, suc, sym, true, Vec, zero}
+use Rattle.pb_propagate.proofs.Common.{Contains, option_map, slice_get, Some, swap_remove, cases_eq, cases_lt, get_or-map, length-map, map-set}
+use Rattle.pb_propagate.proofs.Common.{set-get_or, get_or_from_slice_get, none-some, same_Some, slice_get-map, slice_get_within, Listed, Watch}
 use Rattle.pb_propagate.proofs.Common.{AreBlocked, AreFewer, AreLinked, AreMore, entries_at, IsListed, list_at, watch_at, watch_lists}
 use Rattle.std.proofs.lemmas.Option.{slice_get_read}
 use Rattle.pb_propagate.proofs.lemmas.store.Gets.{get-take_less, get-set_same, get-set_other, get-push_same, get-push_other, swap-past, swap-map}

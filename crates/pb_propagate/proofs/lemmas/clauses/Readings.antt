@@ -1,8 +1,6 @@
 -- A visit to a watch, in terms of what the program reads.
-use Rattle.pb_propagate.proofs.Common.{ℕ, ◌*◌, ◌/◌, ◌<◌, ◌∙◌, ◌≡◌, ◌≤◌, ap, arith, Bool, get_or}
-use Rattle.pb_propagate.proofs.Common.{length, List, subst, sym, true, All, Contains}
-use Rattle.pb_propagate.proofs.Common.{Option, slice_get, Some, Clauses, Search}
-use Rattle.pb_propagate.proofs.Common.{list_at, watch_at, watch_lists, all_turned, IsRound, IsRunning}
+use Rattle.pb_propagate.proofs.Common.{ℕ, ◌*◌, ◌/◌, ◌<◌, ◌∙◌, ◌≡◌, ◌≤◌, ap, arith, Bool, get_or, length, List, subst, sym, true, All, Contains}
+use Rattle.pb_propagate.proofs.Common.{Option, slice_get, Some, Clauses, Search, list_at, watch_at, watch_lists, all_turned, IsRound, IsRunning}
 use Rattle.pb_propagate.proofs.Common.{passed_of, search_at, turned, flip}
 use Rattle.pb_propagate.proofs.lemmas.clauses.Searches.{passed-at, passed-length}
 use Rattle.pb_propagate.proofs.lemmas.clauses.Turned.{turned-at, turned-count, turned-size}

@@ -1,9 +1,8 @@
 -- The reasons of literals among all constraints.
-use Rattle.pb_propagate.proofs.Common.{RunRecords, values_of}
-use Rattle.pb_propagate.proofs.Common.{ℕ, ◌++◌, ◌<◌, ◌∙◌, ◌∷◌, ◌≡◌, [], ap, arith, get_or, length, List, refl, subst, sym}
-use Rattle.pb_propagate.proofs.Common.{slice_get, Some, get_or_from_slice_get, slice_get-get_or, slice_get_within, NumberedLiteral, Run}
-use Rattle.pb_propagate.proofs.Common.{list_at, IsUnit, AreJoined, clause_shape, joined, literal_at, slot_shape, by_reason, HaveReasons}
-use Rattle.pb_propagate.proofs.Common.{Puts, Shape, list_of, reasons_of, RunKeepsReasons, RunReasons}
+use Rattle.pb_propagate.proofs.Common.{RunRecords, values_of, ℕ, ◌++◌, ◌<◌, ◌∙◌, ◌∷◌, ◌≡◌, [], ap, arith, get_or, length, List, refl, subst, sym}
+use Rattle.pb_propagate.proofs.Common.{slice_get, Some, get_or_from_slice_get, slice_get-get_or, slice_get_within, NumberedLiteral, Run, list_at}
+use Rattle.pb_propagate.proofs.Common.{IsUnit, AreJoined, clause_shape, joined, literal_at, slot_shape, by_reason, HaveReasons, Puts, Shape, list_of}
+use Rattle.pb_propagate.proofs.Common.{reasons_of, RunKeepsReasons, RunReasons}
 use Rattle.pb_propagate.proofs.lemmas.clauses.Shapes.{clause-stored, joined-at, joined-length, unit-puts, unit-some}
 use Rattle.pb_propagate.proofs.lemmas.engine.Reasoned.{keeps-then, reasons-within, moved-same, reasons-keep, reasons-moved}
 

@@ -1,8 +1,7 @@
 -- Searches go round their clauses.
 use Rattle.pb_propagate.proofs.Common.{ℕ, ◌+◌, ◌-◌, ◌<◌, ◌∙◌, ◌≡◌, ◌≤◌, ◌⊎◌, ap, arith, Bool, get_or, get_or-set_other, get_or-set_same, inl, inr}
-use Rattle.pb_propagate.proofs.Common.{length, List, map, set, subst, sym, true, Option, cases_eq, cases_lt, nat_tests}
-use Rattle.pb_propagate.proofs.Common.{length-map, map-set, Clauses, Search, list_at, AreRound, around, IsRound, passed_of, search_at, turned}
-use Rattle.pb_propagate.proofs.Common.{false_at}
+use Rattle.pb_propagate.proofs.Common.{length, List, map, set, subst, sym, true, Option, cases_eq, cases_lt, nat_tests, length-map, map-set, Clauses}
+use Rattle.pb_propagate.proofs.Common.{Search, list_at, AreRound, around, IsRound, passed_of, search_at, turned, false_at}
 use Rattle.std.proofs.Math.ListN.{get_or-map}
 use Rattle.pb_propagate.proofs.lemmas.clauses.Turned.{turned-early, turned-late}
 

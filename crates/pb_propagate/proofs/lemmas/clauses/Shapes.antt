@@ -1,10 +1,9 @@
 -- Clauses as constraints.
-use Rattle.pb_propagate.proofs.Common.{get_or_default}
-use Rattle.pb_propagate.proofs.Common.{ℕ, ◌+◌, ◌<◌, ◌∙◌, ◌∷◌, ◌≡◌, ◌≤◌, ◌⊎◌, [], ap, arith, Bool, cond, eq-eqb, false, get_or, inl, inr, length, List}
-use Rattle.pb_propagate.proofs.Common.{map, refl, suc, sym, true, zero, ◌==◌, Contains, count_by, Option, slice_get, Some, both_ways, cases_Bool}
-use Rattle.pb_propagate.proofs.Common.{get_or-map, length-map, sum_by-cons, slice_get-get_or, NumberedLiteral, negation, Term, list_at, IsBroken}
-use Rattle.pb_propagate.proofs.Common.{IsUnit, AreJoined, clause_shape, joined, literal_at, one_term, slot_shape, false_at, true_at, begin, broken}
-use Rattle.pb_propagate.proofs.Common.{Conflicts, Derives, has, IsSettled, open_part, open_sum, opposed, put, Puts, Shape}
+use Rattle.pb_propagate.proofs.Common.{get_or_default, ℕ, ◌+◌, ◌<◌, ◌∙◌, ◌∷◌, ◌≡◌, ◌≤◌, ◌⊎◌, [], ap, arith, Bool, cond, eq-eqb, false, get_or, inl}
+use Rattle.pb_propagate.proofs.Common.{inr, length, List, map, refl, suc, sym, true, zero, ◌==◌, Contains, count_by, Option, slice_get, Some}
+use Rattle.pb_propagate.proofs.Common.{both_ways, cases_Bool, get_or-map, length-map, sum_by-cons, slice_get-get_or, NumberedLiteral, negation, Term}
+use Rattle.pb_propagate.proofs.Common.{list_at, IsBroken, IsUnit, AreJoined, clause_shape, joined, literal_at, one_term, slot_shape, false_at}
+use Rattle.pb_propagate.proofs.Common.{true_at, begin, broken, Conflicts, Derives, has, IsSettled, open_part, open_sum, opposed, put, Puts, Shape}
 use Rattle.pb_propagate.proofs.lemmas.engine.Literals.{open_part-falsified, open_part-open}
 use Rattle.pb_propagate.proofs.lemmas.engine.Derivations.{one_itself, settled-of_terms}
 use Rattle.pb_propagate.proofs.lemmas.clauses.Literals.{Agree, true-listed, false-listed}

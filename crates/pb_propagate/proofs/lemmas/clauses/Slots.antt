@@ -1,12 +1,11 @@
 -- The constraints of all slots when a constraint is added or removed.
-use Rattle.pb_propagate.proofs.Common.{same_Some}
-use Rattle.pb_propagate.proofs.Common.{ℕ, ◌*◌, ◌++◌, ◌+◌, ◌/◌, ◌<◌, ◌∙◌, ◌∷◌, ◌≡◌, ◌≤◌, ◌⊎◌, [], ap, arith, Bool, cond, eq-eqb, false, get_or}
-use Rattle.pb_propagate.proofs.Common.{get_or-set_other, get_or-set_same, inl, inr, length, length-append, length-set, List, map, None, not, refl}
-use Rattle.pb_propagate.proofs.Common.{set, subst, suc, sym, true, zero, ◌%◌, ◌==◌, All, count_by, IsPermutation, Option, slice_get, Some, cases_Bool}
-use Rattle.pb_propagate.proofs.Common.{cases_eq, eqb-true, get_or_append_left, IsPermutation-refl, sum_by-cons, slice_get_within, Entry, Form}
-use Rattle.pb_propagate.proofs.Common.{IsNormal, IsRising, Group, Long, Short, list_at, AreDifferent, AreJoined, clause_shape, code, codes_of_terms}
-use Rattle.pb_propagate.proofs.Common.{group_by, IsClause, IsLight, joined, offset, one_term, slot_shape, entry_of, IsStoredAs, Shape, AreSlots}
-use Rattle.pb_propagate.proofs.Common.{IsSlot}
+use Rattle.pb_propagate.proofs.Common.{same_Some, ℕ, ◌*◌, ◌++◌, ◌+◌, ◌/◌, ◌<◌, ◌∙◌, ◌∷◌, ◌≡◌, ◌≤◌, ◌⊎◌, [], ap, arith, Bool, cond, eq-eqb, false}
+use Rattle.pb_propagate.proofs.Common.{get_or, get_or-set_other, get_or-set_same, inl, inr, length, length-append, length-set, List, map, None, not}
+use Rattle.pb_propagate.proofs.Common.{refl, set, subst, suc, sym, true, zero, ◌%◌, ◌==◌, All, count_by, IsPermutation, Option, slice_get, Some}
+use Rattle.pb_propagate.proofs.Common.{cases_Bool, cases_eq, eqb-true, get_or_append_left, IsPermutation-refl, sum_by-cons, slice_get_within, Entry}
+use Rattle.pb_propagate.proofs.Common.{Form, IsNormal, IsRising, Group, Long, Short, list_at, AreDifferent, AreJoined, clause_shape, code}
+use Rattle.pb_propagate.proofs.Common.{codes_of_terms, group_by, IsClause, IsLight, joined, offset, one_term, slot_shape, entry_of, IsStoredAs, Shape}
+use Rattle.pb_propagate.proofs.Common.{AreSlots, IsSlot}
 use Rattle.pb_propagate.proofs.lemmas.store.Gets.{push-default}
 use Rattle.pb_propagate.proofs.lemmas.clauses.Literals.{half-of, parity-of}
 use Rattle.pb_propagate.proofs.lemmas.clauses.Shapes.{joined-at, joined-length, shape-some}

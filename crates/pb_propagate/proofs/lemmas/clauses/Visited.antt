@@ -1,11 +1,10 @@
 -- What a search in a clause has found, and what it leaves.
-use Rattle.pb_propagate.proofs.Common.{inl, inr}
-use Rattle.pb_propagate.proofs.Common.{ArePassed, AreRound, AreWithin, cases_eq, get_or-set_other, get_or-set_same, map, set, sum, sum_by-set}
-use Rattle.pb_propagate.proofs.Common.{ℕ, ◌*◌, ◌+◌, ◌/◌, ◌<◌, ◌∙◌, ◌≡◌, ◌≤◌, ◌⊎◌, ap, arith, Bool, false, get_or, Global, length, List}
-use Rattle.pb_propagate.proofs.Common.{refl, subst, sym, true, Vec, Contains, Option, slice_get, Some, All-contains, Clauses}
-use Rattle.pb_propagate.proofs.Common.{Listed, Search, Falsified, Forces, Leaves, Stays, Contents, rewatched, searched, AreLinked, AreMore}
-use Rattle.pb_propagate.proofs.Common.{IsListed, list_at, Remains, watch_at, watch_lists, all_turned, AreStored, around, HasVisited}
-use Rattle.pb_propagate.proofs.Common.{IsRound, IsRunning, passed_of, turned, false_at, true_at}
+use Rattle.pb_propagate.proofs.Common.{inl, inr, ArePassed, AreRound, AreWithin, cases_eq, get_or-set_other, get_or-set_same, map, set, sum}
+use Rattle.pb_propagate.proofs.Common.{sum_by-set, ℕ, ◌*◌, ◌+◌, ◌/◌, ◌<◌, ◌∙◌, ◌≡◌, ◌≤◌, ◌⊎◌, ap, arith, Bool, false, get_or, Global, length, List}
+use Rattle.pb_propagate.proofs.Common.{refl, subst, sym, true, Vec, Contains, Option, slice_get, Some, All-contains, Clauses, Listed, Search}
+use Rattle.pb_propagate.proofs.Common.{Falsified, Forces, Leaves, Stays, Contents, rewatched, searched, AreLinked, AreMore, IsListed, list_at}
+use Rattle.pb_propagate.proofs.Common.{Remains, watch_at, watch_lists, all_turned, AreStored, around, HasVisited, IsRound, IsRunning, passed_of}
+use Rattle.pb_propagate.proofs.Common.{turned, false_at, true_at}
 use Rattle.pb_propagate.proofs.lemmas.clauses.Readings.{Reading, Resuming, reading-slot, other-watched, resuming-from, resuming-turned, resuming-round, running-bounded}
 use Rattle.pb_propagate.proofs.lemmas.clauses.Searches.{turned-round, round-next, round-set, passed-set, passed-length}
 use Rattle.pb_propagate.proofs.lemmas.clauses.Steps.{broken-of, unit-of, served-true, served-move, shifted-old, passed-end, passed-move, stored-move, HasSearched, Shifted, Visiting}

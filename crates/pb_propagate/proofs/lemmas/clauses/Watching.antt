@@ -1,14 +1,12 @@
 -- The first literals of the list are walked.
-use Rattle.pb_propagate.proofs.Common.{cases_Bool}
-use Rattle.pb_propagate.proofs.Common.{AreWithin, Extends, IsAhead, Run, list_of, values_of}
-use Rattle.pb_propagate.proofs.Common.{ℕ, ◌*◌, ◌++◌, ◌+◌, ◌/◌, ◌<◌, ◌∙◌, ◌∷◌, ◌≡◌, ◌≤◌, [], ap, arith, Bool, false, get_or, if◌then◌else◌, inl, inr}
-use Rattle.pb_propagate.proofs.Common.{length, length-append, List, map, refl, subst, suc, sym, take, true, Contains, Option, sum, sum_by}
-use Rattle.pb_propagate.proofs.Common.{both_ways, cases_lt, or_cases, get_or-map, get_or_append_left}
-use Rattle.pb_propagate.proofs.Common.{length-map, map-append, take-append-le, take_all, take_more, Contains-append_cases, Contains-append_left}
-use Rattle.pb_propagate.proofs.Common.{Contains-append_right, Contains-push, Contains-push_cases, NumberedLiteral, negation, Group, Long, Short}
-use Rattle.pb_propagate.proofs.Common.{Clauses, Watch, Search, Heads, list_at, watch_at, watch_lists, AreReady, AreServed, AreStored, AreWalked}
-use Rattle.pb_propagate.proofs.Common.{Grows, HasTrue, IsRunning, passed_of, clause_shape, clauses_of, code_in, literal_at, offset, false_at, flip}
-use Rattle.pb_propagate.proofs.Common.{AreSingle, more, none, IsSettled, same}
+use Rattle.pb_propagate.proofs.Common.{cases_Bool, AreWithin, Extends, IsAhead, Run, list_of, values_of, ℕ, ◌*◌, ◌++◌, ◌+◌, ◌/◌, ◌<◌, ◌∙◌, ◌∷◌, ◌≡◌}
+use Rattle.pb_propagate.proofs.Common.{◌≤◌, [], ap, arith, Bool, false, get_or, if◌then◌else◌, inl, inr, length, length-append, List, map, refl}
+use Rattle.pb_propagate.proofs.Common.{subst, suc, sym, take, true, Contains, Option, sum, sum_by, both_ways, cases_lt, or_cases, get_or-map}
+use Rattle.pb_propagate.proofs.Common.{get_or_append_left, length-map, map-append, take-append-le, take_all, take_more, Contains-append_cases}
+use Rattle.pb_propagate.proofs.Common.{Contains-append_left, Contains-append_right, Contains-push, Contains-push_cases, NumberedLiteral, negation}
+use Rattle.pb_propagate.proofs.Common.{Group, Long, Short, Clauses, Watch, Search, Heads, list_at, watch_at, watch_lists, AreReady, AreServed}
+use Rattle.pb_propagate.proofs.Common.{AreStored, AreWalked, Grows, HasTrue, IsRunning, passed_of, clause_shape, clauses_of, code_in, literal_at}
+use Rattle.pb_propagate.proofs.Common.{offset, false_at, flip, AreSingle, more, none, IsSettled, same}
 use Rattle.pb_propagate.specs.declared.heads.Ahead.{Ahead}
 use Rattle.pb_propagate.specs.engine.Engine.Lists.{has}
 use Rattle.pb_propagate.specs.engine.Engine.Progress.{HasWalked}

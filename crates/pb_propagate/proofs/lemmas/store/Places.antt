@@ -1,18 +1,16 @@
 -- Adding and removing terms, in terms of what the program reads.
-use Rattle.pb_propagate.proofs.Common.{AreLonger, length-append}
-use Rattle.pb_propagate.proofs.Common.{IsSound, Option, Store}
-use Rattle.pb_propagate.proofs.Common.{stored_terms}
-use Rattle.pb_propagate.proofs.Common.{ℕ, ◌++◌, ◌+◌, ◌-◌, ◌<◌, ◌∙◌, ◌∷◌, ◌≡◌, ◌≤◌, ◌⊎◌, [], ap, arith, false, get_or, get_or-set_other}
-use Rattle.pb_propagate.proofs.Common.{get_or-set_same, Global, inl, inr, length, length-set, List, map, refl, set, subst, sym, Vec, slice_get}
-use Rattle.pb_propagate.proofs.Common.{Some, swap_remove, cases_eq, cases_lt, get_or-map, get_or_default, length-map, map-set, set_past}
-use Rattle.pb_propagate.proofs.Common.{get_or_from_slice_get, slice_get-get_or, slice_get_within, Occurrence, StoredForm, Term, place, entries_of}
-use Rattle.pb_propagate.proofs.Common.{Spots, spots_in, lists_of, shapes_of, spots_of, stored_shape, cut, IsLinked, last, Moved, terms_at, weighted, Shape}
-use Rattle.pb_propagate.proofs.Common.{Weighted}
+use Rattle.pb_propagate.proofs.Common.{AreLonger, length-append, IsSound, Store, stored_terms, ℕ, ◌++◌, ◌+◌, ◌-◌, ◌<◌, ◌∙◌, ◌∷◌, ◌≡◌, ◌≤◌}
+use Rattle.pb_propagate.proofs.Common.{◌⊎◌, [], ap, arith, false, get_or, get_or-set_other, get_or-set_same, Global, inl, inr, length, length-set}
+use Rattle.pb_propagate.proofs.Common.{List, map, refl, set, subst, sym, Vec, slice_get, Some, swap_remove, cases_eq, cases_lt, get_or-map}
+use Rattle.pb_propagate.proofs.Common.{get_or_default, length-map, map-set, set_past, get_or_from_slice_get, slice_get-get_or, slice_get_within}
+use Rattle.pb_propagate.proofs.Common.{Occurrence, StoredForm, Term, place, entries_of, Spots, spots_in, lists_of, shapes_of, spots_of, stored_shape}
+use Rattle.pb_propagate.proofs.Common.{cut, IsLinked, last, Moved, terms_at, weighted, Shape}
 use Rattle.pb_propagate.specs.engine.Engine.Links.{none}
 use Rattle.pb_propagate.proofs.lemmas.store.Gets.{get-push_same, get-push_other, swap-here, swap-length}
 use Rattle.pb_propagate.proofs.lemmas.store.Crosses.{Same}
 use Rattle.pb_propagate.proofs.lemmas.store.Links.{IsTerm, entry_for, link-next, cut-length}
-use Rattle.pb_propagate.proofs.lemmas.store.Unlinks.{unlink-next, named-spot, named-entry, EntryNamed, Leaving}
+use Rattle.pb_propagate.proofs.lemmas.store.Unlinks.{unlink-next, named-spot, named-entry, Leaving}
+use Rattle.pb_propagate.proofs.lemmas.store.Positions.{taken-is}
 use Rattle.pb_propagate.proofs.lemmas.engine.VisitSteps.{shape-at, term-inside}
 use Rattle.pb_propagate.proofs.lemmas.engine.Puts.{lists-at, place-inside}
 use Rattle.pb_propagate.proofs.lemmas.store.Weights.{entries-size, entry-weighted, entries-pushed, entries-taken, item-taken, shifted}
@@ -131,28 +129,25 @@ unlink-read {store} {now} {form} {left} k t w q p0 sound u some inside kept_is i
     let linked : IsLinked (cut base form (j + 1)) (spots_of now.spots.items) (entries_of base occ) = subst (λ n. IsLinked (cut base form n) (spots_of now.spots.items) (entries_of base occ)) (omega (arith, some)) u.linked in
     let variable : t.literal.variable < store.variables = term-inside keep store.variables form k (stored_terms k) j t inside kept_here refl (omega (arith, within, ap length those)) item sound.inside in
     let room : p < length occ = omega (arith, place-inside t.literal store.variables variable, sound.places, u.lists, entries-length base store.occurrences.items) in
-    let entry = named-entry (spots_of now.spots.items) (entries_of base occ) q x spot linked in
+    let entry : slice_get (get_or (entries_of base occ) p []) q ≡ Some (entry_for form j t) = named-entry (spots_of now.spots.items) (entries_of base occ) q x spot linked in
     rw place_is (record {
       room = room;
-      spot_in = omega (arith, slice_get_within (get_or (entries_of base occ) p []) q entry.entry entry.is, entries-size base occ p);
+      spot_in = omega (arith, slice_get_within (get_or (entries_of base occ) p []) q (entry_for form j t) entry, entries-size base occ p);
       named = λ o h. named-spot (cut base form (j + 1)) (spots_of now.spots.items) (entries_of base occ) p (length (get_or (lists_of occ) p []) - 1) (weighted base o) (entry-weighted base occ p (length (get_or (lists_of occ) p []) - 1) o h) linked;
       next = λ spots' occ' taken moved.
-          let same : weighted base taken.0 ≡ entry_for form j t = item-taken base occ p q taken.0 taken.1 ∙ get_or_from_slice_get (get_or (entries_of base occ) p []) q entry.entry (weighted base taken.0) entry.is ∙ entry-of entry in
+          let same : weighted base taken.0 ≡ entry_for form j t = taken-is (get_or (entries_of base occ) p []) q (entry_for form j t) (weighted base taken.0) entry (item-taken base occ p q taken.0 taken.1) in
           let l : Leaving base (spots_of now.spots.items) (entries_of base occ) (entries_of base occ') form j q p (get_or (entries_of base occ) p []) t = record {
             term = x;
             spot = spot;
             at_place = refl;
             those = refl;
             room = omega (arith, room, entries-length base occ);
-            item = entry.is ∙ ap (λ e. Some e) (entry-of entry);
+            item = entry;
             shorter = entries-taken base occ occ' p q taken.0 taken.2 ∙ ap (λ e. set (entries_of base occ) p (swap_remove (get_or (entries_of base occ) p []) q e)) same;
             old = linked;
           } in
           unlink-next l spots' (shifted base occ p q (spots_of now.spots.items) spots' moved);
     })
-  where
-    entry-of : {o : Option Weighted} {s i : ℕ} (n : EntryNamed o s i t.coefficient) → n.entry ≡ entry_for s i t
-    entry-of n = rw (← n.form, ← n.index, ← n.coefficient) refl
 
 -- a move does not change the sizes
 pub moved-rooms : (es : List Occurrence) (q : ℕ) (spots spots' : List (List ℕ)) → Moved es q spots spots' → (s : ℕ) → length (get_or spots' s []) ≡ length (get_or spots s [])

@@ -79,7 +79,7 @@ position-got list positions form position there old is =
     ap (slice_get list) same ∙ at.1
 
 -- the element that is removed is the form
-pub taken-is : (list : List ℕ) (position form x : ℕ) → slice_get list position ≡ Some form → x ≡ get_or list position x → x ≡ form
+pub taken-is : {X : Type 0} (list : List X) (position : ℕ) (form x : X) → slice_get list position ≡ Some form → x ≡ get_or list position x → x ≡ form
 taken-is list position form x got is = is ∙ get_or_from_slice_get list position form x got
 
 -- the last number has moved

@@ -1,10 +1,9 @@
 -- A term's entry is removed.
-use Rattle.pb_propagate.proofs.Common.{subst}
-use Rattle.pb_propagate.proofs.Common.{ℕ, ◌+◌, ◌-◌, ◌<◌, ◌∙◌, ◌≡◌, [], ap, arith, get_or, get_or-set_other, get_or-set_same, inl, inr, length}
+use Rattle.pb_propagate.proofs.Common.{subst, ℕ, ◌+◌, ◌-◌, ◌<◌, ◌∙◌, ◌≡◌, [], ap, arith, get_or, get_or-set_other, get_or-set_same, inl, inr, length}
 use Rattle.pb_propagate.proofs.Common.{length-set, List, None, refl, set, sym, Option, slice_get, Some, sum_by, swap_remove, cases_eq, cases_lt}
-use Rattle.pb_propagate.proofs.Common.{get_or_past, sum_by-set, sum_by-swap_remove, get_or_from_slice_get, same_Some}
-use Rattle.pb_propagate.proofs.Common.{slice_get_within, Term, entry_weight, place, weight_in, AreCrossed, cut, entry_at, entry_cross, IsLinked}
-use Rattle.pb_propagate.proofs.Common.{term_at, term_cross, terms_at, Shape, Weighted}
+use Rattle.pb_propagate.proofs.Common.{get_or_past, sum_by-set, sum_by-swap_remove, get_or_from_slice_get, same_Some, slice_get_within, Term}
+use Rattle.pb_propagate.proofs.Common.{entry_weight, place, weight_in, AreCrossed, cut, entry_at, entry_cross, IsLinked, term_at, term_cross}
+use Rattle.pb_propagate.proofs.Common.{terms_at, Shape, Weighted}
 use Rattle.pb_propagate.proofs.lemmas.store.Gets.{get-set_same, get-set_other, swap-other, swap-last, swap-here, swap-length}
 use Rattle.pb_propagate.proofs.lemmas.store.Links.{Gains, IsTerm, entry_for, linked-less, totals-next, term-here, term-none, term-other, terms-step, entry-is, cut-length}
 use Rattle.pb_propagate.proofs.lemmas.store.Crosses.{to, to-parts, to-none, Same, crossed-drop, crossed-move}
@@ -37,11 +36,15 @@ term-back (Some t) (Some k) p q w h =
     let parts = to-parts (place t.literal) k t.coefficient p q w h in
     record { term = t; is = refl; spot = ap (λ x. Some x) parts.1; row = parts.0; weight = parts.2 }
 
+entry-made : {o : Option Weighted} {s i : ℕ} (t : Term) (n : EntryNamed o s i t.coefficient) → n.entry ≡ entry_for s i t
+entry-made t n = rw (← n.form, ← n.index, ← n.coefficient) refl
+
 -- the entry that a term names
 pub named-entry : {base : List Shape} {s0 i : ℕ} {t : Term} (spots : List (List ℕ)) (lists : List (List Weighted)) (q : ℕ) → IsTerm base s0 i t → slice_get (get_or spots s0 []) i ≡ Some q → IsLinked (cut base s0 (i + 1)) spots lists →
-    EntryNamed (slice_get (get_or lists (place t.literal) []) q) s0 i t.coefficient
+    slice_get (get_or lists (place t.literal) []) q ≡ Some (entry_for s0 i t)
 named-entry {base} {s0} {i} {t} spots lists q x spot old =
-    entry-back (slice_get (get_or lists (place t.literal) []) q) s0 i t.coefficient ((old.crossed s0 i (place t.literal) q t.coefficient).0 (term-here x spots q spot))
+    let n = entry-back (slice_get (get_or lists (place t.literal) []) q) s0 i t.coefficient ((old.crossed s0 i (place t.literal) q t.coefficient).0 (term-here x spots q spot)) in
+    n.is ∙ ap (λ e. Some e) (entry-made t n)
 
 -- the term that an entry names
 pub named-term : (forms : List Shape) (spots : List (List ℕ)) (lists : List (List Weighted)) (p q : ℕ) (e : Weighted) → slice_get (get_or lists p []) q ≡ Some e → IsLinked forms spots lists → TermNamed (slice_get (terms_at forms e.form) e.index) (slice_get (get_or spots e.form []) e.index) p q e.coefficient

@@ -1,7 +1,6 @@
 -- Entries and the coefficients of their terms.
-use Rattle.pb_propagate.proofs.Common.{map-append}
-use Rattle.pb_propagate.proofs.Common.{ℕ, ◌++◌, ◌-◌, ◌<◌, ◌∙◌, ◌∷◌, ◌≡◌, [], ap, arith, false, get_or, get_or-set_other, Global, length, List, map}
-use Rattle.pb_propagate.proofs.Common.{refl, set, suc, sym, Vec, zero, All, option_map, slice_get, Some, swap_remove, get_or_default}
+use Rattle.pb_propagate.proofs.Common.{map-append, ℕ, ◌++◌, ◌-◌, ◌<◌, ◌∙◌, ◌∷◌, ◌≡◌, [], ap, arith, false, get_or, get_or-set_other, Global, length}
+use Rattle.pb_propagate.proofs.Common.{List, map, refl, set, suc, sym, Vec, zero, All, option_map, slice_get, Some, swap_remove, get_or_default}
 use Rattle.pb_propagate.proofs.Common.{length-map, map-set, slice_get-get_or, slice_get-map, slice_get_within, Occurrence, Term, NameForms}
 use Rattle.pb_propagate.proofs.Common.{entries_of, lists_of, cut, IsLinked, last, Moved, terms_at, weighted, Shape, Weighted}
 use Rattle.std.proofs.Math.ListN.{get_or-map}

@@ -1,5 +1,4 @@
-use Rattle.pb_propagate.proofs.Common.{refl}
-use Rattle.pb_propagate.proofs.Common.{◌<◌, ◌∙◌, ap, arith, length, slice_get, length-map, Listed}
+use Rattle.pb_propagate.proofs.Common.{refl, ◌<◌, ◌∙◌, ap, arith, length, slice_get, length-map, Listed}
 use Rattle.pb_propagate.proofs.lemmas.clauses.Listed.{entries-here, watch-here}
 use Rattle.std.proofs.lemmas.Option.{slice_get_read}
 use Rattle.pb_propagate.proofs.clauses.visiting.read_entry.Goals as goal

@@ -1,8 +1,5 @@
-use Rattle.pb_propagate.proofs.Common.{set}
-use Rattle.pb_propagate.proofs.Common.{◌++◌}
-use Rattle.pb_propagate.proofs.Common.{lists_of}
-use Rattle.pb_propagate.proofs.Common.{◌<◌, ◌∙◌, ◌∷◌, ◌≡◌, [], ap, arith, get_or, length, length-append, length-set, Term, place, stored_terms}
-use Rattle.pb_propagate.proofs.Common.{Occurrence}
+use Rattle.pb_propagate.proofs.Common.{set, ◌++◌, lists_of, ◌<◌, ◌∙◌, ◌∷◌, ◌≡◌, [], ap, arith, get_or, length, length-append, length-set, Term, place}
+use Rattle.pb_propagate.proofs.Common.{stored_terms, Occurrence}
 use Rattle.pb_propagate.proofs.lemmas.store.Places.{link-by, longer-push, pushed-lists}
 use Rattle.pb_propagate.proofs.lemmas.store.Links.{IsTerm}
 use Rattle.pb_propagate.proofs.lemmas.engine.Puts.{lists-at}

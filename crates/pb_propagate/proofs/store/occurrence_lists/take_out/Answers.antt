@@ -1,5 +1,4 @@
-use Rattle.pb_propagate.proofs.Common.{Some, slice_get, ◌+◌, ◌≡◌, ◌-◌, ◌<◌}
-use Rattle.pb_propagate.proofs.Common.{[], ap, arith, get_or, length, lists_of, spots_of}
+use Rattle.pb_propagate.proofs.Common.{Some, slice_get, ◌+◌, ◌≡◌, ◌-◌, ◌<◌, [], ap, arith, get_or, length, lists_of, spots_of}
 use Rattle.pb_propagate.proofs.lemmas.store.Places.{taken-lists, taken-last, taken-moved, spots-moved, set-read, spots-read}
 use Rattle.pb_propagate.proofs.store.occurrence_lists.take_out.Goals.{After-index-moved}
 use Rattle.pb_propagate.proofs.store.occurrence_lists.take_out.Goals as goal
