@@ -216,26 +216,24 @@ module _ {words starts rooms : List ℕ} {run : ℕ} {v : Contents} (e p : ℕ) 
   inside-watch : watch_place starts e + 1 < length words
   inside-watch = omega (arith, old.inside (e / 2) (room-inside old (e / 2) some))
 
-  pub idle-written : Store (set words (p + 1) nowhere) starts rooms run (rewatched v (set v.watches e idle))
-  idle-written = subst (λ i. Store (set words (i + 1) nowhere) starts rooms run (rewatched v (set v.watches e idle)))
-      (sym at)
-      (watch-written (e / 2) old is some (one-written words (watch_place starts e) (watch_place starts e + 2)
-      (watch_place starts e + 1) nowhere (omega arith) (omega arith))
-      (omega arith) (omega arith) e idle refl (omega arith) (omega arith)
-      (ap (watch_of _) (get_or-set_same words (watch_place starts e + 1) nowhere 0 inside-watch)))
-
-  pub place-written : (literal spot : ℕ) → number_at words (watch_place starts e) ≡ literal → spot < nowhere →
-      Store (set words (p + 1) spot) starts rooms run
-      (rewatched v (set v.watches e (record { literal = literal; live = true; spot = spot })))
-  place-written literal spot l small =
-      subst (λ i. Store (set words (i + 1) spot) starts rooms run
-      (rewatched v (set v.watches e (record { literal = literal; live = true; spot = spot })))) (sym at)
-      (let same = get_or-set_other words (watch_place starts e + 1) (watch_place starts e) spot 0
+  spot-written : (spot : ℕ) (w : Watch) → watch_of (number_at words (watch_place starts e)) spot ≡ w →
+      Store (set words (p + 1) spot) starts rooms run (rewatched v (set v.watches e w))
+  spot-written spot w made =
+      subst (λ i. Store (set words (i + 1) spot) starts rooms run (rewatched v (set v.watches e w))) (sym at)
+      (let l = get_or-set_other words (watch_place starts e + 1) (watch_place starts e) spot 0
       (λ h. absurd (omega (arith, h))) in
       let q = get_or-set_same words (watch_place starts e + 1) spot 0 inside-watch in
       watch-written (e / 2) old is some (one-written words (watch_place starts e) (watch_place starts e + 2)
       (watch_place starts e + 1) spot (omega arith) (omega arith))
-      (omega arith) (omega arith) e _ refl (omega arith) (omega arith) (watch-made _ _ literal spot (same ∙ l) q small))
+      (omega arith) (omega arith) e w refl (omega arith) (omega arith) (rw (l, q) made))
+
+  pub idle-written : Store (set words (p + 1) nowhere) starts rooms run (rewatched v (set v.watches e idle))
+  idle-written = spot-written nowhere idle refl
+
+  pub place-written : (literal spot : ℕ) → number_at words (watch_place starts e) ≡ literal → spot < nowhere →
+      Store (set words (p + 1) spot) starts rooms run
+      (rewatched v (set v.watches e (record { literal = literal; live = true; spot = spot })))
+  place-written literal spot l small = spot-written spot _ (watch-made _ _ literal spot l refl small)
 
   pub both-written : (literal spot : ℕ) → spot < nowhere →
       Store (set (set words p literal) (p + 1) spot) starts rooms run

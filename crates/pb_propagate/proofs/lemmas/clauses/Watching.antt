@@ -1,4 +1,5 @@
 -- The first literals of the list are walked.
+use Rattle.pb_propagate.proofs.Common.{append_assoc}
 use Rattle.pb_propagate.proofs.Common.{cases_Bool, AreWithin, Extends, IsAhead, Run, list_of, values_of, ℕ, ◌*◌, ◌++◌, ◌+◌, ◌/◌, ◌<◌, ◌∙◌, ◌∷◌, ◌≡◌}
 use Rattle.pb_propagate.proofs.Common.{◌≤◌, [], ap, arith, Bool, false, get_or, if◌then◌else◌, inl, inr, length, length-append, List, map, refl}
 use Rattle.pb_propagate.proofs.Common.{subst, suc, sym, take, true, Contains, Option, sum, sum_by, both_ways, cases_lt, or_cases, get_or-map}
@@ -91,7 +92,7 @@ pub next-codes : (f : NumberedLiteral → ℕ) (list : List NumberedLiteral) (n 
 next-codes f list n l inside is =
     ap (map f) (take_more list n l inside ∙ ap (λ k. take n list ++ (k ∷ [])) (sym is)) ∙ map-append f (take n list) (l ∷ [])
 
-pub reached-next : (g : Group) (h : Heads) (list : List NumberedLiteral) (l : NumberedLiteral) (x : ℕ) → head g h < length list → l ≡ get_or list (head g h) l → Contains (reached_codes (advanced g h) list) x → Contains (reached_codes h list ++ (falsified_code g l ∷ [])) x
+reached-next : (g : Group) (h : Heads) (list : List NumberedLiteral) (l : NumberedLiteral) (x : ℕ) → head g h < length list → l ≡ get_or list (head g h) l → Contains (reached_codes (advanced g h) list) x → Contains (reached_codes h list ++ (falsified_code g l ∷ [])) x
 reached-next Short h list l x inside is there =
     let short = map (falsified_code Short) (take h.short list) in
     let long = map (falsified_code Long) (take h.long list) in
@@ -105,13 +106,7 @@ reached-next Short h list l x inside is there =
 reached-next Long h list l x inside is there =
     let short = map (falsified_code Short) (take h.short list) in
     let long = map (falsified_code Long) (take h.long list) in
-    elim (Contains-append_cases short (map (falsified_code Long) (take (h.long + 1) list)) x there) [
-      | inl one ↦ Contains-append_left (short ++ long) (falsified_code Long l ∷ []) x (Contains-append_left short long x one)
-      | inr other ↦ elim (Contains-push_cases long (falsified_code Long l) x (subst (λ (xs : List ℕ). Contains xs x) (next-codes (falsified_code Long) list h.long l inside is) other)) [
-        | inl old ↦ Contains-append_left (short ++ long) (falsified_code Long l ∷ []) x (Contains-append_right short long x old)
-        | inr new ↦ subst (Contains ((short ++ long) ++ (falsified_code Long l ∷ []))) new (Contains-push (short ++ long) (falsified_code Long l))
-      ]
-    ]
+    subst (λ (xs : List ℕ). Contains xs x) (ap (λ ys. short ++ ys) (next-codes (falsified_code Long) list h.long l inside is) ∙ sym (append_assoc short long (falsified_code Long l ∷ []))) there
 
 advanced-within : (g : Group) (h : Heads) (n : ℕ) → head g h < n → h.short ≤ n → h.long ≤ n →
     ((advanced g h).short ≤ n) × ((advanced g h).long ≤ n) × ((advanced g h).short + (advanced g h).long ≡ h.short + h.long + 1)
