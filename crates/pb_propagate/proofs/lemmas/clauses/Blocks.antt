@@ -175,6 +175,25 @@ module _ {words starts rooms : List ℕ} {run : ℕ} (old : AreBlocks words star
     ])
   ]
 
+-- where the program finds the block of a slot
+pub record IsAt (words starts rooms : List ℕ) (s start : ℕ) : Type 0 where
+  pub slot : s < length starts
+  pub at : start ≡ number_at starts s
+  pub end : start + 8 + number_at rooms s ≤ length words
+  pub count : number_at words (start + 6) ≤ number_at rooms s
+
+block-at : {words starts rooms : List ℕ} {run : ℕ} → AreBlocks words starts rooms run → (s start : ℕ) →
+    s < length starts →
+    start ≡ get_or starts s start → IsAt words starts rooms s start
+block-at {words} {starts} {rooms} old s start inside read =
+    let at = get_or_read starts s start inside read 0 in
+    record {
+      slot = inside;
+      at = at;
+      end = omega (arith, at, old.inside s inside);
+      count = omega (arith, ap (λ i. number_at words (i + 6)) at, old.within s inside);
+    }
+
 -- what a value says of the words that store it
 module _ {words starts rooms : List ℕ} {run : ℕ} {v : Contents} (old : AreBlocks words starts rooms run)
     (is : contents words starts rooms run ≡ v) where
@@ -185,6 +204,9 @@ module _ {words starts rooms : List ℕ} {run : ℕ} {v : Contents} (old : AreBl
     ap (λ (x : Contents). length x.literals) is,
     table-length (length starts) (stored_clause words starts),
   )
+
+  pub slot-block : (s start : ℕ) → s < length v.literals → start ≡ get_or starts s start → IsAt words starts rooms s start
+  slot-block s start inside read = block-at old s start (slot-stored s inside) read
 
   pub block-stored : (s : ℕ) → HasBlock v s → 0 < number_at rooms s
   block-stored s (inl some) = filled-room old s
@@ -201,23 +223,6 @@ module _ {words starts rooms : List ℕ} {run : ℕ} {v : Contents} (old : AreBl
   pub search-stored : (s : ℕ) → s < length starts → stored_search words starts run s ≡ search_at v.searches s
   search-stored s inside = sym (table-at (length starts) (stored_search words starts run) s begun inside)
       ∙ ap (λ (x : Contents). search_at x.searches s) is
-
--- where the program finds the block of a slot
-pub record IsAt (words starts rooms : List ℕ) (s start : ℕ) : Type 0 where
-  pub at : start ≡ number_at starts s
-  pub end : start + 8 + number_at rooms s ≤ length words
-  pub count : number_at words (start + 6) ≤ number_at rooms s
-
-pub block-at : {words starts rooms : List ℕ} {run : ℕ} → AreBlocks words starts rooms run → (s start : ℕ) →
-    s < length starts →
-    start ≡ get_or starts s start → IsAt words starts rooms s start
-block-at {words} {starts} {rooms} old s start inside read =
-    let at = get_or_read starts s start inside read 0 in
-    record {
-      at = at;
-      end = omega (arith, at, old.inside s inside);
-      count = omega (arith, ap (λ i. number_at words (i + 6)) at, old.within s inside);
-    }
 
 -- the block is the slot's own
 pub record IsOwn (words starts rooms : List ℕ) (s start : ℕ) : Type 0 where

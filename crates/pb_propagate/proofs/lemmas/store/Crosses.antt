@@ -94,15 +94,15 @@ turned f f' g g' a b c d first second here only p q = elim (same-or p q a b) [
 pub crossed-add : (f f' g g' : Grid) (a b c d w : ℕ) → Turns f f' a b None (to c d w) → Turns g g' c d None (to a b w) → AreCrossed f g → AreCrossed f' g'
 crossed-add f f' g g' a b c d w first second =
     crossed-by f f' g g'
-        (turned f f' g g' a b c d first.others second.others (named c d w first.now second.now) (λ p q v h. absurd (to-none p q v (sym h ∙ second.was))))
-        (turned g g' f f' c d a b second.others first.others (named a b w second.now first.now) (λ p q v h. absurd (to-none p q v (sym h ∙ first.was))))
+    (turned f f' g g' a b c d first.others second.others (named c d w first.now second.now) (λ p q v h. absurd (to-none p q v (sym h ∙ second.was))))
+    (turned g g' f f' c d a b second.others first.others (named a b w second.now first.now) (λ p q v h. absurd (to-none p q v (sym h ∙ first.was))))
 
 -- one pair less
 pub crossed-drop : (f f' g g' : Grid) (a b c d w : ℕ) → Turns f f' a b (to c d w) None → Turns g g' c d (to a b w) None → AreCrossed f g → AreCrossed f' g'
 crossed-drop f f' g g' a b c d w first second =
     crossed-by f f' g g'
-        (turned f f' g g' a b c d first.others second.others (gone first.now) (λ p q v h. named-once p q v a b w h second.was))
-        (turned g g' f f' c d a b second.others first.others (gone second.now) (λ p q v h. named-once p q v c d w h first.was))
+    (turned f f' g g' a b c d first.others second.others (gone first.now) (λ p q v h. named-once p q v a b w h second.was))
+    (turned g g' f f' c d a b second.others first.others (gone second.now) (λ p q v h. named-once p q v c d w h first.was))
 
 -- a grid has nothing at one position any more, and another value at a second one
 pub record Moves (f f' : Grid) (a b p q : ℕ) (x y z : Option Cross) : Type 0 where

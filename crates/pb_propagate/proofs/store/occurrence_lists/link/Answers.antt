@@ -42,7 +42,7 @@ terms-preserved c =
       linked = λ base rows inside same wide old.
           let x : IsTerm base c.args.form c.terms.i t = record { inside = inside; within = omega (arith, within, ap length same); is = rw same (c.term-term.ensures t) } in
           link-by rows occ _ c.terms.spots.items c.push.new.self.items x wide (omega (arith, room, at)) (rw (← at) pushed)
-              (c.in_ok-push.ensures.items ∙ ap (λ n. c.terms.spots.items ++ (n ∷ [])) spot) c.terms.invariant.count (c.terms.invariant.linked base rows inside same wide old);
+          (c.in_ok-push.ensures.items ∙ ap (λ n. c.terms.spots.items ++ (n ∷ [])) spot) c.terms.invariant.count (c.terms.invariant.linked base rows inside same wide old);
     }
 
 pub returns-clause-linked : goal.returns-clause-linked
