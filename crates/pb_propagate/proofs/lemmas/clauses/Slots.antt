@@ -1,5 +1,5 @@
 -- The constraints of all slots when a constraint is added or removed.
-use Rattle.pb_propagate.proofs.Common.{same_Some, ℕ, ◌*◌, ◌++◌, ◌+◌, ◌/◌, ◌<◌, ◌∙◌, ◌∷◌, ◌≡◌, ◌≤◌, ◌⊎◌, [], ap, arith, Bool, cond, eq-eqb, false}
+use Rattle.pb_propagate.proofs.Common.{same_Some, ℕ, ◌*◌, ◌++◌, ◌+◌, ◌/◌, ◌<◌, ◌∙◌, ◌∷◌, ◌≡◌, ◌≤◌, [], ap, arith, Bool, cond, eq-eqb, false}
 use Rattle.pb_propagate.proofs.Common.{get_or, get_or-set_other, get_or-set_same, inl, inr, length, length-append, length-set, List, map, None, not}
 use Rattle.pb_propagate.proofs.Common.{refl, set, subst, suc, sym, true, zero, ◌%◌, ◌==◌, All, count_by, IsPermutation, Option, slice_get, Some}
 use Rattle.pb_propagate.proofs.Common.{cases_Bool, cases_eq, eqb-true, get_or_append_left, IsPermutation-refl, sum_by-cons, slice_get_within, Entry}
@@ -81,13 +81,12 @@ joined-set (y ∷ xs) (codes ∷ clauses) (suc s) x h = ap (λ ys. slot_shape y 
 pub AreJoined-set : (xs : List Shape) (clauses : List (List ℕ)) (s : ℕ) (x : Shape) → list_at clauses s ≡ [] → AreJoined xs clauses → AreJoined (set xs s x) clauses
 AreJoined-set xs clauses s x h j = record {
   short = omega (arith, j.short, length-set xs s x);
-  apart = λ t d less some. apart-at t d less some (cases_eq t s);
+  apart = λ t d less some. elim (cases_eq t s) [
+    | inl is ↦ absurd (omega (arith, some, ap length (ap (list_at clauses) is ∙ h)))
+    | inr n ↦ subst (λ (y : Shape). (y.terms ≡ []) × (y.degree ≡ 0)) (sym (get_or-set_other xs s t x d n)) (j.apart t d (omega (arith, less, length-set xs s x)) some)
+  ];
   different = j.different;
 }
-  where
-    apart-at : (t : ℕ) (d : Shape) → t < length (set xs s x) → 0 < length (list_at clauses t) → (t ≡ s) ⊎ (t ≡ s → ⊥) → ((get_or (set xs s x) t d).terms ≡ []) × ((get_or (set xs s x) t d).degree ≡ 0)
-    apart-at t d less some (inl is) = absurd (omega (arith, some, ap length (ap (list_at clauses) is ∙ h)))
-    apart-at t d less some (inr n) = subst (λ (y : Shape). (y.terms ≡ []) × (y.degree ≡ 0)) (sym (get_or-set_other xs s t x d n)) (j.apart t d (omega (arith, less, length-set xs s x)) some)
 
 -- a clause is stored in a slot
 pub joined-clause : (xs : List Shape) (clauses : List (List ℕ)) (s : ℕ) (codes : List ℕ) → s < length clauses → 0 < length codes → joined xs (set clauses s codes) ≡ set (joined xs clauses) s (clause_shape codes)

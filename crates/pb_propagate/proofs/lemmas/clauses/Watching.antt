@@ -1,13 +1,12 @@
 -- The first literals of the list are walked.
-use Rattle.pb_propagate.proofs.Common.{append_assoc}
-use Rattle.pb_propagate.proofs.Common.{cases_Bool, AreWithin, Extends, IsAhead, Run, list_of, values_of, ℕ, ◌*◌, ◌++◌, ◌+◌, ◌/◌, ◌<◌, ◌∙◌, ◌∷◌, ◌≡◌}
-use Rattle.pb_propagate.proofs.Common.{◌≤◌, [], ap, arith, Bool, false, get_or, if◌then◌else◌, inl, inr, length, length-append, List, map, refl}
-use Rattle.pb_propagate.proofs.Common.{subst, suc, sym, take, true, Contains, Option, sum, sum_by, both_ways, cases_lt, or_cases, get_or-map}
-use Rattle.pb_propagate.proofs.Common.{get_or_append_left, length-map, map-append, take-append-le, take_all, take_more, Contains-append_cases}
-use Rattle.pb_propagate.proofs.Common.{Contains-append_left, Contains-append_right, Contains-push, Contains-push_cases, NumberedLiteral, negation}
-use Rattle.pb_propagate.proofs.Common.{Group, Long, Short, Clauses, Watch, Search, Heads, list_at, watch_at, watch_lists, AreReady, AreServed}
-use Rattle.pb_propagate.proofs.Common.{AreStored, AreWalked, Grows, HasTrue, IsRunning, passed_of, clause_shape, clauses_of, code_in, literal_at}
-use Rattle.pb_propagate.proofs.Common.{offset, false_at, flip, AreSingle, more, none, IsSettled, same}
+use Rattle.pb_propagate.proofs.Common.{append_assoc, cases_Bool, AreWithin, Extends, IsAhead, Run, list_of, values_of, ℕ, ◌*◌, ◌++◌, ◌+◌, ◌/◌, ◌<◌}
+use Rattle.pb_propagate.proofs.Common.{◌∙◌, ◌∷◌, ◌≡◌, ◌≤◌, [], ap, arith, Bool, false, get_or, if◌then◌else◌, inl, inr, length, length-append, List}
+use Rattle.pb_propagate.proofs.Common.{map, refl, subst, suc, sym, take, true, Contains, Option, sum, sum_by, both_ways, cases_lt, or_cases}
+use Rattle.pb_propagate.proofs.Common.{get_or-map, get_or_append_left, length-map, map-append, take-append-le, take_all, take_more}
+use Rattle.pb_propagate.proofs.Common.{Contains-append_cases, Contains-append_left, Contains-append_right, Contains-push, Contains-push_cases}
+use Rattle.pb_propagate.proofs.Common.{NumberedLiteral, negation, Group, Long, Short, Clauses, Watch, Search, Heads, list_at, watch_at, watch_lists}
+use Rattle.pb_propagate.proofs.Common.{AreReady, AreServed, AreStored, AreWalked, Grows, HasTrue, IsRunning, passed_of, clause_shape, clauses_of}
+use Rattle.pb_propagate.proofs.Common.{code_in, literal_at, offset, false_at, flip, AreSingle, more, none, IsSettled, same}
 use Rattle.pb_propagate.specs.declared.heads.Ahead.{Ahead}
 use Rattle.pb_propagate.specs.engine.Engine.Lists.{has}
 use Rattle.pb_propagate.specs.engine.Engine.Progress.{HasWalked}
