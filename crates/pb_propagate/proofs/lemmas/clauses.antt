@@ -2,10 +2,8 @@
 pub mod Blocks
 pub mod BlocksFitted
 pub mod BlocksWritten
-pub mod Codes
 pub mod Counts
 pub mod Few
-pub mod Gets
 pub mod Heads
 pub mod Killed
 pub mod Linked

@@ -13,4 +13,3 @@ pub mod Stored
 pub mod Unlinks
 pub mod Weights
 pub mod Options
-pub mod Longer

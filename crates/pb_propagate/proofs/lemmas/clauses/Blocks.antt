@@ -71,6 +71,16 @@ bare-watch {words} starts e bare = ap (watch_of (number_at words (watch_place st
   | inr odd ↦ ap (number_at words) (omega (arith, odd)) ∙ bare.second
 ])
 
+pub bare-kept : {words words' : List ℕ} → ((i : ℕ) → i < 8 → number_at words' i ≡ number_at words i) → IsBare words 0 → IsBare words' 0
+bare-kept kept b = record {
+  first = kept 1 (omega arith) ∙ b.first;
+  second = kept 3 (omega arith) ∙ b.second;
+  position = kept 4 (omega arith) ∙ b.position;
+  passed = kept 5 (omega arith) ∙ b.passed;
+  count = kept 6 (omega arith) ∙ b.count;
+  run = kept 7 (omega arith) ∙ b.run;
+}
+
 -- what is stored of a slot is as before
 pub record IsSame (words words' starts starts' : List ℕ) (run s : ℕ) : Type 0 where
   pub clause : stored_clause words' starts' s ≡ stored_clause words starts s
@@ -165,49 +175,54 @@ module _ {words starts rooms : List ℕ} {run : ℕ} (old : AreBlocks words star
     ])
   ]
 
--- what a value says of the words behind it
+-- where the program finds the block of a slot
+pub record IsAt (words starts rooms : List ℕ) (s start : ℕ) : Type 0 where
+  pub slot : s < length starts
+  pub at : start ≡ number_at starts s
+  pub end : start + 8 + number_at rooms s ≤ length words
+  pub count : number_at words (start + 6) ≤ number_at rooms s
+
+block-at : {words starts rooms : List ℕ} {run : ℕ} → AreBlocks words starts rooms run → (s start : ℕ) →
+    s < length starts →
+    start ≡ get_or starts s start → IsAt words starts rooms s start
+block-at {words} {starts} {rooms} old s start inside read =
+    let at = get_or_read starts s start inside read 0 in
+    record {
+      slot = inside;
+      at = at;
+      end = omega (arith, at, old.inside s inside);
+      count = omega (arith, ap (λ i. number_at words (i + 6)) at, old.within s inside);
+    }
+
+-- what a value says of the words that store it
 module _ {words starts rooms : List ℕ} {run : ℕ} {v : Contents} (old : AreBlocks words starts rooms run)
     (is : contents words starts rooms run ≡ v) where
-  pub slot-behind : (s : ℕ) → s < length v.literals → s < length starts
-  slot-behind s inside = omega (
+  pub slot-stored : (s : ℕ) → s < length v.literals → s < length starts
+  slot-stored s inside = omega (
     arith,
     inside,
     ap (λ (x : Contents). length x.literals) is,
     table-length (length starts) (stored_clause words starts),
   )
 
-  pub block-behind : (s : ℕ) → HasBlock v s → 0 < number_at rooms s
-  block-behind s (inl some) = filled-room old s
+  pub slot-block : (s start : ℕ) → s < length v.literals → start ≡ get_or starts s start → IsAt words starts rooms s start
+  slot-block s start inside read = block-at old s start (slot-stored s inside) read
+
+  pub block-stored : (s : ℕ) → HasBlock v s → 0 < number_at rooms s
+  block-stored s (inl some) = filled-room old s
       (omega (arith, some, ap (λ (x : Contents). length (list_at x.literals s)) is))
-  block-behind s (inr some) = omega (arith, some, ap (λ (x : Contents). number_at x.rooms s) is)
+  block-stored s (inr some) = omega (arith, some, ap (λ (x : Contents). number_at x.rooms s) is)
 
   pub own-slot : (s : ℕ) → HasBlock v s → s < length starts
-  own-slot s some = room-inside old s (block-behind s some)
+  own-slot s some = room-inside old s (block-stored s some)
 
-  pub clause-behind : (s : ℕ) → s < length starts → stored_clause words starts s ≡ list_at v.literals s
-  clause-behind s inside = sym (table-at (length starts) (stored_clause words starts) s [] inside)
+  pub clause-stored : (s : ℕ) → s < length starts → stored_clause words starts s ≡ list_at v.literals s
+  clause-stored s inside = sym (table-at (length starts) (stored_clause words starts) s [] inside)
       ∙ ap (λ (x : Contents). list_at x.literals s) is
 
-  pub search-behind : (s : ℕ) → s < length starts → stored_search words starts run s ≡ search_at v.searches s
-  search-behind s inside = sym (table-at (length starts) (stored_search words starts run) s begun inside)
+  pub search-stored : (s : ℕ) → s < length starts → stored_search words starts run s ≡ search_at v.searches s
+  search-stored s inside = sym (table-at (length starts) (stored_search words starts run) s begun inside)
       ∙ ap (λ (x : Contents). search_at x.searches s) is
-
--- where the program finds the block of a slot
-pub record IsAt (words starts rooms : List ℕ) (s start : ℕ) : Type 0 where
-  pub at : start ≡ number_at starts s
-  pub end : start + 8 + number_at rooms s ≤ length words
-  pub count : number_at words (start + 6) ≤ number_at rooms s
-
-pub block-at : {words starts rooms : List ℕ} {run : ℕ} → AreBlocks words starts rooms run → (s start : ℕ) →
-    s < length starts →
-    start ≡ get_or starts s start → IsAt words starts rooms s start
-block-at {words} {starts} {rooms} old s start inside read =
-    let at = get_or_read starts s start inside read 0 in
-    record {
-      at = at;
-      end = omega (arith, at, old.inside s inside);
-      count = omega (arith, ap (λ i. number_at words (i + 6)) at, old.within s inside);
-    }
 
 -- the block is the slot's own
 pub record IsOwn (words starts rooms : List ℕ) (s start : ℕ) : Type 0 where
@@ -225,7 +240,7 @@ own-by old s start some read =
 pub own-at : {words starts rooms : List ℕ} {run : ℕ} {v : Contents} → AreBlocks words starts rooms run →
     contents words starts rooms run ≡ v →
     (s start : ℕ) → HasBlock v s → start ≡ get_or starts s start → IsOwn words starts rooms s start
-own-at old is s start some read = own-by old s start (block-behind old is s some) read
+own-at old is s start some read = own-by old s start (block-stored old is s some) read
 
 -- where one of its watches is
 pub place-at : (starts : List ℕ) (e start place : ℕ) → e / 2 < length starts → start ≡ get_or starts (e / 2) start →
@@ -245,10 +260,10 @@ pub record IsLiveAt (v : Contents) (words starts rooms : List ℕ) (e : ℕ) : T
     spot = number_at words (watch_place starts e + 1);
   }
 
-pub live-behind : {words starts rooms : List ℕ} {run : ℕ} {v : Contents} → AreBlocks words starts rooms run →
+pub live-stored : {words starts rooms : List ℕ} {run : ℕ} {v : Contents} → AreBlocks words starts rooms run →
     contents words starts rooms run ≡ v →
     (e : ℕ) → (watch_at v.watches e).live ≡ true → IsLiveAt v words starts rooms e
-live-behind {words} {starts} {rooms} {run} {v} old is e live = record {
+live-stored {words} {starts} {rooms} {run} {v} old is e live = record {
   room = room;
   slot = slot;
   place = omega (arith, old.inside (e / 2) slot);
@@ -258,13 +273,13 @@ live-behind {words} {starts} {rooms} {run} {v} old is e live = record {
     all : length (table (2 * length starts) (stored_watch words starts)) ≡ 2 * length starts
     all = table-length (2 * length starts) (stored_watch words starts)
 
-    behind : get_or (table (2 * length starts) (stored_watch words starts)) e idle ≡ watch_at v.watches e
-    behind = ap (λ (x : Contents). watch_at x.watches e) is
+    stored : get_or (table (2 * length starts) (stored_watch words starts)) e idle ≡ watch_at v.watches e
+    stored = ap (λ (x : Contents). watch_at x.watches e) is
 
     inside : e < 2 * length starts
     inside = elim (cases_lt e (2 * length starts)) [
       | inl less ↦ less
-      | inr past ↦ absurd (both_ways _ (ap (λ (w : Watch). w.live) (sym behind
+      | inr past ↦ absurd (both_ways _ (ap (λ (w : Watch). w.live) (sym stored
           ∙ get_or_past (table (2 * length starts) (stored_watch words starts)) e idle
           (omega (arith, past, all)))) live)
     ]
@@ -273,7 +288,7 @@ live-behind {words} {starts} {rooms} {run} {v} old is e live = record {
     slot = omega (arith, inside)
 
     at : stored_watch words starts e ≡ watch_at v.watches e
-    at = sym (table-at (2 * length starts) (stored_watch words starts) e idle inside) ∙ behind
+    at = sym (table-at (2 * length starts) (stored_watch words starts) e idle inside) ∙ stored
 
     room : 0 < number_at rooms (e / 2)
     room = elim (cases_eq (number_at rooms (e / 2)) 0) [

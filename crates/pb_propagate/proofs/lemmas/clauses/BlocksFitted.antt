@@ -2,9 +2,9 @@
 use Rattle.pb_propagate.proofs.Common.{ℕ, ◌*◌, ◌++◌, ◌+◌, ◌-◌, ◌/◌, ◌<◌, ◌^◌, ◌∙◌, ◌∷◌, ◌≡◌, ◌≤◌, ◌⊎◌, [], ap, arith, cases_eq, cases_lt}
 use Rattle.pb_propagate.proofs.Common.{get_or-set_other, get_or-set_same, get_or_past, inl, inr, length, length-append, length-set, List, refl, set, subst, sym}
 use Rattle.pb_propagate.proofs.Common.{AreBlocks, begun, Contents, contents, idle, IsBare, IsBefore, number_at, stored_clause, stored_search, stored_watch, table}
-use Rattle.pb_propagate.proofs.lemmas.clauses.Gets.{push-default}
+use Rattle.pb_propagate.proofs.lemmas.store.Gets.{push-default}
 use Rattle.pb_propagate.proofs.lemmas.clauses.Tables.{table-push, table-same}
-use Rattle.pb_propagate.proofs.lemmas.clauses.Blocks.{bare-clause, bare-search, bare-watch, IsSame, same-bare, same-block, shared-bare, slot-behind}
+use Rattle.pb_propagate.proofs.lemmas.clauses.Blocks.{bare-clause, bare-kept, bare-search, bare-watch, IsSame, same-bare, same-block, shared-bare, slot-stored}
 
 -- one more slot
 pub record HasExtended (words starts rooms : List ℕ) (run : ℕ) (old : Contents) : Type 0 where
@@ -188,14 +188,7 @@ module _ {words words' starts rooms : List ℕ} {run room : ℕ} (s : ℕ) (old 
   fitted-blocks : 0 < room → AreBlocks words' starts' rooms' run
   fitted-blocks some = record {
     sizes = length-set rooms s room ∙ old.sizes ∙ sym (length-set starts s (length words));
-    common = λ any. let o = old.common (omega (arith, inside)) in record {
-      first = new.kept 1 (omega (arith, seven)) ∙ o.first;
-      second = new.kept 3 (omega (arith, seven)) ∙ o.second;
-      position = new.kept 4 (omega (arith, seven)) ∙ o.position;
-      passed = new.kept 5 (omega (arith, seven)) ∙ o.passed;
-      count = new.kept 6 (omega (arith, seven)) ∙ o.count;
-      run = new.kept 7 (omega (arith, seven)) ∙ o.run;
-    };
+    common = λ any. bare-kept (λ i h. new.kept i (omega (arith, h, seven))) (old.common (omega (arith, inside)));
     shared = λ t h. elim (cases_eq t s) [
       | inl is ↦ absurd (omega (arith, h, ap (number_at rooms') is, room-here, some))
       | inr n ↦ start-other t n ∙ old.shared t (sym (room-other t n) ∙ h)
@@ -276,4 +269,4 @@ pub fitted-from : {words words' starts rooms : List ℕ} {run room : ℕ} {v : C
 fitted-from {words} {words'} {starts} {rooms} {run} {room} {v} s start old is inside none low at new some =
     subst (λ a. HasFitted words' starts rooms run s a room v) (sym at)
     (subst (HasFitted words' starts rooms run s (length words) room) is
-    (fitted s old (slot-behind old is s inside) none low new some))
+    (fitted s old (slot-stored old is s inside) none low new some))

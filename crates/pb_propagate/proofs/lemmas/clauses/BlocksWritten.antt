@@ -4,7 +4,7 @@ use Rattle.pb_propagate.proofs.Common.{inl, inr, length, length-set, List, refl,
 use Rattle.pb_propagate.proofs.Common.{AreBlocks, Contents, contents, idle, nowhere, number_at, rewatched, rewritten, Search, search_at, searched}
 use Rattle.pb_propagate.proofs.Common.{stored_clause, stored_search, stored_watch, Watch, watch_of, watch_place}
 use Rattle.pb_propagate.proofs.lemmas.clauses.Tables.{slice-is, slice-same, table-same, table-set}
-use Rattle.pb_propagate.proofs.lemmas.clauses.Blocks.{contents-are, IsOwn, IsSame, passed-none, passed-own, room-inside, room-start, same-block, search-behind, search-made, watch-made}
+use Rattle.pb_propagate.proofs.lemmas.clauses.Blocks.{bare-kept, contents-are, IsOwn, IsSame, passed-none, passed-own, room-inside, room-start, same-block, search-stored, search-made, watch-made}
 
 -- words from one position to another are written
 pub record IsWritten (from to : ℕ) (old new : List ℕ) : Type 0 where
@@ -53,14 +53,7 @@ module _ {words words' starts rooms : List ℕ} {run from to : ℕ} {v : Content
       number_at words' (number_at starts s + 7) ≤ run → AreBlocks words' starts rooms run
   blocks-kept most stamp = record {
     sizes = old.sizes;
-    common = λ any. let o = old.common any in record {
-      first = low 1 (omega arith) ∙ o.first;
-      second = low 3 (omega arith) ∙ o.second;
-      position = low 4 (omega arith) ∙ o.position;
-      passed = low 5 (omega arith) ∙ o.passed;
-      count = low 6 (omega arith) ∙ o.count;
-      run = low 7 (omega arith) ∙ o.run;
-    };
+    common = λ any. bare-kept (λ i h. outside i (inl (omega (arith, h, room-start old s some)))) (old.common any);
     shared = old.shared;
     small = old.small;
     apart = old.apart;
@@ -75,9 +68,6 @@ module _ {words words' starts rooms : List ℕ} {run from to : ℕ} {v : Content
     ];
   }
     where
-      low : (i : ℕ) → i < 8 → number_at words' i ≡ number_at words i
-      low i h = outside i (inl (omega (arith, h, room-start old s some)))
-
       other : (t : ℕ) → (t ≡ s → ⊥) → (i : ℕ) → i < 8 →
           number_at words' (number_at starts t + i) ≡ number_at words (number_at starts t + i)
       other t n i h = elim (old.apart s t (λ is. n (sym is)) some) [
@@ -226,26 +216,24 @@ module _ {words starts rooms : List ℕ} {run : ℕ} {v : Contents} (e p : ℕ) 
   inside-watch : watch_place starts e + 1 < length words
   inside-watch = omega (arith, old.inside (e / 2) (room-inside old (e / 2) some))
 
-  pub idle-written : Store (set words (p + 1) nowhere) starts rooms run (rewatched v (set v.watches e idle))
-  idle-written = subst (λ i. Store (set words (i + 1) nowhere) starts rooms run (rewatched v (set v.watches e idle)))
-      (sym at)
-      (watch-written (e / 2) old is some (one-written words (watch_place starts e) (watch_place starts e + 2)
-      (watch_place starts e + 1) nowhere (omega arith) (omega arith))
-      (omega arith) (omega arith) e idle refl (omega arith) (omega arith)
-      (ap (watch_of _) (get_or-set_same words (watch_place starts e + 1) nowhere 0 inside-watch)))
-
-  pub place-written : (literal spot : ℕ) → number_at words (watch_place starts e) ≡ literal → spot < nowhere →
-      Store (set words (p + 1) spot) starts rooms run
-      (rewatched v (set v.watches e (record { literal = literal; live = true; spot = spot })))
-  place-written literal spot l small =
-      subst (λ i. Store (set words (i + 1) spot) starts rooms run
-      (rewatched v (set v.watches e (record { literal = literal; live = true; spot = spot })))) (sym at)
-      (let same = get_or-set_other words (watch_place starts e + 1) (watch_place starts e) spot 0
+  spot-written : (spot : ℕ) (w : Watch) → watch_of (number_at words (watch_place starts e)) spot ≡ w →
+      Store (set words (p + 1) spot) starts rooms run (rewatched v (set v.watches e w))
+  spot-written spot w made =
+      subst (λ i. Store (set words (i + 1) spot) starts rooms run (rewatched v (set v.watches e w))) (sym at)
+      (let l = get_or-set_other words (watch_place starts e + 1) (watch_place starts e) spot 0
       (λ h. absurd (omega (arith, h))) in
       let q = get_or-set_same words (watch_place starts e + 1) spot 0 inside-watch in
       watch-written (e / 2) old is some (one-written words (watch_place starts e) (watch_place starts e + 2)
       (watch_place starts e + 1) spot (omega arith) (omega arith))
-      (omega arith) (omega arith) e _ refl (omega arith) (omega arith) (watch-made _ _ literal spot (same ∙ l) q small))
+      (omega arith) (omega arith) e w refl (omega arith) (omega arith) (rw (l, q) made))
+
+  pub idle-written : Store (set words (p + 1) nowhere) starts rooms run (rewatched v (set v.watches e idle))
+  idle-written = spot-written nowhere idle refl
+
+  pub place-written : (literal spot : ℕ) → number_at words (watch_place starts e) ≡ literal → spot < nowhere →
+      Store (set words (p + 1) spot) starts rooms run
+      (rewatched v (set v.watches e (record { literal = literal; live = true; spot = spot })))
+  place-written literal spot l small = spot-written spot _ (watch-made _ _ literal spot l refl small)
 
   pub both-written : (literal spot : ℕ) → spot < nowhere →
       Store (set (set words p literal) (p + 1) spot) starts rooms run
@@ -312,7 +300,7 @@ module _ {words starts rooms : List ℕ} {run s a : ℕ} {v : Contents} (old : A
       (omega arith) (omega arith) _ (omega arith) (omega arith) (other (b + 6) (λ h. absurd (omega (arith, h))))
       (omega (arith, other (b + 7) (λ h. absurd (omega (arith, h))), old.begun_by s slot))
       (search-made _ _ _ _ (other (b + 4) (λ h. absurd (omega (arith, h)))
-      ∙ ap (λ (x : Search). x.position) (search-behind old is s slot))
+      ∙ ap (λ (x : Search). x.position) (search-stored old is s slot))
       (passed-none run _ _ (get_or-set_same words (b + 5) 0 0 (omega (arith, inside-block))))))
 
   pub clear-written : Store (set words (a + 6) 0) starts rooms run (rewritten v s [])
@@ -357,5 +345,5 @@ shared-begun {words} {starts} {rooms} {run} s old is inside none =
     subst (λ (u : Contents). u ≡ searched u s (record { position = (search_at u.searches s).position; passed = 0 })) is
     (contents-are _ _ refl
     (table-set (length starts) (stored_search words starts run) (stored_search words starts run) s _
-    (search-made _ _ _ _ (ap (λ (x : Search). x.position) (search-behind old refl s inside)) (passed-none run _ _ q))
+    (search-made _ _ _ _ (ap (λ (x : Search). x.position) (search-stored old refl s inside)) (passed-none run _ _ q))
     (λ j h n. refl)) refl refl)

@@ -4,11 +4,14 @@ use Rattle.pb_propagate.proofs.Common.{get_or-set_other, inl, inr, length, List,
 use Rattle.pb_propagate.proofs.Common.{slice_get, Some, sum, sum_by, both_ways, cases_lt, eqb-true, get_or-map, get_or_past, length-map}
 use Rattle.pb_propagate.proofs.Common.{get_or-le-sum_by, sum-map, sum_by-cons, sum_by-set, slice_get-get_or, Watch, list_at}
 use Rattle.pb_propagate.proofs.Common.{watch_at, AreStored, flip}
-pub use Rattle.pb_propagate.specs.engine.Clauses.Walked.{killed}
-use Rattle.pb_propagate.proofs.lemmas.clauses.Codes.{has, AreSingle}
+pub use Rattle.pb_propagate.specs.engine.Clauses.Walked.{killed, has}
 use Rattle.pb_propagate.proofs.lemmas.clauses.Linked.{one-place}
 use Rattle.pb_propagate.proofs.lemmas.clauses.Truths.{same-slot}
 use Rattle.pb_propagate.proofs.lemmas.clauses.Steps.{slot-within}
+
+-- no number is on the list twice
+abbrev AreSingle : List ℕ → Type 0
+AreSingle list = (i j d : ℕ) → i < j → j < length list → get_or list i d ≡ get_or list j d → ⊥
 
 -- different numbers, each with a weight: there are no more of them than the sum of the weights
 pub pigeons : (xs ws : List ℕ) → AreSingle xs → ((i d : ℕ) → i < length xs → 1 ≤ get_or ws (get_or xs i d) 0) → length xs ≤ sum ws
@@ -54,9 +57,6 @@ list-short clauses ws ls l stored =
     weight : List ℕ → ℕ
     weight xs = count_by (λ x. l == x) xs
 
-    item : (i d : ℕ) → i < length (list_at ls l) → slice_get (list_at ls l) i ≡ Some (get_or (list_at ls l) i d)
-    item i d h = slice_get-get_or (list_at ls l) i d h
-
     two-apart : (a b i j : ℕ) → slice_get (list_at ls l) i ≡ Some a → slice_get (list_at ls l) j ≡ Some b → i < j → a / 2 ≡ b / 2 → ⊥
     two-apart a b i j at_a at_b less same =
         let sits_a = stored.linked.named a l i at_a in
@@ -71,60 +71,50 @@ list-short clauses ws ls l stored =
         let in_i : i < length (list_at ls l) = omega (arith, less, in_j) in
         let at_i : get_or (map half (list_at ls l)) i d ≡ half (get_or (list_at ls l) i 0) = get_or-map half (list_at ls l) i 0 d in_i in
         let at_j : get_or (map half (list_at ls l)) j d ≡ half (get_or (list_at ls l) j 0) = get_or-map half (list_at ls l) j 0 d in_j in
-        two-apart (get_or (list_at ls l) i 0) (get_or (list_at ls l) j 0) i j (item i 0 in_i) (item j 0 in_j) less (sym at_i ∙ same ∙ at_j)
+        two-apart (get_or (list_at ls l) i 0) (get_or (list_at ls l) j 0) i j (slice_get-get_or (list_at ls l) i 0 in_i) (slice_get-get_or (list_at ls l) j 0 in_j) less (sym at_i ∙ same ∙ at_j)
 
     heavy : (i d : ℕ) → i < length (map half (list_at ls l)) → 1 ≤ get_or (map weight clauses) (get_or (map half (list_at ls l)) i d) 0
     heavy i d inside =
         let in_i : i < length (list_at ls l) = omega (arith, inside, length-map (list_at ls l) half) in
         let e : ℕ = get_or (list_at ls l) i 0 in
         let at_i : get_or (map half (list_at ls l)) i d ≡ half e = get_or-map half (list_at ls l) i 0 d in_i in
-        let sits = stored.linked.named e l i (item i 0 in_i) in
+        let sits = stored.linked.named e l i (slice_get-get_or (list_at ls l) i 0 in_i) in
         let slot = slot-within clauses ws ls e stored sits.live in
         let there : Contains (list_at clauses (e / 2)) l = subst (Contains (list_at clauses (e / 2))) sits.literal (stored.watched e sits.live) in
         let weighs : get_or (map weight clauses) (half e) 0 ≡ weight (list_at clauses (e / 2)) = get_or-map weight clauses (e / 2) [] 0 slot in
         let some = count-some (list_at clauses (e / 2)) l there in
         subst (λ t. 1 ≤ get_or (map weight clauses) t 0) (sym at_i) (omega (arith, weighs, some))
 
-or-none : (b : Bool) → (b || false) ≡ (false || b)
-or-none true = refl
-or-none false = refl
-
 or-step : (b h q k : Bool) → k ≡ (h || q) → (b || k) ≡ ((b || h) || q)
 or-step true h q k e = refl
 or-step false h q k e = e
 
-has-push : (xs : List ℕ) (y x : ℕ) → has (xs ++ (y ∷ [])) x ≡ (has xs x || (y == x))
-has-push [] y x = or-none (y == x)
-has-push (z ∷ zs) y x = or-step (z == x) (has zs x) (y == x) (has (zs ++ (y ∷ [])) x) (has-push zs y x)
+pub has-append : (a b : List ℕ) (x : ℕ) → has (a ++ b) x ≡ (has a x || has b x)
+has-append [] b x = refl
+has-append (y ∷ ys) b x = or-step (y == x) (has ys x) (has b x) (has (ys ++ b) x) (has-append ys b x)
 
 one-more : (walked : List ℕ) (l x : ℕ) → has walked l ≡ false → cond (has (walked ++ (l ∷ [])) x) 1 0 ≡ cond (has walked x) 1 0 + cond (l == x) 1 0
-one-more walked l x fresh = ap (λ b. cond b 1 0) (has-push walked l x) ∙ by (has walked x) (l == x) refl refl
+one-more walked l x fresh = ap (λ b. cond b 1 0) (has-append walked (l ∷ []) x) ∙ by (has walked x) (l == x) refl refl
   where
-    by : (a b : Bool) → has walked x ≡ a → (l == x) ≡ b → cond (has walked x || (l == x)) 1 0 ≡ cond (has walked x) 1 0 + cond (l == x) 1 0
+    by : (a b : Bool) → has walked x ≡ a → (l == x) ≡ b → cond (has walked x || ((l == x) || false)) 1 0 ≡ cond (has walked x) 1 0 + cond (l == x) 1 0
     by true true p q = absurd (both_ways _ fresh (ap (has walked) (eqb-true l x q) ∙ p))
     by true false p q = rw (p, q) refl
     by false true p q = rw (p, q) refl
     by false false p q = rw (p, q) refl
 
-count-more : (xs walked : List ℕ) (l : ℕ) → has walked l ≡ false → count_by (λ x. has (walked ++ (l ∷ [])) x) xs ≡ count_by (λ x. has walked x) xs + count_by (λ x. l == x) xs
-count-more [] walked l fresh = refl
-count-more (x ∷ xs) walked l fresh =
-    let rest = count-more xs walked l fresh in
-    let one = one-more walked l x fresh in
-    let a = sum_by-cons (λ y. cond (has (walked ++ (l ∷ [])) y) 1 0) x xs in
-    let b = sum_by-cons (λ y. cond (has walked y) 1 0) x xs in
-    let c = sum_by-cons (λ y. cond (l == y) 1 0) x xs in
-    omega (arith, a, b, c, one, rest)
+-- sums of terms
+sums-split : {X : Type 0} (f g h : X → ℕ) (xs : List X) → ((x : X) → h x ≡ f x + g x) → sum_by h xs ≡ sum_by f xs + sum_by g xs
+sums-split f g h [] each = refl
+sums-split f g h (x ∷ xs) each = omega (arith, sums-split f g h xs each, each x, sum_by-cons f x xs, sum_by-cons g x xs, sum_by-cons h x xs)
+
+pub sums-join : {X : Type 0} (f g h : X → ℕ) (xs : List X) → ((x : X) → f x + g x ≤ h x) → sum_by f xs + sum_by g xs ≤ sum_by h xs
+sums-join f g h [] each = omega arith
+sums-join f g h (x ∷ xs) each = omega (arith, sums-join f g h xs each, each x, sum_by-cons f x xs, sum_by-cons g x xs, sum_by-cons h x xs)
 
 pub killed-more : (clauses : List (List ℕ)) (walked : List ℕ) (l : ℕ) → has walked l ≡ false → killed clauses (walked ++ (l ∷ [])) ≡ killed clauses walked + occurs clauses l
-killed-more [] walked l fresh = refl
-killed-more (xs ∷ clauses) walked l fresh =
-    let rest = killed-more clauses walked l fresh in
-    let one = count-more xs walked l fresh in
-    let a = sum_by-cons (λ ys. count_by (λ x. has (walked ++ (l ∷ [])) x) ys) xs clauses in
-    let b = sum_by-cons (λ ys. count_by (λ x. has walked x) ys) xs clauses in
-    let c = sum_by-cons (λ ys. count_by (λ x. l == x) ys) xs clauses in
-    omega (arith, a, b, c, one, rest)
+killed-more clauses walked l fresh =
+    sums-split (λ xs. count_by (λ x. has walked x) xs) (λ xs. count_by (λ x. l == x) xs) (λ xs. count_by (λ x. has (walked ++ (l ∷ [])) x) xs) clauses
+    (λ xs. sums-split (λ x. cond (has walked x) 1 0) (λ x. cond (l == x) 1 0) (λ x. cond (has (walked ++ (l ∷ [])) x) 1 0) xs (λ x. one-more walked l x fresh))
 
 -- the positions that searches have passed
 pub passed-most : (ps : List ℕ) (clauses : List (List ℕ)) → ((s : ℕ) → get_or ps s 0 ≤ length (list_at clauses s)) → sum ps ≤ sum_by length clauses

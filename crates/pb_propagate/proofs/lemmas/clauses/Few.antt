@@ -1,13 +1,8 @@
 -- A list of different numbers below a bound is no longer than the bound.
-use Rattle.pb_propagate.proofs.Common.{ℕ, ◌<◌, ◌∙◌, ◌∷◌, ◌≡◌, ◌≤◌, [], ap, arith, get_or, inl, inr, length, List, refl, suc}
-use Rattle.pb_propagate.proofs.Common.{sym, true, zero, ◌==◌, slice_get, Some, both_ways, cases_Bool, eqb-true, or_cases, list_any}
+use Rattle.pb_propagate.proofs.Common.{slice_get-get_or, ℕ, ◌<◌, ◌∙◌, ◌∷◌, ◌≡◌, ◌≤◌, [], ap, arith, get_or, inl, inr, length, List, refl, suc, sym}
+use Rattle.pb_propagate.proofs.Common.{true, zero, ◌==◌, slice_get, Some, both_ways, cases_Bool, eqb-true, or_cases, list_any}
 use Rattle.std.proofs.lemmas.Map.Keys.{IsDistinct-from_apart}
 use Rattle.std.proofs.lemmas.Map.Steps.{length-le_from_distinct_below}
-
-get-at : (xs : List ℕ) (i d : ℕ) → i < length xs → slice_get xs i ≡ Some (get_or xs i d)
-get-at [] i d h = absurd (omega (arith, h))
-get-at (x ∷ xs) zero d h = refl
-get-at (x ∷ xs) (suc i) d h = get-at xs i d (omega (arith, h))
 
 found-at : (q : ℕ) (xs : List ℕ) → list_any (λ y. q == y) xs ≡ true → (i : ℕ) × (slice_get xs i ≡ Some q)
 found-at q [] h = absurd (both_ways _ refl h)
@@ -20,7 +15,7 @@ pub numbers-few : (xs : List ℕ) (n : ℕ) → ((i j e : ℕ) → slice_get xs 
 numbers-few xs n one below =
     length-le_from_distinct_below xs n
     (IsDistinct-from_apart (λ x y. x == y) xs (λ i j d less inside. elim (cases_Bool (get_or xs i d == get_or xs j d)) [
-      | inl is ↦ absurd (omega (arith, less, one i j (get_or xs j d) (get-at xs i d (omega (arith, less, inside)) ∙ ap (λ y. Some y) (eqb-true (get_or xs i d) (get_or xs j d) is)) (get-at xs j d inside)))
+      | inl is ↦ absurd (omega (arith, less, one i j (get_or xs j d) (slice_get-get_or xs i d (omega (arith, less, inside)) ∙ ap (λ y. Some y) (eqb-true (get_or xs i d) (get_or xs j d) is)) (slice_get-get_or xs j d inside)))
       | inr isnt ↦ isnt
     ]))
     (λ q h. let w = found-at q xs h in below w.0 q w.1)

@@ -161,40 +161,40 @@ marking-start c list marks n h is m = record {
   kept = λ long old. (omega arith, old);
 }
 
--- literals were put, and no clause was visited
-pub marking-grow : {c0 c : Clauses} {list0 list : List NumberedLiteral} {marks0 marks : List Heads} {marked : ℕ} {h : Heads} (list' : List NumberedLiteral) → Extends list list' → IsMarking c0 c list0 list marks0 marks marked h → IsMarking c0 c list0 list' marks0 marks marked h
-marking-grow {c0} {c} {list0} {list} {marks0} {marks} {marked} {h} list' (r, e) m = record {
-  first = m.first;
-  within = omega (arith, m.within, ap length e, length-append list r);
-  now = subst (λ xs. IsMark c.blocks.literals c.blocks.watches xs h) (sym (ap (take marked) e ∙ take-append-le marked list r m.within)) m.now;
-  level = m.level;
-  kept = λ long old. let k = m.kept long old in (k.0, marks-more c.blocks.literals c.blocks.watches list list' marks (r, e) k.1);
-}
+module _ {c0 c : Clauses} {list0 list : List NumberedLiteral} {marks0 marks : List Heads} {marked : ℕ} {h : Heads} (m : IsMarking c0 c list0 list marks0 marks marked h) where
+  -- literals were put, and no clause was visited
+  pub marking-grow : (list' : List NumberedLiteral) → Extends list list' → IsMarking c0 c list0 list' marks0 marks marked h
+  marking-grow list' (r, e) = record {
+    first = m.first;
+    within = omega (arith, m.within, ap length e, length-append list r);
+    now = subst (λ xs. IsMark c.blocks.literals c.blocks.watches xs h) (sym (ap (take marked) e ∙ take-append-le marked list r m.within)) m.now;
+    level = m.level;
+    kept = λ long old. let k = m.kept long old in (k.0, marks-more c.blocks.literals c.blocks.watches list list' marks (r, e) k.1);
+  }
 
--- a literal was walked
-pub marking-found : {c0 c : Clauses} {list0 list : List NumberedLiteral} {marks0 marks : List Heads} {marked : ℕ} {h : Heads} (values : List (Option Bool)) (c' : Clauses) (list' : List NumberedLiteral) → Agree values list → c'.blocks.literals ≡ c.blocks.literals → KeepsWalked values c c' → Extends list list' → IsMarking c0 c list0 list marks0 marks marked h → IsMarking c0 c' list0 list' marks0 marks marked h
-marking-found {c0} {c} {list0} {list} {marks0} {marks} {marked} {h} values c' list' a same kept more m =
-    let moved = visits-keep values c c' list a same kept in
-    let here : IsMarking c0 c' list0 list marks0 marks marked h = record {
-      first = m.first;
-      within = m.within;
-      now = mark-kept c c' list (take marked list) h (extends-within (take marked list) list (take-whole marked list)) moved m.now;
-      level = m.level;
-      kept = λ long old. let k = m.kept long old in (k.0, marks-kept c c' list marks moved k.1);
-    } in
-    marking-grow list' more here
+  -- a literal was walked
+  pub marking-found : (values : List (Option Bool)) (c' : Clauses) → Agree values list → c'.blocks.literals ≡ c.blocks.literals → KeepsWalked values c c' → IsMarking c0 c' list0 list marks0 marks marked h
+  marking-found values c' a same kept =
+      let moved = visits-keep values c c' list a same kept in
+      record {
+        first = m.first;
+        within = m.within;
+        now = mark-kept c c' list (take marked list) h (extends-within (take marked list) list (take-whole marked list)) moved m.now;
+        level = m.level;
+        kept = λ long old. let k = m.kept long old in (k.0, marks-kept c c' list marks moved k.1);
+      }
 
--- and the literals that were put since have their marks
-pub marking-next : {c0 c : Clauses} {list0 list : List NumberedLiteral} {marks0 marks : List Heads} {marked : ℕ} {h : Heads} (marks' : List Heads) (n : ℕ) (h' : Heads) → n ≡ length list → marks' ≡ marks ++ replicate (n - marked) h → IsMark c.blocks.literals c.blocks.watches list h' → IsMarking c0 c list0 list marks0 marks marked h → IsMarking c0 c list0 list marks0 marks' n h'
-marking-next {c0} {c} {list0} {list} {marks0} {marks} {marked} {h} marks' n h' is pushed one m = record {
-  first = omega (arith, m.first, m.within, is);
-  within = omega (arith, is);
-  now = subst (λ xs. IsMark c.blocks.literals c.blocks.watches xs h') (sym (take_all n list (omega (arith, is)))) one;
-  level = λ long. ap length pushed ∙ omega (arith, length-append marks (replicate (n - marked) h), length-replicate (n - marked) h, m.level long, m.within, is);
-  kept = λ long old.
-      let k = m.kept long old in
-      (omega (arith, k.0, ap length pushed, length-append marks (replicate (n - marked) h)), subst (AreMarks c.blocks.literals c.blocks.watches list) (sym pushed) (marks-push c.blocks.literals c.blocks.watches list marks marked n h (m.level long) (omega (arith, is)) m.now k.1));
-}
+  -- the literals that were put since have their marks
+  pub marking-next : (marks' : List Heads) (n : ℕ) (h' : Heads) → n ≡ length list → marks' ≡ marks ++ replicate (n - marked) h → IsMark c.blocks.literals c.blocks.watches list h' → IsMarking c0 c list0 list marks0 marks' n h'
+  marking-next marks' n h' is pushed one = record {
+    first = omega (arith, m.first, m.within, is);
+    within = omega (arith, is);
+    now = subst (λ xs. IsMark c.blocks.literals c.blocks.watches xs h') (sym (take_all n list (omega (arith, is)))) one;
+    level = λ long. ap length pushed ∙ omega (arith, length-append marks (replicate (n - marked) h), length-replicate (n - marked) h, m.level long, m.within, is);
+    kept = λ long old.
+        let k = m.kept long old in
+        (omega (arith, k.0, ap length pushed, length-append marks (replicate (n - marked) h)), subst (AreMarks c.blocks.literals c.blocks.watches list) (sym pushed) (marks-push c.blocks.literals c.blocks.watches list marks marked n h (m.level long) (omega (arith, is)) m.now k.1));
+  }
 
 -- there are no more marks than literals
 pub marks-short : (clauses : List (List ℕ)) (ws : List Watch) (list : List NumberedLiteral) (marks : List Heads) → AreMarks clauses ws list marks → length marks ≤ length list

@@ -1,13 +1,13 @@
 -- The occurrences of the literals on a list, and of their negations.
-use Rattle.pb_propagate.proofs.Common.{ℕ, ◌++◌, ◌+◌, ◌<◌, ◌||◌, ◌∙◌, ◌∷◌, ◌≡◌, ◌≤◌, ◌⊎◌, [], ap, arith, Bool, cond, false, inl, inr, length, List}
-use Rattle.pb_propagate.proofs.Common.{map, refl, subst, sym, true, ◌==◌, Contains, count_by, sum_by, both_ways, cases_Bool, eqb-true, or_cases}
-use Rattle.pb_propagate.proofs.Common.{or_left, or_right, map-append, get_or-le-sum_by, sum_by-cons, NumberedLiteral, negation, Group, Long, Short}
-use Rattle.pb_propagate.proofs.Common.{list_at, code_in, fallen, falsified_code, same}
+use Rattle.pb_propagate.proofs.Common.{count_by-le-length, sum_by-le-sum_by, ℕ, ◌++◌, ◌+◌, ◌<◌, ◌||◌, ◌∙◌, ◌∷◌, ◌≡◌, ◌≤◌, ◌⊎◌, [], ap, arith, Bool}
+use Rattle.pb_propagate.proofs.Common.{cond, false, inl, inr, length, List, map, refl, subst, sym, true, ◌==◌, Contains, count_by, sum_by, both_ways}
+use Rattle.pb_propagate.proofs.Common.{cases_Bool, eqb-true, or_cases, or_left, or_right, map-append, get_or-le-sum_by, NumberedLiteral, negation}
+use Rattle.pb_propagate.proofs.Common.{Group, Long, Short, list_at, code_in, fallen, falsified_code, same}
 use Rattle.pb_propagate.specs.engine.Engine.Lists.{has}
 use Rattle.pb_propagate.proofs.lemmas.engine.Literals.{same-refl}
 use Rattle.pb_propagate.proofs.lemmas.clauses.Literals.{code-injective, groups-apart}
-use Rattle.pb_propagate.proofs.lemmas.clauses.Codes.{has as stands}
-use Rattle.pb_propagate.proofs.lemmas.clauses.Counts.{killed, killed-more, occurs, count-some}
+use Rattle.pb_propagate.specs.engine.Clauses.Walked.{has as stands}
+use Rattle.pb_propagate.proofs.lemmas.clauses.Counts.{killed, killed-more, occurs, count-some, has-append, sums-join}
 use Rattle.pb_propagate.proofs.lemmas.clauses.Stores.{slot-room}
 
 -- a list and its negations have no literal in common
@@ -44,28 +44,6 @@ risen-push clauses xs l absent =
     one : (g : Group) → killed clauses (map (code_in g) (xs ++ (l ∷ []))) ≡ killed clauses (map (code_in g) xs) + occurs clauses (code_in g l)
     one g = ap (killed clauses) (map-append (code_in g) xs (l ∷ [])) ∙ killed-more clauses (map (code_in g) xs) (code_in g l) (fresh-code g xs l absent)
 
-bit-apart : (a b : Bool) → (a ≡ true → b ≡ true → ⊥) → cond a 1 0 + cond b 1 0 ≤ 1
-bit-apart true true h = absurd (h refl refl)
-bit-apart true false h = omega arith
-bit-apart false true h = omega arith
-bit-apart false false h = omega arith
-
--- what two tests count is no more than the whole if nothing passes both
-count-apart : (p q : ℕ → Bool) → ((x : ℕ) → p x ≡ true → q x ≡ true → ⊥) → (xs : List ℕ) → count_by p xs + count_by q xs ≤ length xs
-count-apart p q h [] = omega arith
-count-apart p q h (x ∷ xs) =
-    let rest = count-apart p q h xs in
-    let here = bit-apart (p x) (q x) (h x) in
-    omega (arith, rest, here, sum_by-cons (λ y. cond (p y) 1 0) x xs, sum_by-cons (λ y. cond (q y) 1 0) x xs)
-
-pub killed-apart : (clauses : List (List ℕ)) (a b : List ℕ) → ((x : ℕ) → stands a x ≡ true → stands b x ≡ true → ⊥) → killed clauses a + killed clauses b ≤ sum_by length clauses
-killed-apart [] a b h = omega arith
-killed-apart (xs ∷ clauses) a b h =
-    let rest = killed-apart clauses a b h in
-    let here = count-apart (stands a) (stands b) h xs in
-    let total = sum_by-cons (λ (ys : List ℕ). length ys) xs clauses in
-    omega (arith, rest, here, total, sum_by-cons (λ ys. count_by (λ x. stands a x) ys) xs clauses, sum_by-cons (λ ys. count_by (λ x. stands b x) ys) xs clauses)
-
 -- what is counted by two tests that nothing passes both is counted by either
 bit-join : (a b : Bool) → (a ≡ true → b ≡ true → ⊥) → cond a 1 0 + cond b 1 0 ≤ cond (a || b) 1 0
 bit-join true true h = absurd (h refl refl)
@@ -73,27 +51,15 @@ bit-join true false h = omega arith
 bit-join false true h = omega arith
 bit-join false false h = omega arith
 
-or-assoc : (a b c d : Bool) → b ≡ (c || d) → (a || b) ≡ ((a || c) || d)
-or-assoc true b c d h = refl
-or-assoc false b c d h = h
-
-stands-append : (a b : List ℕ) (x : ℕ) → stands (a ++ b) x ≡ (stands a x || stands b x)
-stands-append [] b x = refl
-stands-append (y ∷ ys) b x = or-assoc (y == x) (stands (ys ++ b) x) (stands ys x) (stands b x) (stands-append ys b x)
-
-count-join : (a b : List ℕ) → ((x : ℕ) → stands a x ≡ true → stands b x ≡ true → ⊥) → (xs : List ℕ) → count_by (stands a) xs + count_by (stands b) xs ≤ count_by (stands (a ++ b)) xs
-count-join a b h [] = omega arith
-count-join a b h (x ∷ xs) =
-    let rest = count-join a b h xs in
-    let here = subst (λ t. cond (stands a x) 1 0 + cond (stands b x) 1 0 ≤ cond t 1 0) (sym (stands-append a b x)) (bit-join (stands a x) (stands b x) (h x)) in
-    omega (arith, rest, here, sum_by-cons (λ y. cond (stands a y) 1 0) x xs, sum_by-cons (λ y. cond (stands b y) 1 0) x xs, sum_by-cons (λ y. cond (stands (a ++ b) y) 1 0) x xs)
-
 killed-join : (clauses : List (List ℕ)) (a b : List ℕ) → ((x : ℕ) → stands a x ≡ true → stands b x ≡ true → ⊥) → killed clauses a + killed clauses b ≤ killed clauses (a ++ b)
-killed-join [] a b h = omega arith
-killed-join (xs ∷ clauses) a b h =
-    let rest = killed-join clauses a b h in
-    let here = count-join a b h xs in
-    omega (arith, rest, here, sum_by-cons (λ ys. count_by (λ x. stands a x) ys) xs clauses, sum_by-cons (λ ys. count_by (λ x. stands b x) ys) xs clauses, sum_by-cons (λ ys. count_by (λ x. stands (a ++ b) x) ys) xs clauses)
+killed-join clauses a b h =
+    sums-join (λ xs. count_by (stands a) xs) (λ xs. count_by (stands b) xs) (λ xs. count_by (stands (a ++ b)) xs) clauses
+    (λ xs. sums-join (λ x. cond (stands a x) 1 0) (λ x. cond (stands b x) 1 0) (λ x. cond (stands (a ++ b) x) 1 0) xs
+    (λ x. subst (λ t. cond (stands a x) 1 0 + cond (stands b x) 1 0 ≤ cond t 1 0) (sym (has-append a b x)) (bit-join (stands a x) (stands b x) (h x))))
+
+killed-apart : (clauses : List (List ℕ)) (a b : List ℕ) → ((x : ℕ) → stands a x ≡ true → stands b x ≡ true → ⊥) → killed clauses a + killed clauses b ≤ sum_by length clauses
+killed-apart clauses a b h =
+    omega (arith, killed-join clauses a b h, sum_by-le-sum_by (λ xs. count_by (stands (a ++ b)) xs) length clauses (λ xs. count_by-le-length (stands (a ++ b)) xs))
 
 -- no code is both of a literal of the list and of a negation
 codes-apart : (g : Group) (list : List NumberedLiteral) (x : ℕ) → IsOneSided list → stands (map (falsified_code g) list) x ≡ true → stands (map (code_in g) list) x ≡ true → ⊥
@@ -118,7 +84,7 @@ killed-both clauses list one =
     let rl = map (code_in Long) list in
     let falls = killed-join clauses fs fl (λ x a b. split-apart negation negation list x a b) in
     let rises = killed-join clauses rs rl (λ x a b. split-apart (λ l. l) (λ l. l) list x a b) in
-    let apart = killed-apart clauses (fs ++ fl) (rs ++ rl) (λ x a b. by x (or_cases (stands fs x) (stands fl x) (sym (stands-append fs fl x) ∙ a)) (or_cases (stands rs x) (stands rl x) (sym (stands-append rs rl x) ∙ b))) in
+    let apart = killed-apart clauses (fs ++ fl) (rs ++ rl) (λ x a b. by x (or_cases (stands fs x) (stands fl x) (sym (has-append fs fl x) ∙ a)) (or_cases (stands rs x) (stands rl x) (sym (has-append rs rl x) ∙ b))) in
     omega (arith, falls, rises, apart)
   where
     by : (x : ℕ) → (stands (map (falsified_code Short) list) x ≡ true) ⊎ (stands (map (falsified_code Long) list) x ≡ true) → (stands (map (code_in Short) list) x ≡ true) ⊎ (stands (map (code_in Long) list) x ≡ true) → ⊥

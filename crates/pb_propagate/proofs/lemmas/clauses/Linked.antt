@@ -4,7 +4,7 @@ use Rattle.pb_propagate.proofs.Common.{get_or-set_same, inl, inr, length, length
 use Rattle.pb_propagate.proofs.Common.{both_ways, cases_eq, cases_lt, get_or_past, none-some, same_Some, slice_get_within, Watch, AreLinked, idle}
 use Rattle.pb_propagate.proofs.Common.{list_at, Remains, Sits, watch_at}
 use Rattle.pb_propagate.proofs.lemmas.clauses.Few.{numbers-few}
-use Rattle.pb_propagate.proofs.lemmas.clauses.Gets.{get-push_less, get-push_same, get-push_past, swap-other, swap-here, swap-past, lt_of_apart}
+use Rattle.pb_propagate.proofs.lemmas.store.Gets.{get-push_less, get-push_same, get-push_past, swap-other, swap-here, swap-past, lt_of_apart}
 
 idle-dead : (l i : ℕ) → Sits idle l i → ⊥
 idle-dead l i s = both_ways _ refl s.live

@@ -1,10 +1,11 @@
 -- Entries of lists are written, added and removed.
-use Rattle.pb_propagate.proofs.Common.{ℕ, ◌++◌, ◌-◌, ◌/◌, ◌<◌, ◌∙◌, ◌∷◌, ◌≡◌, ◌⊎◌, [], ap, arith, get_or, get_or-set_other, get_or-set_same, Global}
-use Rattle.pb_propagate.proofs.Common.{inl, inr, length, length-set, List, map, refl, set, subst, suc, sym, take, true, Vec, zero, Contains}
-use Rattle.pb_propagate.proofs.Common.{option_map, slice_get, Some, swap_remove, cases_eq, cases_lt, get_or-map, length-map, map-set, set-get_or}
-use Rattle.pb_propagate.proofs.Common.{take-map, get_or_from_slice_get, none-some, same_Some, slice_get-map, slice_get_within, Listed, Watch}
+use Rattle.pb_propagate.proofs.Common.{slice_get-get_or, ℕ, ◌++◌, ◌-◌, ◌/◌, ◌<◌, ◌∙◌, ◌∷◌, ◌≡◌, ◌⊎◌, [], ap, arith, get_or, get_or-set_other}
+use Rattle.pb_propagate.proofs.Common.{get_or-set_same, Global, inl, inr, length, length-set, List, map, refl, set, subst, suc, sym, true, Vec, zero}
+use Rattle.pb_propagate.proofs.Common.{Contains, option_map, slice_get, Some, swap_remove, cases_eq, cases_lt, get_or-map, length-map, map-set}
+use Rattle.pb_propagate.proofs.Common.{set-get_or, get_or_from_slice_get, none-some, same_Some, slice_get-map, slice_get_within, Listed, Watch}
 use Rattle.pb_propagate.proofs.Common.{AreBlocked, AreFewer, AreLinked, AreMore, entries_at, IsListed, list_at, watch_at, watch_lists}
-use Rattle.pb_propagate.proofs.lemmas.clauses.Gets.{get-take_less, get-set_same, get-set_other, get-push_same, get-push_other, swap-past}
+use Rattle.std.proofs.lemmas.Option.{slice_get_read}
+use Rattle.pb_propagate.proofs.lemmas.store.Gets.{get-take_less, get-set_same, get-set_other, get-push_same, get-push_other, swap-past, swap-map}
 
 pub lists-length : (occ : List (Vec Listed Global)) → length (watch_lists occ) ≡ length occ
 lists-length occ = length-map occ (λ (v : Vec Listed Global). map (λ (x : Listed). x.watch) v.items)
@@ -31,14 +32,6 @@ listed-watch occ x there = ap (λ es. slice_get es there.1) (watch-entries occ t
 pub watch-set : (occ : List (Vec Listed Global)) (p : ℕ) (v : Vec Listed Global) (xs : List ℕ) → map (λ (y : Listed). y.watch) v.items ≡ xs → watch_lists (set occ p v) ≡ set (watch_lists occ) p xs
 watch-set occ p v xs now = map-set (λ (x : Vec Listed Global). map (λ (y : Listed). y.watch) x.items) occ p v ∙ ap (set (watch_lists occ) p) now
 
-pub map-swap : (es : List Listed) (q : ℕ) (d : Listed) → 0 < length es → map (λ (y : Listed). y.watch) (swap_remove es q d) ≡ swap_remove (map (λ (y : Listed). y.watch) es) q d.watch
-map-swap es q d some =
-    let many : length (map (λ (y : Listed). y.watch) es) ≡ length es = length-map es (λ (y : Listed). y.watch) in
-    let last : get_or (map (λ (y : Listed). y.watch) es) (length es - 1) d.watch ≡ (get_or es (length es - 1) d).watch = get_or-map (λ (y : Listed). y.watch) es (length es - 1) d d.watch (omega (arith, some)) in
-    sym (take-map (λ (y : Listed). y.watch) (length es - 1) (set es q (get_or es (length es - 1) d)))
-    ∙ ap (take (length es - 1)) (map-set (λ (y : Listed). y.watch) es q (get_or es (length es - 1) d) ∙ ap (set (map (λ (y : Listed). y.watch) es) q) (sym last))
-    ∙ ap (λ n. take (n - 1) (set (map (λ (y : Listed). y.watch) es) q (get_or (map (λ (y : Listed). y.watch) es) (n - 1) d.watch))) (sym many)
-
 -- where an element of a changed list was before
 pub set-older : (es : List Listed) (q i : ℕ) (y x : Listed) → slice_get (set es q y) i ≡ Some x → (x ≡ y) ⊎ ((j : ℕ) × (slice_get es j ≡ Some x))
 set-older es q i y x h = elim (cases_eq i q) [
@@ -59,15 +52,10 @@ pub swap-older : (es : List Listed) (q i : ℕ) (d x : Listed) → slice_get (sw
 swap-older es q i d x h = elim (cases_lt i (length es - 1)) [
   | inr past ↦ absurd (none-some x (sym (swap-past es q i d past) ∙ h))
   | inl less ↦ elim (set-older es q i (get_or es (length es - 1) d) x (sym (get-take_less (set es q (get_or es (length es - 1) d)) (length es - 1) i less) ∙ h)) [
-    | inl is ↦ (length es - 1, get-there es (length es - 1) d (omega (arith, less)) ∙ ap (λ y. Some y) (sym is))
+    | inl is ↦ (length es - 1, slice_get-get_or es (length es - 1) d (omega (arith, less)) ∙ ap (λ y. Some y) (sym is))
     | inr old ↦ old
   ]
 ]
-  where
-    get-there : (xs : List Listed) (k : ℕ) (e : Listed) → k < length xs → slice_get xs k ≡ Some (get_or xs k e)
-    get-there [] k e inside = absurd (omega (arith, inside))
-    get-there (y ∷ xs) zero e inside = refl
-    get-there (y ∷ xs) (suc k) e inside = get-there xs k e (omega (arith, inside))
 
 -- one of the lists is another
 pub entries-set : (occ : List (Vec Listed Global)) (p : ℕ) (v1 : Vec Listed Global) (l : ℕ) → (l ≡ p → ⊥) → entries_at (set occ p v1) l ≡ entries_at occ l
@@ -87,11 +75,18 @@ list-older occ p v v1 P room value each x there = by (cases_eq there.0 p)
       | inr old ↦ inr (p, old.0, ap (λ es. slice_get es old.0) (entries-here occ p v room value) ∙ old.1)
     ]
 
-pub list-fewer : (occ : List (Vec Listed Global)) (p : ℕ) (v v1 : Vec Listed Global) → p < length occ → v ≡ get_or occ p v → ((i : ℕ) (x : Listed) → slice_get v1.items i ≡ Some x → (j : ℕ) × (slice_get v.items j ≡ Some x)) → AreFewer occ (set occ p v1)
-list-fewer occ p v v1 room value each x there = elim (list-older occ p v v1 (λ y. ⊥) room value (λ i y h. inr (each i y h)) x there) [
-  | inl none ↦ absurd none
-  | inr old ↦ old
-]
+-- an entry is removed
+pub removed-fewer : (occ : List (Vec Listed Global)) (p : ℕ) (v v1 : Vec Listed Global) (q : ℕ) (d : Listed) → p < length occ → v ≡ get_or occ p v → v1.items ≡ swap_remove v.items q d → AreFewer occ (set occ p v1)
+removed-fewer occ p v v1 q d room value gone x there =
+    elim (list-older occ p v v1 (λ y. ⊥) room value (λ i y h. inr (swap-older v.items q i d y (ap (λ es. slice_get es i) (sym gone) ∙ h))) x there) [
+      | inl none ↦ absurd none
+      | inr old ↦ old
+    ]
+
+pub removed-watch : (occ : List (Vec Listed Global)) (p : ℕ) (v v1 : Vec Listed Global) (q : ℕ) (d : Listed) → p < length occ → v ≡ get_or occ p v → v1.items ≡ swap_remove v.items q d → watch_lists (set occ p v1) ≡ set (watch_lists occ) p (swap_remove (list_at (watch_lists occ) p) q d.watch)
+removed-watch occ p v v1 q d room value gone =
+    let w = λ (y : Listed). y.watch in
+    watch-set occ p v1 (swap_remove (list_at (watch_lists occ) p) q d.watch) (ap (map w) gone ∙ swap-map w v.items q d ∙ ap (λ (xs : List ℕ). swap_remove xs q d.watch) (sym (watch-here occ p v room value)))
 
 pub blocked-more : (clauses : List (List ℕ)) (entry : Listed) (old new : List (Vec Listed Global)) → AreMore entry old new → Contains (list_at clauses (entry.watch / 2)) entry.blocker → AreBlocked clauses old → AreBlocked clauses new
 blocked-more clauses entry old new more here b x there = elim (more x there) [
@@ -111,15 +106,10 @@ blocked-set clauses s xs occ room here others x there = elim (cases_eq (x.watch 
 ]
 
 -- an entry that is read
-pub entry-read : (es : List Listed) (i : ℕ) (x : Listed) → i < length es → x ≡ get_or es i x → slice_get es i ≡ Some x
-entry-read [] i x h is = absurd (omega (arith, h))
-entry-read (y ∷ es) zero x h is = ap (λ z. Some z) (sym is)
-entry-read (y ∷ es) (suc i) x h is = entry-read es i x (omega (arith, h)) is
-
 pub watch-read : (occ : List (Vec Listed Global)) (p : ℕ) (v : Vec Listed Global) (i : ℕ) (x : Listed) → p < length occ → v ≡ get_or occ p v → i < length (list_at (watch_lists occ) p) → x ≡ get_or v.items i x → slice_get (list_at (watch_lists occ) p) i ≡ Some x.watch
 watch-read occ p v i x room value inside is =
     let here = watch-here occ p v room value in
-    ap (λ xs. slice_get xs i) here ∙ some-map v.items i x (entry-read v.items i x (omega (arith, inside, ap length here, length-map v.items (λ (y : Listed). y.watch))) is)
+    ap (λ xs. slice_get xs i) here ∙ some-map v.items i x (slice_get_read v.items (length v.items) i x refl (omega (arith, inside, ap length here, length-map v.items (λ (y : Listed). y.watch))) is)
 
 -- the same watch with another blocker
 pub watch-kept : (occ : List (Vec Listed Global)) (p : ℕ) (v v1 : Vec Listed Global) (i : ℕ) (x : Listed) → p < length occ → v ≡ get_or occ p v → slice_get (list_at (watch_lists occ) p) i ≡ Some x.watch → v1.items ≡ set v.items i x → watch_lists (set occ p v1) ≡ watch_lists occ

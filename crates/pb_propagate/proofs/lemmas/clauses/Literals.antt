@@ -1,10 +1,12 @@
 -- Codes and their literals.
+use Rattle.pb_propagate.proofs.Common.{not-not}
 use Rattle.pb_propagate.proofs.Common.{ℕ, ◌*◌, ◌+◌, ◌/◌, ◌∙◌, ◌≡◌, ◌⊎◌, ap, arith, Bool, cond, false, get_or, inl, inr, List, None, not, refl, sym}
 use Rattle.pb_propagate.proofs.Common.{true, ◌%◌, ◌==◌, Option, Some, cases_eq, nat_tests, NumberedLiteral, negation, Group, Long, Short, code_in}
 use Rattle.pb_propagate.proofs.Common.{literal_at, offset, is_failed, is_met, falsified_code, has, holds}
 use Rattle.pb_propagate.specs.engine.Engine.Lists.{says}
 use Rattle.pb_propagate.specs.engine.Clauses.Truths.{true_at, false_at}
 use Rattle.pb_propagate.proofs.lemmas.engine.Literals.{negation-negation}
+use Rattle.pb_propagate.proofs.lemmas.clauses.Truths.{met-other}
 
 met-holds : (o : Option Bool) (p : Bool) → is_met o p ≡ holds o (not p)
 met-holds None p = refl
@@ -14,11 +16,7 @@ met-holds (Some false) true = refl
 met-holds (Some false) false = refl
 
 failed-holds : (o : Option Bool) (p : Bool) → is_failed o p ≡ holds o (not (not p))
-failed-holds None p = refl
-failed-holds (Some true) true = refl
-failed-holds (Some true) false = refl
-failed-holds (Some false) true = refl
-failed-holds (Some false) false = refl
+failed-holds o p = ap (is_failed o) (sym (not-not p)) ∙ sym (met-other o (not p)) ∙ met-holds o (not p)
 
 pub true-says : (values : List (Option Bool)) (c : ℕ) → true_at values c ≡ says values (literal_at c)
 unfolding true_at says

@@ -1,19 +1,11 @@
 -- The marks of falsified literals follow the values.
 use Rattle.pb_propagate.proofs.Common.{ℕ, ◌*◌, ◌++◌, ◌+◌, ◌/◌, ◌<◌, ◌∙◌, ◌∷◌, ◌≡◌, ◌⊎◌, [], ap, arith, Bool, eq-eqb, false, get_or, get_or-set_other}
 use Rattle.pb_propagate.proofs.Common.{inl, inr, length, length-append, length-set, List, None, not, refl, set, sym, true, ◌%◌, ◌==◌, Option, Some}
-use Rattle.pb_propagate.proofs.Common.{cases_eq, ne_eqb, nat_tests, get_or_past, AreMarked, is_failed, is_met}
+use Rattle.pb_propagate.proofs.Common.{cases_eq, ne_eqb, nat_tests, get_or_past, AreMarked, is_failed}
 use Rattle.std.proofs.lemmas.Grind.{get_or-set_at}
 use Rattle.pb_propagate.specs.engine.Clauses.Truths.{flip, true_at, false_at}
-use Rattle.pb_propagate.proofs.lemmas.clauses.Gets.{push-default}
-use Rattle.pb_propagate.proofs.lemmas.clauses.Truths.{flip-variable}
-
--- a literal is true at the value at which the other one of its variable is falsified
-met-other : (o : Option Bool) (p : Bool) → is_met o p ≡ is_failed o (not p)
-met-other None p = refl
-met-other (Some true) true = refl
-met-other (Some true) false = refl
-met-other (Some false) true = refl
-met-other (Some false) false = refl
+use Rattle.pb_propagate.proofs.lemmas.store.Gets.{push-default}
+use Rattle.pb_propagate.proofs.lemmas.clauses.Truths.{flip-variable, met-other}
 
 -- the two codes of a variable are an even and an odd one
 flip-parity : (c : ℕ) → (flip c % 2 == 0) ≡ not (c % 2 == 0)

@@ -1,11 +1,10 @@
 -- The reasons of literals among all constraints.
-use Rattle.pb_propagate.proofs.Common.{ℕ, ◌++◌, ◌<◌, ◌∙◌, ◌∷◌, ◌≡◌, [], ap, arith, Bool, false, get_or, length, List, refl, subst, sym, Option}
-use Rattle.pb_propagate.proofs.Common.{slice_get, Some, get_or_from_slice_get, slice_get-get_or, slice_get_within, NumberedLiteral, negation, Run}
-use Rattle.pb_propagate.proofs.Common.{list_at, IsUnit, AreJoined, clause_shape, joined, literal_at, slot_shape, by_reason, has, HaveReasons}
-use Rattle.pb_propagate.proofs.Common.{KeepsReasons, Puts, Shape, list_of, reasons_of, RunKeepsReasons, RunReasons}
-use Rattle.pb_propagate.proofs.lemmas.clauses.Literals.{Agree}
+use Rattle.pb_propagate.proofs.Common.{RunRecords, values_of, ℕ, ◌++◌, ◌<◌, ◌∙◌, ◌∷◌, ◌≡◌, [], ap, arith, get_or, length, List, refl, subst, sym}
+use Rattle.pb_propagate.proofs.Common.{slice_get, Some, get_or_from_slice_get, slice_get-get_or, slice_get_within, NumberedLiteral, Run, list_at}
+use Rattle.pb_propagate.proofs.Common.{IsUnit, AreJoined, clause_shape, joined, literal_at, slot_shape, by_reason, HaveReasons, Puts, Shape, list_of}
+use Rattle.pb_propagate.proofs.Common.{reasons_of, RunKeepsReasons, RunReasons}
 use Rattle.pb_propagate.proofs.lemmas.clauses.Shapes.{clause-stored, joined-at, joined-length, unit-puts, unit-some}
-use Rattle.pb_propagate.proofs.lemmas.engine.Reasoned.{moved-same, reasons-keep, reasons-moved}
+use Rattle.pb_propagate.proofs.lemmas.engine.Reasoned.{keeps-then, reasons-within, moved-same, reasons-keep, reasons-moved}
 
 -- a constraint with terms in the occurrence lists is that of its slot
 pub stored-joined : (xs : List Shape) (clauses : List (List ℕ)) (s : ℕ) (x : Shape) → AreJoined xs clauses → slice_get xs s ≡ Some x → 0 < length x.terms → slice_get (joined xs clauses) s ≡ Some x
@@ -28,8 +27,12 @@ pub run-reasons-joined : (xs : List Shape) (clauses : List (List ℕ)) (old new 
 run-reasons-joined xs clauses old new j kept h = record { kept = kept; added = reasons-joined xs clauses (reasons_of new) (list_of old) (list_of new) j h }
 
 -- a literal that a clause forces has the clause as its reason
-pub unit-reasons : (xs : List Shape) (clauses : List (List ℕ)) (values : List (Option Bool)) (slot x : ℕ) (l : NumberedLiteral) (given list list' : List NumberedLiteral) (old new : List ℕ) → AreJoined xs clauses → Agree values list → l ≡ literal_at x → IsUnit values clauses slot x → list' ≡ list ++ (l ∷ []) → (has list l ≡ false → has list (negation l) ≡ false → slice_get new l.variable ≡ Some slot) → KeepsReasons list old new → HaveReasons (joined xs clauses) old given list → HaveReasons (joined xs clauses) new given list'
-unit-reasons xs clauses values slot x l given list list' old new j agree is unit listed reason keeps h =
+pub unit-reasons : (xs : List Shape) (clauses : List (List ℕ)) (start old new : Run) (slot x : ℕ) (l : NumberedLiteral) → AreJoined xs clauses → IsUnit (values_of old) clauses slot x → l ≡ literal_at x → list_of new ≡ list_of old ++ (l ∷ []) → RunRecords slot l old new → RunKeepsReasons old new →
+    RunReasons (joined xs clauses) start old → RunReasons (joined xs clauses) start new
+unit-reasons xs clauses start old new slot x l j unit is listed reason keeps r =
     let shape = clause_shape (list_at clauses slot) in
-    let puts : Puts (shape ∷ []) list l = subst (Puts (shape ∷ []) list) (sym is) (unit-puts xs clauses values list slot x j agree unit) in
-    subst (HaveReasons (joined xs clauses) new given) (sym listed) (by_reason l slot shape (reasons-keep old new keeps h) (reason puts.absent puts.not_falsified) (clause-stored xs clauses slot j (unit-some values clauses slot x unit)) puts)
+    let puts : Puts (shape ∷ []) (list_of old) l = subst (Puts (shape ∷ []) (list_of old)) (sym is) (unit-puts xs clauses (values_of old) (list_of old) slot x j old.assignment.agrees unit) in
+    record {
+      kept = keeps-then (list_of start) (list_of old) (reasons_of start) (reasons_of old) (reasons_of new) (reasons-within (list_of start) (list_of old) r.added) r.kept keeps;
+      added = subst (HaveReasons (joined xs clauses) (reasons_of new) (list_of start)) (sym listed) (by_reason l slot shape (reasons-keep (reasons_of old) (reasons_of new) keeps r.added) (reason puts.absent puts.not_falsified) (clause-stored xs clauses slot j (unit-some (values_of old) clauses slot x unit)) puts);
+    }

@@ -1,8 +1,8 @@
 -- Searches go round their clauses.
 use Rattle.pb_propagate.proofs.Common.{ℕ, ◌+◌, ◌-◌, ◌<◌, ◌∙◌, ◌≡◌, ◌≤◌, ◌⊎◌, ap, arith, Bool, get_or, get_or-set_other, get_or-set_same, inl, inr}
-use Rattle.pb_propagate.proofs.Common.{length, List, map, set, subst, sym, true, Option, cases_eq, cases_lt, nat_tests, get_or-map, get_or_past}
-use Rattle.pb_propagate.proofs.Common.{length-map, map-set, Clauses, Search, list_at, AreRound, around, IsRound, passed_of, search_at, turned}
-use Rattle.pb_propagate.proofs.Common.{false_at}
+use Rattle.pb_propagate.proofs.Common.{length, List, map, set, subst, sym, true, Option, cases_eq, cases_lt, nat_tests, length-map, map-set, Clauses}
+use Rattle.pb_propagate.proofs.Common.{Search, list_at, AreRound, around, IsRound, passed_of, search_at, turned, false_at}
+use Rattle.std.proofs.Math.ListN.{get_or-map}
 use Rattle.pb_propagate.proofs.lemmas.clauses.Turned.{turned-early, turned-late}
 
 around-less : (n count : ℕ) → n < count → around n count ≡ n
@@ -65,18 +65,10 @@ passed-next values start k d s xs other x r less is here old below = by (cases_l
 
 -- the searches of all slots
 pub passed-at : (ss : List Search) (s : ℕ) → get_or (map (λ (x : Search). x.passed) ss) s 0 ≡ (search_at ss s).passed
-passed-at ss s = by (cases_lt s (length ss))
-  where
-    by : (s < length ss) ⊎ (length ss ≤ s) → get_or (map (λ (x : Search). x.passed) ss) s 0 ≡ (search_at ss s).passed
-    by (inl h) = get_or-map (λ (x : Search). x.passed) ss s (record { position = 0; passed = 0 }) 0 h
-    by (inr h) = get_or_past (map (λ (x : Search). x.passed) ss) s 0 (omega (arith, h, length-map ss (λ (x : Search). x.passed))) ∙ ap (λ (x : Search). x.passed) (sym (get_or_past ss s (record { position = 0; passed = 0 }) h))
+passed-at ss s = get_or-map (λ (x : Search). x.passed) ss s (record { position = 0; passed = 0 })
 
 position-at : (ss : List Search) (s : ℕ) → get_or (map (λ (x : Search). x.position) ss) s 0 ≡ (search_at ss s).position
-position-at ss s = by (cases_lt s (length ss))
-  where
-    by : (s < length ss) ⊎ (length ss ≤ s) → get_or (map (λ (x : Search). x.position) ss) s 0 ≡ (search_at ss s).position
-    by (inl h) = get_or-map (λ (x : Search). x.position) ss s (record { position = 0; passed = 0 }) 0 h
-    by (inr h) = get_or_past (map (λ (x : Search). x.position) ss) s 0 (omega (arith, h, length-map ss (λ (x : Search). x.position))) ∙ ap (λ (x : Search). x.position) (sym (get_or_past ss s (record { position = 0; passed = 0 }) h))
+position-at ss s = get_or-map (λ (x : Search). x.position) ss s (record { position = 0; passed = 0 })
 
 -- a search that has passed nothing began where it stands
 pub ready-round : (ss : List Search) (s count : ℕ) → (search_at ss s).passed ≡ 0 → (search_at ss s).position < count → IsRound (get_or (map (λ (x : Search). x.position) ss) s 0) (search_at ss s) count
@@ -89,14 +81,6 @@ ready-round ss s count none inside =
 
 pub passed-length : (c : Clauses) → length (passed_of c) ≡ length c.blocks.searches
 passed-length c = length-map c.blocks.searches (λ (y : Search). y.passed)
-
--- a search is replaced by one at the same position
-pub position-kept : (ss : List Search) (s t : ℕ) (x : Search) → s < length ss → x.position ≡ (search_at ss s).position → (search_at (set ss s x) t).position ≡ (search_at ss t).position
-position-kept ss s t x inside same = by (cases_eq t s)
-  where
-    by : (t ≡ s) ⊎ (t ≡ s → ⊥) → (search_at (set ss s x) t).position ≡ (search_at ss t).position
-    by (inl is) = ap (λ u. (search_at (set ss s x) u).position) is ∙ ap (λ (y : Search). y.position) (get_or-set_same ss s x (record { position = 0; passed = 0 }) inside) ∙ same ∙ ap (λ u. (search_at ss u).position) (sym is)
-    by (inr n) = ap (λ (y : Search). y.position) (get_or-set_other ss s t x (record { position = 0; passed = 0 }) n)
 
 pub passed-set : (c : Clauses) (ss' : List Search) (s : ℕ) (x : Search) → ss' ≡ set c.blocks.searches s x → map (λ (y : Search). y.passed) ss' ≡ set (passed_of c) s x.passed
 passed-set c ss' s x now = ap (map (λ (y : Search). y.passed)) now ∙ map-set (λ (y : Search). y.passed) c.blocks.searches s x

@@ -1,9 +1,9 @@
 -- Clauses as constraints.
-use Rattle.pb_propagate.proofs.Common.{ℕ, ◌+◌, ◌<◌, ◌∙◌, ◌∷◌, ◌≡◌, ◌≤◌, ◌⊎◌, [], ap, arith, Bool, cond, eq-eqb, false, get_or, inl, inr, length, List}
-use Rattle.pb_propagate.proofs.Common.{map, refl, suc, sym, true, zero, ◌==◌, Contains, count_by, Option, slice_get, Some, both_ways, cases_Bool}
-use Rattle.pb_propagate.proofs.Common.{get_or-map, length-map, sum_by-cons, slice_get-get_or, NumberedLiteral, negation, Term, list_at, IsBroken}
-use Rattle.pb_propagate.proofs.Common.{IsUnit, AreJoined, clause_shape, joined, literal_at, one_term, slot_shape, false_at, true_at, begin, broken}
-use Rattle.pb_propagate.proofs.Common.{Conflicts, Derives, has, IsSettled, open_part, open_sum, opposed, put, Puts, Shape}
+use Rattle.pb_propagate.proofs.Common.{get_or_default, ℕ, ◌+◌, ◌<◌, ◌∙◌, ◌∷◌, ◌≡◌, ◌≤◌, ◌⊎◌, [], ap, arith, Bool, cond, eq-eqb, false, get_or, inl}
+use Rattle.pb_propagate.proofs.Common.{inr, length, List, map, refl, suc, sym, true, zero, ◌==◌, Contains, count_by, Option, slice_get, Some}
+use Rattle.pb_propagate.proofs.Common.{both_ways, cases_Bool, get_or-map, length-map, sum_by-cons, slice_get-get_or, NumberedLiteral, negation, Term}
+use Rattle.pb_propagate.proofs.Common.{list_at, IsBroken, IsUnit, AreJoined, clause_shape, joined, literal_at, one_term, slot_shape, false_at}
+use Rattle.pb_propagate.proofs.Common.{true_at, begin, broken, Conflicts, Derives, has, IsSettled, open_part, open_sum, opposed, put, Puts, Shape}
 use Rattle.pb_propagate.proofs.lemmas.engine.Literals.{open_part-falsified, open_part-open}
 use Rattle.pb_propagate.proofs.lemmas.engine.Derivations.{one_itself, settled-of_terms}
 use Rattle.pb_propagate.proofs.lemmas.clauses.Literals.{Agree, true-listed, false-listed}
@@ -175,13 +175,8 @@ served-settled values list codes a one (met y at h) = settled-of_terms (clause_s
     let mine : has list (literal_at (get_or codes k 0)) ≡ false = sym (ap (λ (t : Term). has list t.literal) here) ∙ absent in
     let mine' : has list (negation (literal_at (get_or codes k 0))) ≡ false = sym (ap (λ (t : Term). has list (negation t.literal)) here) ∙ unfalsified in
     let apart : get_or codes k 0 ≡ y → ⊥ = λ is. both_ways _ mine (ap (λ c. has list (literal_at c)) is ∙ sym (true-listed values list y a) ∙ h) in
-    let both = two-open list codes y (get_or codes k 0) at (k, inside, same-at codes k inside) apart (met-not values list y a one h) mine' in
+    let both = two-open list codes y (get_or codes k 0) at (k, inside, get_or_default codes k (get_or codes k 0) 0 inside) apart (met-not values list y a one h) mine' in
     omega (arith, low, both, ap (λ (t : Term). t.coefficient) here))
-  where
-    same-at : (xs : List ℕ) (k : ℕ) → k < length xs → get_or xs k (get_or xs k 0) ≡ get_or xs k 0
-    same-at [] k h = absurd (omega (arith, h))
-    same-at (x ∷ xs) zero h = refl
-    same-at (x ∷ xs) (suc k) h = same-at xs k (omega (arith, h))
 served-settled values list codes a one (free p q at_p at_q apart free_p free_q) =
     let both = two-open list codes p q at_p at_q apart (sym (false-listed values list p a) ∙ free_p) (sym (false-listed values list q a) ∙ free_q) in
     settled-of_terms (clause_shape codes) list (omega (arith, both)) (λ k d less low absent unfalsified.

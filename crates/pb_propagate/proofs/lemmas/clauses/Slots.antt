@@ -1,12 +1,12 @@
 -- The constraints of all slots when a constraint is added or removed.
-use Rattle.pb_propagate.proofs.Common.{ℕ, ◌*◌, ◌++◌, ◌+◌, ◌/◌, ◌<◌, ◌∙◌, ◌∷◌, ◌≡◌, ◌≤◌, ◌⊎◌, [], ap, arith, Bool, cond, eq-eqb, false, get_or}
-use Rattle.pb_propagate.proofs.Common.{get_or-set_other, get_or-set_same, inl, inr, length, length-append, length-set, List, map, None, not, refl}
-use Rattle.pb_propagate.proofs.Common.{set, subst, suc, sym, true, zero, ◌%◌, ◌==◌, All, count_by, IsPermutation, Option, slice_get, Some, cases_Bool}
-use Rattle.pb_propagate.proofs.Common.{cases_eq, eqb-true, get_or_append_left, IsPermutation-refl, sum_by-cons, slice_get_within, Entry, Form}
-use Rattle.pb_propagate.proofs.Common.{IsNormal, IsRising, Group, Long, Short, list_at, AreDifferent, AreJoined, clause_shape, code, codes_of_terms}
-use Rattle.pb_propagate.proofs.Common.{group_by, IsClause, IsLight, joined, offset, one_term, slot_shape, entry_of, IsStoredAs, Shape, AreSlots}
-use Rattle.pb_propagate.proofs.Common.{IsSlot}
-use Rattle.pb_propagate.proofs.lemmas.clauses.Gets.{push-default}
+use Rattle.pb_propagate.proofs.Common.{same_Some, ℕ, ◌*◌, ◌++◌, ◌+◌, ◌/◌, ◌<◌, ◌∙◌, ◌∷◌, ◌≡◌, ◌≤◌, [], ap, arith, Bool, cond, eq-eqb, false}
+use Rattle.pb_propagate.proofs.Common.{get_or, get_or-set_other, get_or-set_same, inl, inr, length, length-append, length-set, List, map, None, not}
+use Rattle.pb_propagate.proofs.Common.{refl, set, subst, suc, sym, true, zero, ◌%◌, ◌==◌, All, count_by, IsPermutation, Option, slice_get, Some}
+use Rattle.pb_propagate.proofs.Common.{cases_Bool, cases_eq, eqb-true, get_or_append_left, IsPermutation-refl, sum_by-cons, slice_get_within, Entry}
+use Rattle.pb_propagate.proofs.Common.{Form, IsNormal, IsRising, Group, Long, Short, list_at, AreDifferent, AreJoined, clause_shape, code}
+use Rattle.pb_propagate.proofs.Common.{codes_of_terms, group_by, IsClause, IsLight, joined, offset, one_term, slot_shape, entry_of, IsStoredAs, Shape}
+use Rattle.pb_propagate.proofs.Common.{AreSlots, IsSlot}
+use Rattle.pb_propagate.proofs.lemmas.store.Gets.{push-default}
 use Rattle.pb_propagate.proofs.lemmas.clauses.Literals.{half-of, parity-of}
 use Rattle.pb_propagate.proofs.lemmas.clauses.Shapes.{joined-at, joined-length, shape-some}
 use Rattle.pb_propagate.proofs.lemmas.clauses.Stores.{slot-room}
@@ -15,10 +15,7 @@ use Rattle.pb_propagate.proofs.lemmas.clauses.Stores.{slot-room}
 pub slots-at : (os : List (Option Form)) (xs : List Shape) (s : ℕ) (p : Option Form) (d : Shape) → AreSlots os xs → slice_get os s ≡ Some p → (s < length xs) × IsSlot p (get_or xs s d)
 slots-at [] xs s p d a h = absurd (let less = slice_get_within [] s p h in omega (arith, less))
 slots-at (o ∷ os) [] s p d a h = absurd (let e : true ≡ false = a in cc)
-slots-at (o ∷ os) (x ∷ xs) zero p d a h = (omega arith, subst (λ q. IsSlot q x) (same-some o p h) a.0)
-  where
-    same-some : (q r : Option Form) → ◌≡◌ {A = Option (Option Form)} (Some q) (Some r) → q ≡ r
-    same-some q r e = cc e
+slots-at (o ∷ os) (x ∷ xs) zero p d a h = (omega arith, subst (λ q. IsSlot q x) (same_Some o p h) a.0)
 slots-at (o ∷ os) (x ∷ xs) (suc s) p d a h = let rest = slots-at os xs s p d a.1 h in (omega (arith, rest.0), rest.1)
 
 -- an empty slot has neither a clause nor terms
@@ -84,13 +81,12 @@ joined-set (y ∷ xs) (codes ∷ clauses) (suc s) x h = ap (λ ys. slot_shape y 
 pub AreJoined-set : (xs : List Shape) (clauses : List (List ℕ)) (s : ℕ) (x : Shape) → list_at clauses s ≡ [] → AreJoined xs clauses → AreJoined (set xs s x) clauses
 AreJoined-set xs clauses s x h j = record {
   short = omega (arith, j.short, length-set xs s x);
-  apart = λ t d less some. apart-at t d less some (cases_eq t s);
+  apart = λ t d less some. elim (cases_eq t s) [
+    | inl is ↦ absurd (omega (arith, some, ap length (ap (list_at clauses) is ∙ h)))
+    | inr n ↦ subst (λ (y : Shape). (y.terms ≡ []) × (y.degree ≡ 0)) (sym (get_or-set_other xs s t x d n)) (j.apart t d (omega (arith, less, length-set xs s x)) some)
+  ];
   different = j.different;
 }
-  where
-    apart-at : (t : ℕ) (d : Shape) → t < length (set xs s x) → 0 < length (list_at clauses t) → (t ≡ s) ⊎ (t ≡ s → ⊥) → ((get_or (set xs s x) t d).terms ≡ []) × ((get_or (set xs s x) t d).degree ≡ 0)
-    apart-at t d less some (inl is) = absurd (omega (arith, some, ap length (ap (list_at clauses) is ∙ h)))
-    apart-at t d less some (inr n) = subst (λ (y : Shape). (y.terms ≡ []) × (y.degree ≡ 0)) (sym (get_or-set_other xs s t x d n)) (j.apart t d (omega (arith, less, length-set xs s x)) some)
 
 -- a clause is stored in a slot
 pub joined-clause : (xs : List Shape) (clauses : List (List ℕ)) (s : ℕ) (codes : List ℕ) → s < length clauses → 0 < length codes → joined xs (set clauses s codes) ≡ set (joined xs clauses) s (clause_shape codes)

@@ -10,7 +10,7 @@ use Rattle.pb_propagate.proofs.lemmas.clauses.Linked.{list-within}
 use Rattle.pb_propagate.proofs.lemmas.clauses.Listed.{lists-length, watch-entries, listed-live, blocked-set}
 use Rattle.pb_propagate.proofs.lemmas.clauses.Truths.{flip-half, flip-flip, flip-even}
 use Rattle.pb_propagate.proofs.lemmas.clauses.Readings.{running-bounded, searches-length}
-use Rattle.pb_propagate.proofs.lemmas.clauses.Gets.{push-default}
+use Rattle.pb_propagate.proofs.lemmas.store.Gets.{push-default}
 use Rattle.pb_propagate.proofs.lemmas.clauses.Searches.{passed-at, round-inside}
 
 -- what is known of clauses depends only on the element at each position
@@ -133,36 +133,37 @@ none-watched ws s dead_x dead_y = record {
     none k live (inl e) = both_ways _ (ap (λ t. (watch_at ws t).live) e ∙ dead_x) live
     none k live (inr e) = both_ways _ (ap (λ t. (watch_at ws t).live) e ∙ dead_y) live
 
+-- a live watch on a literal
+pub record IsWatchOn (w : Watch) (x : ℕ) : Type 0 where
+  pub live : w.live ≡ true
+  pub literal : w.literal ≡ x
+
 -- both watches are live, on two different literals
-pair-watched : {xs : List ℕ} {p : Pair} {v w : Watch} (ws : List Watch) (s : ℕ) → IsPair xs p → watch_at ws (2 * s) ≡ v → watch_at ws (2 * s + 1) ≡ w →
-    v.live ≡ true → w.live ≡ true → v.literal ≡ get_or xs p.first 0 → w.literal ≡ get_or xs p.second 0 → AreWatchesOf ws s xs
-pair-watched {xs} {p} {v} {w} ws s pair at_x at_y live_x live_y x_is y_is = record {
+pair-watched : {xs : List ℕ} {p : Pair} (ws : List Watch) (s : ℕ) → IsPair xs p → IsWatchOn (watch_at ws (2 * s)) (get_or xs p.first 0) → IsWatchOn (watch_at ws (2 * s + 1)) (get_or xs p.second 0) → AreWatchesOf ws s xs
+pair-watched {xs} {p} ws s pair on_x on_y = record {
   watched = λ k half live. elim (two-of k s half) [
-    | inl e ↦ subst (Contains xs) (sym (ap (λ (z : Watch). z.literal) (first k e) ∙ x_is)) (Contains-get_or xs p.first 0 pair.first)
-    | inr e ↦ subst (Contains xs) (sym (ap (λ (z : Watch). z.literal) (second k e) ∙ y_is)) (Contains-get_or xs p.second 0 pair.second)
+    | inl e ↦ subst (Contains xs) (sym (first k e).literal) (Contains-get_or xs p.first 0 pair.first)
+    | inr e ↦ subst (Contains xs) (sym (second k e).literal) (Contains-get_or xs p.second 0 pair.second)
   ];
   paired = λ k half live. elim (two-of k s half) [
-    | inl e ↦ ap (λ (z : Watch). z.live) (second (flip k) (ap flip e ∙ flip-even s)) ∙ live_y
-    | inr e ↦ ap (λ (z : Watch). z.live) (first (flip k) (ap flip e ∙ flip-odd)) ∙ live_x
+    | inl e ↦ (second (flip k) (ap flip e ∙ flip-even s)).live
+    | inr e ↦ (first (flip k) (ap flip e ∙ flip-odd)).live
   ];
   apart = λ k half live h. elim (two-of k s half) [
-    | inl e ↦ off (sym (ap (λ (z : Watch). z.literal) (first k e)) ∙ sym h ∙ ap (λ (z : Watch). z.literal) (second (flip k) (ap flip e ∙ flip-even s)))
-    | inr e ↦ off (sym (ap (λ (z : Watch). z.literal) (first (flip k) (ap flip e ∙ flip-odd))) ∙ h ∙ ap (λ (z : Watch). z.literal) (second k e))
+    | inl e ↦ pair.apart (sym (first k e).literal ∙ sym h ∙ (second (flip k) (ap flip e ∙ flip-even s)).literal)
+    | inr e ↦ pair.apart (sym (first (flip k) (ap flip e ∙ flip-odd)).literal ∙ h ∙ (second k e).literal)
   ];
-  full = λ some. ap (λ (z : Watch). z.live) at_x ∙ live_x;
+  full = λ some. on_x.live;
 }
   where
     flip-odd : flip (2 * s + 1) ≡ 2 * s
     flip-odd = ap flip (sym (flip-even s)) ∙ flip-flip (2 * s)
 
-    first : (k : ℕ) → k ≡ 2 * s → watch_at ws k ≡ v
-    first k e = ap (watch_at ws) e ∙ at_x
+    first : (k : ℕ) → k ≡ 2 * s → IsWatchOn (watch_at ws k) (get_or xs p.first 0)
+    first k e = rw e on_x
 
-    second : (k : ℕ) → k ≡ 2 * s + 1 → watch_at ws k ≡ w
-    second k e = ap (watch_at ws) e ∙ at_y
-
-    off : v.literal ≡ w.literal → ⊥
-    off h = pair.apart (sym x_is ∙ h ∙ y_is)
+    second : (k : ℕ) → k ≡ 2 * s + 1 → IsWatchOn (watch_at ws k) (get_or xs p.second 0)
+    second k e = rw e on_y
 
 -- one more empty list
 lists-push : (occ occ' : List (Vec Listed Global)) (v : Vec Listed Global) → occ' ≡ occ ++ (v ∷ []) → v.items ≡ [] → (l : ℕ) → entries_at occ' l ≡ entries_at occ l
@@ -218,18 +219,18 @@ rest-fit c b r literals searches watches = record {
 }
 
 -- a clause is stored in a slot
-pub rest-fill : (c : Clauses) (b : Contents) (lists1 lists' : Vec (Vec Listed Global) Global) (n m s x y : ℕ) (xs : List ℕ) (p : Pair) → AreReady c → s < length c.blocks.literals → list_at c.blocks.literals s ≡ [] →
-    IsPair xs p → x ≡ get_or xs p.first 0 → y ≡ get_or xs p.second 0 → All (λ z. z < length c.lists.items) xs →
-    b.literals ≡ set c.blocks.literals s xs → b.searches ≡ set c.blocks.searches s begun → b.watches ≡ set (set c.blocks.watches (2 * s) (record { literal = x; live = true; spot = n })) (2 * s + 1) (record { literal = y; live = true; spot = m }) →
+pub rest-fill : (c : Clauses) (b : Contents) (lists1 lists' : Vec (Vec Listed Global) Global) (s : ℕ) (w1 w2 : Watch) (xs : List ℕ) (p : Pair) → AreReady c → s < length c.blocks.literals → list_at c.blocks.literals s ≡ [] →
+    IsPair xs p → IsWatchOn w1 (get_or xs p.first 0) → IsWatchOn w2 (get_or xs p.second 0) → All (λ z. z < length c.lists.items) xs →
+    b.literals ≡ set c.blocks.literals s xs → b.searches ≡ set c.blocks.searches s begun → b.watches ≡ set (set c.blocks.watches (2 * s) w1) (2 * s + 1) w2 →
     AreLinked b.watches (watch_lists lists'.items) → length lists'.items ≡ length c.lists.items →
-    AreMore (record { watch = 2 * s; blocker = y }) c.lists.items lists1.items → AreMore (record { watch = 2 * s + 1; blocker = x }) lists1.items lists'.items →
+    AreMore (record { watch = 2 * s; blocker = w2.literal }) c.lists.items lists1.items → AreMore (record { watch = 2 * s + 1; blocker = w1.literal }) lists1.items lists'.items →
     AreReady (record { blocks = b; lists = lists' })
-rest-fill c b lists1 lists' n m s x y xs p r room empty pair x_is y_is inside filled searching both linked sizes more_1 more_2 =
+rest-fill c b lists1 lists' s w1 w2 xs p r room empty pair on_1 on_2 inside filled searching both linked sizes more_1 more_2 =
     record {
       stored = subst (λ cs. AreStored cs b.watches (watch_lists lists'.items)) (sym filled)
           (stored-set s xs r.stored linked room (ap length both ∙ length-set ws1 (2 * s + 1) w2 ∙ length-set c.blocks.watches (2 * s) w1)
           (lists-length lists'.items ∙ sizes ∙ sym (lists-length c.lists.items)) (λ k d h. let small = inside k d h in omega (arith, small, lists-length c.lists.items))
-          (pair-watched b.watches s pair first second refl refl x_is y_is)
+          (pair-watched b.watches s pair (subst (λ w. IsWatchOn w (get_or xs p.first 0)) (sym first) on_1) (subst (λ w. IsWatchOn w (get_or xs p.second 0)) (sym second) on_2))
           (λ k off. let same = ap (λ ws. watch_at ws k) both ∙ get_or-set_other ws1 (2 * s + 1) k w2 idle (λ h. off (omega (arith, h)))
           ∙ get_or-set_other c.blocks.watches (2 * s) k w1 idle (λ h. off (omega (arith, h))) in
           (ap (λ (w : Watch). w.live) same, ap (λ (w : Watch). w.literal) same)));
@@ -239,12 +240,6 @@ rest-fill c b lists1 lists' n m s x y xs p r room empty pair x_is y_is inside fi
       none = λ t. none-at t (cases_eq t s);
     }
   where
-    w1 : Watch
-    w1 = record { literal = x; live = true; spot = n }
-
-    w2 : Watch
-    w2 = record { literal = y; live = true; spot = m }
-
     ws1 : List Watch
     ws1 = set c.blocks.watches (2 * s) w1
 
@@ -257,24 +252,24 @@ rest-fill c b lists1 lists' n m s x y xs p r room empty pair x_is y_is inside fi
     second : watch_at b.watches (2 * s + 1) ≡ w2
     second = ap (λ ws. watch_at ws (2 * s + 1)) both ∙ get_or-set_same ws1 (2 * s + 1) w2 idle (omega (arith, wide, length-set c.blocks.watches (2 * s) w1))
 
-    x_in : Contains xs x
-    x_in = subst (Contains xs) (sym x_is) (Contains-get_or xs p.first 0 pair.first)
+    first_in : Contains xs w1.literal
+    first_in = subst (Contains xs) (sym on_1.literal) (Contains-get_or xs p.first 0 pair.first)
 
-    y_in : Contains xs y
-    y_in = subst (Contains xs) (sym y_is) (Contains-get_or xs p.second 0 pair.second)
+    second_in : Contains xs w2.literal
+    second_in = subst (Contains xs) (sym on_2.literal) (Contains-get_or xs p.second 0 pair.second)
 
     -- an old entry is of another slot
     old-entry : (e : Listed) → IsListed c.lists.items e → e.watch / 2 ≡ s → ⊥
     old-entry e there is = both_ways _ (empty-dead c.blocks.literals c.blocks.watches (watch_lists c.lists.items) s e.watch r.stored empty is) (listed-live c.blocks.watches c.lists.items e r.stored.linked there)
 
-    here-blocked : (e : Listed) → e.watch / 2 ≡ s → (e ≡ record { watch = 2 * s + 1; blocker = x }) ⊎ IsListed lists1.items e → Contains xs e.blocker
-    here-blocked e is (inl new) = subst (λ (z : Listed). Contains xs z.blocker) (sym new) x_in
+    here-blocked : (e : Listed) → e.watch / 2 ≡ s → (e ≡ record { watch = 2 * s + 1; blocker = w1.literal }) ⊎ IsListed lists1.items e → Contains xs e.blocker
+    here-blocked e is (inl new) = subst (λ (z : Listed). Contains xs z.blocker) (sym new) first_in
     here-blocked e is (inr there) = elim (more_1 e there) [
-      | inl new ↦ subst (λ (z : Listed). Contains xs z.blocker) (sym new) y_in
+      | inl new ↦ subst (λ (z : Listed). Contains xs z.blocker) (sym new) second_in
       | inr old ↦ absurd (old-entry e old is)
     ]
 
-    other-blocked : (e : Listed) → (e.watch / 2 ≡ s → ⊥) → (e ≡ record { watch = 2 * s + 1; blocker = x }) ⊎ IsListed lists1.items e → Contains (list_at c.blocks.literals (e.watch / 2)) e.blocker
+    other-blocked : (e : Listed) → (e.watch / 2 ≡ s → ⊥) → (e ≡ record { watch = 2 * s + 1; blocker = w1.literal }) ⊎ IsListed lists1.items e → Contains (list_at c.blocks.literals (e.watch / 2)) e.blocker
     other-blocked e off (inl new) = absurd (off (omega (arith, ap (λ (z : Listed). z.watch) new)))
     other-blocked e off (inr there) = elim (more_1 e there) [
       | inl new ↦ absurd (off (omega (arith, ap (λ (z : Listed). z.watch) new)))

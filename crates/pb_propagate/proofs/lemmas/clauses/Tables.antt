@@ -3,7 +3,7 @@ use Rattle.pb_propagate.proofs.Common.{ℕ, ◌++◌, ◌+◌, ◌<◌, ◌∙�
 use Rattle.pb_propagate.proofs.Common.{get_or-drop, get_or-map, get_or-set_other, get_or-set_same, get_or-take, get_or_append_left, inl, inr}
 use Rattle.pb_propagate.proofs.Common.{length, length-append, length-drop, length-set, length-take-le, List, range_with_len, set, sym, table, take}
 use Rattle.std.proofs.lemmas.List.FromFn.{length-map-range_with_len, length-range_with_len, get_or-range_with_len}
-use Rattle.pb_propagate.proofs.lemmas.clauses.Gets.{last-is}
+use Rattle.pb_propagate.proofs.lemmas.store.Gets.{last-is}
 
 pub table-length : {A : Type 0} (n : ℕ) (f : ℕ → A) → length (table n f) ≡ n
 table-length n f = length-map-range_with_len f 0 n

@@ -49,6 +49,21 @@ turned-at (n ∷ starts) (xs ∷ clauses) (suc s) = turned-at starts clauses s
 pub turned-size : (starts : List ℕ) (clauses : List (List ℕ)) (s : ℕ) → length (list_at (all_turned starts clauses) s) ≡ length (list_at clauses s)
 turned-size starts clauses s = ap length (turned-at starts clauses s) ∙ turned-length (get_or starts s 0) (list_at clauses s)
 
+-- what holds of each literal of a clause holds of each literal of one with the same literals
+each-in : (xs ys : List ℕ) (P : ℕ → Type 0) (k d : ℕ) → ((x : ℕ) → Contains ys x → Contains xs x) → ((j e : ℕ) → j < length xs → P (get_or xs j e)) → k < length ys → P (get_or ys k d)
+each-in xs ys P k d from all h = All-contains P xs (get_or ys k d) (λ j e less. all j e less) (from (get_or ys k d) (Contains-get_or ys k d h))
+
+stored-like : {css dss : List (List ℕ)} (ws : List Watch) (ls : List (List ℕ)) → ((s x : ℕ) → Contains (list_at css s) x → Contains (list_at dss s) x) → ((s x : ℕ) → Contains (list_at dss s) x → Contains (list_at css s) x) → length css ≡ length dss → ((s : ℕ) → length (list_at css s) ≡ length (list_at dss s)) → AreStored css ws ls → AreStored dss ws ls
+stored-like {css} {dss} ws ls to from count sizes h = record {
+  linked = h.linked;
+  pairs = h.pairs ∙ ap (λ n. 2 * n) count;
+  watched = λ e live. to (e / 2) (watch_at ws e).literal (h.watched e live);
+  paired = h.paired;
+  apart = h.apart;
+  full = λ s some. h.full s (omega (arith, some, sizes s));
+  inside = λ s k d less. each-in (list_at css s) (list_at dss s) (λ x. x < length ls) k d (from s) (λ j e l. h.inside s j e l) less;
+}
+
 module _ (starts : List ℕ) (clauses : List (List ℕ)) where
   pub to-turned : (s x : ℕ) → Contains (list_at clauses s) x → Contains (list_at (all_turned starts clauses) s) x
   to-turned s x h = subst (λ ys. Contains ys x) (sym (turned-at starts clauses s)) (turned-contains (get_or starts s 0) (list_at clauses s) x h)
@@ -56,45 +71,16 @@ module _ (starts : List ℕ) (clauses : List (List ℕ)) where
   pub from-turned : (s x : ℕ) → Contains (list_at (all_turned starts clauses) s) x → Contains (list_at clauses s) x
   from-turned s x h = contains-turned (get_or starts s 0) (list_at clauses s) x (subst (λ ys. Contains ys x) (turned-at starts clauses s) h)
 
-  -- what holds of each literal in one order
-  each-from : (P : ℕ → Type 0) (s k d : ℕ) → ((j e : ℕ) → j < length (list_at (all_turned starts clauses) s) → P (get_or (list_at (all_turned starts clauses) s) j e)) → k < length (list_at clauses s) → P (get_or (list_at clauses s) k d)
-  each-from P s k d all h =
-      let x = get_or (list_at clauses s) k d in
-      let there = to-turned s x (Contains-get_or (list_at clauses s) k d h) in
-      All-contains P (list_at (all_turned starts clauses) s) x (λ j e less. all j e less) there
-
-  each-to : (P : ℕ → Type 0) (s k d : ℕ) → ((j e : ℕ) → j < length (list_at clauses s) → P (get_or (list_at clauses s) j e)) → k < length (list_at (all_turned starts clauses) s) → P (get_or (list_at (all_turned starts clauses) s) k d)
-  each-to P s k d all h =
-      let x = get_or (list_at (all_turned starts clauses) s) k d in
-      let there = from-turned s x (Contains-get_or (list_at (all_turned starts clauses) s) k d h) in
-      All-contains P (list_at clauses s) x (λ j e less. all j e less) there
-
   pub stored-turned : (ws : List Watch) (ls : List (List ℕ)) → AreStored clauses ws ls → AreStored (all_turned starts clauses) ws ls
-  stored-turned ws ls h = record {
-    linked = h.linked;
-    pairs = h.pairs ∙ ap (λ n. 2 * n) (sym (turned-count starts clauses));
-    watched = λ e live. to-turned (e / 2) (watch_at ws e).literal (h.watched e live);
-    paired = h.paired;
-    apart = h.apart;
-    full = λ s some. h.full s (omega (arith, some, turned-size starts clauses s));
-    inside = λ s k d less. each-to (λ x. x < length ls) s k d (λ j e l. h.inside s j e l) less;
-  }
+  stored-turned ws ls = stored-like ws ls to-turned from-turned (sym (turned-count starts clauses)) (λ s. sym (turned-size starts clauses s))
 
   pub stored-back : (ws : List Watch) (ls : List (List ℕ)) → AreStored (all_turned starts clauses) ws ls → AreStored clauses ws ls
-  stored-back ws ls h = record {
-    linked = h.linked;
-    pairs = h.pairs ∙ ap (λ n. 2 * n) (turned-count starts clauses);
-    watched = λ e live. from-turned (e / 2) (watch_at ws e).literal (h.watched e live);
-    paired = h.paired;
-    apart = h.apart;
-    full = λ s some. h.full s (omega (arith, some, turned-size starts clauses s));
-    inside = λ s k d less. each-from (λ x. x < length ls) s k d (λ j e l. h.inside s j e l) less;
-  }
+  stored-back ws ls = stored-like ws ls from-turned to-turned (turned-count starts clauses) (λ s. turned-size starts clauses s)
 
   pub unit-back : (values : List (Option Bool)) (s x : ℕ) → IsUnit values (all_turned starts clauses) s x → IsUnit values clauses s x
   unit-back values s x h = record {
     stands = from-turned s x h.stands;
-    others = λ k d less. each-from (λ y. (false_at values y ≡ true) ⊎ (y ≡ x)) s k d h.others less;
+    others = λ k d less. each-in (list_at (all_turned starts clauses) s) (list_at clauses s) (λ y. (false_at values y ≡ true) ⊎ (y ≡ x)) k d (to-turned s) h.others less;
     not_true = h.not_true;
     not_false = h.not_false;
   }
@@ -103,5 +89,5 @@ module _ (starts : List ℕ) (clauses : List (List ℕ)) where
   broken-back values h = record {
     slot = h.slot;
     some = omega (arith, h.some, turned-size starts clauses h.slot);
-    all = λ k d less. each-from (λ y. false_at values y ≡ true) h.slot k d h.all less;
+    all = λ k d less. each-in (list_at (all_turned starts clauses) h.slot) (list_at clauses h.slot) (λ y. false_at values y ≡ true) k d (to-turned h.slot) h.all less;
   }

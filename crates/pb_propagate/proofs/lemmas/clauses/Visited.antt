@@ -1,21 +1,15 @@
 -- What a search in a clause has found, and what it leaves.
-use Rattle.pb_propagate.proofs.Common.{ℕ, ◌*◌, ◌+◌, ◌/◌, ◌<◌, ◌∙◌, ◌≡◌, ◌≤◌, ◌⊎◌, ap, arith, Bool, false, get_or, Global, length, List}
-use Rattle.pb_propagate.proofs.Common.{refl, subst, sym, true, Vec, Contains, Option, slice_get, Some, All-contains, Clauses}
-use Rattle.pb_propagate.proofs.Common.{Listed, Search, Falsified, Forces, Leaves, Stays, Contents, rewatched, searched, AreLinked, AreMore}
-use Rattle.pb_propagate.proofs.Common.{IsListed, list_at, Remains, watch_at, watch_lists, all_turned, AreStored, around, HasVisited}
-use Rattle.pb_propagate.proofs.Common.{IsRound, IsRunning, passed_of, turned, false_at, flip, true_at}
-use Rattle.pb_propagate.proofs.lemmas.clauses.Readings.{Reading, Resuming, reading-live, resuming-round, resuming-turned, searched-by, visiting-by, running-end, running-move}
-use Rattle.pb_propagate.proofs.lemmas.clauses.Searches.{turned-round, round-next}
-use Rattle.pb_propagate.proofs.lemmas.clauses.Steps.{broken-of, unit-of, served-true, served-move, shifted-old, HasSearched, Shifted, Visiting}
-use Rattle.pb_propagate.proofs.lemmas.clauses.Turned.{turned-size, unit-back, broken-back}
-use Rattle.pb_propagate.proofs.lemmas.clauses.Truths.{flip-half}
+use Rattle.pb_propagate.proofs.Common.{inl, inr, ArePassed, AreRound, AreWithin, cases_eq, get_or-set_other, get_or-set_same, map, set, sum}
+use Rattle.pb_propagate.proofs.Common.{sum_by-set, ℕ, ◌*◌, ◌+◌, ◌/◌, ◌<◌, ◌∙◌, ◌≡◌, ◌≤◌, ◌⊎◌, ap, arith, Bool, false, get_or, Global, length, List}
+use Rattle.pb_propagate.proofs.Common.{refl, subst, sym, true, Vec, Contains, Option, slice_get, Some, All-contains, Clauses, Listed, Search}
+use Rattle.pb_propagate.proofs.Common.{Falsified, Forces, Leaves, Stays, Contents, rewatched, searched, AreLinked, AreMore, IsListed, list_at}
+use Rattle.pb_propagate.proofs.Common.{Remains, watch_at, watch_lists, all_turned, AreStored, around, HasVisited, IsRound, IsRunning, passed_of}
+use Rattle.pb_propagate.proofs.Common.{turned, false_at, true_at}
+use Rattle.pb_propagate.proofs.lemmas.clauses.Readings.{Reading, Resuming, reading-slot, other-watched, resuming-from, resuming-turned, resuming-round, running-bounded}
+use Rattle.pb_propagate.proofs.lemmas.clauses.Searches.{turned-round, round-next, round-set, passed-set, passed-length}
+use Rattle.pb_propagate.proofs.lemmas.clauses.Steps.{broken-of, unit-of, served-true, served-move, shifted-old, passed-end, passed-move, stored-move, HasSearched, Shifted, Visiting}
+use Rattle.pb_propagate.proofs.lemmas.clauses.Turned.{turned-length, turned-size, stored-turned, stored-back, unit-back, broken-back}
 use Rattle.pb_propagate.proofs.lemmas.clauses.Listed.{lists-length, blocked-more}
-
--- the other watched literal is one of the clause
-pub other-watched : (c : Clauses) (values : List (Option Bool)) (l index e other : ℕ) → IsRunning values c → Reading c l index e other → Contains (list_at c.blocks.literals (e / 2)) other
-other-watched c values l index e other run r =
-    let at : Contains (list_at c.blocks.literals (flip e / 2)) (watch_at c.blocks.watches (flip e)).literal = run.stored.watched (flip e) (run.stored.paired e (reading-live c values l index e other run r)) in
-    subst (Contains (list_at c.blocks.literals (e / 2))) (sym r.other_is) (subst (λ t. Contains (list_at c.blocks.literals t) (watch_at c.blocks.watches (flip e)).literal) (flip-half e) at)
 
 -- a search for a literal to watch in place of a falsified one
 pub record IsSought (c : Clauses) (values : List (Option Bool)) (l index e other : ℕ) (from stop : Search) (xs : List ℕ) : Type 0 where
@@ -29,25 +23,82 @@ pub record IsSought (c : Clauses) (values : List (Option Bool)) (l index e other
   pub passed : (start k d : ℕ) → IsRound start from (length xs) → from.passed ≤ k → k < stop.passed → (false_at values (get_or (turned start xs) k d) ≡ true) ⊎ (get_or (turned start xs) k d ≡ other)
   pub found : stop.passed < length xs → (d : ℕ) → (false_at values (get_or xs stop.position d) ≡ false) × (get_or xs stop.position d ≡ other → ⊥)
 
-module _ (c : Clauses) (values : List (Option Bool)) (l index e other : ℕ) (from stop : Search) (xs : List ℕ) (s : IsSought c values l index e other from stop xs) where
-  start : ℕ
-  start = get_or s.run.starts (e / 2) 0
+-- the watch has moved to the literal that was found, and the search of its clause is another
+pub record HasMoved (c : Clauses) (index e other x : ℕ) (next : Search) (lists' : Vec (Vec Listed Global) Global) (between new : Contents) : Type 0 where
+  pub sought : between ≡ searched c.blocks (e / 2) next
+  pub watches : new ≡ rewatched between new.watches
+  pub linked : AreLinked new.watches (watch_lists lists'.items)
+  pub moved : ((watch_at new.watches e).literal ≡ x) × ((watch_at new.watches e).live ≡ true)
+  pub others : (k : ℕ) → (k ≡ e → ⊥) → Remains index (watch_at between.watches k) (watch_at new.watches k)
+  pub sizes : (length new.watches ≡ length between.watches) × (length lists'.items ≡ length c.lists.items)
+  pub more : AreMore (record { watch = e; blocker = other }) c.lists.items lists'.items
 
+module _ {c : Clauses} {values : List (Option Bool)} {l index e other : ℕ} {from stop : Search} {xs : List ℕ} (s : IsSought c values l index e other from stop xs) where
   begun : IsRound (get_or s.run.starts (e / 2) 0) from (length xs)
-  begun = resuming-round c values l index e other from xs s.run s.reading s.resuming
+  begun = resuming-round s.run s.reading s.resuming
 
-  sought : HasSearched values (turned (get_or s.run.starts (e / 2) 0) xs) from.passed other stop.passed
-  sought = searched-by values (get_or s.run.starts (e / 2) 0) from other stop xs begun s.after s.within s.round s.passed s.found
+  stopped : IsRound (get_or s.run.starts (e / 2) 0) stop (length xs)
+  stopped = s.round (get_or s.run.starts (e / 2) 0) begun
+
+  searched-by : HasSearched values (turned (get_or s.run.starts (e / 2) 0) xs) from.passed other stop.passed
+  searched-by = record {
+    after = s.after;
+    within = omega (arith, s.within, turned-length (get_or s.run.starts (e / 2) 0) xs);
+    passed = λ k d. s.passed (get_or s.run.starts (e / 2) 0) k d begun;
+    found = λ h d.
+        let less : stop.passed < length xs = omega (arith, h, turned-length (get_or s.run.starts (e / 2) 0) xs) in
+        let here = turned-round (get_or s.run.starts (e / 2) 0) stop xs d stopped less in
+        (ap (false_at values) here ∙ (s.found less d).0, λ is. (s.found less d).1 (sym here ∙ is));
+  }
 
   visiting : Visiting values (all_turned s.run.starts c.blocks.literals) (passed_of c) c.blocks.watches (watch_lists c.lists.items) l index e other stop.passed
-  visiting = visiting-by c values l index e other from stop xs s.run s.failed s.reading s.resuming sought
+  visiting = record {
+    stored = stored-turned s.run.starts c.blocks.literals c.blocks.watches (watch_lists c.lists.items) s.run.stored;
+    passes = s.run.passed;
+    failed = s.failed;
+    item = s.reading.item;
+    other_is = s.reading.other_is;
+    searched = subst (λ ys. HasSearched values ys (get_or (passed_of c) (e / 2) 0) other stop.passed) (resuming-turned s.run.starts s.resuming)
+        (subst (λ n. HasSearched values (turned (get_or s.run.starts (e / 2) 0) xs) n other stop.passed) (resuming-from s.resuming) searched-by);
+  }
 
-  module _ (end : length xs ≤ stop.passed) (blocks' : Contents) (now : blocks' ≡ searched c.blocks (e / 2) stop) where
+  -- the searches, once that of the clause is another
+  rounds : (next : Search) → IsRound (get_or s.run.starts (e / 2) 0) next (length xs) → AreRound s.run.starts c.blocks.literals (set c.blocks.searches (e / 2) next)
+  rounds next round = round-set s.run.starts c.blocks.literals c.blocks.searches (set c.blocks.searches (e / 2) next) (e / 2) next (reading-slot s.run s.reading).1 refl s.run.round (subst (λ ys. IsRound (get_or s.run.starts (e / 2) 0) next (length ys)) s.resuming.items round)
+
+  -- what pays for the visits of a search
+  pub sought-covered : (next : Search) (ss' : List Search) (v0 v1 : ℕ) → ss' ≡ set c.blocks.searches (e / 2) next → v1 + from.passed ≤ v0 + next.passed → v1 + sum (passed_of c) ≤ v0 + sum (map (λ (x : Search). x.passed) ss')
+  sought-covered next ss' v0 v1 now few =
+      let room : e / 2 < length (passed_of c) = omega (arith, (reading-slot s.run s.reading).1, passed-length c) in
+      omega (arith, sum_by-set (λ y. y) (passed_of c) (e / 2) next.passed 0 room, resuming-from s.resuming, few, ap sum (passed-set c ss' (e / 2) next now))
+
+  pub sought-bounded : (next : Search) (ss' : List Search) → ss' ≡ set c.blocks.searches (e / 2) next → next.passed ≤ length xs → AreWithin (map (λ (x : Search). x.passed) ss') c.blocks.literals
+  sought-bounded next ss' now within t = by (cases_eq t (e / 2))
+    where
+      raised : map (λ (x : Search). x.passed) ss' ≡ set (passed_of c) (e / 2) next.passed
+      raised = passed-set c ss' (e / 2) next now
+
+      room : e / 2 < length (passed_of c)
+      room = omega (arith, (reading-slot s.run s.reading).1, passed-length c)
+
+      by : (t ≡ e / 2) ⊎ (t ≡ e / 2 → ⊥) → get_or (map (λ (x : Search). x.passed) ss') t 0 ≤ length (list_at c.blocks.literals t)
+      by (inl is) = rw is (omega (arith, within, ap length s.resuming.items, ap (λ ps. get_or ps (e / 2) 0) raised, get_or-set_same (passed_of c) (e / 2) next.passed 0 room))
+      by (inr n) = omega (arith, running-bounded c values s.run t, ap (λ ps. get_or ps t 0) raised, get_or-set_other (passed_of c) (e / 2) t next.passed 0 n)
+
+  module _ (end : length xs ≤ stop.passed) {blocks' : Contents} (now : blocks' ≡ searched c.blocks (e / 2) stop) where
     end-at : length (list_at (all_turned s.run.starts c.blocks.literals) (e / 2)) ≤ stop.passed
     end-at = omega (arith, end, ap length s.resuming.items, turned-size s.run.starts c.blocks.literals (e / 2))
 
+    -- no literal is left that may be watched
     ended : IsRunning values (record { blocks = searched c.blocks (e / 2) stop; lists = c.lists })
-    ended = running-end c values l index e other from stop xs (searched c.blocks (e / 2) stop) s.run s.failed s.reading s.resuming sought end (s.round (get_or s.run.starts (e / 2) 0) begun) refl
+    ended = record {
+      starts = s.run.starts;
+      stored = s.run.stored;
+      blocked = s.run.blocked;
+      passed = subst (λ p. ArePassed values (all_turned s.run.starts c.blocks.literals) p c.blocks.watches) (sym (passed-set c (set c.blocks.searches (e / 2) stop) (e / 2) stop refl)) (passed-end visiting end-at);
+      round = rounds stop stopped;
+      sizes = s.run.sizes;
+    }
 
     -- all literals are falsified
     pub visited-falsified : false_at values other ≡ true → HasVisited values c (record { blocks = blocks'; lists = c.lists }) l index Falsified
@@ -65,48 +116,53 @@ module _ (c : Clauses) (values : List (Option Bool)) (l index e other : ℕ) (fr
       lists = refl;
       running = ended;
       served = λ walked old. old;
-      found = (
-        refl,
-        unit-back s.run.starts c.blocks.literals values (e / 2) other (unit-of visiting end-at untrue unfailed),
-        (e, s.reading.item, other-watched c values l index e other s.run s.reading),
-      );
+      found = (refl, unit-back s.run.starts c.blocks.literals values (e / 2) other (unit-of visiting end-at untrue unfailed), (e, s.reading.item, other-watched s.run s.reading));
       kept = λ k live failed. (refl, refl);
     })
 
+  pub sought-round : (next : Search) → stop.passed < length xs → next.position ≡ around (stop.position + 1) (length xs) → next.passed ≡ stop.passed + 1 → IsRound (get_or s.run.starts (e / 2) 0) next (length xs)
+  sought-round next less position passed = round-next (get_or s.run.starts (e / 2) 0) stop next (length xs) stopped less position passed
+
   -- the watch has moved
-  module _ (less : stop.passed < length xs) (next : Search) (round : IsRound (get_or s.run.starts (e / 2) 0) next (length xs)) (one : next.passed ≡ stop.passed + 1)
-      (lists' : Vec (Vec Listed Global) Global) (b1 b2 : Contents) (now : b1 ≡ searched c.blocks (e / 2) next) (after : b2 ≡ rewatched b1 b2.watches) (linked : AreLinked b2.watches (watch_lists lists'.items)) (literal : (watch_at b2.watches e).literal ≡ get_or xs stop.position 0) (live : (watch_at b2.watches e).live ≡ true)
-      (others : (k : ℕ) → (k ≡ e → ⊥) → Remains index (watch_at b1.watches k) (watch_at b2.watches k)) (count : length b2.watches ≡ length b1.watches) (sizes : length lists'.items ≡ length c.lists.items) (more : AreMore (record { watch = e; blocker = other }) c.lists.items lists'.items) where
-    whole : b2 ≡ rewatched (searched c.blocks (e / 2) next) b2.watches
-    whole = after ∙ ap (λ (b : Contents). rewatched b b2.watches) now
+  module _ (less : stop.passed < length xs) {next : Search} (round : IsRound (get_or s.run.starts (e / 2) 0) next (length xs)) (one : next.passed ≡ stop.passed + 1)
+      {lists' : Vec (Vec Listed Global) Global} {between new : Contents} (m : HasMoved c index e other (get_or xs stop.position 0) next lists' between new) where
+    watches_are : between.watches ≡ c.blocks.watches
+    watches_are = ap (λ (b : Contents). b.watches) m.sought
 
-    watches_are : b1.watches ≡ c.blocks.watches
-    watches_are = ap (λ (b : Contents). b.watches) now
-
-    shifted : Shifted values (all_turned s.run.starts c.blocks.literals) c.blocks.watches b2.watches (watch_lists c.lists.items) (watch_lists lists'.items) index e stop.passed
+    shifted : Shifted values (all_turned s.run.starts c.blocks.literals) c.blocks.watches new.watches (watch_lists c.lists.items) (watch_lists lists'.items) index e stop.passed
     shifted = record {
       within = omega (arith, turned-size s.run.starts c.blocks.literals (e / 2), less, ap length s.resuming.items);
-      linked = linked;
-      literal = literal ∙ sym (turned-round (get_or s.run.starts (e / 2) 0) stop xs 0 (s.round (get_or s.run.starts (e / 2) 0) begun) less) ∙ ap (λ (ys : List ℕ). get_or ys stop.passed 0) (resuming-turned c s.run.starts (e / 2) from xs s.resuming);
-      live = live;
-      others = λ k n. subst (λ ws. Remains index (watch_at ws k) (watch_at b2.watches k)) watches_are (others k n);
-      watches = count ∙ ap length watches_are;
-      lists = lists-length lists'.items ∙ sizes ∙ sym (lists-length c.lists.items);
+      linked = m.linked;
+      literal = m.moved.0 ∙ sym (turned-round (get_or s.run.starts (e / 2) 0) stop xs 0 stopped less) ∙ ap (λ (ys : List ℕ). get_or ys stop.passed 0) (resuming-turned s.run.starts s.resuming);
+      live = m.moved.1;
+      others = λ k n. subst (λ ws. Remains index (watch_at ws k) (watch_at new.watches k)) watches_are (m.others k n);
+      watches = m.sizes.0 ∙ ap length watches_are;
+      lists = lists-length lists'.items ∙ m.sizes.1 ∙ sym (lists-length c.lists.items);
     }
 
-    pub visited-leaves : length (list_at (watch_lists lists'.items) l) + 1 ≡ length (list_at (watch_lists c.lists.items) l) → HasVisited values c (record { blocks = b2; lists = lists' }) l index Leaves
-    visited-leaves shorter = subst (λ (b : Contents). HasVisited values c (record { blocks = b; lists = lists' }) l index Leaves) (sym whole) (record {
-      lists = sizes;
-      running = running-move c values l index e other from stop next xs b2.watches lists' s.run s.failed s.reading s.resuming sought round one sizes more shifted;
+    raised : map (λ (x : Search). x.passed) (set c.blocks.searches (e / 2) next) ≡ set (passed_of c) (e / 2) (stop.passed + 1)
+    raised = passed-set c (set c.blocks.searches (e / 2) next) (e / 2) next refl ∙ ap (set (passed_of c) (e / 2)) one
+
+    moved : IsRunning values (record { blocks = rewatched (searched c.blocks (e / 2) next) new.watches; lists = lists' })
+    moved = record {
+      starts = s.run.starts;
+      stored = stored-back s.run.starts c.blocks.literals new.watches (watch_lists lists'.items) (stored-move visiting shifted);
+      blocked = blocked-more c.blocks.literals (record { watch = e; blocker = other }) c.lists.items lists'.items m.more (other-watched s.run s.reading) s.run.blocked;
+      passed = subst (λ p. ArePassed values (all_turned s.run.starts c.blocks.literals) p new.watches) (sym raised) (passed-move visiting shifted);
+      round = rounds next round;
+      sizes = m.sizes.1 ∙ s.run.sizes;
+    }
+
+    pub visited-leaves : length (list_at (watch_lists lists'.items) l) + 1 ≡ length (list_at (watch_lists c.lists.items) l) → HasVisited values c (record { blocks = new; lists = lists' }) l index Leaves
+    visited-leaves shorter = subst (λ (b : Contents). HasVisited values c (record { blocks = b; lists = lists' }) l index Leaves) (sym (m.watches ∙ ap (λ (b : Contents). rewatched b new.watches) m.sought)) (record {
+      lists = m.sizes.1;
+      running = moved;
       served = λ walked old. served-move visiting shifted c.blocks.literals walked old;
       found = shorter;
       kept = λ k live failed.
           let r = shifted-old visiting shifted k failed in
           (r.live, r.literal);
     })
-
-  pub sought-round : (next : Search) → stop.passed < length xs → next.position ≡ around (stop.position + 1) (length xs) → next.passed ≡ stop.passed + 1 → IsRound (get_or s.run.starts (e / 2) 0) next (length xs)
-  sought-round next less position passed = round-next (get_or s.run.starts (e / 2) 0) stop next (length xs) (s.round (get_or s.run.starts (e / 2) 0) begun) less position passed
 
 -- an entry has another blocker, a literal of its clause
 pub running-blocked : (c : Clauses) (values : List (Option Bool)) (entry : Listed) (lists' : Vec (Vec Listed Global) Global) → IsRunning values c → watch_lists lists'.items ≡ watch_lists c.lists.items → AreMore entry c.lists.items lists'.items → Contains (list_at c.blocks.literals (entry.watch / 2)) entry.blocker → IsRunning values (record { blocks = c.blocks; lists = lists' })

@@ -1,26 +1,30 @@
 -- The first literals of the list are walked.
-use Rattle.pb_propagate.proofs.Common.{ℕ, ◌*◌, ◌++◌, ◌+◌, ◌/◌, ◌<◌, ◌∙◌, ◌∷◌, ◌≡◌, ◌≤◌, [], ap, arith, Bool, false, get_or, if◌then◌else◌, inl, inr}
-use Rattle.pb_propagate.proofs.Common.{length, length-append, List, map, refl, subst, suc, sym, take, true, ◌==◌, Contains, Option, sum, sum_by}
-use Rattle.pb_propagate.proofs.Common.{both_ways, cases_eq, cases_lt, eqb-true, or_cases, or_left, or_right, get_or-map, get_or_append_left}
-use Rattle.pb_propagate.proofs.Common.{length-map, map-append, take-append-le, take_all, take_more, Contains-append_cases, Contains-append_left}
-use Rattle.pb_propagate.proofs.Common.{Contains-append_right, Contains-push, Contains-push_cases, NumberedLiteral, negation, Group, Long, Short}
-use Rattle.pb_propagate.proofs.Common.{Clauses, Watch, Search, Heads, list_at, watch_at, watch_lists, AreReady, AreServed, AreStored, AreWalked}
-use Rattle.pb_propagate.proofs.Common.{Grows, HasTrue, IsRunning, passed_of, clause_shape, clauses_of, code_in, literal_at, offset, false_at, flip}
-use Rattle.pb_propagate.proofs.Common.{AreSingle, more, none, begin, Derives, IsSettled, put, same, Shape}
+use Rattle.pb_propagate.proofs.Common.{append_assoc, cases_Bool, AreWithin, Extends, IsAhead, Run, list_of, values_of, ℕ, ◌*◌, ◌++◌, ◌+◌, ◌/◌, ◌<◌}
+use Rattle.pb_propagate.proofs.Common.{◌∙◌, ◌∷◌, ◌≡◌, ◌≤◌, [], ap, arith, Bool, false, get_or, if◌then◌else◌, inl, inr, length, length-append, List}
+use Rattle.pb_propagate.proofs.Common.{map, refl, subst, suc, sym, take, true, Contains, Option, sum, sum_by, both_ways, cases_lt, or_cases}
+use Rattle.pb_propagate.proofs.Common.{get_or-map, get_or_append_left, length-map, map-append, take-append-le, take_all, take_more}
+use Rattle.pb_propagate.proofs.Common.{Contains-append_cases, Contains-append_left, Contains-append_right, Contains-push, Contains-push_cases}
+use Rattle.pb_propagate.proofs.Common.{NumberedLiteral, negation, Group, Long, Short, Clauses, Watch, Search, Heads, list_at, watch_at, watch_lists}
+use Rattle.pb_propagate.proofs.Common.{AreReady, AreServed, AreStored, AreWalked, Grows, HasTrue, IsRunning, passed_of, clause_shape, clauses_of}
+use Rattle.pb_propagate.proofs.Common.{code_in, literal_at, offset, false_at, flip, AreSingle, more, none, IsSettled, same}
+use Rattle.pb_propagate.specs.declared.heads.Ahead.{Ahead}
 use Rattle.pb_propagate.specs.engine.Engine.Lists.{has}
+use Rattle.pb_propagate.specs.engine.Engine.Progress.{HasWalked}
 pub use Rattle.pb_propagate.specs.engine.Clauses.Walked.{falsified_code, heads_at, reached_codes, reached, head, advanced}
-use Rattle.pb_propagate.proofs.lemmas.engine.Literals.{same-true, same-refl, negation-negation, has-get}
+use Rattle.pb_propagate.proofs.lemmas.engine.Literals.{same-true, negation-negation, has-get}
 use Rattle.pb_propagate.proofs.lemmas.engine.Values.{says-inside}
 use Rattle.pb_propagate.proofs.lemmas.store.Gets.{last-is}
 use Rattle.pb_propagate.proofs.lemmas.clauses.Readings.{running-bounded}
 use Rattle.pb_propagate.proofs.lemmas.clauses.Searches.{ready-round, passed-at}
 use Rattle.pb_propagate.proofs.lemmas.clauses.Turned.{turned-count}
 use Rattle.pb_propagate.proofs.lemmas.clauses.Truths.{flip-half}
-use Rattle.pb_propagate.proofs.lemmas.clauses.Codes.{has as stands}
+use Rattle.pb_propagate.specs.engine.Clauses.Walked.{has as stands}
 use Rattle.pb_propagate.proofs.lemmas.clauses.Counts.{killed, killed-more, occurs, list-short, passed-most}
+use Rattle.pb_propagate.proofs.lemmas.clauses.Killed.{stands-source}
 use Rattle.pb_propagate.proofs.lemmas.clauses.Literals.{Agree, false-listed, false-code, code-injective, code-of}
 use Rattle.pb_propagate.proofs.lemmas.clauses.Shapes.{Served, met, free, served-settled}
 use Rattle.pb_propagate.proofs.lemmas.clauses.Walks.{running-grow, walked-grow}
+use Rattle.pb_propagate.proofs.lemmas.root.Extends.{extends-none}
 
 -- what the walks may have cost
 abbrev pub cost : Clauses → Clauses → Heads → List NumberedLiteral → ℕ
@@ -57,44 +61,37 @@ watching-start c values list h running short long walked = record {
   served = walked;
 }
 
--- the list gets longer
-pub derived-longer : (forms : List Shape) (old new : List NumberedLiteral) → Derives forms old new → length old ≤ length new
-derived-longer forms old _ begin = omega arith
-derived-longer forms old _ (put {list} l d m) = let h = derived-longer forms old list d in omega (arith, h, length-append list (l ∷ []))
+-- the list gets longer, and the literals that are walked are the same
+extends-longer : (list list' : List NumberedLiteral) → Extends list list' → length list ≤ length list'
+extends-longer list list' (r, e) = omega (arith, ap length e, length-append list r)
 
-pub derived-take : (forms : List Shape) (old new : List NumberedLiteral) (n : ℕ) → n ≤ length old → Derives forms old new → take n new ≡ take n old
-derived-take forms old _ n h begin = refl
-derived-take forms old _ n h (put {list} l d m) =
-    take-append-le n list (l ∷ []) (omega (arith, h, derived-longer forms old list d)) ∙ derived-take forms old list n h d
+first-same : (list list' : List NumberedLiteral) (n : ℕ) → n ≤ length list → Extends list list' → take n list' ≡ take n list
+first-same list list' n within (r, e) = ap (take n) e ∙ take-append-le n list r within
 
--- the literals that are walked are the same in a longer list
-abbrev pub AreSameFirst : List NumberedLiteral → List NumberedLiteral → Type 0
-AreSameFirst list list' = (n : ℕ) → n ≤ length list → take n list' ≡ take n list
+pub codes-same : (h : Heads) (list list' : List NumberedLiteral) → h.short ≤ length list → h.long ≤ length list → Extends list list' → reached_codes h list' ≡ reached_codes h list
+codes-same h list list' a b extends = rw (first-same list list' h.short a extends, first-same list list' h.long b extends) refl
 
-pub codes-same : (h : Heads) (list list' : List NumberedLiteral) → h.short ≤ length list → h.long ≤ length list → AreSameFirst list list' → reached_codes h list' ≡ reached_codes h list
-codes-same h list list' a b same = rw (same h.short a, same h.long b) refl
+pub reached-same : (clauses : List (List ℕ)) (h : Heads) (list list' : List NumberedLiteral) → h.short ≤ length list → h.long ≤ length list → Extends list list' → reached clauses h list' ≡ reached clauses h list
+reached-same clauses h list list' a b extends = rw (first-same list list' h.short a extends, first-same list list' h.long b extends) refl
 
-pub reached-same : (clauses : List (List ℕ)) (h : Heads) (list list' : List NumberedLiteral) → h.short ≤ length list → h.long ≤ length list → AreSameFirst list list' → reached clauses h list' ≡ reached clauses h list
-reached-same clauses h list list' a b same = rw (same h.short a, same h.long b) refl
-
-pub watching-grow : (forms : List Shape) (c0 c : Clauses) (values values' : List (Option Bool)) (list list' : List NumberedLiteral) (h : Heads) → length values' ≡ length values → Grows values values' → Derives forms list list' → IsWatching c0 c values list h → IsWatching c0 c values' list' h
-watching-grow forms c0 c values values' list list' h sizes g d w = record {
+pub watching-grow : {c0 c : Clauses} {values values' : List (Option Bool)} {list list' : List NumberedLiteral} {h : Heads} → length values' ≡ length values → Grows values values' → Extends list list' → IsWatching c0 c values list h → IsWatching c0 c values' list' h
+watching-grow {c0} {c} {values} {values'} {list} {list'} {h} sizes g extends w = record {
   literals = w.literals;
   running = running-grow c values values' sizes g w.running;
-  short = omega (arith, w.short, derived-longer forms list list' d);
-  long = omega (arith, w.long, derived-longer forms list list' d);
-  served = subst (AreWalked values' c.blocks.literals c.blocks.watches) (sym (codes-same h list list' w.short w.long (λ n within. derived-take forms list list' n within d))) (walked-grow values values' c.blocks.literals c.blocks.watches (reached_codes h list) g w.served);
+  short = omega (arith, w.short, extends-longer list list' extends);
+  long = omega (arith, w.long, extends-longer list list' extends);
+  served = subst (AreWalked values' c.blocks.literals c.blocks.watches) (sym (codes-same h list list' w.short w.long extends)) (walked-grow values values' c.blocks.literals c.blocks.watches (reached_codes h list) g w.served);
 }
 
-pub cost-grow : (forms : List Shape) (c0 c : Clauses) (list list' : List NumberedLiteral) (h : Heads) → h.short ≤ length list → h.long ≤ length list → Derives forms list list' → cost c0 c h list' ≡ cost c0 c h list
-cost-grow forms c0 c list list' h a b d = ap (λ n. 2 * n + sum (passed_of c)) (reached-same (clauses_of c0) h list list' a b (λ n within. derived-take forms list list' n within d))
+pub cost-grow : {c0 c : Clauses} {values : List (Option Bool)} {list : List NumberedLiteral} {h : Heads} (list' : List NumberedLiteral) → Extends list list' → IsWatching c0 c values list h → cost c0 c h list' ≡ cost c0 c h list
+cost-grow {c0} {c} {values} {list} {h} list' extends w = ap (λ n. 2 * n + sum (passed_of c)) (reached-same (clauses_of c0) h list list' w.short w.long extends)
 
 -- one more literal is walked
 pub next-codes : (f : NumberedLiteral → ℕ) (list : List NumberedLiteral) (n : ℕ) (l : NumberedLiteral) → n < length list → l ≡ get_or list n l → map f (take (n + 1) list) ≡ map f (take n list) ++ (f l ∷ [])
 next-codes f list n l inside is =
     ap (map f) (take_more list n l inside ∙ ap (λ k. take n list ++ (k ∷ [])) (sym is)) ∙ map-append f (take n list) (l ∷ [])
 
-pub reached-next : (g : Group) (h : Heads) (list : List NumberedLiteral) (l : NumberedLiteral) (x : ℕ) → head g h < length list → l ≡ get_or list (head g h) l → Contains (reached_codes (advanced g h) list) x → Contains (reached_codes h list ++ (falsified_code g l ∷ [])) x
+reached-next : (g : Group) (h : Heads) (list : List NumberedLiteral) (l : NumberedLiteral) (x : ℕ) → head g h < length list → l ≡ get_or list (head g h) l → Contains (reached_codes (advanced g h) list) x → Contains (reached_codes h list ++ (falsified_code g l ∷ [])) x
 reached-next Short h list l x inside is there =
     let short = map (falsified_code Short) (take h.short list) in
     let long = map (falsified_code Long) (take h.long list) in
@@ -108,31 +105,18 @@ reached-next Short h list l x inside is there =
 reached-next Long h list l x inside is there =
     let short = map (falsified_code Short) (take h.short list) in
     let long = map (falsified_code Long) (take h.long list) in
-    elim (Contains-append_cases short (map (falsified_code Long) (take (h.long + 1) list)) x there) [
-      | inl one ↦ Contains-append_left (short ++ long) (falsified_code Long l ∷ []) x (Contains-append_left short long x one)
-      | inr other ↦ elim (Contains-push_cases long (falsified_code Long l) x (subst (λ (xs : List ℕ). Contains xs x) (next-codes (falsified_code Long) list h.long l inside is) other)) [
-        | inl old ↦ Contains-append_left (short ++ long) (falsified_code Long l ∷ []) x (Contains-append_right short long x old)
-        | inr new ↦ subst (Contains ((short ++ long) ++ (falsified_code Long l ∷ []))) new (Contains-push (short ++ long) (falsified_code Long l))
-      ]
-    ]
+    subst (λ (xs : List ℕ). Contains xs x) (ap (λ ys. short ++ ys) (next-codes (falsified_code Long) list h.long l inside is) ∙ sym (append_assoc short long (falsified_code Long l ∷ []))) there
 
-advanced-short : (g : Group) (h : Heads) (n : ℕ) → head g h < n → h.short ≤ n → (advanced g h).short ≤ n
-advanced-short Short h n inside within = omega (arith, inside)
-advanced-short Long h n inside within = within
+advanced-within : (g : Group) (h : Heads) (n : ℕ) → head g h < n → h.short ≤ n → h.long ≤ n →
+    ((advanced g h).short ≤ n) × ((advanced g h).long ≤ n) × ((advanced g h).short + (advanced g h).long ≡ h.short + h.long + 1)
+advanced-within Short h n inside short long = (omega (arith, inside), long, omega arith)
+advanced-within Long h n inside short long = (short, omega (arith, inside), omega arith)
 
-advanced-long : (g : Group) (h : Heads) (n : ℕ) → head g h < n → h.long ≤ n → (advanced g h).long ≤ n
-advanced-long Short h n inside within = within
-advanced-long Long h n inside within = omega (arith, inside)
+pub ahead-within : {h : Heads} {list : List NumberedLiteral} {ahead : Ahead} → IsAhead h list ahead → h.short ≤ length list → h.long ≤ length list →
+    (ahead.heads.short ≤ length list) × (ahead.heads.long ≤ length list) × (ahead.heads.short + ahead.heads.long ≡ h.short + h.long + 1)
+ahead-within {h} {list} a short long = rw a.after (advanced-within a.group h (length list) a.inside short long)
 
-pub advanced-sum : (g : Group) (h : Heads) → (advanced g h).short + (advanced g h).long ≡ h.short + h.long + 1
-advanced-sum Short h = omega arith
-advanced-sum Long h = omega arith
-
-pub ahead-room : (g : Group) (h : Heads) (n : ℕ) → head g h < n → h.short ≤ n → h.long ≤ n → h.short + h.long < 2 * n
-ahead-room Short h n inside short long = omega (arith, inside, long)
-ahead-room Long h n inside short long = omega (arith, inside, short)
-
-pub start-served : (values : List (Option Bool)) (clauses : List (List ℕ)) (ws : List Watch) (walked : List ℕ) (x : ℕ) → false_at values x ≡ true → AreWalked values clauses ws walked → AreServed values clauses ws walked x 0
+start-served : (values : List (Option Bool)) (clauses : List (List ℕ)) (ws : List Watch) (walked : List ℕ) (x : ℕ) → false_at values x ≡ true → AreWalked values clauses ws walked → AreServed values clauses ws walked x 0
 start-served values clauses ws walked x h s = record {
   failed = s.failed;
   now = h;
@@ -147,41 +131,7 @@ walked-within values clauses ws a b within w = record {
   done = λ e live there. w.done e live (within (watch_at ws e).literal there);
 }
 
-pub watching-next : (forms : List Shape) (c0 c c' : Clauses) (values values' : List (Option Bool)) (list list' : List NumberedLiteral) (g : Group) (h : Heads) (l : NumberedLiteral) → head g h < length list → l ≡ get_or list (head g h) l → false_at values (falsified_code g l) ≡ true →
-    c'.blocks.literals ≡ c.blocks.literals → IsRunning values' c' → Derives forms list list' →
-    ((walked : List ℕ) → AreServed values c.blocks.literals c.blocks.watches walked (falsified_code g l) 0 → AreWalked values' c'.blocks.literals c'.blocks.watches (walked ++ (falsified_code g l ∷ []))) →
-    IsWatching c0 c values list h → IsWatching c0 c' values' list' (advanced g h)
-watching-next forms c0 c c' values values' list list' g h l inside is failed literals running d walked w =
-    let short = advanced-short g h (length list) inside w.short in
-    let long = advanced-long g h (length list) inside w.long in
-    let longer = derived-longer forms list list' d in
-    let all = walked (reached_codes h list) (start-served values c.blocks.literals c.blocks.watches (reached_codes h list) (falsified_code g l) failed w.served) in
-    let mine = walked-within values' c'.blocks.literals c'.blocks.watches (reached_codes h list ++ (falsified_code g l ∷ [])) (reached_codes (advanced g h) list) (λ x there. reached-next g h list l x inside is there) all in
-    record {
-      literals = literals ∙ w.literals;
-      running = running;
-      short = omega (arith, short, longer);
-      long = omega (arith, long, longer);
-      served = subst (AreWalked values' c'.blocks.literals c'.blocks.watches) (sym (codes-same (advanced g h) list list' short long (λ n within. derived-take forms list list' n within d))) mine;
-    }
-
 -- the next literal is not walked yet
-stands-tail : (y : ℕ) (ys : List ℕ) (x : ℕ) → (y ≡ x → ⊥) → stands (y ∷ ys) x ≡ true → stands ys x ≡ true
-stands-tail y ys x n h = elim (or_cases (y == x) (stands ys x) h) [
-  | inl is ↦ absurd (n (eqb-true y x is))
-  | inr old ↦ old
-]
-
-has-some : (g : Group) (xs : List NumberedLiteral) (l : NumberedLiteral) → stands (map (falsified_code g) xs) (falsified_code g l) ≡ true → has xs l ≡ true
-unfolding has
-has-some g [] l h = absurd (both_ways _ refl h)
-has-some g (x ∷ xs) l h = elim (cases_eq (falsified_code g x) (falsified_code g l)) [
-  | inl is ↦
-      let one : x ≡ l = sym (negation-negation x) ∙ ap negation (code-injective g (negation x) (negation l) is) ∙ negation-negation l in
-      or_left (same x l) (has xs l) (ap (λ k. same k l) one ∙ same-refl l)
-  | inr n ↦ or_right (same x l) (has xs l) (has-some g xs l (stands-tail (falsified_code g x) (map (falsified_code g) xs) (falsified_code g l) n h))
-]
-
 pub fresh-take : (list : List NumberedLiteral) (n : ℕ) (l : NumberedLiteral) → AreSingle list → n < length list → l ≡ get_or list n l → has (take n list) l ≡ false
 fresh-take _ n l none inside is = absurd (omega (arith, inside))
 fresh-take _ n l (more {list} k s absent) inside is = elim (cases_lt n (length list)) [
@@ -193,30 +143,42 @@ fresh-take _ n l (more {list} k s absent) inside is = elim (cases_lt n (length l
 ]
 
 fresh : (g : Group) (list : List NumberedLiteral) (n : ℕ) (l : NumberedLiteral) → AreSingle list → n < length list → l ≡ get_or list n l → stands (map (falsified_code g) (take n list)) (falsified_code g l) ≡ false
-fresh g list n l single inside is = by (stands (map (falsified_code g) (take n list)) (falsified_code g l)) refl
-  where
-    by : (b : Bool) → stands (map (falsified_code g) (take n list)) (falsified_code g l) ≡ b → stands (map (falsified_code g) (take n list)) (falsified_code g l) ≡ false
-    by true h = absurd (both_ways _ (fresh-take list n l single inside is) (has-some g (take n list) l h))
-    by false h = h
+fresh g list n l single inside is = elim (cases_Bool (stands (map (falsified_code g) (take n list)) (falsified_code g l))) [
+  | inl there ↦
+      let w = stands-source (falsified_code g) (take n list) (falsified_code g l) there in
+      let same : l ≡ w.0 = sym (negation-negation l) ∙ ap negation (sym (code-injective g (negation w.0) (negation l) w.2)) ∙ negation-negation w.0 in
+      absurd (both_ways _ (fresh-take list n l single inside is) (ap (has (take n list)) same ∙ w.1))
+  | inr absent ↦ absent
+]
 
--- what is known of the next literal
-pub record IsNext (values : List (Option Bool)) (list : List NumberedLiteral) (g : Group) (l : NumberedLiteral) : Type 0 where
-  pub failed : false_at values (falsified_code g l) ≡ true
-  pub small : falsified_code g l < 4 * length values
-
+-- the next literal is falsified
 code-small : (g : Group) (v n : ℕ) (b : Bool) → v < n → 4 * v + offset g + (if b then 1 else 0) < 4 * n
 code-small Short v n true h = omega (arith, h)
 code-small Short v n false h = omega (arith, h)
 code-small Long v n true h = omega (arith, h)
 code-small Long v n false h = omega (arith, h)
 
-pub next-of : (values : List (Option Bool)) (list : List NumberedLiteral) (g : Group) (n : ℕ) (l : NumberedLiteral) → Agree values list → n < length list → l ≡ get_or list n l → IsNext values list g l
-next-of values list g n l a inside is =
-    let on : has list l ≡ true = ap (has list) is ∙ has-get list n l inside in
-    let variable : l.variable < length values = says-inside values l (sym (a l) ∙ on) in
+pub next-of : {h : Heads} {list : List NumberedLiteral} {ahead : Ahead} (values : List (Option Bool)) → Agree values list → IsAhead h list ahead → (false_at values ahead.code ≡ true) × (ahead.code < 4 * length values)
+next-of {h} {list} values agree a =
+    let l = a.literal in
+    let on : has list l ≡ true = ap (has list) a.is ∙ has-get list (head a.group h) l a.inside in
+    let variable : l.variable < length values = says-inside values l (sym (agree l) ∙ on) in
+    rw a.code (false-code values list a.group l agree ∙ on, code-small a.group l.variable (length values) (negation l).negated variable)
+
+pub watching-next : {c0 c : Clauses} {h : Heads} {ahead : Ahead} (c' : Clauses) (old new : Run) → IsAhead h (list_of old) ahead → Extends (list_of old) (list_of new) → c'.blocks.literals ≡ c.blocks.literals → IsRunning (values_of new) c' → HasWalked c c' ahead.code old new →
+    IsWatching c0 c (values_of old) (list_of old) h → IsWatching c0 c' (values_of new) (list_of new) ahead.heads
+watching-next {c0} {c} {h} {ahead} c' old new a extends literals running walked w =
+    let list = list_of old in
+    let ends = ahead-within a w.short w.long in
+    let longer = extends-longer list (list_of new) extends in
+    let all = walked (reached_codes h list) (start-served (values_of old) c.blocks.literals c.blocks.watches (reached_codes h list) ahead.code (next-of (values_of old) old.assignment.agrees a).0 w.served) in
     record {
-      failed = false-code values list g l a ∙ on;
-      small = code-small g l.variable (length values) (negation l).negated variable;
+      literals = literals ∙ w.literals;
+      running = running;
+      short = omega (arith, ends.0, longer);
+      long = omega (arith, ends.1, longer);
+      served = subst (AreWalked (values_of new) c'.blocks.literals c'.blocks.watches) (sym (codes-same ahead.heads list (list_of new) ends.0 ends.1 extends))
+          (walked-within (values_of new) c'.blocks.literals c'.blocks.watches (reached_codes h list ++ (ahead.code ∷ [])) (reached_codes ahead.heads list) (λ x there. rw a.code (reached-next a.group h list a.literal x a.inside a.is (rw a.after at there))) all);
     }
 
 -- the variable of a literal of the list has a value
@@ -232,30 +194,23 @@ reached-more Long clauses h list l single inside is =
     let grown = killed-more clauses (map (falsified_code Long) (take h.long list)) (falsified_code Long l) (fresh Long list h.long l single inside is) in
     omega (arith, grown, ap (killed clauses) (next-codes (falsified_code Long) list h.long l inside is))
 
--- what a walk costs
-pub cost-next : (c0 c c' : Clauses) (values : List (Option Bool)) (list list' : List NumberedLiteral) (g : Group) (h : Heads) (v v' s s' : ℕ) (l : NumberedLiteral) → AreSingle list → head g h < length list → l ≡ get_or list (head g h) l → AreSameFirst list list' →
-    v' + sum (passed_of c) + s ≤ v + 2 * length (list_at (watch_lists c.lists.items) (falsified_code g l)) + sum (passed_of c') + s' → IsWatching c0 c values list h →
-    v' + s + cost c0 c h list ≤ v + cost c0 c' (advanced g h) list' + s'
-cost-next c0 c c' values list list' g h v v' s s' l single inside is same covered w =
+-- what a walk costs: the watches of its literal
+pub reached-ahead : {c0 c : Clauses} {values : List (Option Bool)} {list : List NumberedLiteral} {h : Heads} {ahead : Ahead} (list' : List NumberedLiteral) → AreSingle list → IsAhead h list ahead → Extends list list' → IsWatching c0 c values list h →
+    length (list_at (watch_lists c.lists.items) ahead.code) + reached (clauses_of c0) h list ≤ reached (clauses_of c0) ahead.heads list'
+reached-ahead {c0} {c} {values} {list} {h} {ahead} list' single a extends w =
     let clauses = clauses_of c0 in
     let stored : AreStored clauses c.blocks.watches (watch_lists c.lists.items) = subst (λ cs. AreStored cs c.blocks.watches (watch_lists c.lists.items)) w.literals w.running.stored in
-    let few = list-short clauses c.blocks.watches (watch_lists c.lists.items) (falsified_code g l) stored in
-    let grown = reached-more g clauses h list l single inside is in
-    let codes = reached-same clauses (advanced g h) list list' (advanced-short g h (length list) inside w.short) (advanced-long g h (length list) inside w.long) same in
-    sums v v' s s' (sum (passed_of c)) (sum (passed_of c')) (reached clauses h list) (reached clauses (advanced g h) list) (reached clauses (advanced g h) list') (occurs clauses (falsified_code g l)) (length (list_at (watch_lists c.lists.items) (falsified_code g l))) covered few grown codes
-  where
-    sums : (v v' s s' p p' r r' r'' o n : ℕ) → v' + p + s ≤ v + 2 * n + p' + s' → n ≤ o → r' ≡ r + o → r'' ≡ r' → v' + s + (2 * r + p) ≤ v + (2 * r'' + p') + s'
-    sums v v' s s' p p' r r' r'' o n a b d e = omega (arith, a, b, d, e)
+    let few = list-short clauses c.blocks.watches (watch_lists c.lists.items) (falsified_code a.group a.literal) stored in
+    let grown = reached-more a.group clauses h list a.literal single a.inside a.is in
+    let ends = ahead-within a w.short w.long in
+    omega (arith, few, grown, ap (λ x. length (list_at (watch_lists c.lists.items) x)) a.code, ap (λ k. reached clauses k list) a.after, reached-same clauses ahead.heads list list' ends.0 ends.1 extends)
 
 -- what a walk costs that was abandoned
-pub cost-broken : (c0 c c' : Clauses) (values : List (Option Bool)) (list : List NumberedLiteral) (g : Group) (h : Heads) (v v' s s' : ℕ) (l : NumberedLiteral) → AreSingle list → head g h < length list → l ≡ get_or list (head g h) l → ((t : ℕ) → get_or (passed_of c') t 0 ≤ length (list_at (clauses_of c) t)) →
-    v' + sum (passed_of c) + s ≤ v + 2 * length (list_at (watch_lists c.lists.items) (falsified_code g l)) + sum (passed_of c') + s' → IsWatching c0 c values list h →
-    v' + s + cost c0 c h list ≤ v + s' + (2 * reached (clauses_of c0) (advanced g h) list + sum_by length (clauses_of c0))
-cost-broken c0 c c' values list g h v v' s s' l single inside is bounded covered w =
-    let clauses = clauses_of c0 in
-    let more_cost = cost-next c0 c c' values list list g h v v' s s' l single inside is (λ n within. refl) covered w in
-    let bounded_0 = subst (λ cs. (t : ℕ) → get_or (passed_of c') t 0 ≤ length (list_at cs t)) w.literals bounded in
-    omega (arith, more_cost, passed-most (passed_of c') clauses bounded_0)
+pub cost-broken : {c0 c : Clauses} {values : List (Option Bool)} {list : List NumberedLiteral} {h : Heads} {ahead : Ahead} (c' : Clauses) → AreSingle list → IsAhead h list ahead → AreWithin (passed_of c') (clauses_of c) → IsWatching c0 c values list h →
+    2 * length (list_at (watch_lists c.lists.items) ahead.code) + cost c0 c h list + sum (passed_of c') ≤ sum (passed_of c) + (2 * reached (clauses_of c0) ahead.heads list + sum_by length (clauses_of c0))
+cost-broken {c0} {c} {values} {list} c' single a bounded w =
+    let most = subst (AreWithin (passed_of c')) w.literals bounded in
+    omega (arith, reached-ahead list single a (extends-none list) w, passed-most (passed_of c') (clauses_of c0) most)
 
 pub cost-most : (c0 c : Clauses) (values : List (Option Bool)) (list : List NumberedLiteral) (h : Heads) → IsWatching c0 c values list h → cost c0 c h list ≤ 2 * reached (clauses_of c0) h list + sum_by length (clauses_of c0)
 cost-most c0 c values list h w =

@@ -1,6 +1,6 @@
 -- What a propagation costs that ends: at a visit to a form, in a walk, or between them.
-use Rattle.pb_propagate.proofs.Common.{ℕ, ◌*◌, ◌+◌, ◌≡◌, ◌≤◌, ◌∙◌, ap, arith, length, sym, sum, sum_by, Clauses, Heads}
-use Rattle.pb_propagate.proofs.Common.{advanced, AreWithin, clauses_of, Costs, falsified_code, IsAhead, passed_of, Progress, queued}
+use Rattle.pb_propagate.proofs.Common.{ℕ, ◌*◌, ◌+◌, ◌≡◌, ◌≤◌, ap, arith, length, refl, sym, ◌∙◌, sum, sum_by, Clauses, Heads}
+use Rattle.pb_propagate.proofs.Common.{AreWithin, clauses_of, Costs, IsAhead, passed_of, Progress, queued}
 use Rattle.pb_propagate.proofs.Common.{seen, spent, Spends, taken_to}
 use Rattle.pb_propagate.specs.declared.heads.Ahead.{Ahead}
 use Rattle.pb_propagate.proofs.lemmas.clauses.Watching.{IsWatching, cost, cost-broken, cost-most}
@@ -28,8 +28,7 @@ form-stopped {b} {taken} {now} c0 c h after s w inside few costs =
 pub walk-stopped : {b : Beginning} {taken : ℕ} {now : Progress} (c0 c c' : Clauses) (h : Heads) (a : Ahead) (after : Progress) → IsPropagating b (cost c0 c h now.list) taken now → IsWatching c0 c now.values now.list h → IsAhead h now.list a → AreWithin (passed_of c') (clauses_of c) → after.candidates ≡ now.candidates → Costs b.base (sum (passed_of c)) (2 * size_at c a.code + sum (passed_of c')) now after →
     Spends b.base b.before (queued b.waiting b.start + seen c0 after.list (sum_by length (clauses_of c0))) b.start after
 walk-stopped {b} {taken} {now} c0 c c' h ahead after s w a within same costs =
-    let lists = b.base.lists in
     let few = candidates-bounded s in
-    let covered = walk-covered b.base c c' ahead.code (falsified_code a.group a.literal) same a.code costs in
-    let broken = cost-broken c0 c c' now.values now.list a.group h now.visits after.visits (spent lists now.list) (spent lists after.list) a.literal (s.costs.single s.begun.single) a.inside a.is within covered w in
-    propagating-spends (clauses_of c0) (advanced a.group h) (sum_by length (clauses_of c0)) after 0 s costs.extends costs.single (omega (arith, few, ap sum same)) (omega (arith, s.within)) (omega (arith, broken, ap sum same))
+    let covered = walk-covered b.base c c' ahead.code ahead.code same refl costs in
+    let broken = cost-broken c' (s.costs.single s.begun.single) a within w in
+    propagating-spends (clauses_of c0) ahead.heads (sum_by length (clauses_of c0)) after 0 s costs.extends costs.single (omega (arith, few, ap sum same)) (omega (arith, s.within)) (omega (arith, covered, broken, ap sum same))

@@ -1,5 +1,5 @@
 -- What names what, as terms and entries are added and removed.
-use Rattle.pb_propagate.proofs.Common.{ℕ, ◌∙◌, ◌≡◌, ◌⊎◌, ap, arith, inl, inr, None, refl, sym, Option, Some, cases_eq, AreCrossed, Cross}
+use Rattle.pb_propagate.proofs.Common.{ℕ, ◌∙◌, ◌≡◌, ◌⊎◌, ap, arith, inl, inr, None, sym, Option, Some, cases_eq, AreCrossed, Cross}
 
 abbrev pub Grid : Type 0
 Grid = ℕ → ℕ → Option Cross
@@ -54,76 +54,87 @@ same-or a b c d =
       ]
     ]
 
-pub moved-to : (f : Grid) (a b c d : ℕ) (x : Option Cross) → Same a b c d → f c d ≡ x → f a b ≡ x
-moved-to f a b c d x s h = rw (s.0, s.1) h
+-- what names two positions, names the same one
+named-once : {x : Option Cross} (a b w p q v : ℕ) → x ≡ to a b w → x ≡ to p q v → Same a b p q
+named-once a b w p q v h k = let is = to-parts a b w p q v (sym h ∙ k) in (is.0, is.1)
 
-to-same : (a b c d e f : ℕ) → a ≡ d → b ≡ e → c ≡ f → to a b c ≡ to d e f
-to-same a b c d e f h k l = rw (h, k, l) refl
+-- what a position of the first grid has after a change: nothing, what names it back, or what it had
+data Now (f f' g g' : Grid) (a b : ℕ) : Type 0 where
+  gone : f' a b ≡ None → Now f f' g g' a b
+  named : (c d w : ℕ) → f' a b ≡ to c d w → g' c d ≡ to a b w → Now f f' g g' a b
+  stays : f' a b ≡ f a b → ((c d w : ℕ) → g c d ≡ to a b w → g' c d ≡ g c d) → Now f f' g g' a b
+
+answers-by : (f f' g g' : Grid) → ((a b : ℕ) → Now f f' g g' a b) → Answers f g → Answers f' g'
+answers-by f f' g g' all old a b c d w h = by (all a b)
+  where
+    by : Now f f' g g' a b → g' c d ≡ to a b w
+    by (gone e) = absurd (to-none c d w (sym h ∙ e))
+    by (named p q v e k) = let is = to-parts c d w p q v (sym h ∙ e) in rw (is.0, is.1, is.2) k
+    by (stays e k) = let before = old a b c d w (sym e ∙ h) in k c d w before ∙ before
+
+crossed-by : (f f' g g' : Grid) → ((a b : ℕ) → Now f f' g g' a b) → ((c d : ℕ) → Now g g' f f' c d) → AreCrossed f g → AreCrossed f' g'
+crossed-by f f' g g' first second old a b c d w = (
+  answers-by f f' g g' first (λ p q r s v. (old p q r s v).0) a b c d w,
+  answers-by g g' f f' second (λ r s p q v. (old p q r s v).1) c d a b w,
+)
+
+-- a grid has another value at one position
+pub record Turns (f f' : Grid) (a b : ℕ) (x y : Option Cross) : Type 0 where
+  pub was : f a b ≡ x
+  pub now : f' a b ≡ y
+  pub others : (p q : ℕ) → (Same p q a b → ⊥) → f' p q ≡ f p q
+
+turned : (f f' g g' : Grid) (a b c d : ℕ) → ((p q : ℕ) → (Same p q a b → ⊥) → f' p q ≡ f p q) → ((p q : ℕ) → (Same p q c d → ⊥) → g' p q ≡ g p q) → Now f f' g g' a b → ((p q w : ℕ) → g c d ≡ to p q w → Same p q a b) → (p q : ℕ) → Now f f' g g' p q
+turned f f' g g' a b c d first second here only p q = elim (same-or p q a b) [
+  | inl s ↦ rw (s.0, s.1) here
+  | inr n ↦ stays (first p q n) (λ r s w h. second r s (λ k. n (only p q w (rw (k.0, k.1) at h))))
+]
 
 -- one more pair
-add-half : (f f' g g' : Grid) (a0 b0 c0 d0 w0 : ℕ) → f' a0 b0 ≡ to c0 d0 w0 → ((a b : ℕ) → (Same a b a0 b0 → ⊥) → f' a b ≡ f a b) → g' c0 d0 ≡ to a0 b0 w0 → ((c d : ℕ) → (Same c d c0 d0 → ⊥) → g' c d ≡ g c d) → g c0 d0 ≡ None → Answers f g → Answers f' g'
-add-half f f' g g' a0 b0 c0 d0 w0 f_new f_old g_new g_old g_none old a b c d w h =
-    elim (same-or a b a0 b0) [
-      | inl s ↦
-          let is : to c d w ≡ to c0 d0 w0 = sym h ∙ moved-to f' a b a0 b0 (to c0 d0 w0) s f_new in
-          let parts = to-parts c d w c0 d0 w0 is in
-          moved-to g' c d c0 d0 (to a b w) (parts.0, parts.1) (g_new ∙ to-same a0 b0 w0 a b w (sym s.0) (sym s.1) (sym parts.2))
-      | inr n ↦
-          let before = old a b c d w (sym (f_old a b n) ∙ h) in
-          let apart : Same c d c0 d0 → ⊥ = λ s. to-none a b w (sym before ∙ moved-to g c d c0 d0 None s g_none) in
-          g_old c d apart ∙ before
-    ]
-
-pub crossed-add : (f f' g g' : Grid) (a0 b0 c0 d0 w0 : ℕ) → f' a0 b0 ≡ to c0 d0 w0 → ((a b : ℕ) → (Same a b a0 b0 → ⊥) → f' a b ≡ f a b) → f a0 b0 ≡ None → g' c0 d0 ≡ to a0 b0 w0 → ((c d : ℕ) → (Same c d c0 d0 → ⊥) → g' c d ≡ g c d) → g c0 d0 ≡ None → AreCrossed f g → AreCrossed f' g'
-crossed-add f f' g g' a0 b0 c0 d0 w0 f_new f_old f_none g_new g_old g_none old a b c d w = (
-  add-half f f' g g' a0 b0 c0 d0 w0 f_new f_old g_new g_old g_none (λ p q r s v. (old p q r s v).0) a b c d w,
-  add-half g g' f f' c0 d0 a0 b0 w0 g_new g_old f_new f_old f_none (λ r s p q v. (old p q r s v).1) c d a b w,
-)
+pub crossed-add : (f f' g g' : Grid) (a b c d w : ℕ) → Turns f f' a b None (to c d w) → Turns g g' c d None (to a b w) → AreCrossed f g → AreCrossed f' g'
+crossed-add f f' g g' a b c d w first second =
+    crossed-by f f' g g'
+    (turned f f' g g' a b c d first.others second.others (named c d w first.now second.now) (λ p q v h. absurd (to-none p q v (sym h ∙ second.was))))
+    (turned g g' f f' c d a b second.others first.others (named a b w second.now first.now) (λ p q v h. absurd (to-none p q v (sym h ∙ first.was))))
 
 -- one pair less
-drop-half : (f f' g g' : Grid) (a0 b0 c0 d0 w0 : ℕ) → f' a0 b0 ≡ None → ((a b : ℕ) → (Same a b a0 b0 → ⊥) → f' a b ≡ f a b) → ((c d : ℕ) → (Same c d c0 d0 → ⊥) → g' c d ≡ g c d) → g c0 d0 ≡ to a0 b0 w0 → Answers f g → Answers f' g'
-drop-half f f' g g' a0 b0 c0 d0 w0 f_none f_old g_old g_was old a b c d w h =
-    elim (same-or a b a0 b0) [
-      | inl s ↦ absurd (to-none c d w (sym h ∙ moved-to f' a b a0 b0 None s f_none))
-      | inr n ↦
-          let before = old a b c d w (sym (f_old a b n) ∙ h) in
-          let apart : Same c d c0 d0 → ⊥ = λ s.
-          let is = to-parts a b w a0 b0 w0 (sym before ∙ moved-to g c d c0 d0 (to a0 b0 w0) s g_was) in
-          n (is.0, is.1) in
-          g_old c d apart ∙ before
-    ]
+pub crossed-drop : (f f' g g' : Grid) (a b c d w : ℕ) → Turns f f' a b (to c d w) None → Turns g g' c d (to a b w) None → AreCrossed f g → AreCrossed f' g'
+crossed-drop f f' g g' a b c d w first second =
+    crossed-by f f' g g'
+    (turned f f' g g' a b c d first.others second.others (gone first.now) (λ p q v h. named-once p q v a b w h second.was))
+    (turned g g' f f' c d a b second.others first.others (gone second.now) (λ p q v h. named-once p q v c d w h first.was))
 
-pub crossed-drop : (f f' g g' : Grid) (a0 b0 c0 d0 w0 : ℕ) → f a0 b0 ≡ to c0 d0 w0 → f' a0 b0 ≡ None → ((a b : ℕ) → (Same a b a0 b0 → ⊥) → f' a b ≡ f a b) → g' c0 d0 ≡ None → ((c d : ℕ) → (Same c d c0 d0 → ⊥) → g' c d ≡ g c d) → AreCrossed f g → AreCrossed f' g'
-crossed-drop f f' g g' a0 b0 c0 d0 w0 f_was f_none f_old g_none g_old old a b c d w = (
-  drop-half f f' g g' a0 b0 c0 d0 w0 f_none f_old g_old ((old a0 b0 c0 d0 w0).0 f_was) (λ p q r s v. (old p q r s v).0) a b c d w,
-  drop-half g g' f f' c0 d0 a0 b0 w0 g_none g_old f_old f_was (λ r s p q v. (old p q r s v).1) c d a b w,
-)
+-- a grid has nothing at one position any more, and another value at a second one
+pub record Moves (f f' : Grid) (a b p q : ℕ) (x y z : Option Cross) : Type 0 where
+  pub first : f a b ≡ x
+  pub none : f' a b ≡ None
+  pub second : f p q ≡ y
+  pub now : f' p q ≡ z
+  pub others : (r s : ℕ) → (Same r s a b → ⊥) → (Same r s p q → ⊥) → f' r s ≡ f r s
 
 -- one pair less, and the entry of another moves to its position
-move-half : (f f' g g' : Grid) (an bn a1 b1 c1 d1 w1 : ℕ) → f' an bn ≡ None → f' a1 b1 ≡ to c1 d1 w1 → g' c1 d1 ≡ to a1 b1 w1 → ((a b : ℕ) → (Same a b an bn → ⊥) → (Same a b a1 b1 → ⊥) → f' a b ≡ f a b) → ((a b c d w : ℕ) → (Same a b an bn → ⊥) → (Same a b a1 b1 → ⊥) → g c d ≡ to a b w → g' c d ≡ to a b w) → Answers f g → Answers f' g'
-move-half f f' g g' an bn a1 b1 c1 d1 w1 f_none f_new g_new f_old g_old old a b c d w h =
-    elim (same-or a b an bn) [
-      | inl s ↦ absurd (to-none c d w (sym h ∙ moved-to f' a b an bn None s f_none))
-      | inr n ↦ elim (same-or a b a1 b1) [
-        | inl s ↦
-            let parts = to-parts c d w c1 d1 w1 (sym h ∙ moved-to f' a b a1 b1 (to c1 d1 w1) s f_new) in
-            moved-to g' c d c1 d1 (to a b w) (parts.0, parts.1) (g_new ∙ to-same a1 b1 w1 a b w (sym s.0) (sym s.1) (sym parts.2))
-        | inr m ↦ g_old a b c d w n m (old a b c d w (sym (f_old a b n m) ∙ h))
+pub crossed-move : (f f' g g' : Grid) (x y : Cross) (c d e : ℕ) → Moves f f' x.row x.column y.row y.column (to c d x.weight) (to c e y.weight) (to c d y.weight) →
+    Moves g g' c e c d (to y.row y.column y.weight) (to x.row x.column x.weight) (to y.row y.column y.weight) → AreCrossed f g → AreCrossed f' g'
+crossed-move f f' g g' x y c d e m k = crossed-by f f' g g' first second
+  where
+    first : (a b : ℕ) → Now f f' g g' a b
+    first a b = elim (same-or a b x.row x.column) [
+      | inl s ↦ rw (s.0, s.1) (gone m.none)
+      | inr n ↦ elim (same-or a b y.row y.column) [
+        | inl s ↦ rw (s.0, s.1) (named c d y.weight m.now k.now)
+        | inr l ↦ stays (m.others a b n l) (λ p q w h. k.others p q
+            (λ s. l (named-once a b w y.row y.column y.weight (rw (s.0, s.1) at h) k.first))
+            (λ s. n (named-once a b w x.row x.column x.weight (rw (s.0, s.1) at h) k.second)))
       ]
     ]
 
-pub crossed-move : (f f' g g' : Grid) (a0 b0 w0 a1 b1 w1 c d0 d1 : ℕ) → (d0 ≡ d1 → ⊥) → f a0 b0 ≡ to c d0 w0 → g c d1 ≡ to a1 b1 w1 → f' a0 b0 ≡ None → f' a1 b1 ≡ to c d0 w1 → ((a b : ℕ) → (Same a b a0 b0 → ⊥) → (Same a b a1 b1 → ⊥) → f' a b ≡ f a b) → g' c d1 ≡ None → g' c d0 ≡ to a1 b1 w1 → ((e d : ℕ) → (Same e d c d0 → ⊥) → (Same e d c d1 → ⊥) → g' e d ≡ g e d) → AreCrossed f g → AreCrossed f' g'
-crossed-move f f' g g' a0 b0 w0 a1 b1 w1 c d0 d1 apart f_was g_was f_none f_new f_old g_none g_new g_old old a b p q w =
-    let g_zero : g c d0 ≡ to a0 b0 w0 = (old a0 b0 c d0 w0).0 f_was in
-    let f_one : f a1 b1 ≡ to c d1 w1 = (old a1 b1 c d1 w1).1 g_was in (
-      move-half f f' g g' a0 b0 a1 b1 c d0 w1 f_none f_new g_new f_old
-          (λ s i e d v n m h. g_old e d (λ k.
-          let is = to-parts s i v a0 b0 w0 (sym h ∙ moved-to g e d c d0 (to a0 b0 w0) k g_zero) in n (is.0, is.1)) (λ k.
-          let is = to-parts s i v a1 b1 w1 (sym h ∙ moved-to g e d c d1 (to a1 b1 w1) k g_was) in m (is.0, is.1)) ∙ h)
-          (λ s i e d v. (old s i e d v).0) a b p q w,
-      move-half g g' f f' c d1 c d0 a1 b1 w1 g_none g_new f_new (λ e d n m. g_old e d m n)
-          (λ e d s i v n m h. f_old s i (λ k.
-          let is = to-parts e d v c d0 w0 (sym h ∙ moved-to f s i a0 b0 (to c d0 w0) k f_was) in m (is.0, is.1)) (λ k.
-          let is = to-parts e d v c d1 w1 (sym h ∙ moved-to f s i a1 b1 (to c d1 w1) k f_one) in n (is.0, is.1)) ∙ h)
-          (λ e d s i v. (old s i e d v).1) p q a b w,
-    )
+    second : (p q : ℕ) → Now g g' f f' p q
+    second p q = elim (same-or p q c e) [
+      | inl s ↦ rw (s.0, s.1) (gone k.none)
+      | inr n ↦ elim (same-or p q c d) [
+        | inl s ↦ rw (s.0, s.1) (named y.row y.column y.weight k.now m.now)
+        | inr l ↦ stays (k.others p q n l) (λ a b w h. m.others a b
+            (λ s. l (named-once p q w c d x.weight (rw (s.0, s.1) at h) m.first))
+            (λ s. n (named-once p q w c e y.weight (rw (s.0, s.1) at h) m.second)))
+      ]
+    ]

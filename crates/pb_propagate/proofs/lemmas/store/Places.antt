@@ -1,20 +1,19 @@
 -- Adding and removing terms, in terms of what the program reads.
-use Rattle.pb_propagate.proofs.Common.{stored_terms}
-use Rattle.pb_propagate.proofs.Common.{ℕ, ◌*◌, ◌++◌, ◌+◌, ◌-◌, ◌<◌, ◌∙◌, ◌∷◌, ◌≡◌, ◌≤◌, ◌⊎◌, [], ap, arith, false, get_or, get_or-set_other}
-use Rattle.pb_propagate.proofs.Common.{get_or-set_same, Global, inl, inr, length, length-set, List, map, refl, set, subst, sym, Vec, All, slice_get}
-use Rattle.pb_propagate.proofs.Common.{Some, swap_remove, cases_eq, cases_lt, get_or-map, get_or_default, length-map, map-append, map-set, set_past}
-use Rattle.pb_propagate.proofs.Common.{get_or_from_slice_get, slice_get-get_or, slice_get_within, Occurrence, StoredForm, Term, place, entries_of}
-use Rattle.pb_propagate.proofs.Common.{Spots, spots_in, lists_of, shapes_of, spots_of, stored_shape, cut, IsLinked, last, Moved, terms_at, weighted, AreInside, Shape}
-use Rattle.pb_propagate.proofs.Common.{Weighted}
+use Rattle.pb_propagate.proofs.Common.{AreLonger, length-append, IsSound, Store, stored_terms, ℕ, ◌++◌, ◌+◌, ◌-◌, ◌<◌, ◌∙◌, ◌∷◌, ◌≡◌, ◌≤◌}
+use Rattle.pb_propagate.proofs.Common.{◌⊎◌, [], ap, arith, false, get_or, get_or-set_other, get_or-set_same, Global, inl, inr, length, length-set}
+use Rattle.pb_propagate.proofs.Common.{List, map, refl, set, subst, sym, Vec, slice_get, Some, swap_remove, cases_eq, cases_lt, get_or-map}
+use Rattle.pb_propagate.proofs.Common.{get_or_default, length-map, map-set, set_past, get_or_from_slice_get, slice_get-get_or, slice_get_within}
+use Rattle.pb_propagate.proofs.Common.{Occurrence, StoredForm, Term, place, entries_of, Spots, spots_in, lists_of, shapes_of, spots_of, stored_shape}
+use Rattle.pb_propagate.proofs.Common.{cut, IsLinked, last, Moved, terms_at, weighted, Shape}
 use Rattle.pb_propagate.specs.engine.Engine.Links.{none}
-use Rattle.pb_propagate.proofs.lemmas.store.Gets.{get-push_same, get-push_other}
+use Rattle.pb_propagate.proofs.lemmas.store.Gets.{get-push_same, get-push_other, swap-here, swap-length}
 use Rattle.pb_propagate.proofs.lemmas.store.Crosses.{Same}
-use Rattle.pb_propagate.proofs.lemmas.store.Links.{link-next}
-use Rattle.pb_propagate.proofs.lemmas.store.Unlinks.{swap-here, swap-length, unlink-next, named-spot, named-entry}
-use Rattle.pb_propagate.proofs.lemmas.store.Links.{cut-length}
+use Rattle.pb_propagate.proofs.lemmas.store.Links.{IsTerm, entry_for, link-next, cut-length}
+use Rattle.pb_propagate.proofs.lemmas.store.Unlinks.{unlink-next, named-spot, named-entry, Leaving}
+use Rattle.pb_propagate.proofs.lemmas.store.Positions.{taken-is}
 use Rattle.pb_propagate.proofs.lemmas.engine.VisitSteps.{shape-at, term-inside}
-use Rattle.pb_propagate.proofs.lemmas.engine.Puts.{lists-at, entries-at, place-inside}
-use Rattle.pb_propagate.proofs.lemmas.store.Weights.{entries-size, entry-weighted, entries-taken, item-taken, shifted}
+use Rattle.pb_propagate.proofs.lemmas.engine.Puts.{lists-at, place-inside}
+use Rattle.pb_propagate.proofs.lemmas.store.Weights.{entries-size, entry-weighted, entries-pushed, entries-taken, item-taken, shifted}
 
 pub lists-length : (occ : List (Vec Occurrence Global)) → length (lists_of occ) ≡ length occ
 lists-length occ = length-map occ (λ (v : Vec Occurrence Global). v.items)
@@ -22,37 +21,38 @@ lists-length occ = length-map occ (λ (v : Vec Occurrence Global). v.items)
 pub entries-length : (forms : List Shape) (occ : List (Vec Occurrence Global)) → length (entries_of forms occ) ≡ length occ
 entries-length forms occ = length-map occ (λ (v : Vec Occurrence Global). map (weighted forms) v.items)
 
-pub link-by : (base : List Shape) (all : List (List ℕ)) (occ : List (Vec Occurrence Global)) (form i : ℕ) (terms : List Term) (d : Term) (p : ℕ) (idx v0 v1 : Vec Occurrence Global) (spots spots' : List ℕ) (spot : ℕ) →
-    form < length base → terms_at base form ≡ terms → form < length all → i < length terms → p ≡ place (get_or terms i d).literal → p < length occ → idx ≡ get_or occ p idx → spot ≡ length idx.items → v0 ≡ get_or occ p v0 →
-    v1.items ≡ v0.items ++ (record { form = form; index = i } ∷ []) → spots' ≡ spots ++ (spot ∷ []) → length spots ≡ i →
-    IsLinked (cut base form i) (set all form spots) (entries_of base occ) → IsLinked (cut base form (i + 1)) (set all form spots') (entries_of base (set occ p v1))
-link-by base all occ form i terms d p idx v0 v1 spots spots' spot inside same wide within at room index_is spot_is value pushed longer size old =
-    let t : Term = get_or terms i d in
-    let o : Occurrence = record { form = form; index = i } in
-    let e : Weighted = weighted base o in
-    let within_base : i < length (terms_at base form) = omega (arith, within, ap length same) in
-    let is : t ≡ get_or (terms_at base form) i t = rw same (get_or_default terms i d t within) in
-    let es_v0 = entries-at base occ p p v0 room value refl in
-    let es_idx = entries-at base occ p p idx room index_is refl in
-    let room_place : place t.literal < length (entries_of base occ) = omega (arith, room, at, entries-length base occ) in
-    let zero_term : Term = record { literal = record { variable = 0; negated = false }; coefficient = 0 } in
-    let weight : e.coefficient ≡ t.coefficient = ap (λ (ts : List Term). (get_or ts i zero_term).coefficient) same ∙ ap (λ (x : Term). x.coefficient) (get_or_default terms i zero_term d within) in
-    let pushed_e : map (weighted base) v1.items ≡ map (weighted base) v0.items ++ (e ∷ []) = ap (map (weighted base)) pushed ∙ map-append (weighted base) v0.items (o ∷ []) in
-    let grown : entries_of base (set occ p v1) ≡ set (entries_of base occ) (place t.literal) (get_or (entries_of base occ) (place t.literal) [] ++ (e ∷ [])) =
-    map-set (λ (v : Vec Occurrence Global). map (weighted base) v.items) occ p v1 ∙ ap (λ xs. set (entries_of base occ) p xs) (pushed_e ∙ ap (λ xs. xs ++ (e ∷ [])) (sym es_v0)) ∙ ap (λ q. set (entries_of base occ) q (get_or (entries_of base occ) q [] ++ (e ∷ []))) at in
-    let spot_now : slice_get (get_or (set all form spots') form []) i ≡ Some (length (get_or (entries_of base occ) (place t.literal) [])) =
-    ap (λ (xs : List ℕ). slice_get xs i) (get_or-set_same all form spots' [] wide ∙ longer) ∙ get-push_same spots i spot (sym size) ∙ ap (λ n. Some n) (spot_is ∙ sym (length-map idx.items (weighted base)) ∙ ap length (sym es_idx) ∙ ap (λ q. length (get_or (entries_of base occ) q [])) at) in
-    link-next base (set all form spots) (set all form spots') (entries_of base occ) (entries_of base (set occ p v1)) form i t e inside within_base is room_place refl refl weight grown spot_now
-    (λ s j n. agree s j n (cases_eq s form))
-    (omega (arith, length-set all form spots, length-set all form spots'))
-    old
+-- an entry is added at the end of a list
+pub pushed-lists : (occ : List (Vec Occurrence Global)) (p : ℕ) (v0 v1 : Vec Occurrence Global) (o : Occurrence) → p < length occ → v0 ≡ get_or occ p v0 → v1.items ≡ v0.items ++ (o ∷ []) → lists_of (set occ p v1) ≡ set (lists_of occ) p (get_or (lists_of occ) p [] ++ (o ∷ []))
+pushed-lists occ p v0 v1 o room value pushed =
+    map-set (λ (v : Vec Occurrence Global). v.items) occ p v1 ∙ ap (λ xs. set (lists_of occ) p xs) (pushed ∙ ap (λ xs. xs ++ (o ∷ [])) (sym (lists-at occ p p v0 room value refl)))
+
+pub longer-push : (occ occ' : List (Vec Occurrence Global)) (p : ℕ) (o : Occurrence) → p < length occ → lists_of occ' ≡ set (lists_of occ) p (get_or (lists_of occ) p [] ++ (o ∷ [])) → AreLonger occ occ'
+longer-push occ occ' p o room pushed q = elim (cases_eq q p) [
+  | inl here ↦ rw (here, pushed, get_or-set_same (lists_of occ) p (get_or (lists_of occ) p [] ++ (o ∷ [])) [] (omega (arith, room, lists-length occ))) (omega (arith, length-append (get_or (lists_of occ) p []) (o ∷ [])))
+  | inr other ↦ rw (pushed, get_or-set_other (lists_of occ) p q (get_or (lists_of occ) p [] ++ (o ∷ [])) [] other) (omega arith)
+]
+
+pub link-by : {base : List Shape} {form i : ℕ} {t : Term} (all : List (List ℕ)) (occ occ' : List (Vec Occurrence Global)) (spots spots' : List ℕ) → IsTerm base form i t → form < length all → place t.literal < length occ →
+    lists_of occ' ≡ set (lists_of occ) (place t.literal) (get_or (lists_of occ) (place t.literal) [] ++ (record { form = form; index = i } ∷ [])) → spots' ≡ spots ++ (length (get_or (lists_of occ) (place t.literal) []) ∷ []) → length spots ≡ i →
+    IsLinked (cut base form i) (set all form spots) (entries_of base occ) → IsLinked (cut base form (i + 1)) (set all form spots') (entries_of base occ')
+link-by {base} {form} {i} {t} all occ occ' spots spots' x wide room longer pushed size old =
+    link-next x (set all form spots) (set all form spots') (entries_of base occ) (entries_of base occ') (omega (arith, room, entries-length base occ)) grown spot_now
+    (λ s j n. agree s j n (cases_eq s form)) (omega (arith, length-set all form spots, length-set all form spots')) old
   where
+    weight : weighted base (record { form = form; index = i }) ≡ entry_for form i t
+    weight = ap (entry_for form i) (get_or_default (terms_at base form) i (record { literal = record { variable = 0; negated = false }; coefficient = 0 }) t x.within ∙ sym x.is)
+
+    grown : entries_of base occ' ≡ set (entries_of base occ) (place t.literal) (get_or (entries_of base occ) (place t.literal) [] ++ (entry_for form i t ∷ []))
+    grown = entries-pushed base occ occ' (place t.literal) (record { form = form; index = i }) longer ∙ ap (λ e. set (entries_of base occ) (place t.literal) (get_or (entries_of base occ) (place t.literal) [] ++ (e ∷ []))) weight
+
+    spot_now : slice_get (get_or (set all form spots') form []) i ≡ Some (length (get_or (entries_of base occ) (place t.literal) []))
+    spot_now =
+        ap (λ (xs : List ℕ). slice_get xs i) (get_or-set_same all form spots' [] wide ∙ pushed) ∙ get-push_same spots i (length (get_or (lists_of occ) (place t.literal) [])) (sym size)
+        ∙ ap (λ n. Some n) (sym (entries-size base occ (place t.literal)))
+
     agree : (s j : ℕ) → (Same s j form i → ⊥) → (s ≡ form) ⊎ (s ≡ form → ⊥) → slice_get (get_or (set all form spots') s []) j ≡ slice_get (get_or (set all form spots) s []) j
     agree s j n (inr other) = ap (λ (xs : List ℕ). slice_get xs j) (get_or-set_other all form s spots' [] other ∙ sym (get_or-set_other all form s spots [] other))
-    agree s j n (inl here) =
-        let now : get_or (set all form spots') s [] ≡ spots' = ap (λ k. get_or (set all form spots') k []) here ∙ get_or-set_same all form spots' [] wide in
-        let was : get_or (set all form spots) s [] ≡ spots = ap (λ k. get_or (set all form spots) k []) here ∙ get_or-set_same all form spots [] wide in
-        ap (λ (xs : List ℕ). slice_get xs j) (now ∙ longer) ∙ get-push_other spots j spot (λ h. n (here, h ∙ size)) ∙ sym (ap (λ (xs : List ℕ). slice_get xs j) was)
+    agree s j n (inl here) = rw here (ap (λ (xs : List ℕ). slice_get xs j) (get_or-set_same all form spots' [] wide ∙ pushed) ∙ get-push_other spots j (length (get_or (lists_of occ) (place t.literal) [])) (λ h. n (here, h ∙ size)) ∙ ap (λ (xs : List ℕ). slice_get xs j) (sym (get_or-set_same all form spots [] wide)))
 
 -- an entry is removed
 pub taken-lists : (occ : List (Vec Occurrence Global)) (p q : ℕ) (v0 v1 : Vec Occurrence Global) (e : Occurrence) → p < length occ → v0 ≡ get_or occ p v0 → e ≡ get_or v0.items q e → v1.items ≡ swap_remove v0.items q e → (x : Occurrence) × (x ≡ get_or (get_or (lists_of occ) p []) q x) × (lists_of (set occ p v1) ≡ set (lists_of occ) p (swap_remove (get_or (lists_of occ) p []) q x))
@@ -93,6 +93,15 @@ spots-read spots s i w0 room value h =
     let those : get_or (spots_of spots) s [] ≡ (spots_in w0) = get_or-map spots_in spots s w0 [] room ∙ ap spots_in (sym value) in
     omega (arith, h, ap length those)
 
+-- the terms of a form from `left` on are removed
+pub record IsUnlinking (store now : Store) (form left : ℕ) : Type 0 where
+  pub stored : now.stored ≡ store.stored
+  pub variables : now.variables ≡ store.variables
+  pub lists : length now.occurrences.items ≡ length store.occurrences.items
+  pub within : left ≤ length (terms_at (shapes_of store.stored.items) form)
+  pub rooms : (s : ℕ) → length (get_or (spots_of now.spots.items) s []) ≡ length (get_or (spots_of store.spots.items) s [])
+  pub linked : IsLinked (cut (shapes_of store.stored.items) form left) (spots_of now.spots.items) (entries_of (shapes_of store.stored.items) now.occurrences.items)
+
 -- what a term's removal needs and does
 pub record UnlinkRead (base : List Shape) (spots : List (List ℕ)) (occ : List (Vec Occurrence Global)) (form j q p : ℕ) : Type 0 where
   pub room : p < length occ
@@ -100,29 +109,44 @@ pub record UnlinkRead (base : List Shape) (spots : List (List ℕ)) (occ : List 
   pub named : (o : Occurrence) → slice_get (get_or (lists_of occ) p []) (length (get_or (lists_of occ) p []) - 1) ≡ Some o → (o.form < length spots) × (o.index < length (get_or spots o.form []))
   pub next : (spots' : List (List ℕ)) (occ' : List (Vec Occurrence Global)) → ((o : Occurrence) × (o ≡ get_or (get_or (lists_of occ) p []) q o) × (lists_of occ' ≡ set (lists_of occ) p (swap_remove (get_or (lists_of occ) p []) q o))) → Moved (get_or (lists_of occ) p []) q spots spots' → IsLinked (cut base form j) spots' (entries_of base occ')
 
-pub unlink-read : (keep keep' : List StoredForm) (sp : List Spots) (occ : List (Vec Occurrence Global)) (n form left j : ℕ) (k : StoredForm) (t : Term) (w : Spots) (q p : ℕ) →
-    keep' ≡ keep → left ≡ j + 1 → form < length keep → k ≡ get_or keep' form k → left ≤ length (terms_at (shapes_of keep) form) → t ≡ get_or (stored_terms k) j t → w ≡ get_or sp form w → length (get_or (spots_of sp) form []) ≡ length (terms_at (shapes_of keep) form) → q ≡ get_or (spots_in w) j q → p ≡ place t.literal →
-    All (λ f. AreInside n f.terms) (shapes_of keep) → length occ ≡ 2 * n → IsLinked (cut (shapes_of keep) form left) (spots_of sp) (entries_of (shapes_of keep) occ) → UnlinkRead (shapes_of keep) (spots_of sp) occ form j q p
-unlink-read keep keep' sp occ n form left j k t w q p same count inside kept_is most item spots_is rooms spot_is place_is all places old =
+pub unlink-read : {store now : Store} {form left : ℕ} (k : StoredForm) (t : Term) (w : Spots) (q p : ℕ) → IsSound store → IsUnlinking store now form left → 0 < left → form < length store.stored.items → k ≡ get_or now.stored.items form k → t ≡ get_or (stored_terms k) (left - 1) t → w ≡ get_or now.spots.items form w → q ≡ get_or (spots_in w) (left - 1) q → p ≡ place t.literal →
+    UnlinkRead (shapes_of store.stored.items) (spots_of now.spots.items) now.occurrences.items form (left - 1) q p
+unlink-read {store} {now} {form} {left} k t w q p0 sound u some inside kept_is item spots_is spot_is place_is =
+    let keep = store.stored.items in
     let base = shapes_of keep in
-    let kept_here : k ≡ get_or keep form k = rw same at kept_is in
+    let j = left - 1 in
+    let occ = now.occurrences.items in
+    let p = place t.literal in
+    let kept_here : k ≡ get_or keep form k = rw (ap (λ (v : Vec StoredForm Global). v.items) u.stored) at kept_is in
     let inside_base : form < length base = omega (arith, inside, length-map keep stored_shape) in
-    let within : j < length (terms_at base form) = omega (arith, most, count) in
+    let within : j < length (terms_at base form) = omega (arith, u.within, some) in
     let those : terms_at base form ≡ (stored_terms k) = ap (λ (f : Shape). f.terms) (shape-at keep form k inside kept_here (record { terms = []; degree = 0 })) in
-    let is : t ≡ get_or (terms_at base form) j t = rw those item in
-    let inside_sp : form < length sp = omega (arith, old.sizes, cut-length base form left, inside_base, length-map sp spots_in) in
-    let spots_here : get_or (spots_of sp) form [] ≡ spots_in w = get_or-map spots_in sp form w [] inside_sp ∙ ap spots_in (sym spots_is) in
-    let within_w : j < length (spots_in w) = omega (arith, within, rooms, ap length spots_here) in
-    let spot : slice_get (get_or (spots_of sp) form []) j ≡ Some q = ap (λ (xs : List ℕ). slice_get xs j) spots_here ∙ slice_get-get_or (spots_in w) j q within_w ∙ ap (λ x. Some x) (sym spot_is) in
-    let linked : IsLinked (cut base form (j + 1)) (spots_of sp) (entries_of base occ) = subst (λ x. IsLinked (cut base form x) (spots_of sp) (entries_of base occ)) count old in
-    let variable : t.literal.variable < n = term-inside keep n form k (stored_terms k) j t inside kept_here refl (omega (arith, within, ap length those)) item all in
-    let room : place t.literal < length (entries_of base occ) = omega (arith, place-inside t.literal n variable, places, entries-length base occ) in
-    let entry = named-entry base (spots_of sp) (entries_of base occ) form j q t inside_base within is spot linked in
+    let x : IsTerm base form j t = record { inside = inside_base; within = within; is = rw those item } in
+    let inside_sp : form < length now.spots.items = omega (arith, u.linked.sizes, cut-length base form left, inside_base, length-map now.spots.items spots_in) in
+    let spots_here : get_or (spots_of now.spots.items) form [] ≡ spots_in w = get_or-map spots_in now.spots.items form w [] inside_sp ∙ ap spots_in (sym spots_is) in
+    let within_w : j < length (spots_in w) = omega (arith, within, u.rooms form, sound.rooms form inside_base, ap length spots_here) in
+    let spot : slice_get (get_or (spots_of now.spots.items) form []) j ≡ Some q = ap (λ (xs : List ℕ). slice_get xs j) spots_here ∙ slice_get-get_or (spots_in w) j q within_w ∙ ap (λ y. Some y) (sym spot_is) in
+    let linked : IsLinked (cut base form (j + 1)) (spots_of now.spots.items) (entries_of base occ) = subst (λ n. IsLinked (cut base form n) (spots_of now.spots.items) (entries_of base occ)) (omega (arith, some)) u.linked in
+    let variable : t.literal.variable < store.variables = term-inside keep store.variables form k (stored_terms k) j t inside kept_here refl (omega (arith, within, ap length those)) item sound.inside in
+    let room : p < length occ = omega (arith, place-inside t.literal store.variables variable, sound.places, u.lists, entries-length base store.occurrences.items) in
+    let entry : slice_get (get_or (entries_of base occ) p []) q ≡ Some (entry_for form j t) = named-entry (spots_of now.spots.items) (entries_of base occ) q x spot linked in
     rw place_is (record {
-      room = omega (arith, room, entries-length base occ);
-      spot_in = omega (arith, slice_get_within (get_or (entries_of base occ) (place t.literal) []) q entry.entry entry.is, entries-size base occ (place t.literal));
-      named = λ o h. named-spot (cut base form (j + 1)) (spots_of sp) (entries_of base occ) (place t.literal) (length (get_or (lists_of occ) (place t.literal) []) - 1) (weighted base o) (entry-weighted base occ (place t.literal) (length (get_or (lists_of occ) (place t.literal) []) - 1) o h) linked;
-      next = λ spots' occ' taken moved. unlink-next base (spots_of sp) spots' (entries_of base occ) (entries_of base occ') form j q t (weighted base taken.0) inside_base within is spot room (item-taken base occ (place t.literal) q taken.0 taken.1) (entries-taken base occ occ' (place t.literal) q taken.0 taken.2) (shifted base occ (place t.literal) q (spots_of sp) spots' moved) linked;
+      room = room;
+      spot_in = omega (arith, slice_get_within (get_or (entries_of base occ) p []) q (entry_for form j t) entry, entries-size base occ p);
+      named = λ o h. named-spot (cut base form (j + 1)) (spots_of now.spots.items) (entries_of base occ) p (length (get_or (lists_of occ) p []) - 1) (weighted base o) (entry-weighted base occ p (length (get_or (lists_of occ) p []) - 1) o h) linked;
+      next = λ spots' occ' taken moved.
+          let same : weighted base taken.0 ≡ entry_for form j t = taken-is (get_or (entries_of base occ) p []) q (entry_for form j t) (weighted base taken.0) entry (item-taken base occ p q taken.0 taken.1) in
+          let l : Leaving base (spots_of now.spots.items) (entries_of base occ) (entries_of base occ') form j q p (get_or (entries_of base occ) p []) t = record {
+            term = x;
+            spot = spot;
+            at_place = refl;
+            those = refl;
+            room = omega (arith, room, entries-length base occ);
+            item = entry;
+            shorter = entries-taken base occ occ' p q taken.0 taken.2 ∙ ap (λ e. set (entries_of base occ) p (swap_remove (get_or (entries_of base occ) p []) q e)) same;
+            old = linked;
+          } in
+          unlink-next l spots' (shifted base occ p q (spots_of now.spots.items) spots' moved);
     })
 
 -- a move does not change the sizes

@@ -3,8 +3,7 @@ use Rattle.pb_propagate.proofs.Common.{ℕ, ◌++◌, ◌+◌, ◌-◌, ◌<◌,
 use Rattle.pb_propagate.proofs.Common.{length, length-append, List, set, suc, sym, true, zero, slice_get, Some, swap_remove, cases_eq, cases_lt}
 use Rattle.pb_propagate.proofs.Common.{get_or_from_slice_get, slice_get-get_or, slice_get_within, IsAbsent, IsWithout}
 use Rattle.pb_propagate.proofs.lemmas.store.Options.{some-one, none-some}
-use Rattle.pb_propagate.proofs.lemmas.store.Gets.{lt_of_apart, get-set_same, get-set_other, get-push_less, get-push_same, get-push_past}
-use Rattle.pb_propagate.proofs.lemmas.store.Unlinks.{swap-other, swap-last, swap-here, swap-length}
+use Rattle.pb_propagate.proofs.lemmas.store.Gets.{lt_of_apart, get-set_same, get-set_other, get-push_less, get-push_same, get-push_past, swap-other, swap-last, swap-here, swap-length}
 
 abbrev pub ArePositioned : List ℕ → List ℕ → Type 0
 ArePositioned list positions = (i s : ℕ) → slice_get list i ≡ Some s → slice_get positions s ≡ Some i
@@ -80,7 +79,7 @@ position-got list positions form position there old is =
     ap (slice_get list) same ∙ at.1
 
 -- the element that is removed is the form
-pub taken-is : (list : List ℕ) (position form x : ℕ) → slice_get list position ≡ Some form → x ≡ get_or list position x → x ≡ form
+pub taken-is : {X : Type 0} (list : List X) (position : ℕ) (form x : X) → slice_get list position ≡ Some form → x ≡ get_or list position x → x ≡ form
 taken-is list position form x got is = is ∙ get_or_from_slice_get list position form x got
 
 -- the last number has moved

@@ -87,9 +87,9 @@ rest-watched store store' clauses clauses' forms f k s none e keeps spots occ va
     }
 
 -- an empty form in the slot of a removed one
-pub rest-quit : (store store' : Store) (clauses clauses' : Clauses) (forms : List (Option Form)) (k : StoredForm) (s : ℕ) → s < length forms → IsSound store' → IsEmpty k → store'.stored.items ≡ set store.stored.items s k → store'.variables ≡ store.variables →
+pub rest-removed : (store store' : Store) (clauses clauses' : Clauses) (forms : List (Option Form)) (k : StoredForm) (s : ℕ) → s < length forms → IsSound store' → IsEmpty k → store'.stored.items ≡ set store.stored.items s k → store'.variables ≡ store.variables →
     AreReady clauses' → clauses_of clauses' ≡ set (clauses_of clauses) s [] → length clauses'.lists.items ≡ length clauses.lists.items → IsAtRest store clauses forms → IsAtRest store' clauses' (set forms s None)
-rest-quit store store' clauses clauses' forms k s less sound e keeps variables ready literals lists r =
+rest-removed store store' clauses clauses' forms k s less sound e keeps variables ready literals lists r =
     let keep = store.stored.items in
     let inside : s < length keep = omega (arith, less, slots-length forms (joined (shapes_of keep) (clauses_of clauses)) r.slots, joined-length (shapes_of keep) (clauses_of clauses), length-map keep stored_shape) in
     record {

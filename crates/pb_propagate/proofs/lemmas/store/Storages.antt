@@ -39,13 +39,6 @@ linked-named forms spots lists old p k d h =
       | inr past ↦ absurd (omega (arith, inside, ap (λ (f : Shape). length f.terms) (get_or_past forms e.form (record { terms = []; degree = 0 }) past)))
     ]
 
--- the form at the end
-at-end : (forms : List Shape) (x d : Shape) → get_or (forms ++ (x ∷ [])) (length forms) d ≡ x
-at-end forms x d = last-is forms x d (length forms) refl
-
-before-end : (forms : List Shape) (x d : Shape) (s : ℕ) → s < length forms → get_or (forms ++ (x ∷ [])) s d ≡ get_or forms s d
-before-end forms x d s h = get_or_append_left forms (x ∷ []) d s h
-
 -- a last form without terms names nothing
 end-same : (forms : List Shape) (others : List (List ℕ)) (x : Shape) (y : List ℕ) (s i : ℕ) → length others ≡ length forms → term_at (cut (forms ++ (x ∷ [])) (length forms) 0) (others ++ (y ∷ [])) s i ≡ term_at forms others s i
 end-same forms others x y s i sizes =
@@ -54,7 +47,7 @@ end-same forms others x y s i sizes =
     let long : length base ≡ length forms + 1 = length-append forms (x ∷ []) in
     elim (cases_lt s (length forms)) [
       | inl less ↦
-          let same_form : get_or (cut base (length forms) 0) s e ≡ get_or forms s e = cut-other base (length forms) 0 s (λ h. absurd (omega (arith, h, less))) e ∙ before-end forms x e s less in
+          let same_form : get_or (cut base (length forms) 0) s e ≡ get_or forms s e = cut-other base (length forms) 0 s (λ h. absurd (omega (arith, h, less))) e ∙ get_or_append_left forms (x ∷ []) e s less in
           let same_spots : get_or (others ++ (y ∷ [])) s [] ≡ get_or others s [] = get_or_append_left others (y ∷ []) [] s (omega (arith, less, sizes)) in
           ap (λ (f : Shape). term_cross (slice_get f.terms i) (slice_get (get_or (others ++ (y ∷ [])) s []) i)) same_form ∙ ap (λ (ys : List ℕ). term_cross (slice_get (terms_at forms s) i) (slice_get ys i)) same_spots
       | inr more ↦
@@ -73,7 +66,7 @@ end-total forms x =
     let base = forms ++ (x ∷ []) in
     let long : length base ≡ length forms + 1 = length-append forms (x ∷ []) in
     let cut_sum = cut-total base (length forms) 0 (omega (arith, long)) (omega arith) in
-    let last_terms : terms_at base (length forms) ≡ x.terms = ap (λ (f : Shape). f.terms) (at-end forms x (record { terms = []; degree = 0 })) in
+    let last_terms : terms_at base (length forms) ≡ x.terms = ap (λ (f : Shape). f.terms) (last-is forms x (record { terms = []; degree = 0 }) (length forms) refl) in
     omega (arith, cut_sum, ap length last_terms, sum_by_push (λ (f : Shape). length f.terms) forms x)
 
 pub link-start : (forms : List Shape) (others : List (List ℕ)) (lists : List (List Weighted)) (x : Shape) → IsLinked forms others lists → IsLinked (cut (forms ++ (x ∷ [])) (length forms) 0) (others ++ ([] ∷ [])) lists
@@ -83,7 +76,7 @@ link-start forms others lists x old =
     let other_long : length (others ++ ([] ∷ [])) ≡ length others + 1 = length-append others ([] ∷ []) in
     record {
       linked = λ s d l inside. elim (cases_lt s (length forms)) [
-        | inl less ↦ old.linked s d l less ∙ sym (ap (λ (f : Shape). weight_on l f.terms) (cut-other base (length forms) 0 s (λ h. absurd (omega (arith, h, less))) d ∙ before-end forms x d s less))
+        | inl less ↦ old.linked s d l less ∙ sym (ap (λ (f : Shape). weight_on l f.terms) (cut-other base (length forms) 0 s (λ h. absurd (omega (arith, h, less))) d ∙ get_or_append_left forms (x ∷ []) d s less))
         | inr more ↦
             let here : s ≡ length forms = omega (arith, more, inside, long, cut-length base (length forms) 0) in
             let nothing = weight-none (length forms) (get_or lists (place l) []) (linked-named forms others lists old (place l)) in
@@ -99,7 +92,7 @@ link-end forms others lists x y sizes old =
     let base = forms ++ (x ∷ []) in
     let long : length base ≡ length forms + 1 = length-append forms (x ∷ []) in
     record {
-      linked = λ s d l less. old.linked s d l (omega (arith, less, long, cut-length base (length forms) 0)) ∙ ap (λ (f : Shape). weight_on l f.terms) (cut-other base (length forms) 0 s (λ h. absurd (omega (arith, h, less))) d ∙ before-end forms x d s less);
+      linked = λ s d l less. old.linked s d l (omega (arith, less, long, cut-length base (length forms) 0)) ∙ ap (λ (f : Shape). weight_on l f.terms) (cut-other base (length forms) 0 s (λ h. absurd (omega (arith, h, less))) d ∙ get_or_append_left forms (x ∷ []) d s less);
       totals = old.totals ∙ end-total forms x;
       crossed = crossed-same (term_at (cut base (length forms) 0) (others ++ (y ∷ []))) (term_at forms others) (entry_at lists) (λ s i. sym (end-same forms others x y s i sizes)) old.crossed;
       sizes = sizes;

@@ -1,23 +1,21 @@
 -- Entries and the coefficients of their terms.
-use Rattle.pb_propagate.proofs.Common.{ℕ, ◌++◌, ◌-◌, ◌<◌, ◌∙◌, ◌∷◌, ◌≡◌, [], ap, arith, false, get_or, get_or-set_other, Global, length, List, map}
-use Rattle.pb_propagate.proofs.Common.{refl, set, suc, sym, take, Vec, zero, All, option_map, slice_get, Some, swap_remove, get_or_default}
-use Rattle.pb_propagate.proofs.Common.{length-map, map-set, take-map, slice_get-get_or, slice_get-map, slice_get_within, Occurrence, Term, NameForms}
+use Rattle.pb_propagate.proofs.Common.{map-append, ℕ, ◌++◌, ◌-◌, ◌<◌, ◌∙◌, ◌∷◌, ◌≡◌, [], ap, arith, false, get_or, get_or-set_other, Global, length}
+use Rattle.pb_propagate.proofs.Common.{List, map, refl, set, suc, sym, Vec, zero, All, option_map, slice_get, Some, swap_remove, get_or_default}
+use Rattle.pb_propagate.proofs.Common.{length-map, map-set, slice_get-get_or, slice_get-map, slice_get_within, Occurrence, Term, NameForms}
 use Rattle.pb_propagate.proofs.Common.{entries_of, lists_of, cut, IsLinked, last, Moved, terms_at, weighted, Shape, Weighted}
 use Rattle.std.proofs.Math.ListN.{get_or-map}
+use Rattle.std.proofs.lemmas.Simd.{map-map}
+use Rattle.pb_propagate.proofs.lemmas.store.Gets.{swap-map}
 use Rattle.pb_propagate.specs.engine.Engine.Links.{none}
 use Rattle.pb_propagate.proofs.lemmas.store.Links.{cut-here}
 use Rattle.pb_propagate.proofs.lemmas.store.Unlinks.{Shifted, stays, goes, named-term}
 
 -- the lists with and without the coefficients
-pub entries-get : (forms : List Shape) (occ : List (Vec Occurrence Global)) (p : ℕ) → get_or (entries_of forms occ) p [] ≡ map (weighted forms) (get_or (lists_of occ) p [])
-entries-get forms [] zero = refl
-entries-get forms [] (suc p) = refl
-entries-get forms (v ∷ occ) zero = refl
-entries-get forms (v ∷ occ) (suc p) = entries-get forms occ p
-
 entries-lists : (forms : List Shape) (occ : List (Vec Occurrence Global)) → entries_of forms occ ≡ map (map (weighted forms)) (lists_of occ)
-entries-lists forms [] = refl
-entries-lists forms (v ∷ occ) = ap (λ xs. map (weighted forms) v.items ∷ xs) (entries-lists forms occ)
+entries-lists forms occ = sym (map-map (map (weighted forms)) (λ (v : Vec Occurrence Global). v.items) occ)
+
+pub entries-get : (forms : List Shape) (occ : List (Vec Occurrence Global)) (p : ℕ) → get_or (entries_of forms occ) p [] ≡ map (weighted forms) (get_or (lists_of occ) p [])
+entries-get forms occ p = ap (λ es. get_or es p []) (entries-lists forms occ) ∙ get_or-map (map (weighted forms)) (lists_of occ) p []
 
 pub entry-weighted : (forms : List Shape) (occ : List (Vec Occurrence Global)) (p q : ℕ) (o : Occurrence) → slice_get (get_or (lists_of occ) p []) q ≡ Some o → slice_get (get_or (entries_of forms occ) p []) q ≡ Some (weighted forms o)
 entry-weighted forms occ p q o h =
@@ -27,21 +25,22 @@ pub entries-size : (forms : List Shape) (occ : List (Vec Occurrence Global)) (p 
 entries-size forms occ p = ap length (entries-get forms occ p) ∙ length-map (get_or (lists_of occ) p []) (weighted forms)
 
 -- an entry that is removed, and the one that moves
-swap-map : {X Y : Type 0} (f : X → Y) (xs : List X) (q : ℕ) (d : X) → map f (swap_remove xs q d) ≡ swap_remove (map f xs) q (f d)
-swap-map f xs q d =
-    let n = length xs - 1 in
-    let x = get_or xs n d in
-    sym (take-map f n (set xs q x))
-    ∙ ap (take n) (map-set f xs q x ∙ ap (set (map f xs) q) (sym (get_or-map f xs n d)))
-    ∙ ap (λ m. take (m - 1) (set (map f xs) q (get_or (map f xs) (m - 1) (f d)))) (sym (length-map xs f))
+entries-set : (forms : List Shape) (occ occ' : List (Vec Occurrence Global)) (p : ℕ) (os : List Occurrence) → lists_of occ' ≡ set (lists_of occ) p os → entries_of forms occ' ≡ set (entries_of forms occ) p (map (weighted forms) os)
+entries-set forms occ occ' p os h =
+    let w = weighted forms in
+    entries-lists forms occ' ∙ ap (map (map w)) h ∙ map-set (map w) (lists_of occ) p os ∙ ap (λ ys. set ys p (map w os)) (sym (entries-lists forms occ))
 
 pub entries-taken : (forms : List Shape) (occ occ' : List (Vec Occurrence Global)) (p q : ℕ) (o : Occurrence) → lists_of occ' ≡ set (lists_of occ) p (swap_remove (get_or (lists_of occ) p []) q o) → entries_of forms occ' ≡ set (entries_of forms occ) p (swap_remove (get_or (entries_of forms occ) p []) q (weighted forms o))
 entries-taken forms occ occ' p q o h =
     let w = weighted forms in
     let os = get_or (lists_of occ) p [] in
-    entries-lists forms occ' ∙ ap (map (map w)) h ∙ map-set (map w) (lists_of occ) p (swap_remove os q o)
-    ∙ ap (λ xs. set (map (map w) (lists_of occ)) p xs) (swap-map w os q o ∙ ap (λ xs. swap_remove xs q (w o)) (sym (entries-get forms occ p)))
-    ∙ ap (λ ys. set ys p (swap_remove (get_or (entries_of forms occ) p []) q (w o))) (sym (entries-lists forms occ))
+    entries-set forms occ occ' p (swap_remove os q o) h ∙ ap (set (entries_of forms occ) p) (swap-map w os q o ∙ ap (λ xs. swap_remove xs q (w o)) (sym (entries-get forms occ p)))
+
+pub entries-pushed : (forms : List Shape) (occ occ' : List (Vec Occurrence Global)) (p : ℕ) (o : Occurrence) → lists_of occ' ≡ set (lists_of occ) p (get_or (lists_of occ) p [] ++ (o ∷ [])) → entries_of forms occ' ≡ set (entries_of forms occ) p (get_or (entries_of forms occ) p [] ++ (weighted forms o ∷ []))
+entries-pushed forms occ occ' p o h =
+    let w = weighted forms in
+    let os = get_or (lists_of occ) p [] in
+    entries-set forms occ occ' p (os ++ (o ∷ [])) h ∙ ap (set (entries_of forms occ) p) (map-append w os (o ∷ []) ∙ ap (λ xs. xs ++ (w o ∷ [])) (sym (entries-get forms occ p)))
 
 pub item-taken : (forms : List Shape) (occ : List (Vec Occurrence Global)) (p q : ℕ) (o : Occurrence) → o ≡ get_or (get_or (lists_of occ) p []) q o → weighted forms o ≡ get_or (get_or (entries_of forms occ) p []) q (weighted forms o)
 item-taken forms occ p q o is =

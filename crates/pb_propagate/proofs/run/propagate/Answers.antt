@@ -1,6 +1,6 @@
-use Rattle.pb_propagate.proofs.Common.{ℕ, ◌++◌, ◌+◌, ◌<◌, ◌∙◌, ◌∷◌, ◌≤◌, [], ap, arith, drop, get_or, Global, inl, inr, length, length-append, List, refl, subst, sym, Vec}
-use Rattle.pb_propagate.proofs.Common.{sum, drop_all, get_or_default, length-map, take_rest, NumberedLiteral, Heads, AreServed, AreWalked}
-use Rattle.pb_propagate.proofs.Common.{passed_of, all_of, clauses_of, joined, false_at, falsified_code, head, heads_at, IsAhead, spent, entries_of}
+use Rattle.pb_propagate.proofs.Common.{ℕ, ◌+◌, ◌<◌, ◌∙◌, ◌≤◌, ap, arith, drop, get_or, Global, inl, inr, length, length-append, List, refl, subst, sym, Vec}
+use Rattle.pb_propagate.proofs.Common.{sum, drop_all, get_or_default, length-map, take_rest, NumberedLiteral}
+use Rattle.pb_propagate.proofs.Common.{passed_of, all_of, clauses_of, joined, heads_at, IsAhead, spent, entries_of}
 use Rattle.pb_propagate.proofs.Common.{shapes_of, stored_shape, Conflicts, IsSettled, database, progress, RunReasons}
 use Rattle.pb_propagate.proofs.lemmas.engine.Derivations.{derivation-keeps}
 use Rattle.pb_propagate.proofs.lemmas.engine.Reasoned.{reasons-derive, run-reasons-none, run-reasons-then}
@@ -14,7 +14,7 @@ use Rattle.pb_propagate.proofs.lemmas.engine.Values.{opposite}
 use Rattle.pb_propagate.proofs.lemmas.clauses.Shapes.{derives-joined, conflicts-joined, joined-source}
 use Rattle.pb_propagate.proofs.lemmas.clauses.Heads.{mark-walked, walked-mark, marking-start, marking-grow, marking-found, marking-next}
 use Rattle.pb_propagate.proofs.lemmas.clauses.Walks.{grows-refl, grows-trans, grows-listed, kept-then, running-grow}
-use Rattle.pb_propagate.proofs.lemmas.clauses.Watching.{IsWatching, cost, next-of, listed-small, ahead-room, advanced-sum, walked-whole, watching-start, watching-grow, watching-next, watching-settled, derived-take, cost-grow, cost-next}
+use Rattle.pb_propagate.proofs.lemmas.clauses.Watching.{cost, next-of, listed-small, ahead-within, walked-whole, watching-start, watching-grow, watching-next, watching-settled, cost-grow, reached-ahead}
 use Rattle.pb_propagate.proofs.run.propagate.Goals as goal
 
 pub work-init : goal.work-init
@@ -49,8 +49,8 @@ walk-requires-clause-literal c =
     let run = c.work.run in
     let w = c.work.invariant.watching in
     let a = subst (λ xs. IsAhead c.work.heads xs c.in-Some.ahead) c.as_slice.ensures.value c.in-Some.ensures.some in
-    let next = next-of run.assignment.values.items run.assignment.list.items a.group (head a.group c.work.heads) a.literal run.assignment.agrees a.inside a.is in
-    (omega (arith, a.code, next.small, w.running.sizes), ap (false_at run.assignment.values.items) a.code ∙ next.failed)
+    let next = next-of run.assignment.values.items run.assignment.agrees a in
+    (omega (arith, next.1, w.running.sizes), next.0)
 
 pub returns-then-branch-2-clause-reasons : goal.returns-then-branch-2-clause-reasons
 returns-then-branch-2-clause-reasons c =
@@ -71,8 +71,8 @@ work-smaller-in-Some c =
     let w = c.work.invariant.watching in
     let a = subst (λ xs. IsAhead c.work.heads xs c.in-Some.ahead) c.as_slice.ensures.value c.in-Some.ensures.some in
     let bound = propagating-bound state in
-    let sum = ap (λ (h : Heads). h.short + h.long) a.after ∙ advanced-sum a.group c.work.heads in
-    omega (arith, bound, c.in_ok-walk.ensures.walks.advances.next, state.within, sum, w.short, w.long, ahead-room a.group c.work.heads (length run.assignment.list.items) a.inside w.short w.long, c.work.invariant.taken, state.values, run.assignment.room)
+    let ends = ahead-within a w.short w.long in
+    omega (arith, bound, c.in_ok-walk.ensures.walks.advances.next, state.within, w.short, w.long, ends.0, ends.1, ends.2, c.work.invariant.taken, state.values, run.assignment.room)
 
 pub work-preserved-in-Some : goal.work-preserved-in-Some
 work-preserved-in-Some c =
@@ -82,27 +82,22 @@ work-preserved-in-Some c =
     let w = c.work.invariant.watching in
     let a = subst (λ xs. IsAhead c.work.heads xs c.in-Some.ahead) c.as_slice.ensures.value c.in-Some.ensures.some in
     let start = c.args.run.now in
-    let next = next-of run.assignment.values.items run.assignment.list.items a.group (head a.group c.work.heads) a.literal run.assignment.agrees a.inside a.is in
     let done = c.walk.new.run in
     let lists = entries_of (shapes_of store.stored.items) store.occurrences.items in
     let reported = c.in_ok-walk.ensures in
     let same = ap (λ (v : Vec ℕ Global). v.items) c.walk.ensures.candidates in
-    let covered = walk-covered (database c.args.store.now c.args.rests.now) c.work.clauses c.walk.new.clauses c.in-Some.ahead.code (falsified_code a.group a.literal) same a.code reported.walks.advances.costs in
+    let covered = walk-covered (database c.args.store.now c.args.rests.now) c.work.clauses c.walk.new.clauses c.in-Some.ahead.code c.in-Some.ahead.code same refl reported.walks.advances.costs in
     let reasons = subst (λ ls. RunReasons (joined (shapes_of c.args.store.now.stored.items) ls) c.work.run c.walk.new.run) w.literals reported.walks.reasons in
-    let derived = reasons-derive reasons.added in
-    let after = λ (n : ℕ) (within : n ≤ length run.assignment.list.items). derived-take (all_of store c.args.clauses.now) run.assignment.list.items done.assignment.list.items n within derived in
-    let paid = subst (λ (h : Heads). done.visits + spent lists run.assignment.list.items + cost c.args.clauses.now c.work.clauses c.work.heads run.assignment.list.items ≤ run.visits + cost c.args.clauses.now c.walk.new.clauses h done.assignment.list.items + spent lists done.assignment.list.items) (sym a.after)
-    (cost-next c.args.clauses.now c.work.clauses c.walk.new.clauses run.assignment.values.items run.assignment.list.items done.assignment.list.items a.group c.work.heads run.visits done.visits (spent lists run.assignment.list.items) (spent lists done.assignment.list.items) a.literal (state.costs.single c.requires.ready.single) a.inside a.is after covered w) in
-    let walked = subst (λ t. (xs : List ℕ) → AreServed c.work.run.assignment.values.items c.work.clauses.blocks.literals c.work.clauses.blocks.watches xs t 0 → AreWalked c.walk.new.run.assignment.values.items c.walk.new.clauses.blocks.literals c.walk.new.clauses.blocks.watches (xs ++ (t ∷ []))) a.code (reported.walked c.if-branch-2.false).1 in
-    let watching : IsWatching c.args.clauses.now c.walk.new.clauses done.assignment.values.items done.assignment.list.items c.in-Some.ahead.heads =
-    subst (IsWatching c.args.clauses.now c.walk.new.clauses done.assignment.values.items done.assignment.list.items) (sym a.after)
-    (watching-next (all_of store c.args.clauses.now) c.args.clauses.now c.work.clauses c.walk.new.clauses run.assignment.values.items done.assignment.values.items run.assignment.list.items done.assignment.list.items a.group c.work.heads a.literal a.inside a.is next.failed reported.literals reported.walks.running derived walked w) in
+    let extends = reported.walks.advances.costs.extends in
+    let reaches = reached-ahead done.assignment.list.items (state.costs.single c.requires.ready.single) a extends w in
+    let paid : done.visits + spent lists run.assignment.list.items + cost c.args.clauses.now c.work.clauses c.work.heads run.assignment.list.items ≤ run.visits + cost c.args.clauses.now c.walk.new.clauses c.in-Some.ahead.heads done.assignment.list.items + spent lists done.assignment.list.items = omega (arith, covered, reaches) in
+    let watching = watching-next c.walk.new.clauses run done a extends reported.literals reported.walks.running (reported.walked c.if-branch-2.false).1 w in
     let one = walked-mark done.assignment.values.items c.walk.new.clauses.blocks.literals c.walk.new.clauses.blocks.watches done.assignment.list.items c.in-Some.ahead.heads done.assignment.agrees watching.short watching.long watching.served in
-    let moved = marking-found run.assignment.values.items c.walk.new.clauses done.assignment.list.items run.assignment.agrees reported.literals reported.walks.kept reported.walks.advances.costs.extends c.work.invariant.marking in
+    let moved = marking-grow (marking-found c.work.invariant.marking run.assignment.values.items c.walk.new.clauses run.assignment.agrees reported.literals reported.walks.kept) done.assignment.list.items extends in
     record {
       grows = grows-trans start.assignment.values.items run.assignment.values.items done.assignment.values.items c.work.invariant.grows reported.walks.grows;
       kept = kept-then start.assignment.values.items run.assignment.values.items c.args.clauses.now c.work.clauses c.walk.new.clauses c.work.invariant.grows c.work.invariant.kept reported.walks.kept;
-      marking = marking-next c.mark.new.marks.items c.len-count.result c.in-Some.ahead.heads (omega (arith, c.len-count.ensures, done.assignment.list.ok.0)) c.in_ok-mark.ensures one moved;
+      marking = marking-next moved c.mark.new.marks.items c.len-count.result c.in-Some.ahead.heads (omega (arith, c.len-count.ensures, done.assignment.list.ok.0)) c.in_ok-mark.ensures one;
       taken = c.work.invariant.taken;
       watching = watching;
       reasons = run-reasons-then c.work.invariant.reasons reasons;
@@ -149,11 +144,11 @@ work-preserved-else-branch c =
     record {
       grows = grows-trans c.args.run.now.assignment.values.items run.assignment.values.items done.assignment.values.items c.work.invariant.grows grows;
       kept = c.work.invariant.kept;
-      marking = marking-grow done.assignment.list.items reported.visits.advances.costs.extends c.work.invariant.marking;
+      marking = marking-grow c.work.invariant.marking done.assignment.list.items reported.visits.advances.costs.extends;
       taken = c.work.invariant.taken;
-      watching = watching-grow (all_of store c.args.clauses.now) c.args.clauses.now c.work.clauses run.assignment.values.items done.assignment.values.items run.assignment.list.items done.assignment.list.items c.work.heads c.in_ok-visit_form.ensures.visits.advances.values grows derived w;
+      watching = watching-grow reported.visits.advances.values grows reported.visits.advances.costs.extends w;
       reasons = run-reasons-then c.work.invariant.reasons (run-reasons-joined (shapes_of store.stored.items) (clauses_of c.args.clauses.now) run done c.requires.ready.joined reported.visits.reasons.kept reported.visits.reasons.added);
-      state = propagating-next (cost c.args.clauses.now c.work.clauses c.work.heads done.assignment.list.items) (run.next + 1) state (reported.counted c.if-branch.false) tidy reported.visits.advances reported.visits.found (omega arith) inside (omega (arith, reported.visits.advances.costs.paid, cost-grow (all_of store c.args.clauses.now) c.args.clauses.now c.work.clauses run.assignment.list.items done.assignment.list.items c.work.heads w.short w.long derived));
+      state = propagating-next (cost c.args.clauses.now c.work.clauses c.work.heads done.assignment.list.items) (run.next + 1) state (reported.counted c.if-branch.false) tidy reported.visits.advances reported.visits.found (omega arith) inside (omega (arith, reported.visits.advances.costs.paid, cost-grow done.assignment.list.items reported.visits.advances.costs.extends w));
     }
 
 pub work-smaller : goal.work-smaller
@@ -185,10 +180,10 @@ pub returns-else-taken-waiting-clause-reasons : goal.returns-else-taken-waiting-
 returns-else-taken-waiting-clause-reasons c = c.work.invariant.reasons
 
 pub returns-then-branch-clause-marks : goal.returns-then-branch-clause-marks
-returns-then-branch-clause-marks c = (marking-grow c.visit_form.new.run.assignment.list.items c.in_ok-visit_form.ensures.visits.advances.costs.extends c.work.invariant.marking).kept
+returns-then-branch-clause-marks c = (marking-grow c.work.invariant.marking c.visit_form.new.run.assignment.list.items c.in_ok-visit_form.ensures.visits.advances.costs.extends).kept
 
 pub returns-then-branch-2-clause-marks : goal.returns-then-branch-2-clause-marks
-returns-then-branch-2-clause-marks c = (marking-found c.work.run.assignment.values.items c.walk.new.clauses c.walk.new.run.assignment.list.items c.work.run.assignment.agrees c.in_ok-walk.ensures.literals c.in_ok-walk.ensures.walks.kept c.in_ok-walk.ensures.walks.advances.costs.extends c.work.invariant.marking).kept
+returns-then-branch-2-clause-marks c = (marking-grow (marking-found c.work.invariant.marking c.work.run.assignment.values.items c.walk.new.clauses c.work.run.assignment.agrees c.in_ok-walk.ensures.literals c.in_ok-walk.ensures.walks.kept) c.walk.new.run.assignment.list.items c.in_ok-walk.ensures.walks.advances.costs.extends).kept
 
 pub returns-else-taken-waiting-clause-marks : goal.returns-else-taken-waiting-clause-marks
 returns-else-taken-waiting-clause-marks c = c.work.invariant.marking.kept

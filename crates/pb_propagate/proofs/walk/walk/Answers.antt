@@ -1,13 +1,13 @@
 use Rattle.pb_propagate.proofs.Common.{◌++◌, ◌+◌, ◌<◌, ◌∙◌, ◌∷◌, [], ap, arith, length, refl, subst, sym, NumberedLiteral, negation}
 use Rattle.pb_propagate.proofs.Common.{Falsified, Forces, Leaves, Stays, list_at, watch_lists, HasVisited, IsBroken, IsUnit, all_of, clauses_of}
-use Rattle.pb_propagate.proofs.Common.{shapes_of, has, database, list_of, progress, reasons_of}
+use Rattle.pb_propagate.proofs.Common.{shapes_of, has, database, progress}
 use Rattle.pb_propagate.proofs.lemmas.clauses.Literals.{true-listed, false-listed}
 use Rattle.pb_propagate.proofs.lemmas.clauses.Shapes.{broken-conflicts, conflicts-joined}
 use Rattle.pb_propagate.proofs.lemmas.clauses.Walks.{kept-then, IsWalking, walking-start, walking-next, walking-pass, walking-forces, walked-end}
 use Rattle.pb_propagate.proofs.lemmas.clauses.Readings.{running-bounded}
 use Rattle.pb_propagate.proofs.lemmas.engine.Watched.{walk-start, walk-next, walk-pass, walk-ends, walk-then, walk-costs, walk-done}
 use Rattle.pb_propagate.proofs.lemmas.engine.Advances.{on-err}
-use Rattle.pb_propagate.proofs.lemmas.engine.Reasoned.{run-reasons-none, keeps-then, reasons-within}
+use Rattle.pb_propagate.proofs.lemmas.engine.Reasoned.{run-reasons-none}
 use Rattle.pb_propagate.proofs.lemmas.root.Ready.{open-later}
 use Rattle.pb_propagate.proofs.lemmas.clauses.Reasons.{unit-reasons}
 use Rattle.pb_propagate.proofs.walk.walk.Goals as goal
@@ -62,10 +62,7 @@ watches-preserved c =
     let unit : IsUnit c.watches.run.assignment.values.items (clauses_of c.args.clauses.now) c.in-Forces.forced.slot c.in-Forces.forced.code = subst (λ ls. IsUnit c.watches.run.assignment.values.items ls c.in-Forces.forced.slot c.in-Forces.forced.code) (c.visit_clause.ensures.literals ∙ c.watches.invariant.walking.literals) v.found.1 in
     let reported = c.in_ok-put-in-Forces.ensures in
     record {
-      reasons = record {
-        kept = keeps-then (list_of c.args.run.now) (list_of c.watches.run) (reasons_of c.args.run.now) (reasons_of c.watches.run) (reasons_of c.put.new.run) (reasons-within (list_of c.args.run.now) (list_of c.watches.run) c.watches.invariant.reasons.added) c.watches.invariant.reasons.kept reported.puts.kept;
-        added = unit-reasons shapes (clauses_of c.args.clauses.now) c.watches.run.assignment.values.items c.in-Forces.forced.slot c.in-Forces.forced.code c.literal_of.result (list_of c.args.run.now) (list_of c.watches.run) (list_of c.put.new.run) (reasons_of c.watches.run) (reasons_of c.put.new.run) c.requires.joined c.watches.run.assignment.agrees c.literal_of.ensures unit reported.list reported.reason reported.puts.kept c.watches.invariant.reasons.added;
-      };
+      reasons = unit-reasons shapes (clauses_of c.args.clauses.now) c.args.run.now c.watches.run c.put.new.run c.in-Forces.forced.slot c.in-Forces.forced.code c.literal_of.result c.requires.joined unit c.literal_of.ensures reported.list reported.reason reported.puts.kept i.reasons;
       walking = walking-forces c.visit_clause.new.clauses c.visit_clause.new.visits c.in-Forces.forced (progress c.put.new.run) c.watches.invariant.walking v c.visit_clause.ensures.literals inside (record { counted = c.visit_clause.ensures.counted; rising = c.visit_clause.ensures.rising }) reported.puts.advances.rising reported.puts.advances.values (reported.list ∙ ap (λ k. c.watches.run.assignment.list.items ++ (k ∷ [])) c.literal_of.ensures) c.watches.run.assignment.agrees c.put.new.run.assignment.agrees;
       advances = walk-then (walk-next (database c.args.store.now c.args.rests.now) c.args.clauses.now c.watches.clauses c.visit_clause.new.clauses c.args.literal c.watches.index (c.watches.index + 1) c.visit_clause.new.visits inside (omega (arith, inside, v.found.0)) (omega (arith, v.found.0)) c.visit_clause.ensures.covered c.visit_clause.ensures.rising i.advances) reported.puts.advances;
       candidates = reported.candidates ∙ i.candidates;
@@ -133,10 +130,7 @@ returns-then-branch-clause-walks c =
     let reported = c.in_ok-put-in-Forces.ensures in
     record {
       advances = walk-then (walk-ends (database c.args.store.now c.args.rests.now) c.args.clauses.now c.watches.clauses c.visit_clause.new.clauses c.args.literal c.watches.index c.visit_clause.new.visits inside c.visit_clause.ensures.covered c.visit_clause.ensures.rising i.advances) c.in_ok-put-in-Forces.ensures.puts.advances;
-      reasons = record {
-        kept = keeps-then (list_of c.args.run.now) (list_of c.watches.run) (reasons_of c.args.run.now) (reasons_of c.watches.run) (reasons_of c.put.new.run) (reasons-within (list_of c.args.run.now) (list_of c.watches.run) c.watches.invariant.reasons.added) c.watches.invariant.reasons.kept reported.puts.kept;
-        added = unit-reasons shapes (clauses_of c.args.clauses.now) c.watches.run.assignment.values.items c.in-Forces.forced.slot c.in-Forces.forced.code c.literal_of.result (list_of c.args.run.now) (list_of c.watches.run) (list_of c.put.new.run) (reasons_of c.watches.run) (reasons_of c.put.new.run) c.requires.joined c.watches.run.assignment.agrees c.literal_of.ensures unit reported.list reported.reason reported.puts.kept c.watches.invariant.reasons.added;
-      };
+      reasons = unit-reasons shapes (clauses_of c.args.clauses.now) c.args.run.now c.watches.run c.put.new.run c.in-Forces.forced.slot c.in-Forces.forced.code c.literal_of.result c.requires.joined unit c.literal_of.ensures reported.list reported.reason reported.puts.kept i.reasons;
       tidy = λ aside busy t. reported.puts.tidy aside busy (i.tidy aside busy t);
       running = (forced c).running;
       kept = (forced c).kept;

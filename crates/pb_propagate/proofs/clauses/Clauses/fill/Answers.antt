@@ -105,9 +105,8 @@ returns-clause-rest c =
     let searches = ap (λ (b : Contents). b.searches) four ∙ ap (λ (b : Contents). b.searches) three ∙ ap (λ (b : Contents). set b.searches s c.new.result) two ∙ ap (λ (b : Contents). set b.searches s c.new.result) one ∙ ap (set me.blocks.searches s) (begun-is c.new.result c.new.ensures) in
     let same = ap (λ (b : Contents). b.watches) four ∙ ap (λ (b : Contents). b.watches) three in
     let watches = same ∙ ap (λ (b : Contents). b.watches) two ∙ ap (λ (b : Contents). set b.watches (2 * s + 1) (record { literal = c.index-second.result.now; live = true; spot = length (list_at (watch_lists c.put_in.new.lists.items) c.index-second.result.now) })) one in
-    rest-fill me c.write.new.self c.put_in.new.lists c.put_in-2.new.lists _ _ s c.index-first.result.now c.index-second.result.now xs c.args.pair
-    c.requires.rest c.requires.slot c.requires.empty c.requires.pair
-    (get_or_read xs c.args.pair.first c.index-first.result.now c.requires.pair.first c.index-first.ensures 0)
-    (get_or_read xs c.args.pair.second c.index-second.result.now c.requires.pair.second c.index-second.ensures 0)
+    rest-fill me c.write.new.self c.put_in.new.lists c.put_in-2.new.lists s _ _ xs c.args.pair c.requires.rest c.requires.slot c.requires.empty c.requires.pair
+    (record { live = refl; literal = get_or_read xs c.args.pair.first c.index-first.result.now c.requires.pair.first c.index-first.ensures 0 })
+    (record { live = refl; literal = get_or_read xs c.args.pair.second c.index-second.result.now c.requires.pair.second c.index-second.ensures 0 })
     c.requires.inside literals searches watches (subst (λ ws. AreLinked ws (watch_lists c.put_in-2.new.lists.items)) (sym same) c.in_ok-put_in-2.ensures.linked) (c.in_ok-put_in-2.ensures.sizes ∙ c.in_ok-put_in.ensures.sizes)
     c.in_ok-put_in.ensures.more c.in_ok-put_in-2.ensures.more

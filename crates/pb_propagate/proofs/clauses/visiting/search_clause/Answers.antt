@@ -1,15 +1,15 @@
-use Rattle.pb_propagate.proofs.Common.{ℕ, ◌+◌, ◌/◌, ◌<◌, ◌^◌, ◌∙◌, ◌≡◌, ◌≤◌, ap, arith, get_or, inl, length, min, subst, sym, Search}
+use Rattle.pb_propagate.proofs.Common.{ℕ, ◌/◌, ◌<◌, ◌^◌, ◌∙◌, ◌≤◌, ap, arith, get_or, inl, length, subst, sym, Search}
 use Rattle.pb_propagate.proofs.Common.{rules, Contents, rewatched, AreLinked, list_at, watch_lists, IsRound}
-use Rattle.pb_propagate.proofs.lemmas.clauses.Readings.{Reading, Resuming, reading-slot, reading-small, resuming-within, resuming-round, resuming-inside, bounded-raised, covered-by}
+use Rattle.pb_propagate.proofs.lemmas.clauses.Readings.{Reading, Resuming, reading-slot, reading-small, resuming-within, resuming-round, resuming-inside}
 use Rattle.pb_propagate.proofs.lemmas.clauses.Searches.{round-inside}
-use Rattle.pb_propagate.proofs.lemmas.clauses.Visited.{IsSought, visited-falsified, visited-forces, visited-leaves, sought-round}
+use Rattle.pb_propagate.proofs.lemmas.clauses.Visited.{IsSought, visited-falsified, visited-forces, visited-leaves, sought-round, sought-covered, sought-bounded}
 use Rattle.pb_propagate.proofs.clauses.visiting.search_clause.Goals.{After-read-clause, After-advance-stop}
 use Rattle.pb_propagate.proofs.clauses.visiting.search_clause.Goals as goal
 
 pub read-clause-requires : goal.read-clause-requires
 read-clause-requires c =
     let reading : Reading c.args.clauses.now c.args.literal c.args.index c.args.watch c.args.other = record { item = c.requires.item; other_is = c.requires.other } in
-    (reading-slot c.args.clauses.now c.args.assignment.now.values.items c.args.literal c.args.index c.args.watch c.args.other c.requires.running reading).0
+    (reading-slot c.requires.running reading).0
 
 -- the clause and the search that were read, what the search has found, and where it goes on
 reading : (c : After-read-clause) → Reading c.args.clauses.now c.args.literal c.args.index c.args.watch c.args.other
@@ -33,11 +33,11 @@ sought c = record {
 
 pub advance-stop-requires-clause-inside : goal.advance-stop-requires-clause-inside
 advance-stop-requires-clause-inside c =
-    resuming-inside c.args.clauses.now c.args.assignment.now.values.items c.args.literal c.args.index c.args.watch c.args.other c.read-clause.result.search c.read-clause.result.literals.now c.requires.running (reading (goal.at.advance-stop-requires-clause-inside c).After-read-clause) (resuming (goal.at.advance-stop-requires-clause-inside c).After-read-clause)
+    resuming-inside c.requires.running (reading (goal.at.advance-stop-requires-clause-inside c).After-read-clause) (resuming (goal.at.advance-stop-requires-clause-inside c).After-read-clause)
 
 pub falsifies-requires : goal.falsifies-requires
 falsifies-requires c =
-    reading-small c.args.clauses.now c.args.assignment.now.values.items c.args.literal c.args.index c.args.watch c.args.other c.requires.running (reading (goal.at.falsifies-requires c).After-read-clause)
+    reading-small c.requires.running (reading (goal.at.falsifies-requires c).After-read-clause)
 
 pub seek-requires-clause-block : goal.seek-requires-clause-block
 seek-requires-clause-block c = inl (omega (arith, c.advance-stop.ensures.position, ap length c.read-clause.ensures.literals))
@@ -50,7 +50,7 @@ seek-requires-2-clause-block c = inl (omega (arith, c.advance-stop.ensures.posit
 
 pub seek-requires-2-clause-small : goal.seek-requires-2-clause-small
 seek-requires-2-clause-small c =
-    let round = sought-round c.args.clauses.now c.args.assignment.now.values.items c.args.literal c.args.index c.args.watch c.args.other c.read-clause.result.search c.advance-stop.result c.read-clause.result.literals.now (sought (goal.at.seek-requires-2-clause-small c).After-advance-stop) c.next-next.result (omega (arith, c.if-stop-literals.false)) c.next-next.ensures.position c.next-next.ensures.passed in
+    let round = sought-round (sought (goal.at.seek-requires-2-clause-small c).After-advance-stop) c.next-next.result (omega (arith, c.if-stop-literals.false)) c.next-next.ensures.position c.next-next.ensures.passed in
     let most : c.next-next.result.passed ≤ length c.read-clause.result.literals.now = omega (arith, c.next-next.ensures.passed, c.if-stop-literals.false) in
     (round-below (get_or c.requires.running.starts (c.args.watch / 2) 0) c.next-next.result (length c.read-clause.result.literals.now) round most c.read-clause.ensures.small, omega (arith, most, c.read-clause.ensures.small))
   where
@@ -59,7 +59,7 @@ seek-requires-2-clause-small c =
 
 pub shift-requires-clause-inside : goal.shift-requires-clause-inside
 shift-requires-clause-inside c =
-    let all = resuming-inside c.args.clauses.now c.args.assignment.now.values.items c.args.literal c.args.index c.args.watch c.args.other c.read-clause.result.search c.read-clause.result.literals.now c.requires.running (reading (goal.at.shift-requires-clause-inside c).After-read-clause) (resuming (goal.at.shift-requires-clause-inside c).After-read-clause) in
+    let all = resuming-inside c.requires.running (reading (goal.at.shift-requires-clause-inside c).After-read-clause) (resuming (goal.at.shift-requires-clause-inside c).After-read-clause) in
     (search rules, omega (arith, all c.advance-stop.result.position 0 c.advance-stop.ensures.position, c.requires.running.sizes))
 
 pub shift-requires-clause-linked : goal.shift-requires-clause-linked
@@ -70,54 +70,46 @@ shift-requires-clause-block c = inl (omega (arith, c.advance-stop.ensures.positi
 
 pub returns-then-falsifies-clause-watch : goal.returns-then-falsifies-clause-watch
 returns-then-falsifies-clause-watch c =
-    visited-falsified c.args.clauses.now c.args.assignment.now.values.items c.args.literal c.args.index c.args.watch c.args.other c.read-clause.result.search c.advance-stop.result c.read-clause.result.literals.now (sought (goal.at.returns-then-falsifies-clause-watch c).After-advance-stop) c.if-stop-literals.true c.seek.new.self c.seek.ensures (sym c.if-falsifies.ensures)
+    visited-falsified (sought (goal.at.returns-then-falsifies-clause-watch c).After-advance-stop) c.if-stop-literals.true c.seek.ensures (sym c.if-falsifies.ensures)
 
 pub returns-then-stop-literals-clause-watch : goal.returns-then-stop-literals-clause-watch
 returns-then-stop-literals-clause-watch c =
-    visited-forces c.args.clauses.now c.args.assignment.now.values.items c.args.literal c.args.index c.args.watch c.args.other c.read-clause.result.search c.advance-stop.result c.read-clause.result.literals.now (sought (goal.at.returns-then-stop-literals-clause-watch c).After-advance-stop) c.if-stop-literals.true c.seek.new.self c.seek.ensures c.requires.untrue (sym c.if-falsifies.ensures)
+    visited-forces (sought (goal.at.returns-then-stop-literals-clause-watch c).After-advance-stop) c.if-stop-literals.true c.seek.ensures c.requires.untrue (sym c.if-falsifies.ensures)
 
 pub returns-clause-watch : goal.returns-clause-watch
 returns-clause-watch c =
-    let round = sought-round c.args.clauses.now c.args.assignment.now.values.items c.args.literal c.args.index c.args.watch c.args.other c.read-clause.result.search c.advance-stop.result c.read-clause.result.literals.now (sought (goal.at.returns-clause-watch c).After-advance-stop) c.next-next.result (omega (arith, c.if-stop-literals.false)) c.next-next.ensures.position c.next-next.ensures.passed in
+    let round = sought-round (sought (goal.at.returns-clause-watch c).After-advance-stop) c.next-next.result (omega (arith, c.if-stop-literals.false)) c.next-next.ensures.position c.next-next.ensures.passed in
     let r = c.in_ok-shift.ensures in
-    visited-leaves c.args.clauses.now c.args.assignment.now.values.items c.args.literal c.args.index c.args.watch c.args.other c.read-clause.result.search c.advance-stop.result c.read-clause.result.literals.now (sought (goal.at.returns-clause-watch c).After-advance-stop) (omega (arith, c.if-stop-literals.false)) c.next-next.result round c.next-next.ensures.passed
-    c.shift.new.lists c.seek-2.new.self c.shift.new.blocks c.seek-2.ensures c.shift.ensures.kept r.linked r.moved.0 r.moved.1 r.others r.sizes.0 r.sizes.1 r.more r.shorter
+    visited-leaves (sought (goal.at.returns-clause-watch c).After-advance-stop) (omega (arith, c.if-stop-literals.false)) round c.next-next.ensures.passed
+    (record { sought = c.seek-2.ensures; watches = c.shift.ensures.kept; linked = r.linked; moved = r.moved; others = r.others; sizes = r.sizes; more = r.more }) r.shorter
 
 pub returns-then-falsifies-clause-covered : goal.returns-then-falsifies-clause-covered
 returns-then-falsifies-clause-covered c =
-    let one : c.advance-stop.result.passed ≡ min (c.advance-stop.result.passed + 1) (length c.read-clause.result.literals.now) = omega (arith, c.if-stop-literals.true, c.advance-stop.ensures.within.1) in
-    covered-by c.args.clauses.now c.args.assignment.now.values.items c.args.literal c.args.index c.args.watch c.args.other c.read-clause.result.search c.advance-stop.result c.advance-stop.result c.read-clause.result.literals.now _ c.args.visits.now c.advance-stop.new.visits c.requires.running (reading (goal.at.returns-then-falsifies-clause-covered c).After-read-clause) (resuming (goal.at.returns-then-falsifies-clause-covered c).After-read-clause) (ap (λ (b : Contents). b.searches) c.seek.ensures) one (omega (arith, c.advance-stop.ensures.few, one))
+    sought-covered (sought (goal.at.returns-then-falsifies-clause-covered c).After-advance-stop) c.advance-stop.result _ c.args.visits.now c.advance-stop.new.visits (ap (λ (b : Contents). b.searches) c.seek.ensures) (omega (arith, c.advance-stop.ensures.few, c.if-stop-literals.true, c.advance-stop.ensures.within.1))
 
 pub returns-then-stop-literals-clause-covered : goal.returns-then-stop-literals-clause-covered
 returns-then-stop-literals-clause-covered c =
-    let one : c.advance-stop.result.passed ≡ min (c.advance-stop.result.passed + 1) (length c.read-clause.result.literals.now) = omega (arith, c.if-stop-literals.true, c.advance-stop.ensures.within.1) in
-    covered-by c.args.clauses.now c.args.assignment.now.values.items c.args.literal c.args.index c.args.watch c.args.other c.read-clause.result.search c.advance-stop.result c.advance-stop.result c.read-clause.result.literals.now _ c.args.visits.now c.advance-stop.new.visits c.requires.running (reading (goal.at.returns-then-stop-literals-clause-covered c).After-read-clause) (resuming (goal.at.returns-then-stop-literals-clause-covered c).After-read-clause) (ap (λ (b : Contents). b.searches) c.seek.ensures) one (omega (arith, c.advance-stop.ensures.few, one))
+    sought-covered (sought (goal.at.returns-then-stop-literals-clause-covered c).After-advance-stop) c.advance-stop.result _ c.args.visits.now c.advance-stop.new.visits (ap (λ (b : Contents). b.searches) c.seek.ensures) (omega (arith, c.advance-stop.ensures.few, c.if-stop-literals.true, c.advance-stop.ensures.within.1))
 
 pub returns-clause-covered : goal.returns-clause-covered
 returns-clause-covered c =
-    let one : c.next-next.result.passed ≡ min (c.advance-stop.result.passed + 1) (length c.read-clause.result.literals.now) = omega (arith, c.if-stop-literals.false, c.next-next.ensures.passed) in
-    covered-by c.args.clauses.now c.args.assignment.now.values.items c.args.literal c.args.index c.args.watch c.args.other c.read-clause.result.search c.advance-stop.result c.next-next.result c.read-clause.result.literals.now _ c.args.visits.now c.advance-stop.new.visits c.requires.running (reading (goal.at.returns-clause-covered c).After-read-clause) (resuming (goal.at.returns-clause-covered c).After-read-clause) (ap (λ (b : Contents). b.searches) (c.shift.ensures.kept ∙ ap (λ (b : Contents). rewatched b c.shift.new.blocks.watches) c.seek-2.ensures)) one (omega (arith, c.advance-stop.ensures.few, one))
+    sought-covered (sought (goal.at.returns-clause-covered c).After-advance-stop) c.next-next.result _ c.args.visits.now c.advance-stop.new.visits (ap (λ (b : Contents). b.searches) (c.shift.ensures.kept ∙ ap (λ (b : Contents). rewatched b c.shift.new.blocks.watches) c.seek-2.ensures)) (omega (arith, c.advance-stop.ensures.few, c.if-stop-literals.false, c.next-next.ensures.passed))
 
 pub returns-in_err-shift-clause-covered : goal.returns-in_err-shift-clause-covered
 returns-in_err-shift-clause-covered c =
-    let one : c.next-next.result.passed ≡ min (c.advance-stop.result.passed + 1) (length c.read-clause.result.literals.now) = omega (arith, c.if-stop-literals.false, c.next-next.ensures.passed) in
-    covered-by c.args.clauses.now c.args.assignment.now.values.items c.args.literal c.args.index c.args.watch c.args.other c.read-clause.result.search c.advance-stop.result c.next-next.result c.read-clause.result.literals.now _ c.args.visits.now c.advance-stop.new.visits c.requires.running (reading (goal.at.returns-in_err-shift-clause-covered c).After-read-clause) (resuming (goal.at.returns-in_err-shift-clause-covered c).After-read-clause) (ap (λ (b : Contents). b.searches) (c.shift.ensures.kept ∙ ap (λ (b : Contents). rewatched b c.shift.new.blocks.watches) c.seek-2.ensures)) one (omega (arith, c.advance-stop.ensures.few, one))
+    sought-covered (sought (goal.at.returns-in_err-shift-clause-covered c).After-advance-stop) c.next-next.result _ c.args.visits.now c.advance-stop.new.visits (ap (λ (b : Contents). b.searches) (c.shift.ensures.kept ∙ ap (λ (b : Contents). rewatched b c.shift.new.blocks.watches) c.seek-2.ensures)) (omega (arith, c.advance-stop.ensures.few, c.if-stop-literals.false, c.next-next.ensures.passed))
 
 pub returns-then-falsifies-clause-bounded : goal.returns-then-falsifies-clause-bounded
-returns-then-falsifies-clause-bounded c =
-    bounded-raised c.args.clauses.now c.args.assignment.now.values.items (c.args.watch / 2) c.advance-stop.result c.requires.running (reading-slot c.args.clauses.now c.args.assignment.now.values.items c.args.literal c.args.index c.args.watch c.args.other c.requires.running (reading (goal.at.returns-then-falsifies-clause-bounded c).After-read-clause)).1 (omega (arith, c.advance-stop.ensures.within.1, ap length (resuming (goal.at.returns-then-falsifies-clause-bounded c).After-read-clause).items)) _ (ap (λ (b : Contents). b.searches) c.seek.ensures)
+returns-then-falsifies-clause-bounded c = sought-bounded (sought (goal.at.returns-then-falsifies-clause-bounded c).After-advance-stop) c.advance-stop.result _ (ap (λ (b : Contents). b.searches) c.seek.ensures) c.advance-stop.ensures.within.1
 
 pub returns-then-stop-literals-clause-bounded : goal.returns-then-stop-literals-clause-bounded
-returns-then-stop-literals-clause-bounded c =
-    bounded-raised c.args.clauses.now c.args.assignment.now.values.items (c.args.watch / 2) c.advance-stop.result c.requires.running (reading-slot c.args.clauses.now c.args.assignment.now.values.items c.args.literal c.args.index c.args.watch c.args.other c.requires.running (reading (goal.at.returns-then-stop-literals-clause-bounded c).After-read-clause)).1 (omega (arith, c.advance-stop.ensures.within.1, ap length (resuming (goal.at.returns-then-stop-literals-clause-bounded c).After-read-clause).items)) _ (ap (λ (b : Contents). b.searches) c.seek.ensures)
+returns-then-stop-literals-clause-bounded c = sought-bounded (sought (goal.at.returns-then-stop-literals-clause-bounded c).After-advance-stop) c.advance-stop.result _ (ap (λ (b : Contents). b.searches) c.seek.ensures) c.advance-stop.ensures.within.1
 
 pub returns-clause-bounded : goal.returns-clause-bounded
-returns-clause-bounded c =
-    bounded-raised c.args.clauses.now c.args.assignment.now.values.items (c.args.watch / 2) c.next-next.result c.requires.running (reading-slot c.args.clauses.now c.args.assignment.now.values.items c.args.literal c.args.index c.args.watch c.args.other c.requires.running (reading (goal.at.returns-clause-bounded c).After-read-clause)).1 (omega (arith, c.if-stop-literals.false, c.next-next.ensures.passed, ap length (resuming (goal.at.returns-clause-bounded c).After-read-clause).items)) _ (ap (λ (b : Contents). b.searches) (c.shift.ensures.kept ∙ ap (λ (b : Contents). rewatched b c.shift.new.blocks.watches) c.seek-2.ensures))
+returns-clause-bounded c = sought-bounded (sought (goal.at.returns-clause-bounded c).After-advance-stop) c.next-next.result _ (ap (λ (b : Contents). b.searches) (c.shift.ensures.kept ∙ ap (λ (b : Contents). rewatched b c.shift.new.blocks.watches) c.seek-2.ensures)) (omega (arith, c.if-stop-literals.false, c.next-next.ensures.passed))
 
 pub returns-in_err-shift-clause-bounded : goal.returns-in_err-shift-clause-bounded
-returns-in_err-shift-clause-bounded c =
-    bounded-raised c.args.clauses.now c.args.assignment.now.values.items (c.args.watch / 2) c.next-next.result c.requires.running (reading-slot c.args.clauses.now c.args.assignment.now.values.items c.args.literal c.args.index c.args.watch c.args.other c.requires.running (reading (goal.at.returns-in_err-shift-clause-bounded c).After-read-clause)).1 (omega (arith, c.if-stop-literals.false, c.next-next.ensures.passed, ap length (resuming (goal.at.returns-in_err-shift-clause-bounded c).After-read-clause).items)) _ (ap (λ (b : Contents). b.searches) (c.shift.ensures.kept ∙ ap (λ (b : Contents). rewatched b c.shift.new.blocks.watches) c.seek-2.ensures))
+returns-in_err-shift-clause-bounded c = sought-bounded (sought (goal.at.returns-in_err-shift-clause-bounded c).After-advance-stop) c.next-next.result _ (ap (λ (b : Contents). b.searches) (c.shift.ensures.kept ∙ ap (λ (b : Contents). rewatched b c.shift.new.blocks.watches) c.seek-2.ensures)) (omega (arith, c.if-stop-literals.false, c.next-next.ensures.passed))
 
 pub returns-clause-literals : goal.returns-clause-literals
 returns-clause-literals c = ap (λ (b : Contents). b.literals) (c.shift.ensures.kept ∙ ap (λ (b : Contents). rewatched b c.shift.new.blocks.watches) c.seek-2.ensures)
@@ -127,6 +119,6 @@ returns-in_err-shift-clause-literals c = ap (λ (b : Contents). b.literals) (c.s
 
 pub advance-stop-requires-clause-within : goal.advance-stop-requires-clause-within
 advance-stop-requires-clause-within c =
-    let begun = resuming-round c.args.clauses.now c.args.assignment.now.values.items c.args.literal c.args.index c.args.watch c.args.other c.read-clause.result.search c.read-clause.result.literals.now c.requires.running (reading (goal.at.advance-stop-requires-clause-within c).After-read-clause) (resuming (goal.at.advance-stop-requires-clause-within c).After-read-clause) in
-    let within = resuming-within c.args.clauses.now c.args.assignment.now.values.items c.args.literal c.args.index c.args.watch c.args.other c.read-clause.result.search c.read-clause.result.literals.now c.requires.running (reading (goal.at.advance-stop-requires-clause-within c).After-read-clause) (resuming (goal.at.advance-stop-requires-clause-within c).After-read-clause) in
-    (round-inside (get_or c.requires.running.starts (c.args.watch / 2) 0) c.read-clause.result.search (length c.read-clause.result.literals.now) begun (resuming-within c.args.clauses.now c.args.assignment.now.values.items c.args.literal c.args.index c.args.watch c.args.other c.read-clause.result.search c.read-clause.result.literals.now c.requires.running (reading (goal.at.advance-stop-requires-clause-within c).After-read-clause) (resuming (goal.at.advance-stop-requires-clause-within c).After-read-clause)), within)
+    let g = (goal.at.advance-stop-requires-clause-within c).After-read-clause in
+    let within = resuming-within c.requires.running (reading g) (resuming g) in
+    (round-inside (get_or c.requires.running.starts (c.args.watch / 2) 0) c.read-clause.result.search (length c.read-clause.result.literals.now) (resuming-round c.requires.running (reading g) (resuming g)) within, within)

@@ -1,6 +1,8 @@
-use Rattle.pb_propagate.proofs.Common.{◌<◌, ◌∙◌, ◌∷◌, ◌≡◌, [], ap, arith, get_or, length, length-append, length-set, refl, Term, place, stored_terms}
-use Rattle.pb_propagate.proofs.lemmas.store.Places.{link-by}
-use Rattle.pb_propagate.proofs.lemmas.store.Longer.{longer-push, longer-then}
+use Rattle.pb_propagate.proofs.Common.{set, ◌++◌, lists_of, ◌<◌, ◌∙◌, ◌∷◌, ◌≡◌, [], ap, arith, get_or, length, length-append, length-set, Term, place}
+use Rattle.pb_propagate.proofs.Common.{stored_terms, Occurrence}
+use Rattle.pb_propagate.proofs.lemmas.store.Places.{link-by, longer-push, pushed-lists}
+use Rattle.pb_propagate.proofs.lemmas.store.Links.{IsTerm}
+use Rattle.pb_propagate.proofs.lemmas.engine.Puts.{lists-at}
 use Rattle.pb_propagate.proofs.store.occurrence_lists.link.Goals as goal
 
 pub place_of-place-requires : goal.place_of-place-requires
@@ -25,15 +27,22 @@ pub terms-preserved : goal.terms-preserved
 terms-preserved c =
     let ts = stored_terms c.args.kept.now in
     let t = c.term-term.result in
+    let occ = c.terms.lists.items in
+    let p = c.place_of-place.result in
+    let at = c.place_of-place.ensures.place in
     let within : c.terms.i < length ts = omega (arith, c.terms-test.true, c.len-i-end.ensures) in
-    let at : c.place_of-place.result ≡ place (get_or ts c.terms.i t).literal = c.place_of-place.ensures.place ∙ ap (λ (x : Term). place x.literal) (c.term-term.ensures t) in
+    let room : p < length occ = omega (arith, c.requires.inside c.terms.i t within, at, ap (λ (x : Term). place x.literal) (c.term-term.ensures t), c.terms.invariant.sizes) in
+    let spot : c.len-spot.result ≡ length (get_or (lists_of occ) (place t.literal) []) = omega (arith, c.len-spot.ensures, c.index.result.now.ok.0, ap length (lists-at occ (place t.literal) p c.index.result.now room c.index.ensures at)) in
+    let o : Occurrence = record { form = c.args.form; index = c.terms.i } in
+    let pushed = pushed-lists occ p c.index_mut.result.now c.append.new.list o room c.index_mut.ensures.value c.in_ok-append.ensures in
     record {
-      sizes = length-set c.terms.lists.items c.place_of-place.result c.append.new.list ∙ c.terms.invariant.sizes;
-      longer = longer-then c.args.lists.now.items c.terms.lists.items _ c.terms.invariant.longer (longer-push c.terms.lists.items _ c.place_of-place.result c.index_mut.result.now c.append.new.list _ (omega (arith, c.requires.inside c.terms.i t within, at, c.terms.invariant.sizes)) c.index_mut.ensures.value refl c.in_ok-append.ensures);
+      sizes = length-set occ p c.append.new.list ∙ c.terms.invariant.sizes;
+      longer = λ q. omega (arith, c.terms.invariant.longer q, longer-push occ (set occ p c.append.new.list) p o room pushed q);
       count = omega (arith, ap length c.in_ok-push.ensures.items, length-append c.terms.spots.items (c.len-spot.result ∷ []), c.terms.invariant.count);
       linked = λ base rows inside same wide old.
-          link-by base rows c.terms.lists.items c.args.form c.terms.i ts t c.place_of-place.result c.index.result.now c.index_mut.result.now c.append.new.list c.terms.spots.items c.push.new.self.items c.len-spot.result
-          inside same wide within at (omega (arith, c.requires.inside c.terms.i t within, at, c.terms.invariant.sizes)) c.index.ensures (omega (arith, c.len-spot.ensures, c.index.result.now.ok.0)) c.index_mut.ensures.value c.in_ok-append.ensures c.in_ok-push.ensures.items c.terms.invariant.count (c.terms.invariant.linked base rows inside same wide old);
+          let x : IsTerm base c.args.form c.terms.i t = record { inside = inside; within = omega (arith, within, ap length same); is = rw same (c.term-term.ensures t) } in
+          link-by rows occ _ c.terms.spots.items c.push.new.self.items x wide (omega (arith, room, at)) (rw (← at) pushed)
+          (c.in_ok-push.ensures.items ∙ ap (λ n. c.terms.spots.items ++ (n ∷ [])) spot) c.terms.invariant.count (c.terms.invariant.linked base rows inside same wide old);
     }
 
 pub returns-clause-linked : goal.returns-clause-linked

@@ -1,5 +1,6 @@
-use Rattle.pb_propagate.proofs.Common.{[], ap, arith, get_or, length, lists_of, spots_of}
+use Rattle.pb_propagate.proofs.Common.{Some, slice_get, ◌+◌, ◌≡◌, ◌-◌, ◌<◌, [], ap, arith, get_or, length, lists_of, spots_of}
 use Rattle.pb_propagate.proofs.lemmas.store.Places.{taken-lists, taken-last, taken-moved, spots-moved, set-read, spots-read}
+use Rattle.pb_propagate.proofs.store.occurrence_lists.take_out.Goals.{After-index-moved}
 use Rattle.pb_propagate.proofs.store.occurrence_lists.take_out.Goals as goal
 
 pub returns-then-spot-len-clause-lists : goal.returns-then-spot-len-clause-lists
@@ -12,24 +13,24 @@ returns-then-spot-len-clause-spots c =
     taken-last c.args.lists.now.items c.args.place c.args.spot c.index_mut.result.now c.swap_remove.new.self c.swap_remove.result (spots_of c.args.spots.now.items) c.requires.place c.index_mut.ensures.value c.swap_remove.ensures.items c.requires.spot
     (omega (arith, c.if-spot-len.true, c.len.ensures, c.index.result.now.ok.0, ap (λ v. length v.items) same))
 
-pub index_mut-requires-2 : goal.index_mut-requires-2
-index_mut-requires-2 c =
+-- the entry that moves
+moved : (c : After-index-moved) → (c.args.spot + 1 < length (get_or (lists_of c.args.lists.now.items) c.args.place [])) ×
+    (slice_get (get_or (lists_of c.args.lists.now.items) c.args.place []) (length (get_or (lists_of c.args.lists.now.items) c.args.place []) - 1) ≡ Some c.index-moved.result.now)
+moved c =
     let same = set-read c.args.lists.now.items c.args.place c.swap_remove.new.self c.index.result.now c.requires.place c.index.ensures in
     let same_2 = set-read c.args.lists.now.items c.args.place c.swap_remove.new.self c.index-2.result.now c.requires.place c.index-2.ensures in
-    let m = c.index-moved.result.now in
-    let moved = taken-moved c.args.lists.now.items c.args.place c.args.spot c.index_mut.result.now c.swap_remove.new.self c.swap_remove.result m c.requires.place c.index_mut.ensures.value c.swap_remove.ensures.items c.requires.spot
-    (omega (arith, c.if-spot-len.false, c.len.ensures, c.index.result.now.ok.0, ap (λ v. length v.items) same)) (rw same_2 at c.index-moved.ensures) in
-    let named = c.requires.named m moved.1 in
+    taken-moved c.args.lists.now.items c.args.place c.args.spot c.index_mut.result.now c.swap_remove.new.self c.swap_remove.result c.index-moved.result.now c.requires.place c.index_mut.ensures.value c.swap_remove.ensures.items c.requires.spot
+    (omega (arith, c.if-spot-len.false, c.len.ensures, c.index.result.now.ok.0, ap (λ v. length v.items) same)) (rw same_2 at c.index-moved.ensures)
+
+pub index_mut-requires-2 : goal.index_mut-requires-2
+index_mut-requires-2 c =
+    let named = c.requires.named c.index-moved.result.now (moved (goal.at.index_mut-requires-2 c).After-index-moved).1 in
     omega (arith, named.0, c.args.spots.now.ok.0)
 
 pub set-requires : goal.set-requires
 set-requires c =
-    let same = set-read c.args.lists.now.items c.args.place c.swap_remove.new.self c.index.result.now c.requires.place c.index.ensures in
-    let same_2 = set-read c.args.lists.now.items c.args.place c.swap_remove.new.self c.index-2.result.now c.requires.place c.index-2.ensures in
     let m = c.index-moved.result.now in
-    let moved = taken-moved c.args.lists.now.items c.args.place c.args.spot c.index_mut.result.now c.swap_remove.new.self c.swap_remove.result m c.requires.place c.index_mut.ensures.value c.swap_remove.ensures.items c.requires.spot
-    (omega (arith, c.if-spot-len.false, c.len.ensures, c.index.result.now.ok.0, ap (λ v. length v.items) same)) (rw same_2 at c.index-moved.ensures) in
-    let named = c.requires.named m moved.1 in
+    let named = c.requires.named m (moved (goal.at.set-requires c).After-index-moved).1 in
     spots-read c.args.spots.now.items m.form m.index c.index_mut-2.result.now named.0 c.index_mut-2.ensures.value named.1
 
 pub returns-clause-lists : goal.returns-clause-lists
@@ -38,10 +39,7 @@ returns-clause-lists c =
 
 pub returns-clause-spots : goal.returns-clause-spots
 returns-clause-spots c =
-    let same = set-read c.args.lists.now.items c.args.place c.swap_remove.new.self c.index.result.now c.requires.place c.index.ensures in
-    let same_2 = set-read c.args.lists.now.items c.args.place c.swap_remove.new.self c.index-2.result.now c.requires.place c.index-2.ensures in
     let m = c.index-moved.result.now in
-    let moved = taken-moved c.args.lists.now.items c.args.place c.args.spot c.index_mut.result.now c.swap_remove.new.self c.swap_remove.result m c.requires.place c.index_mut.ensures.value c.swap_remove.ensures.items c.requires.spot
-    (omega (arith, c.if-spot-len.false, c.len.ensures, c.index.result.now.ok.0, ap (λ v. length v.items) same)) (rw same_2 at c.index-moved.ensures) in
-    let named = c.requires.named m moved.1 in
-    spots-moved c.args.spots.now.items (get_or (lists_of c.args.lists.now.items) c.args.place []) c.args.spot m c.index_mut-2.result.now c.set.new.self named.0 c.index_mut-2.ensures.value c.set.ensures moved.0 moved.1
+    let moves = moved (goal.at.returns-clause-spots c).After-index-moved in
+    let named = c.requires.named m moves.1 in
+    spots-moved c.args.spots.now.items (get_or (lists_of c.args.lists.now.items) c.args.place []) c.args.spot m c.index_mut-2.result.now c.set.new.self named.0 c.index_mut-2.ensures.value c.set.ensures moves.0 moves.1

@@ -1,5 +1,5 @@
 use Rattle.pb_propagate.proofs.Common.{◌-◌, ◌∙◌, ap, arith, length, length-set, swap_remove, slice_get_within}
-use Rattle.pb_propagate.proofs.lemmas.store.Unlinks.{swap-length}
+use Rattle.pb_propagate.proofs.lemmas.store.Gets.{swap-length}
 use Rattle.pb_propagate.proofs.lemmas.store.Positions.{position-inside, position-got, taken-is, moved-last, positioned-moved, positioned-last}
 use Rattle.pb_propagate.proofs.waiting.Waiting.take.Goals as goal
 

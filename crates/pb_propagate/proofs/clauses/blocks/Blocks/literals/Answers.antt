@@ -1,27 +1,25 @@
 use Rattle.pb_propagate.proofs.Common.{◌+◌, ◌-◌, ◌∙◌, ◌≡◌, ◌≤◌, ap, arith, drop, get_or_read, length, number_at, take}
-use Rattle.pb_propagate.proofs.lemmas.clauses.Blocks.{block-at, clause-behind, slot-behind}
+use Rattle.pb_propagate.proofs.lemmas.clauses.Blocks.{clause-stored, slot-block, slot-stored}
 use Rattle.pb_propagate.proofs.clauses.blocks.Blocks.literals.Goals as goal
 
 pub index-requires : goal.index-requires
 index-requires c = omega (
   arith,
-  slot-behind c.self.invariant c.self.view_is c.args.slot c.requires,
+  slot-stored c.self.invariant c.self.view_is c.args.slot c.requires,
   c.self.inside.starts.ok.0,
 )
 
 pub index-requires-2 : goal.index-requires-2
 index-requires-2 c =
-    let slot = slot-behind c.self.invariant c.self.view_is c.args.slot c.requires in
     omega (
       arith,
-      (block-at c.self.invariant c.args.slot c.index.result.now slot c.index.ensures).end,
+      (slot-block c.self.invariant c.self.view_is c.args.slot c.index.result.now c.requires c.index.ensures).end,
       c.self.inside.words.ok.0,
     )
 
 pub slice_bounds-result-end : goal.slice_bounds-result-end
 slice_bounds-result-end c =
-    let slot = slot-behind c.self.invariant c.self.view_is c.args.slot c.requires in
-    let b = block-at c.self.invariant c.args.slot c.index.result.now slot c.index.ensures in
+    let b = slot-block c.self.invariant c.self.view_is c.args.slot c.index.result.now c.requires c.index.ensures in
     let count = get_or_read c.self.inside.words.items _ c.index-2.result.now
     (omega (arith, b.end)) c.index-2.ensures 0 in
     let end : c.index.result.now + 8 + c.index-2.result.now ≤ length c.deref.result.now =
@@ -30,13 +28,12 @@ slice_bounds-result-end c =
 
 pub returns-clause-literals : goal.returns-clause-literals
 returns-clause-literals c =
-    let slot = slot-behind c.self.invariant c.self.view_is c.args.slot c.requires in
     let a = c.index.result.now in
-    let b = block-at c.self.invariant c.args.slot a slot c.index.ensures in
+    let b = slot-block c.self.invariant c.self.view_is c.args.slot a c.requires c.index.ensures in
     let words = c.self.inside.words.items in
     let count = get_or_read words _ c.index-2.result.now (omega (arith, b.end)) c.index-2.ensures 0 in
     let many : a + 8 + c.index-2.result.now - (a + 8) ≡ number_at words (a + 6) = omega (arith, count) in
     ap (λ n. take n (drop (a + 8) c.deref.result.now)) many
     ∙ ap (λ ws. take (number_at words (a + 6)) (drop (a + 8) ws)) c.deref.ensures.value
     ∙ ap (λ i. take (number_at words (i + 6)) (drop (i + 8) words)) b.at
-    ∙ clause-behind c.self.invariant c.self.view_is c.args.slot slot
+    ∙ clause-stored c.self.invariant c.self.view_is c.args.slot b.slot

@@ -1,31 +1,31 @@
 use Rattle.pb_propagate.proofs.Common.{ap, arith, sym, Watch}
-use Rattle.pb_propagate.proofs.lemmas.clauses.Blocks.{live-behind, place-at}
+use Rattle.pb_propagate.proofs.lemmas.clauses.Blocks.{live-stored, place-at}
 use Rattle.pb_propagate.proofs.lemmas.clauses.BlocksWritten.{place-written}
 use Rattle.pb_propagate.proofs.clauses.blocks.Blocks.place.Goals as goal
 
 pub index-requires : goal.index-requires
 index-requires c = omega (
   arith,
-  (live-behind c.self.invariant c.self.view_is c.args.watch c.requires.live).slot,
+  (live-stored c.self.invariant c.self.view_is c.args.watch c.requires.live).slot,
   c.self.inside.starts.ok.0,
 )
 
 pub index_mut-requires : goal.index_mut-requires
 index_mut-requires c =
-    let l = live-behind c.self.invariant c.self.view_is c.args.watch c.requires.live in
+    let l = live-stored c.self.invariant c.self.view_is c.args.watch c.requires.live in
     let at = place-at c.self.inside.starts.items c.args.watch c.index.result.now _ l.slot c.index.ensures c.place_in-place.ensures in
     omega (arith, at, l.place, c.self.inside.words.ok.0)
 
 pub invariant_of-self : goal.invariant_of-self
 invariant_of-self c =
-    let l = live-behind c.self.invariant c.self.view_is c.args.watch c.requires.live in
+    let l = live-stored c.self.invariant c.self.view_is c.args.watch c.requires.live in
     let at = place-at c.self.inside.starts.items c.args.watch c.index.result.now _ l.slot c.index.ensures c.place_in-place.ensures in
     let literal = ap (λ (x : Watch). x.literal) (sym l.shown) in
     (place-written c.args.watch _ c.self.invariant c.self.view_is l.room at _ c.args.spot literal c.requires.small).blocks
 
 pub returns : goal.returns
 returns c =
-    let l = live-behind c.self.invariant c.self.view_is c.args.watch c.requires.live in
+    let l = live-stored c.self.invariant c.self.view_is c.args.watch c.requires.live in
     let at = place-at c.self.inside.starts.items c.args.watch c.index.result.now _ l.slot c.index.ensures c.place_in-place.ensures in
     let literal = ap (λ (x : Watch). x.literal) (sym l.shown) in
     (place-written c.args.watch _ c.self.invariant c.self.view_is l.room at _ c.args.spot literal c.requires.small).is

@@ -1,5 +1,5 @@
 use Rattle.pb_propagate.proofs.Common.{ℕ, ◌+◌, ◌-◌, ◌<◌, ◌∙◌, ◌≡◌, ◌≤◌, ap, arith, drop, get_or, length, List, number_at, take}
-use Rattle.pb_propagate.proofs.lemmas.clauses.Blocks.{block-at, clause-behind, passed-same, search-behind, search-made, slot-behind}
+use Rattle.pb_propagate.proofs.lemmas.clauses.Blocks.{clause-stored, passed-same, search-stored, search-made, slot-block, slot-stored}
 use Rattle.pb_propagate.proofs.lemmas.clauses.Tables.{slice-at, slice-length}
 use Rattle.pb_propagate.proofs.clauses.blocks.Blocks.read.Goals as goal
 
@@ -11,22 +11,20 @@ word-at words ws a k same h = slice-at ws a (a + 8 - a) k (omega (arith, h)) ∙
 pub index-requires : goal.index-requires
 index-requires c = omega (
   arith,
-  slot-behind c.self.invariant c.self.view_is c.args.slot c.requires,
+  slot-stored c.self.invariant c.self.view_is c.args.slot c.requires,
   c.self.inside.starts.ok.0,
 )
 
 pub slice_bounds-header-end : goal.slice_bounds-header-end
 slice_bounds-header-end c =
-    let slot = slot-behind c.self.invariant c.self.view_is c.args.slot c.requires in
-    let b = block-at c.self.invariant c.args.slot c.index.result.now slot c.index.ensures in
+    let b = slot-block c.self.invariant c.self.view_is c.args.slot c.index.result.now c.requires c.index.ensures in
     let end : c.index.result.now + 8 ≤ length c.deref.result.now =
     omega (arith, b.end, ap length c.deref.ensures.value) in
     end
 
 pub slice_bounds-result-end : goal.slice_bounds-result-end
 slice_bounds-result-end c =
-    let slot = slot-behind c.self.invariant c.self.view_is c.args.slot c.requires in
-    let b = block-at c.self.invariant c.args.slot c.index.result.now slot c.index.ensures in
+    let b = slot-block c.self.invariant c.self.view_is c.args.slot c.index.result.now c.requires c.index.ensures in
     let a = c.index.result.now in
     let count = word-at c.self.inside.words.items c.deref.result.now a 6 c.deref.ensures.value (omega arith) in
     let end : a + 8 + get_or (take (a + 8 - a) (drop a c.deref.result.now)) 6 0 ≤ length c.deref-2.result.now =
@@ -35,8 +33,7 @@ slice_bounds-result-end c =
 
 pub passed_in-requires : goal.passed_in-requires
 passed_in-requires c =
-    let slot = slot-behind c.self.invariant c.self.view_is c.args.slot c.requires in
-    let b = block-at c.self.invariant c.args.slot c.index.result.now slot c.index.ensures in
+    let b = slot-block c.self.invariant c.self.view_is c.args.slot c.index.result.now c.requires c.index.ensures in
     omega (
       arith,
       slice-length c.deref.result.now c.index.result.now (c.index.result.now + 8 - c.index.result.now)
@@ -45,19 +42,17 @@ passed_in-requires c =
 
 pub returns-clause-search : goal.returns-clause-search
 returns-clause-search c =
-    let slot = slot-behind c.self.invariant c.self.view_is c.args.slot c.requires in
-    let b = block-at c.self.invariant c.args.slot c.index.result.now slot c.index.ensures in
+    let b = slot-block c.self.invariant c.self.view_is c.args.slot c.index.result.now c.requires c.index.ensures in
     let words = c.self.inside.words.items in
     let word = λ (k : ℕ) (h : k < 8). word-at words c.deref.result.now c.index.result.now k c.deref.ensures.value h
     ∙ ap (λ i. number_at words (i + k)) b.at in
     let passed = passed-same c.self.inside.run _ _ _ _ (word 7 (omega arith)) (word 5 (omega arith)) in
     search-made _ _ _ _ (word 4 (omega arith)) (c.passed_in.ensures ∙ passed)
-    ∙ search-behind c.self.invariant c.self.view_is c.args.slot slot
+    ∙ search-stored c.self.invariant c.self.view_is c.args.slot b.slot
 
 pub returns-clause-literals : goal.returns-clause-literals
 returns-clause-literals c =
-    let slot = slot-behind c.self.invariant c.self.view_is c.args.slot c.requires in
-    let b = block-at c.self.invariant c.args.slot c.index.result.now slot c.index.ensures in
+    let b = slot-block c.self.invariant c.self.view_is c.args.slot c.index.result.now c.requires c.index.ensures in
     let a = c.index.result.now in
     let words = c.self.inside.words.items in
     let count = word-at words c.deref.result.now a 6 c.deref.ensures.value (omega arith) in
@@ -66,4 +61,4 @@ returns-clause-literals c =
     ap (λ n. take n (drop (a + 8) c.deref-2.result.now)) many
     ∙ ap (λ ws. take (number_at words (a + 6)) (drop (a + 8) ws)) c.deref-2.ensures.value
     ∙ ap (λ i. take (number_at words (i + 6)) (drop (i + 8) words)) b.at
-    ∙ clause-behind c.self.invariant c.self.view_is c.args.slot slot
+    ∙ clause-stored c.self.invariant c.self.view_is c.args.slot b.slot

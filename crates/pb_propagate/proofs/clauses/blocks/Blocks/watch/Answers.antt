@@ -1,5 +1,5 @@
 use Rattle.pb_propagate.proofs.Common.{◌/◌, arith}
-use Rattle.pb_propagate.proofs.lemmas.clauses.Blocks.{block-behind, own-slot, place-at}
+use Rattle.pb_propagate.proofs.lemmas.clauses.Blocks.{block-stored, own-slot, place-at}
 use Rattle.pb_propagate.proofs.lemmas.clauses.BlocksWritten.{both-written}
 use Rattle.pb_propagate.proofs.clauses.blocks.Blocks.watch.Goals as goal
 
@@ -28,7 +28,7 @@ invariant_of-self c =
     let slot = own-slot c.self.invariant c.self.view_is (c.args.watch / 2) c.requires.block in
     let at = place-at c.self.inside.starts.items c.args.watch c.index.result.now _ slot c.index.ensures c.place_in-place.ensures in
     (both-written c.args.watch _ c.self.invariant c.self.view_is
-    (block-behind c.self.invariant c.self.view_is (c.args.watch / 2) c.requires.block) at
+    (block-stored c.self.invariant c.self.view_is (c.args.watch / 2) c.requires.block) at
     c.args.literal c.args.spot c.requires.small).blocks
 
 pub returns : goal.returns
@@ -36,5 +36,5 @@ returns c =
     let slot = own-slot c.self.invariant c.self.view_is (c.args.watch / 2) c.requires.block in
     let at = place-at c.self.inside.starts.items c.args.watch c.index.result.now _ slot c.index.ensures c.place_in-place.ensures in
     (both-written c.args.watch _ c.self.invariant c.self.view_is
-    (block-behind c.self.invariant c.self.view_is (c.args.watch / 2) c.requires.block) at
+    (block-stored c.self.invariant c.self.view_is (c.args.watch / 2) c.requires.block) at
     c.args.literal c.args.spot c.requires.small).is
