@@ -81,8 +81,7 @@ root-short forms spots lists variables clauses _ stored (put {list} l d m) =
     let killings = risen-push clauses list l m.absent in
     omega (arith, rest, here, entries, killings, length-append list (l ∷ []))
 
--- The lists of a list's literals and of their negations are different lists. Those of a literal and of its negation are
--- emptied.
+-- the lists of a literal and of its negation, which are different lists, are emptied
 abbrev without : List (List Weighted) → NumberedLiteral → List (List Weighted)
 without lists l = set (set lists (place (negation l)) []) (place l) []
 
