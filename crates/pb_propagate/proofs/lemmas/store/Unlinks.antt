@@ -72,7 +72,7 @@ shifted-sizes : {es : List Weighted} {q : ℕ} {spots spots' : List (List ℕ)} 
 shifted-sizes (stays end) = refl
 shifted-sizes {es} {q} {spots} (goes m more at) = length-set spots m.form (set (get_or spots m.form []) m.index q)
 
--- a term and its entry are removed, the entry over the list's own name
+-- a term and its entry are removed, where `es` is the list of the term's literal
 pub record Leaving (base : List Shape) (spots : List (List ℕ)) (lists lists' : List (List Weighted)) (s0 i q p : ℕ) (es : List Weighted) (t : Term) : Type 0 where
   pub term : IsTerm base s0 i t
   pub spot : slice_get (get_or spots s0 []) i ≡ Some q
