@@ -67,13 +67,10 @@ passed-next values start k d s xs other x r less is here old below = by (cases_l
 pub passed-at : (ss : List Search) (s : ℕ) → get_or (map (λ (x : Search). x.passed) ss) s 0 ≡ (search_at ss s).passed
 passed-at ss s = get_or-map (λ (x : Search). x.passed) ss s (record { position = 0; passed = 0 })
 
-position-at : (ss : List Search) (s : ℕ) → get_or (map (λ (x : Search). x.position) ss) s 0 ≡ (search_at ss s).position
-position-at ss s = get_or-map (λ (x : Search). x.position) ss s (record { position = 0; passed = 0 })
-
 -- a search that has passed nothing began where it stands
 pub ready-round : (ss : List Search) (s count : ℕ) → (search_at ss s).passed ≡ 0 → (search_at ss s).position < count → IsRound (get_or (map (λ (x : Search). x.position) ss) s 0) (search_at ss s) count
 ready-round ss s count none inside =
-    let start = position-at ss s in
+    let start : get_or (map (λ (x : Search). x.position) ss) s 0 ≡ (search_at ss s).position = get_or-map (λ (x : Search). x.position) ss s (record { position = 0; passed = 0 }) in
     record {
       inside = omega (arith, inside, start);
       is = sym (ap (λ n. around n count) (omega (arith, start, none)) ∙ around-less (search_at ss s).position count inside);

@@ -133,9 +133,6 @@ conflicts-joined xs clauses list j (broken f among low) = broken f (kept-joined 
 one-among : (codes : List ℕ) (x : ℕ) → Contains codes x → Contains (map one_term codes) (one_term x)
 one-among codes x (k, inside, is) = (k, omega (arith, inside, length-map codes one_term), get_or-map one_term codes k x (one_term x) inside ∙ ap one_term is)
 
-pub unit-some : (values : List (Option Bool)) (clauses : List (List ℕ)) (s x : ℕ) → IsUnit values clauses s x → 0 < length (list_at clauses s)
-unit-some values clauses s x u = omega (arith, u.stands.1)
-
 pub unit-puts : (xs : List Shape) (clauses : List (List ℕ)) (values : List (Option Bool)) (list : List NumberedLiteral) (s x : ℕ) → AreJoined xs clauses → Agree values list → IsUnit values clauses s x → Puts (clause_shape (list_at clauses s) ∷ []) list (literal_at x)
 unit-puts xs clauses values list s x j a u =
     let codes = list_at clauses s in

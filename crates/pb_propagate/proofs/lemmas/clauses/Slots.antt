@@ -96,9 +96,9 @@ joined-clause (y ∷ xs) (c ∷ clauses) zero codes less some = ap (λ z. z ∷ 
 joined-clause (y ∷ xs) (c ∷ clauses) (suc s) codes less some = ap (λ ys. slot_shape y c ∷ ys) (joined-clause xs clauses s codes (omega (arith, less)) some)
 
 -- what is in a slot that gets a clause, or loses it
-joined-other : (xs : List Shape) (clauses : List (List ℕ)) (s : ℕ) (codes : List ℕ) → s < length clauses →
+pub AreJoined-clause : (xs : List Shape) (clauses : List (List ℕ)) (s : ℕ) (codes : List ℕ) → s < length clauses →
     (0 < length codes → (d : Shape) → ((get_or xs s d).terms ≡ []) × ((get_or xs s d).degree ≡ 0)) → AreDifferent codes → AreJoined xs clauses → AreJoined xs (set clauses s codes)
-joined-other xs clauses s codes room bare different j = record {
+AreJoined-clause xs clauses s codes room bare different j = record {
   short = omega (arith, j.short, length-set clauses s codes);
   apart = λ t d less some. elim (cases_eq t s) [
     | inl is ↦ subst (λ k. ((get_or xs k d).terms ≡ []) × ((get_or xs k d).degree ≡ 0)) (sym is) (bare (omega (arith, some, ap length (here t is))) d)
@@ -113,10 +113,6 @@ joined-other xs clauses s codes room bare different j = record {
     here : (t : ℕ) → t ≡ s → list_at (set clauses s codes) t ≡ codes
     here t is = ap (list_at (set clauses s codes)) is ∙ get_or-set_same clauses s codes [] room
 
-pub AreJoined-clause : (xs : List Shape) (clauses : List (List ℕ)) (s : ℕ) (codes : List ℕ) → s < length clauses →
-    ((d : Shape) → ((get_or xs s d).terms ≡ []) × ((get_or xs s d).degree ≡ 0)) → AreDifferent codes → AreJoined xs clauses → AreJoined xs (set clauses s codes)
-AreJoined-clause xs clauses s codes room bare = joined-other xs clauses s codes room (λ some. bare)
-
 -- a slot is emptied
 pub joined-cleared : (xs : List Shape) (clauses : List (List ℕ)) (s : ℕ) (x : Shape) → joined (set xs s x) (set clauses s []) ≡ set (joined xs clauses) s x
 joined-cleared [] clauses s x = refl
@@ -125,12 +121,9 @@ joined-cleared (y ∷ xs) [] (suc s) x = refl
 joined-cleared (y ∷ xs) (c ∷ clauses) zero x = refl
 joined-cleared (y ∷ xs) (c ∷ clauses) (suc s) x = ap (λ ys. slot_shape y c ∷ ys) (joined-cleared xs clauses s x)
 
-none-different : AreDifferent []
-none-different x = omega arith
-
 pub AreJoined-cleared : (xs : List Shape) (clauses : List (List ℕ)) (s : ℕ) (x : Shape) → s < length clauses → AreJoined xs clauses → AreJoined (set xs s x) (set clauses s [])
 AreJoined-cleared xs clauses s x room j =
-    AreJoined-set xs (set clauses s []) s x (get_or-set_same clauses s [] [] room) (joined-other xs clauses s [] room (λ some. absurd (omega (arith, some))) none-different j)
+    AreJoined-set xs (set clauses s []) s x (get_or-set_same clauses s [] [] room) (AreJoined-clause xs clauses s [] room (λ some. absurd (omega (arith, some))) (λ x. omega arith) j)
 
 -- the clause of a form
 

@@ -1,4 +1,5 @@
 -- What a visit to a watch leaves of what a run knows.
+use Rattle.pb_propagate.proofs.Common.{Clauses, passed_of, watch_lists}
 use Rattle.pb_propagate.proofs.Common.{ℕ, ◌*◌, ◌+◌, ◌/◌, ◌<◌, ◌∙◌, ◌≡◌, ◌≤◌, ◌⊎◌, ap, arith, Bool, false, get_or, get_or-set_other}
 use Rattle.pb_propagate.proofs.Common.{get_or-set_same, inl, inr, length, length-set, List, refl, set, subst, sym, true, Contains, Option}
 use Rattle.pb_propagate.proofs.Common.{slice_get, Some, both_ways, cases_eq, cases_lt, get_or_default, All-contains}
@@ -27,13 +28,13 @@ pub record HasSearched (values : List (Option Bool)) (xs : List ℕ) (from other
   pub found : place < length xs → (d : ℕ) → (false_at values (get_or xs place d) ≡ false) × (get_or xs place d ≡ other → ⊥)
 
 -- the watch that is visited
-pub record Visiting (values : List (Option Bool)) (clauses : List (List ℕ)) (passed : List ℕ) (ws : List Watch) (ls : List (List ℕ)) (l index e other place : ℕ) : Type 0 where
-  pub stored : AreStored clauses ws ls
-  pub passes : ArePassed values clauses passed ws
+pub record Visiting (values : List (Option Bool)) (c : Clauses) (l index e other place : ℕ) : Type 0 where
+  pub stored : AreStored c.blocks.literals c.blocks.watches (watch_lists c.lists.items)
+  pub passes : ArePassed values c.blocks.literals (passed_of c) c.blocks.watches
   pub failed : false_at values l ≡ true
-  pub item : slice_get (list_at ls l) index ≡ Some e
-  pub other_is : other ≡ (watch_at ws (flip e)).literal
-  pub searched : HasSearched values (list_at clauses (e / 2)) (get_or passed (e / 2) 0) other place
+  pub item : slice_get (list_at (watch_lists c.lists.items) l) index ≡ Some e
+  pub other_is : other ≡ (watch_at c.blocks.watches (flip e)).literal
+  pub searched : HasSearched values (list_at c.blocks.literals (e / 2)) (get_or (passed_of c) (e / 2) 0) other place
 
 -- what is known of a literal that was passed
 abbrev pub IsPassed : List (Option Bool) → List (List ℕ) → List Watch → ℕ → ℕ → ℕ → Type 0
@@ -58,20 +59,19 @@ passed-raised {values} {clauses} {passed} {ws} {ws'} s n old inside most here ot
     now : (t : ℕ) → t ≡ s → get_or (set passed s n) t 0 ≡ n
     now t is = ap (λ u. get_or (set passed s n) u 0) is ∙ get_or-set_same passed s n 0 inside
 
-module _ {values : List (Option Bool)} {clauses : List (List ℕ)} {passed : List ℕ} {ws : List Watch} {ls : List (List ℕ)} {l index e other place : ℕ}
-    (g : Visiting values clauses passed ws ls l index e other place) where
-  visiting-live : (watch_at ws e).live ≡ true
+module _ {values : List (Option Bool)} {c : Clauses} {l index e other place : ℕ} (g : Visiting values c l index e other place) where
+  visiting-live : (watch_at c.blocks.watches e).live ≡ true
   visiting-live = (g.stored.linked.named e l index g.item).live
 
-  visiting-literal : (watch_at ws e).literal ≡ l
+  visiting-literal : (watch_at c.blocks.watches e).literal ≡ l
   visiting-literal = (g.stored.linked.named e l index g.item).literal
 
-  visiting-slot : e / 2 < length passed
-  visiting-slot = omega (arith, slot-within clauses ws ls e g.stored visiting-live, g.passes.sizes)
+  visiting-slot : e / 2 < length (passed_of c)
+  visiting-slot = omega (arith, slot-within c.blocks.literals c.blocks.watches (watch_lists c.lists.items) e g.stored visiting-live, g.passes.sizes)
 
   -- no literal is left that may be watched
-  pub passed-end : length (list_at clauses (e / 2)) ≤ place → ArePassed values clauses (set passed (e / 2) place) ws
-  passed-end end = passed-raised (e / 2) place g.passes visiting-slot g.searched.within (λ k d h. elim (cases_lt k (get_or passed (e / 2) 0)) [
+  pub passed-end : length (list_at c.blocks.literals (e / 2)) ≤ place → ArePassed values c.blocks.literals (set (passed_of c) (e / 2) place) c.blocks.watches
+  passed-end end = passed-raised (e / 2) place g.passes visiting-slot g.searched.within (λ k d h. elim (cases_lt k (get_or (passed_of c) (e / 2) 0)) [
     | inl before ↦ g.passes.each (e / 2) k d before
     | inr after ↦ elim (g.searched.passed k d after h) [
       | inl f ↦ inl f
@@ -80,20 +80,20 @@ module _ {values : List (Option Bool)} {clauses : List (List ℕ)} {passed : Lis
   ]) g.passes.each
 
   -- all but the other watched literal are falsified
-  all-but : length (list_at clauses (e / 2)) ≤ place → (k d : ℕ) → k < length (list_at clauses (e / 2)) →
-      (false_at values (get_or (list_at clauses (e / 2)) k d) ≡ true) ⊎ (get_or (list_at clauses (e / 2)) k d ≡ other)
-  all-but end k d h = elim (cases_lt k (get_or passed (e / 2) 0)) [
+  all-but : length (list_at c.blocks.literals (e / 2)) ≤ place → (k d : ℕ) → k < length (list_at c.blocks.literals (e / 2)) →
+      (false_at values (get_or (list_at c.blocks.literals (e / 2)) k d) ≡ true) ⊎ (get_or (list_at c.blocks.literals (e / 2)) k d ≡ other)
+  all-but end k d h = elim (cases_lt k (get_or (passed_of c) (e / 2) 0)) [
     | inr after ↦ g.searched.passed k d after (omega (arith, h, end))
     | inl before ↦ elim (g.passes.each (e / 2) k d before) [
       | inl f ↦ inl f
       | inr w ↦ elim (cases_eq w.watch e) [
-        | inl is ↦ inl (ap (false_at values) (sym w.literal ∙ ap (λ t. (watch_at ws t).literal) is ∙ visiting-literal) ∙ g.failed)
-        | inr n ↦ inr (sym w.literal ∙ ap (λ t. (watch_at ws t).literal) (same-slot w.watch e w.slot n) ∙ sym g.other_is)
+        | inl is ↦ inl (ap (false_at values) (sym w.literal ∙ ap (λ t. (watch_at c.blocks.watches t).literal) is ∙ visiting-literal) ∙ g.failed)
+        | inr n ↦ inr (sym w.literal ∙ ap (λ t. (watch_at c.blocks.watches t).literal) (same-slot w.watch e w.slot n) ∙ sym g.other_is)
       ]
     ]
   ]
 
-  pub broken-of : length (list_at clauses (e / 2)) ≤ place → false_at values other ≡ true → IsBroken values clauses
+  pub broken-of : length (list_at c.blocks.literals (e / 2)) ≤ place → false_at values other ≡ true → IsBroken values c.blocks.literals
   broken-of end failed = record {
     slot = e / 2;
     some = omega (arith, (g.stored.watched e visiting-live).1);
@@ -103,60 +103,59 @@ module _ {values : List (Option Bool)} {clauses : List (List ℕ)} {passed : Lis
     ];
   }
 
-  pub unit-of : length (list_at clauses (e / 2)) ≤ place → true_at values other ≡ false → false_at values other ≡ false → IsUnit values clauses (e / 2) other
+  pub unit-of : length (list_at c.blocks.literals (e / 2)) ≤ place → true_at values other ≡ false → false_at values other ≡ false → IsUnit values c.blocks.literals (e / 2) other
   unit-of end not_true not_false =
       let at = g.stored.watched (flip e) (g.stored.paired e visiting-live) in
       record {
-        stands = subst (Contains (list_at clauses (e / 2))) (sym g.other_is)
-            (subst (λ s. Contains (list_at clauses s) (watch_at ws (flip e)).literal) (flip-half e) at);
+        stands = subst (Contains (list_at c.blocks.literals (e / 2))) (sym g.other_is)
+            (subst (λ s. Contains (list_at c.blocks.literals s) (watch_at c.blocks.watches (flip e)).literal) (flip-half e) at);
         others = all-but end;
         not_true = not_true;
         not_false = not_false;
       }
 
 -- the watch has moved to another literal
-pub record Shifted (values : List (Option Bool)) (clauses : List (List ℕ)) (ws ws' : List Watch) (ls ls' : List (List ℕ)) (index e place : ℕ) : Type 0 where
-  pub within : place < length (list_at clauses (e / 2))
-  pub linked : AreLinked ws' ls'
-  pub literal : (watch_at ws' e).literal ≡ get_or (list_at clauses (e / 2)) place 0
-  pub live : (watch_at ws' e).live ≡ true
-  pub others : (k : ℕ) → (k ≡ e → ⊥) → Remains index (watch_at ws k) (watch_at ws' k)
-  pub watches : length ws' ≡ length ws
-  pub lists : length ls' ≡ length ls
+pub record Shifted (c c' : Clauses) (index e place : ℕ) : Type 0 where
+  pub within : place < length (list_at c.blocks.literals (e / 2))
+  pub linked : AreLinked c'.blocks.watches (watch_lists c'.lists.items)
+  pub literal : (watch_at c'.blocks.watches e).literal ≡ get_or (list_at c.blocks.literals (e / 2)) place 0
+  pub live : (watch_at c'.blocks.watches e).live ≡ true
+  pub others : (k : ℕ) → (k ≡ e → ⊥) → Remains index (watch_at c.blocks.watches k) (watch_at c'.blocks.watches k)
+  pub watches : length c'.blocks.watches ≡ length c.blocks.watches
+  pub lists : length (watch_lists c'.lists.items) ≡ length (watch_lists c.lists.items)
 
-module _ {values : List (Option Bool)} {clauses : List (List ℕ)} {passed : List ℕ} {ws ws' : List Watch} {ls ls' : List (List ℕ)} {l index e other place : ℕ}
-    (g : Visiting values clauses passed ws ls l index e other place) (m : Shifted values clauses ws ws' ls ls' index e place) where
-  -- what was passed is passed, as the watch has left a falsified literal
-  still-passed : (s k d : ℕ) → k < get_or passed s 0 → IsPassed values clauses ws' s k d
+module _ {values : List (Option Bool)} {c c' : Clauses} {l index e other place : ℕ} (g : Visiting values c l index e other place) (m : Shifted c c' index e place) where
+  -- what was (passed_of c) is (passed_of c), as the watch has left a falsified literal
+  still-passed : (s k d : ℕ) → k < get_or (passed_of c) s 0 → IsPassed values c.blocks.literals c'.blocks.watches s k d
   still-passed s k d h = elim (g.passes.each s k d h) [
     | inl f ↦ inl f
     | inr w ↦ elim (cases_eq w.watch e) [
-      | inl is ↦ inl (ap (false_at values) (sym w.literal ∙ ap (λ t. (watch_at ws t).literal) is ∙ visiting-literal g) ∙ g.failed)
+      | inl is ↦ inl (ap (false_at values) (sym w.literal ∙ ap (λ t. (watch_at c.blocks.watches t).literal) is ∙ visiting-literal g) ∙ g.failed)
       | inr n ↦ inr (record { watch = w.watch; slot = w.slot; literal = (m.others w.watch n).literal ∙ w.literal })
     ]
   ]
 
-  pub passed-move : ArePassed values clauses (set passed (e / 2) (place + 1)) ws'
+  pub passed-move : ArePassed values c.blocks.literals (set (passed_of c) (e / 2) (place + 1)) c'.blocks.watches
   passed-move = passed-raised (e / 2) (place + 1) g.passes (visiting-slot g) (omega (arith, m.within))
-      (λ k d h. here k d h (cases_lt k (get_or passed (e / 2) 0)) (cases_lt k place)) still-passed
+      (λ k d h. here k d h (cases_lt k (get_or (passed_of c) (e / 2) 0)) (cases_lt k place)) still-passed
     where
-      here : (k d : ℕ) → k < place + 1 → (k < get_or passed (e / 2) 0) ⊎ (get_or passed (e / 2) 0 ≤ k) → (k < place) ⊎ (place ≤ k) → IsPassed values clauses ws' (e / 2) k d
+      here : (k d : ℕ) → k < place + 1 → (k < get_or (passed_of c) (e / 2) 0) ⊎ (get_or (passed_of c) (e / 2) 0 ≤ k) → (k < place) ⊎ (place ≤ k) → IsPassed values c.blocks.literals c'.blocks.watches (e / 2) k d
       here k d h (inl before) q = still-passed (e / 2) k d before
       here k d h (inr after) (inl less) = elim (g.searched.passed k d after less) [
         | inl f ↦ inl f
         | inr o ↦ inr (record { watch = flip e; slot = flip-half e; literal = (m.others (flip e) (flip-apart e)).literal ∙ sym g.other_is ∙ sym o })
       ]
       here k d h (inr after) (inr at) =
-          let same = get_or_default (list_at clauses (e / 2)) place 0 d m.within ∙ ap (λ t. get_or (list_at clauses (e / 2)) t d) (omega (arith, h, at)) in
+          let same = get_or_default (list_at c.blocks.literals (e / 2)) place 0 d m.within ∙ ap (λ t. get_or (list_at c.blocks.literals (e / 2)) t d) (omega (arith, h, at)) in
           inr (record { watch = e; slot = refl; literal = m.literal ∙ same })
 
   -- the found literal is open
-  found-open : (false_at values (watch_at ws' e).literal ≡ false) × ((watch_at ws' e).literal ≡ (watch_at ws (flip e)).literal → ⊥)
+  found-open : (false_at values (watch_at c'.blocks.watches e).literal ≡ false) × ((watch_at c'.blocks.watches e).literal ≡ (watch_at c.blocks.watches (flip e)).literal → ⊥)
   found-open =
       let two = g.searched.found m.within 0 in
       (ap (false_at values) m.literal ∙ two.0, λ h. two.1 (sym m.literal ∙ h ∙ sym g.other_is))
 
-  pub stored-move : AreStored clauses ws' ls'
+  pub stored-move : AreStored c.blocks.literals c'.blocks.watches (watch_lists c'.lists.items)
   stored-move = record {
     linked = m.linked;
     pairs = m.watches ∙ g.stored.pairs;
@@ -167,52 +166,52 @@ module _ {values : List (Option Bool)} {clauses : List (List ℕ)} {passed : Lis
     inside = λ s k d h. omega (arith, g.stored.inside s k d h, m.lists);
   }
     where
-      live-e : (watch_at ws e).live ≡ true
+      live-e : (watch_at c.blocks.watches e).live ≡ true
       live-e = visiting-live g
 
-      was-live : (k : ℕ) → (k ≡ e → ⊥) → (watch_at ws' k).live ≡ true → (watch_at ws k).live ≡ true
+      was-live : (k : ℕ) → (k ≡ e → ⊥) → (watch_at c'.blocks.watches k).live ≡ true → (watch_at c.blocks.watches k).live ≡ true
       was-live k n live = sym (m.others k n).live ∙ live
 
-      watched-at : (k : ℕ) → (watch_at ws' k).live ≡ true → (k ≡ e) ⊎ (k ≡ e → ⊥) → Contains (list_at clauses (k / 2)) (watch_at ws' k).literal
+      watched-at : (k : ℕ) → (watch_at c'.blocks.watches k).live ≡ true → (k ≡ e) ⊎ (k ≡ e → ⊥) → Contains (list_at c.blocks.literals (k / 2)) (watch_at c'.blocks.watches k).literal
       watched-at k live (inl is) =
-          subst (λ t. Contains (list_at clauses (t / 2)) (watch_at ws' t).literal) (sym is) (subst (Contains (list_at clauses (e / 2))) (sym m.literal) (Contains-get_or (list_at clauses (e / 2)) place 0 m.within))
-      watched-at k live (inr n) = subst (Contains (list_at clauses (k / 2))) (sym (m.others k n).literal) (g.stored.watched k (was-live k n live))
+          subst (λ t. Contains (list_at c.blocks.literals (t / 2)) (watch_at c'.blocks.watches t).literal) (sym is) (subst (Contains (list_at c.blocks.literals (e / 2))) (sym m.literal) (Contains-get_or (list_at c.blocks.literals (e / 2)) place 0 m.within))
+      watched-at k live (inr n) = subst (Contains (list_at c.blocks.literals (k / 2))) (sym (m.others k n).literal) (g.stored.watched k (was-live k n live))
 
-      paired-at : (k : ℕ) → (watch_at ws' k).live ≡ true → (k ≡ e) ⊎ (k ≡ e → ⊥) → (flip k ≡ e) ⊎ (flip k ≡ e → ⊥) → (watch_at ws' (flip k)).live ≡ true
-      paired-at k live a (inl is) = ap (λ t. (watch_at ws' t).live) is ∙ m.live
+      paired-at : (k : ℕ) → (watch_at c'.blocks.watches k).live ≡ true → (k ≡ e) ⊎ (k ≡ e → ⊥) → (flip k ≡ e) ⊎ (flip k ≡ e → ⊥) → (watch_at c'.blocks.watches (flip k)).live ≡ true
+      paired-at k live a (inl is) = ap (λ t. (watch_at c'.blocks.watches t).live) is ∙ m.live
       paired-at k live (inl is) (inr n) =
           let n_flip : flip e ≡ e → ⊥ = flip-apart e in
-          ap (λ t. (watch_at ws' (flip t)).live) is ∙ (m.others (flip e) n_flip).live ∙ g.stored.paired e live-e
+          ap (λ t. (watch_at c'.blocks.watches (flip t)).live) is ∙ (m.others (flip e) n_flip).live ∙ g.stored.paired e live-e
       paired-at k live (inr n) (inr n_flip) = (m.others (flip k) n_flip).live ∙ g.stored.paired k (was-live k n live)
 
-      apart-at : (k : ℕ) → (watch_at ws' k).live ≡ true → (watch_at ws' (flip k)).literal ≡ (watch_at ws' k).literal → (k ≡ e) ⊎ (k ≡ e → ⊥) → (flip k ≡ e) ⊎ (flip k ≡ e → ⊥) → ⊥
+      apart-at : (k : ℕ) → (watch_at c'.blocks.watches k).live ≡ true → (watch_at c'.blocks.watches (flip k)).literal ≡ (watch_at c'.blocks.watches k).literal → (k ≡ e) ⊎ (k ≡ e → ⊥) → (flip k ≡ e) ⊎ (flip k ≡ e → ⊥) → ⊥
       apart-at k live h (inl is) q =
-          let at_e : (watch_at ws' (flip e)).literal ≡ (watch_at ws' e).literal = subst (λ t. (watch_at ws' (flip t)).literal ≡ (watch_at ws' t).literal) is h in
+          let at_e : (watch_at c'.blocks.watches (flip e)).literal ≡ (watch_at c'.blocks.watches e).literal = subst (λ t. (watch_at c'.blocks.watches (flip t)).literal ≡ (watch_at c'.blocks.watches t).literal) is h in
           found-open.1 (sym at_e ∙ (m.others (flip e) (flip-apart e)).literal)
       apart-at k live h (inr n) (inl is) =
           let k-is : k ≡ flip e = sym (flip-flip k) ∙ ap flip is in
-          let at_e : (watch_at ws' e).literal ≡ (watch_at ws' (flip e)).literal = ap (λ t. (watch_at ws' t).literal) (sym is) ∙ h ∙ ap (λ t. (watch_at ws' t).literal) k-is in
+          let at_e : (watch_at c'.blocks.watches e).literal ≡ (watch_at c'.blocks.watches (flip e)).literal = ap (λ t. (watch_at c'.blocks.watches t).literal) (sym is) ∙ h ∙ ap (λ t. (watch_at c'.blocks.watches t).literal) k-is in
           found-open.1 (at_e ∙ (m.others (flip e) (flip-apart e)).literal)
       apart-at k live h (inr n) (inr n_flip) =
           g.stored.apart k (was-live k n live) (sym (m.others (flip k) n_flip).literal ∙ h ∙ (m.others k n).literal)
 
-      full-at : (s : ℕ) → 0 < length (list_at clauses s) → (2 * s ≡ e) ⊎ (2 * s ≡ e → ⊥) → (watch_at ws' (2 * s)).live ≡ true
-      full-at s some (inl is) = ap (λ t. (watch_at ws' t).live) is ∙ m.live
+      full-at : (s : ℕ) → 0 < length (list_at c.blocks.literals s) → (2 * s ≡ e) ⊎ (2 * s ≡ e → ⊥) → (watch_at c'.blocks.watches (2 * s)).live ≡ true
+      full-at s some (inl is) = ap (λ t. (watch_at c'.blocks.watches t).live) is ∙ m.live
       full-at s some (inr n) = (m.others (2 * s) n).live ∙ g.stored.full s some
 
   -- a watch that stayed, or that is on a literal which is not falsified
-  pub shifted-old : (k : ℕ) → false_at values (watch_at ws' k).literal ≡ true → Remains index (watch_at ws k) (watch_at ws' k)
+  pub shifted-old : (k : ℕ) → false_at values (watch_at c'.blocks.watches k).literal ≡ true → Remains index (watch_at c.blocks.watches k) (watch_at c'.blocks.watches k)
   shifted-old k low = elim (cases_eq k e) [
-    | inl is ↦ absurd (both_ways _ (ap (λ t. false_at values (watch_at ws' t).literal) is ∙ found-open.0) low)
+    | inl is ↦ absurd (both_ways _ (ap (λ t. false_at values (watch_at c'.blocks.watches t).literal) is ∙ found-open.0) low)
     | inr n ↦ m.others k n
   ]
 
-  pub served-move : (all : List (List ℕ)) (walked : List ℕ) → AreServed values all ws walked l index → AreServed values all ws' walked l index
+  pub served-move : (all : List (List ℕ)) (walked : List ℕ) → AreServed values all c.blocks.watches walked l index → AreServed values all c'.blocks.watches walked l index
   served-move all walked old = record {
     failed = old.failed;
     now = old.now;
     done = λ k live h.
-        let r = shifted-old k (old.failed (watch_at ws' k).literal h) in
+        let r = shifted-old k (old.failed (watch_at c'.blocks.watches k).literal h) in
         old.done k (sym r.live ∙ live) (subst (Contains walked) r.literal h);
     here = λ k live h less.
         let r = shifted-old k (ap (false_at values) h ∙ g.failed) in

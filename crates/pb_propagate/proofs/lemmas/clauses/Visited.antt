@@ -11,6 +11,10 @@ use Rattle.pb_propagate.proofs.lemmas.clauses.Steps.{broken-of, unit-of, served-
 use Rattle.pb_propagate.proofs.lemmas.clauses.Turned.{turned-length, turned-size, stored-turned, stored-back, unit-back, broken-back}
 use Rattle.pb_propagate.proofs.lemmas.clauses.Listed.{lists-length, blocked-more}
 
+-- each clause in the order of its search
+abbrev turned_to : List ℕ → Clauses → Clauses
+turned_to starts c = record { blocks = record { literals = all_turned starts c.blocks.literals; searches = c.blocks.searches; watches = c.blocks.watches; rooms = c.blocks.rooms }; lists = c.lists }
+
 -- a search for a literal to watch in place of a falsified one
 pub record IsSought (c : Clauses) (values : List (Option Bool)) (l index e other : ℕ) (from stop : Search) (xs : List ℕ) : Type 0 where
   pub run : IsRunning values c
@@ -51,7 +55,7 @@ module _ {c : Clauses} {values : List (Option Bool)} {l index e other : ℕ} {fr
         (ap (false_at values) here ∙ (s.found less d).0, λ is. (s.found less d).1 (sym here ∙ is));
   }
 
-  visiting : Visiting values (all_turned s.run.starts c.blocks.literals) (passed_of c) c.blocks.watches (watch_lists c.lists.items) l index e other stop.passed
+  visiting : Visiting values (turned_to s.run.starts c) l index e other stop.passed
   visiting = record {
     stored = stored-turned s.run.starts c.blocks.literals c.blocks.watches (watch_lists c.lists.items) s.run.stored;
     passes = s.run.passed;
@@ -129,7 +133,7 @@ module _ {c : Clauses} {values : List (Option Bool)} {l index e other : ℕ} {fr
     watches_are : between.watches ≡ c.blocks.watches
     watches_are = ap (λ (b : Contents). b.watches) m.sought
 
-    shifted : Shifted values (all_turned s.run.starts c.blocks.literals) c.blocks.watches new.watches (watch_lists c.lists.items) (watch_lists lists'.items) index e stop.passed
+    shifted : Shifted (turned_to s.run.starts c) (record { blocks = new; lists = lists' }) index e stop.passed
     shifted = record {
       within = omega (arith, turned-size s.run.starts c.blocks.literals (e / 2), less, ap length s.resuming.items);
       linked = m.linked;

@@ -52,15 +52,6 @@ ready-running c values r sizes = record {
   sizes = sizes;
 }
 
-pub watching-start : (c : Clauses) (values : List (Option Bool)) (list : List NumberedLiteral) (h : Heads) → IsRunning values c → h.short ≤ length list → h.long ≤ length list → AreWalked values c.blocks.literals c.blocks.watches (reached_codes h list) → IsWatching c c values list h
-watching-start c values list h running short long walked = record {
-  literals = refl;
-  running = running;
-  short = short;
-  long = long;
-  served = walked;
-}
-
 -- the list gets longer, and the literals that are walked are the same
 extends-longer : (list list' : List NumberedLiteral) → Extends list list' → length list ≤ length list'
 extends-longer list list' (r, e) = omega (arith, ap length e, length-append list r)

@@ -58,13 +58,6 @@ cut-total base s0 i inside within =
     let change = sum_by-set (λ (f : Shape). length f.terms) base s0 x none_shape inside in
     omega (arith, change, length-take-le i (terms_at base s0) within)
 
--- what the entries name
-pub entry-is : (lists : List (List Weighted)) (p q : ℕ) (e : Weighted) → slice_get (get_or lists p []) q ≡ Some e → entry_at lists p q ≡ to e.form e.index e.coefficient
-entry-is lists p q e h = ap entry_cross h
-
-pub entry-none : (lists : List (List Weighted)) (p q : ℕ) → slice_get (get_or lists p []) q ≡ None → entry_at lists p q ≡ None
-entry-none lists p q h = ap entry_cross h
-
 module _ {base : List Shape} {s0 i : ℕ} {t : Term} (x : IsTerm base s0 i t) where
   module _ {lists lists' : List (List Weighted)} (g : Gains lists lists' (place t.literal) (entry_for s0 i t)) where
     differs : (s : ℕ) (d : Shape) (l : NumberedLiteral) → s < length base →
@@ -163,8 +156,8 @@ module _ {base : List Shape} {s0 i : ℕ} {t : Term} (x : IsTerm base s0 i t) wh
         crossed = crossed-add (term_at (cut base s0 i) spots) (term_at (cut base s0 (i + 1)) spots') (entry_at lists) (entry_at lists') s0 i p (length es) t.coefficient
             (record { was = term-none spots; now = term-here spots' (length es) spot; others = λ s j n. term-other spots spots' s j n (agree s j n) })
             (record {
-              was = entry-none lists p (length es) (slice_get_past es (length es) (omega arith));
-              now = entry-is lists' p (length es) e (ap (λ xs. slice_get xs (length es)) now ∙ get-push_same es (length es) e refl);
+              was = ap entry_cross (slice_get_past es (length es) (omega arith));
+              now = ap (λ (xs : List Weighted). entry_cross (slice_get xs (length es))) now ∙ ap entry_cross (get-push_same es (length es) e refl);
               others = λ q k n. elim (cases_eq q p) [
                 | inr other ↦ ap (λ (xs : List Weighted). entry_cross (slice_get xs k)) (apart q other)
                 | inl here ↦ rw here (ap (λ (xs : List Weighted). entry_cross (slice_get xs k)) now ∙ ap entry_cross (get-push_other es k e (λ h. n (here, h))))

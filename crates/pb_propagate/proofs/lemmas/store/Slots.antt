@@ -80,7 +80,7 @@ rest-watched store store' clauses clauses' forms f k s none e keeps spots occ va
     record {
       sound = rw (same, spots, occ, variables) r.sound;
       slots = rw (same, literals, joined-clause (shapes_of keep) (clauses_of clauses) s codes room some) (slots-set forms (joined (shapes_of keep) (clauses_of clauses)) s (Some f) (clause_shape codes) (clause-kept f normal clause) r.slots);
-      joined = rw (same, literals) (AreJoined-clause (shapes_of keep) (clauses_of clauses) s codes room (λ d. (vacant.terms d, vacant.degree d)) (rising-different (group_by (length f.terms)) 0 f.terms normal.ordered) r.joined);
+      joined = rw (same, literals) (AreJoined-clause (shapes_of keep) (clauses_of clauses) s codes room (λ some d. (vacant.terms d, vacant.degree d)) (rising-different (group_by (length f.terms)) 0 f.terms normal.ordered) r.joined);
       ready = ready;
       widths = omega (arith, lists, r.widths, variables);
       known = omega (arith, ap length literals, length-set (clauses_of clauses) s codes, r.known, ap length keeps, length-set keep s k);

@@ -5,7 +5,7 @@ use Rattle.pb_propagate.proofs.Common.{get_or_past, sum_by-set, sum_by-swap_remo
 use Rattle.pb_propagate.proofs.Common.{entry_weight, place, weight_in, AreCrossed, cut, entry_at, entry_cross, IsLinked, term_at, term_cross}
 use Rattle.pb_propagate.proofs.Common.{terms_at, Shape, Weighted}
 use Rattle.pb_propagate.proofs.lemmas.store.Gets.{get-set_same, get-set_other, swap-other, swap-last, swap-here, swap-length}
-use Rattle.pb_propagate.proofs.lemmas.store.Links.{Gains, IsTerm, entry_for, linked-less, totals-next, term-here, term-none, term-other, terms-step, entry-is, cut-length}
+use Rattle.pb_propagate.proofs.lemmas.store.Links.{Gains, IsTerm, entry_for, linked-less, totals-next, term-here, term-none, term-other, terms-step, cut-length}
 use Rattle.pb_propagate.proofs.lemmas.store.Crosses.{to, to-parts, to-none, Same, crossed-drop, crossed-move}
 
 -- the entry that a name refers to
@@ -49,7 +49,7 @@ named-entry {base} {s0} {i} {t} spots lists q x spot old =
 -- the term that an entry names
 pub named-term : (forms : List Shape) (spots : List (List ℕ)) (lists : List (List Weighted)) (p q : ℕ) (e : Weighted) → slice_get (get_or lists p []) q ≡ Some e → IsLinked forms spots lists → TermNamed (slice_get (terms_at forms e.form) e.index) (slice_get (get_or spots e.form []) e.index) p q e.coefficient
 named-term forms spots lists p q e is old =
-    term-back (slice_get (terms_at forms e.form) e.index) (slice_get (get_or spots e.form []) e.index) p q e.coefficient ((old.crossed e.form e.index p q e.coefficient).1 (entry-is lists p q e is))
+    term-back (slice_get (terms_at forms e.form) e.index) (slice_get (get_or spots e.form []) e.index) p q e.coefficient ((old.crossed e.form e.index p q e.coefficient).1 (ap entry_cross is))
 
 pub named-spot : (forms : List Shape) (spots : List (List ℕ)) (lists : List (List Weighted)) (p q : ℕ) (e : Weighted) → slice_get (get_or lists p []) q ≡ Some e → IsLinked forms spots lists → (e.form < length spots) × (e.index < length (get_or spots e.form []))
 named-spot forms spots lists p q e is old =
@@ -72,7 +72,7 @@ shifted-sizes : {es : List Weighted} {q : ℕ} {spots spots' : List (List ℕ)} 
 shifted-sizes (stays end) = refl
 shifted-sizes {es} {q} {spots} (goes m more at) = length-set spots m.form (set (get_or spots m.form []) m.index q)
 
--- a term and its entry are removed, the entry over the list's own name
+-- a term and its entry are removed, where `es` is the list of the term's literal
 pub record Leaving (base : List Shape) (spots : List (List ℕ)) (lists lists' : List (List Weighted)) (s0 i q p : ℕ) (es : List Weighted) (t : Term) : Type 0 where
   pub term : IsTerm base s0 i t
   pub spot : slice_get (get_or spots s0 []) i ≡ Some q
@@ -150,7 +150,7 @@ module _ {base : List Shape} {spots : List (List ℕ)} {lists lists' : List (Lis
       at_lists = ap (λ (xs : List Weighted). slice_get xs (length es - 1)) (sym l.those) ∙ at
 
       was : entry_at lists p (length es - 1) ≡ to m.form m.index m.coefficient
-      was = entry-is lists p (length es - 1) m at_lists
+      was = ap entry_cross at_lists
 
       places : (m.form < length spots) × (m.index < length (get_or spots m.form []))
       places = named-spot (cut base s0 (i + 1)) spots lists p (length es - 1) m at_lists l.old

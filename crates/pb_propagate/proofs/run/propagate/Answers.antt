@@ -14,7 +14,7 @@ use Rattle.pb_propagate.proofs.lemmas.engine.Values.{opposite}
 use Rattle.pb_propagate.proofs.lemmas.clauses.Shapes.{derives-joined, conflicts-joined, joined-source}
 use Rattle.pb_propagate.proofs.lemmas.clauses.Heads.{mark-walked, walked-mark, marking-start, marking-grow, marking-found, marking-next}
 use Rattle.pb_propagate.proofs.lemmas.clauses.Walks.{grows-refl, grows-trans, grows-listed, kept-then, running-grow}
-use Rattle.pb_propagate.proofs.lemmas.clauses.Watching.{cost, next-of, listed-small, ahead-within, walked-whole, watching-start, watching-grow, watching-next, watching-settled, cost-grow, reached-ahead}
+use Rattle.pb_propagate.proofs.lemmas.clauses.Watching.{cost, next-of, listed-small, ahead-within, walked-whole, watching-grow, watching-next, watching-settled, cost-grow, reached-ahead}
 use Rattle.pb_propagate.proofs.run.propagate.Goals as goal
 
 pub work-init : goal.work-init
@@ -26,7 +26,7 @@ work-init c =
       kept = λ e live failed. (refl, refl);
       marking = marking-start c.args.clauses.now run.assignment.list.items c.args.marks.now.items c.len-marked.result c.args.from (omega (arith, c.len-marked.ensures, run.assignment.list.ok.0)) c.requires.ready.walked;
       taken = omega arith;
-      watching = watching-start c.args.clauses.now run.assignment.values.items run.assignment.list.items c.args.from c.requires.ready.running c.requires.ready.walked.short c.requires.ready.walked.long (mark-walked run.assignment.values.items c.args.clauses.now.blocks.literals c.args.clauses.now.blocks.watches run.assignment.list.items c.args.from run.assignment.agrees c.requires.ready.walked);
+      watching = record { literals = refl; running = c.requires.ready.running; short = c.requires.ready.walked.short; long = c.requires.ready.walked.long; served = mark-walked run.assignment.values.items c.args.clauses.now.blocks.literals c.args.clauses.now.blocks.watches run.assignment.list.items c.args.from run.assignment.agrees c.requires.ready.walked };
       reasons = run-reasons-none (all_of store c.args.clauses.now) run;
       state = propagating-start _ (record { sized = length-map store.stored.items stored_shape; single = c.requires.ready.single; within = c.requires.ready.sums.next }) c.requires.ready.sums.counted c.requires.ready.tidy c.requires.ready.sums.opens c.requires.ready.sums.candidates;
     }
