@@ -146,9 +146,6 @@ module _ (limit top : ℕ) where
 
 -- The laws of the count machine.
 
-abbrev N : Type 0
-N = Next CountState (Option ℕ)
-
 -- The phase that `transition` leads to is midway, and a count that is being read is at most top.
 digits_fit : (top n d : ℕ) → ActionFits top (digits top n d)
 digits_fit top n d = cond_both (nat_le (10 * n + d) top) _ _ (ActionFits top) (λ e. (leb-true (10 * n + d) top e, refl)) (λ _. tt)

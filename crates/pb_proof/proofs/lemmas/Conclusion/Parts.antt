@@ -117,19 +117,14 @@ module _ (limit top : ℕ) where
   word_leads word.Bounds = begins_word word.Bounds 66 _ refl refl (omega arith)
 
   -- blanks
-  blanks_after : (p q : Phase) → ((b : ℕ) → IsTrue (is_blank b) → conclusion_automaton.step (at p) b ≡ Go (at q)) → ((b : ℕ) → IsTrue (is_blank b) → conclusion_automaton.step (at q) b ≡ Go (at q))
-      → is_within q ≡ true → conclusion_automaton.in_number (at q) ≡ false
-      → TakesBlanks conclusion_automaton (at p) (at q)
-  blanks_after p q f g i n = record { enters = f; stays = g; begun = i; plain = n }
-
   pub start_blanks : TakesBlanks conclusion_automaton (at phase.Start) (at phase.Before)
-  start_blanks = blanks_after phase.Start phase.Before (λ b h. rw h refl) (λ b h. rw h refl) refl refl
+  start_blanks = record { enters = λ b h. rw h refl; stays = λ b h. rw h refl; begun = refl; plain = refl }
 
   pub bounded_blanks : TakesBlanks conclusion_automaton (at phase.Bounded) (at (phase.BeforeBound side.Lower))
-  bounded_blanks = blanks_after phase.Bounded (phase.BeforeBound side.Lower) (λ b h. rw h refl) (λ b h. rw h refl) refl refl
+  bounded_blanks = record { enters = λ b h. rw h refl; stays = λ b h. rw h refl; begun = refl; plain = refl }
 
   pub id_blanks : (x : Owner) → TakesBlanks conclusion_automaton (at (phase.BeforeId x)) (at (phase.BeforeId x))
-  id_blanks x = blanks_after (phase.BeforeId x) (phase.BeforeId x) (λ b h. rw h refl) (λ b h. rw h refl) refl refl
+  id_blanks x = record { enters = λ b h. rw h refl; stays = λ b h. rw h refl; begun = refl; plain = refl }
 
   -- A state that has, for each byte but a digit, the same step as that of a phase.
   abbrev pub Follows : Phase → ConclusionState → Type 0
@@ -140,11 +135,10 @@ module _ (limit top : ℕ) where
 
   pub after_blanks_of : (c : Concluding)
       → TakesBlanks conclusion_automaton (at (phase.AfterValue c)) (at (phase.AfterValue c))
-  after_blanks_of c =
-      blanks_after (phase.AfterValue c) (phase.AfterValue c) (λ b h. rw h refl) (λ b h. rw h refl) refl refl
+  after_blanks_of c = record { enters = λ b h. rw h refl; stays = λ b h. rw h refl; begun = refl; plain = refl }
 
   pub between_blanks : (x : Bound) → TakesBlanks conclusion_automaton (at (phase.Between x)) (at (phase.Spaced x))
-  between_blanks x = blanks_after (phase.Between x) (phase.Spaced x) (λ b h. rw h refl) (λ b h. rw h refl) refl refl
+  between_blanks x = record { enters = λ b h. rw h refl; stays = λ b h. rw h refl; begun = refl; plain = refl }
 
   -- the end of the line after a conclusion
   pub may_end : (c : Concluding) (s : ConclusionState) → Follows (phase.AfterValue c) s → MayEnd conclusion_automaton s (at (phase.AfterValue c)) (at (phase.Semicolon c)) (conclusion_value c) (conclusion_last limit top)
@@ -165,11 +159,8 @@ module _ (limit top : ℕ) where
   act_after : (p q : Phase) (b : ℕ) (c : Concluding) → act (at p) b (next_action c b) ≡ act (at q) b (next_action c b)
   act_after p q b c = act_same p q (phase.AfterValue c) b (next_action c b) (on_transition (at p) (phase.AfterValue c) b) (λ x e. cc)
 
-  act_between : (p q : Phase) (b : ℕ) (x : Bound) → act (at p) b (between x b) ≡ act (at q) b (between x b)
-  act_between p q b x = act_same p q (phase.Between x) b (between x b) (on_transition (at p) (phase.Between x) b) (λ y e. cc)
-
   act_after_bound : (p : Phase) (b : ℕ) (x : Side) (y : Bound) → act (at p) b (after_bound x y b) ≡ conclusion_automaton.step (at (phase_after_bound x y)) b
-  act_after_bound p b side.Lower y = act_between p (phase.Between y) b y
+  act_after_bound p b side.Lower y = act_same p (phase.Between y) (phase.Between y) b (between y b) (on_transition (at p) (phase.Between y) b) (λ x e. cc)
   act_after_bound p b (side.Upper x id) y = act_after p (phase.AfterValue (concluding.Shows (showing.Bounds x id y))) b (concluding.Shows (showing.Bounds x id y))
 
   pub number_follows : (x : Side) (negative : Bool) (n : ℕ) → Follows (phase_after_bound x (Finite (signed negative n))) (at (phase.Digits x negative n))
@@ -211,9 +202,6 @@ module _ (limit top : ℕ) where
   digits_first : (x : Side) (negative : Bool) (d : ℕ) → d < 10 → d ≤ limit → digits limit x negative 0 (48 + d) ≡ To (phase.Digits x negative d)
   digits_first x negative d h l = let e : 10 * 0 + d ≡ d = omega arith in digits_next x negative 0 d h (omega arith) ∙ ap (λ y. To (phase.Digits x negative y)) e
 
-  takes_digits : (x : Side) (negative : Bool) → TakesDigits conclusion_automaton (λ n. here (phase.Digits x negative n)) limit
-  takes_digits x negative = record { more = digits_step x negative; begun = λ n. refl; number = λ n. refl }
-
   -- A state before a bound.
   pub record Opens (x : Side) (s : ConclusionState) : Type 0 where
     pub plus : conclusion_automaton.step s 43 ≡ Go (here (phase.Signed x false))
@@ -241,7 +229,7 @@ module _ (limit top : ℕ) where
   -- the digits after a first byte
   number_lead : (x : Side) (negative : Bool) (s : ConclusionState) → ((d : ℕ) → d < 10 → d ≤ limit → conclusion_automaton.step s (48 + d) ≡ Go (here (phase.Digits x negative d)))
       → (n : ℕ) → n ≤ limit → Leads conclusion_automaton s (Digits n) (here (phase.Digits x negative n))
-  number_lead x negative s f n l = digits_lead conclusion_automaton (λ m. here (phase.Digits x negative m)) limit (takes_digits x negative) s f n l
+  number_lead x negative s f n l = digits_lead conclusion_automaton (λ m. here (phase.Digits x negative m)) limit (record { more = digits_step x negative; begun = λ n. refl; number = λ n. refl }) s f n l
 
   pub signed_step : (x : Side) (negative : Bool) → conclusion_automaton.step (here (phase.Signed x negative)) 48 ≡ Go (here (phase.Digits x negative 0))
   signed_step x negative = ap (λ y. act (here (phase.Signed x negative)) 48 y) (digits_first x negative 0 (omega arith) (omega arith))
@@ -312,12 +300,9 @@ module _ (limit top : ℕ) where
   id_first : (x : Owner) (negative : Bool) (d : ℕ) → d < 10 → d ≤ top → id_digits top x negative 0 (48 + d) ≡ To (phase.IdDigits x negative d)
   id_first x negative d h l = let e : 10 * 0 + d ≡ d = omega arith in id_next x negative 0 d h (omega arith) ∙ ap (λ y. To (phase.IdDigits x negative y)) e
 
-  takes_id_digits : (x : Owner) (negative : Bool) → TakesDigits conclusion_automaton (λ n. here (phase.IdDigits x negative n)) top
-  takes_id_digits x negative = record { more = id_step x negative; begun = λ n. refl; number = λ n. refl }
-
   id_lead : (x : Owner) (negative : Bool) (s : ConclusionState) → ((d : ℕ) → d < 10 → d ≤ top → conclusion_automaton.step s (48 + d) ≡ Go (here (phase.IdDigits x negative d)))
       → (n : ℕ) → n ≤ top → Leads conclusion_automaton s (Digits n) (here (phase.IdDigits x negative n))
-  id_lead x negative s f n l = digits_lead conclusion_automaton (λ m. here (phase.IdDigits x negative m)) top (takes_id_digits x negative) s f n l
+  id_lead x negative s f n l = digits_lead conclusion_automaton (λ m. here (phase.IdDigits x negative m)) top (record { more = id_step x negative; begun = λ n. refl; number = λ n. refl }) s f n l
 
   pub first_id_step : (x : Owner) (d : ℕ) → d < 10 → d ≤ top → conclusion_automaton.step (here (phase.BeforeId x)) (48 + d) ≡ Go (here (phase.IdDigits x false d))
   first_id_step x d h l = rw (digit_blank d h, digit-not d 45 h refl, id_first x false d h l) refl

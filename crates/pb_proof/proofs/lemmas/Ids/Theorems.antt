@@ -13,9 +13,6 @@ use Rattle.pb_proof.proofs.lemmas.Line.ByteKinds.{number_of_digit}
 use Rattle.pb_proof.specs.declared.line.byte_kind.NumberByte.TheVariants as kind
 use Rattle.pb_proof.specs.declared.line.delete.phase.IdsAction.TheVariants as action
 
-abbrev N : Type 0
-N = Next IdsState (List ℤ)
-
 -- the machine has read the digits of an id, and the byte ends it
 abbrev pub EndsId : IdsPhase → NumberByte → Type 0
 EndsId (Digits negative n) kind.Blank = Unit {0}

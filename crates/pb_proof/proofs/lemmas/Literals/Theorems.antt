@@ -13,9 +13,6 @@ use Rattle.pb_sums.proofs.lemmas.machine.Counts.{counted}
 use Rattle.pb_proof.specs.declared.line.byte_kind.NameByte.TheVariants as kind
 use Rattle.pb_proof.specs.declared.line.solution.phase.LiteralsAction as action
 
-abbrev N : Type 0
-N = Next LiteralsState (List Literal)
-
 -- The phase that a move leads to is midway, and a literal is being read if a name has begun.
 abbrev IsSane : Bool → LiteralsPhase → LiteralsAction → Type 0
 IsSane joined ph (action.TheVariants.To q) = (is_midway q ≡ true) × (in_hand q ≡ 0)
@@ -108,8 +105,7 @@ module _ (joined : Bool) (ls : List Literal) (name : List ℕ) (ph : LiteralsPha
   acted (action.TheVariants.Begin q b) next h e = subst (λ x. Steps here x) (one_state _ next e) (begin_steps q b h.0 h.1 h.2)
   acted (action.TheVariants.Add q b) next h e =
       subst (λ x. Steps here x) (one_state _ next e) (add_steps q b h.0 h.1 h.2)
-  acted action.TheVariants.End next h e = cc
-  acted action.TheVariants.Stop next h e = cc
+  acted _ next h e = cc
 
   ended : (m : LiteralsAction) (next : LiteralsState) (e : List Literal) → act joined (flushed ph ls name) ls name m ≡ End e next → next ≡ literals_last joined
   ended (action.TheVariants.To q) next e i = cc
@@ -213,10 +209,6 @@ wants s b m o f t a =
 
 pub same_state : (joined : Bool) (ls ms : List Literal) (m n : List ℕ) (p q : LiteralsPhase) → ls ≡ ms → m ≡ n → p ≡ q → literals_at joined ls m p ≡ literals_at joined ms n q
 same_state joined ls ms m n p q e f g = cc
-
--- a state within the literals
-pub midway_state : (joined : Bool) (ls : List Literal) (name : List ℕ) (q : LiteralsPhase) → is_midway q ≡ true → IsState literals_automaton (literals_at joined ls name q)
-midway_state joined ls name q h = literals_is_state (literals_at joined ls name q) (λ i. never (is_midway q) h i)
 
 -- a count that stays at its maximum
 pub count_more : (ls : List Literal) (i : ℕ) (d : Literal) (c m r : ℕ) → i < length ls → c ≡ min (units (take i ls)) (2 ^ 64 - 1) → m ≡ min (length (get_or ls i d).name + 1) (2 ^ 64 - 1)
