@@ -238,29 +238,22 @@ module _ (limit top : ℕ) where
   signed_lead x negative n l =
       number_lead x negative (here (phase.Signed x negative)) (λ d h i. ap (λ y. act (here (phase.Signed x negative)) (48 + d) y) (digits_first x negative d h i)) n l
 
-  -- a sign
-  signed_walk : (x : Side) (negative : Bool) (b : ℕ) (s new : ConclusionState) (u v : List Letter) → conclusion_automaton.step s b ≡ Go (here (phase.Signed x negative)) → u ≡ unmarked b ∷ []
-      → Walks conclusion_automaton (here (phase.Signed x negative)) v new → Walks conclusion_automaton s (u ++ v) new
-  signed_walk x negative b s new u v g e w = subst (λ y. Walks conclusion_automaton s (y ++ v) new) (sym e) (here (phase.Signed x negative), g, refl, refl, w)
+  -- a sign, and the digits after it
+  signed_walk : (x : Side) (negative : Bool) (b n : ℕ) (s : ConclusionState) (t u v : List Letter) → conclusion_automaton.step s b ≡ Go (here (phase.Signed x negative)) → t ≡ u ++ v → u ≡ unmarked b ∷ []
+      → n ≤ limit → Digits n v → Walks conclusion_automaton s t (here (phase.Digits x negative n))
+  signed_walk x negative b n s t u v g f e l ds =
+      subst (λ y. Walks conclusion_automaton s y (here (phase.Digits x negative n))) (sym (f ∙ ap (λ y. y ++ v) e)) (here (phase.Signed x negative), g, refl, refl, signed_lead x negative n l v ds)
+
+  number_read : (x : Side) (negative : Bool) (n : ℕ) (z : ℤ) (s : ConclusionState) (t : List Letter) → z ≡ signed negative n → Walks conclusion_automaton s t (here (phase.Digits x negative n))
+      → (new : ConclusionState) × Walks conclusion_automaton s t new × Follows limit top (phase_after_bound x (Finite z)) new
+  number_read x negative n z s t e w =
+      (here (phase.Digits x negative n), w, subst (λ y. Follows limit top (phase_after_bound x (Finite y)) (here (phase.Digits x negative n))) (sym e) (number_follows limit top x negative n))
 
   number_carries : (x : Side) (z : ℤ) → Carries limit top (Opens x) (Number limit z) (Follows limit top (phase_after_bound x (Finite z)))
-  number_carries x z s t o (true, n, l, e, (u, v, f, sign, ds)) = (
-    here (phase.Digits x true n),
-    subst (λ y. Walks conclusion_automaton s y (here (phase.Digits x true n))) (sym f)
-        (signed_walk x true 45 s (here (phase.Digits x true n)) u v o.minus sign (signed_lead x true n l v ds)),
-    subst (λ y. Follows limit top (phase_after_bound x (Finite y)) (here (phase.Digits x true n))) (sym e) (number_follows limit top x true n),
-  )
-  number_carries x z s t o (false, n, l, e, (u, v, f, inr sign, ds)) = (
-    here (phase.Digits x false n),
-    subst (λ y. Walks conclusion_automaton s y (here (phase.Digits x false n))) (sym f)
-        (signed_walk x false 43 s (here (phase.Digits x false n)) u v o.plus sign (signed_lead x false n l v ds)),
-    subst (λ y. Follows limit top (phase_after_bound x (Finite y)) (here (phase.Digits x false n))) (sym e) (number_follows limit top x false n),
-  )
-  number_carries x z s t o (false, n, l, e, (u, v, f, inl sign, ds)) = (
-    here (phase.Digits x false n),
-    subst (λ y. Walks conclusion_automaton s y (here (phase.Digits x false n))) (sym (f ∙ ap (λ y. y ++ v) sign)) (number_lead x false s o.first n l v ds),
-    subst (λ y. Follows limit top (phase_after_bound x (Finite y)) (here (phase.Digits x false n))) (sym e) (number_follows limit top x false n),
-  )
+  number_carries x z s t o (true, n, l, e, (u, v, f, sign, ds)) = number_read x true n z s t e (signed_walk x true 45 n s t u v o.minus f sign l ds)
+  number_carries x z s t o (false, n, l, e, (u, v, f, inr sign, ds)) = number_read x false n z s t e (signed_walk x false 43 n s t u v o.plus f sign l ds)
+  number_carries x z s t o (false, n, l, e, (u, v, f, inl sign, ds)) =
+      number_read x false n z s t e (subst (λ y. Walks conclusion_automaton s y (here (phase.Digits x false n))) (sym (f ∙ ap (λ y. y ++ v) sign)) (number_lead x false s o.first n l v ds))
 
   -- the rest of `INF`
   infinity_spelled : (x : Side) → is_within (phase_after_bound x Infinite) ≡ true → is_in_number (here (phase_after_bound x Infinite)) (phase_after_bound x Infinite) ≡ false

@@ -1,6 +1,6 @@
 -- The laws of the literals machine.
 use Rattle.pb_proof.proofs.Common.{ℕ, ◌++◌, ◌+◌, ◌-◌, ◌^◌, ◌↔◌, ◌∷◌, ◌≡◌, ◌≤◌, [], ap, arith, Bool, cond, false, length, length-append, List, refl}
-use Rattle.pb_proof.proofs.Common.{subst, sym, true, min-le_left, add-grows, begin-grows, to-grows, Literal, ReadsOn, is_state, IsOfOne, one_state}
+use Rattle.pb_proof.proofs.Common.{subst, sym, true, min-le_left, add-grows, begin-grows, to-grows, Literal, reads_before, ReadsOn, is_state, IsOfOne, one_state}
 use Rattle.pb_proof.proofs.Common.{never, End, Go, IsState, Next, ReadsStatement, Refuse, unmarked, Letter, NameByte, LiteralsAction, LiteralsPhase}
 use Rattle.pb_proof.proofs.Common.{First, More, Negation, name_byte, flushed, is_begun, IsLiteralsInOrder, literal, literals_at, literals_automaton}
 use Rattle.pb_proof.proofs.Common.{literals_first, literals_last, LiteralsState, SpellsJoined, ◌<◌, ◌||◌, ◌∙◌, get_or, IsTrue, min, take, take_more}
@@ -127,23 +127,20 @@ stops joined Done ls name k h = refl
 stops joined _ ls name k h = cc
 
 -- a further byte or two of a name, and the line feed
+some_more : (joined negated : Bool) (ls : List Literal) (name : List ℕ) → ReadsOn literals_automaton (literals_at joined ls name (More negated))
+some_more joined negated ls name = (unmarked 10 ∷ [], ls ++ literal negated name ∷ [], literals_last joined, (refl, refl))
+
+some_name : (joined negated : Bool) (ls : List Literal) (name : List ℕ) → ReadsOn literals_automaton (literals_at joined ls name (First negated))
+some_name joined negated ls name =
+    reads_before literals_automaton (literals_at joined ls name (First negated)) (literals_at joined ls (name ++ 97 ∷ []) (More negated)) 97 refl refl (some_more joined negated ls (name ++ 97 ∷ []))
+
 some_text : (joined : Bool) (ph : LiteralsPhase) (ls : List Literal) (name : List ℕ) → is_done ph ≡ false → ReadsOn literals_automaton (literals_at joined ls name ph)
 some_text true Start ls name h = (unmarked 10 ∷ [], ls, literals_last true, (refl, refl))
 some_text false Start ls name h = (unmarked 10 ∷ [], ls, literals_last false, (refl, refl))
 some_text joined Gap ls name h = (unmarked 10 ∷ [], ls, literals_last joined, (refl, refl))
-some_text joined Negation ls name h = (
-  unmarked 97 ∷ unmarked 97 ∷ unmarked 10 ∷ [],
-  ls ++ literal true (97 ∷ 97 ∷ []) ∷ [],
-  literals_last joined,
-  (literals_at joined ls (97 ∷ []) (First true), refl, refl, refl, (literals_at joined ls (97 ∷ 97 ∷ []) (More true), refl, refl, refl, (refl, refl))),
-)
-some_text joined (First negated) ls name h = (
-  unmarked 97 ∷ unmarked 10 ∷ [],
-  ls ++ literal negated (name ++ 97 ∷ []) ∷ [],
-  literals_last joined,
-  (literals_at joined ls (name ++ 97 ∷ []) (More negated), refl, refl, refl, (refl, refl)),
-)
-some_text joined (More negated) ls name h = (unmarked 10 ∷ [], ls ++ literal negated name ∷ [], literals_last joined, (refl, refl))
+some_text joined Negation ls name h = reads_before literals_automaton (literals_at joined ls name Negation) (literals_at joined ls (97 ∷ []) (First true)) 97 refl refl (some_name joined true ls (97 ∷ []))
+some_text joined (First negated) ls name h = some_name joined negated ls name
+some_text joined (More negated) ls name h = some_more joined negated ls name
 some_text joined Closing ls name h = (unmarked 10 ∷ [], ls, literals_last joined, (refl, refl))
 some_text joined Done ls name h = cc
 

@@ -110,48 +110,19 @@ module _ (limit top d : ℕ) (ws : List PolWord) (name : List ℕ) (some : 0 < t
 
     -- an operator that takes effect at its own byte
     turned_first : (h : Held) (b : ℕ) (k : Kind) (c : Change) → k ≡ kind_of b → action.Turn c phase.After ≡ transition limit top d (phase.Gap h) k → changed c ws name ≡ changed c ws n → Stands h (b ∷ []) c held.Nothing
-    turned_first h b k c e f i = (
-      (
-        changed c ws name,
-        counted c d,
-        [],
-        phase.After,
-        change.Keep,
-        (
-          state limit top (changed c ws name) (counted c d) [] phase.After,
-          moved limit top ws d name (phase.Gap h) b k (action.Turn c phase.After) e f,
-          midway_state limit top (changed c ws name) (counted c d) [] phase.After some refl,
-          refl,
-        ),
-        refl,
-        i,
-        refl,
-      ),
-      tt,
-    )
+    turned_first h b k c e f i =
+        let next : PolState = state limit top (changed c ws name) (counted c d) [] phase.After in
+        let goes = moved limit top ws d name (phase.Gap h) b k (action.Turn c phase.After) e f in
+        let there = midway_state limit top (changed c ws name) (counted c d) [] phase.After some refl in
+        ((changed c ws name, counted c d, [], phase.After, change.Keep, (next, goes, there, refl), refl, i, refl), tt)
 
     -- and one that is a letter
     turned_last : (h : Held) (b : ℕ) (k : Kind) (r : Role) (c : Change) → k ≡ kind_of b → action.Begin (phase.Lone r) ≡ transition limit top d (phase.Gap h) k
         → close_lone r ≡ Some (c, held.Nothing) → changed c ws (b ∷ []) ≡ changed c ws n → Stands h (b ∷ []) c held.Nothing
-    turned_last h b k r c e f g i = (
-      (
-        ws,
-        d,
-        b ∷ [],
-        phase.Lone r,
-        c,
-        (
-          state limit top ws d (b ∷ []) (phase.Lone r),
-          moved limit top ws d name (phase.Gap h) b k (action.Begin (phase.Lone r)) e f,
-          midway_state limit top ws d (b ∷ []) (phase.Lone r) some refl,
-          refl,
-        ),
-        g,
-        i,
-        refl,
-      ),
-      tt,
-    )
+    turned_last h b k r c e f g i =
+        let next : PolState = state limit top ws d (b ∷ []) (phase.Lone r) in
+        let goes = moved limit top ws d name (phase.Gap h) b k (action.Begin (phase.Lone r)) e f in
+        ((ws, d, b ∷ [], phase.Lone r, c, (next, goes, midway_state limit top ws d (b ∷ []) (phase.Lone r) some refl, refl), g, i, refl), tt)
 
     abbrev Operates : Held → ℕ → Change → Type 0
     Operates h b c = Stands h (b ∷ []) c held.Nothing
