@@ -1,11 +1,11 @@
 -- The conclusion machine reads each conclusion.
-use Rattle.pb_proof.proofs.Common.{ℕ, ℤ, ◌++◌, ◌<◌, ◌∙◌, ◌∷◌, ◌≡◌, [], ap, Bool, IsTrue, List, None, Option, refl, Some, subst, sym, true, Literal}
-use Rattle.pb_proof.proofs.Common.{longer, reads_after, Walks, blank_digit, after_it, inside, regroup, Go, ReadsStatement, is_blank, ◌⋅◌, Blanks0}
-use Rattle.pb_proof.proofs.Common.{Blanks1, Byte, Bytes, Empty, Language, unmarked, signed, Letter, Bound, Conclusion, Bounds, NoClaim, Sat, Unsat}
-use Rattle.pb_proof.proofs.Common.{Concluding, Owner, Showing, phase_after_word, word_of, conclusion_automaton, conclusion_first, conclusion_last}
-use Rattle.pb_proof.proofs.Common.{conclusion_value, ConclusionState, showing_value, literals_automaton, literals_first, literals_last, LiteralsState}
-use Rattle.pb_proof.proofs.Common.{SpellsJoined, bounds_word, IdShown, LineEnd, LiteralsShown, none_word, SpellsBound, SpellsConclusionLine, SpellsId}
-use Rattle.pb_proof.proofs.Common.{SpellsShown, unsat_word}
+use Rattle.pb_proof.proofs.Common.{ℕ, ℤ, ◌++◌, ◌∙◌, ◌∷◌, ◌≡◌, [], ap, List, None, Option, refl, Some, subst, sym, true, Literal, longer, reads_after}
+use Rattle.pb_proof.proofs.Common.{Walks, blank_digit, after_it, inside, regroup, Go, ReadsStatement, ◌⋅◌, Blanks0, Blanks1, Byte, Bytes, Empty}
+use Rattle.pb_proof.proofs.Common.{Language, unmarked, signed, Letter, Bound, Conclusion, Bounds, NoClaim, Sat, Unsat, Concluding, Owner, Showing}
+use Rattle.pb_proof.proofs.Common.{phase_after_word, word_of, conclusion_automaton, conclusion_first, conclusion_last, conclusion_value}
+use Rattle.pb_proof.proofs.Common.{ConclusionState, showing_value, literals_automaton, literals_first, literals_last, LiteralsState, SpellsJoined}
+use Rattle.pb_proof.proofs.Common.{bounds_word, IdShown, LineEnd, LiteralsShown, none_word, SpellsBound, SpellsConclusionLine, SpellsId, SpellsShown}
+use Rattle.pb_proof.proofs.Common.{unsat_word}
 use Rattle.pb_proof.specs.engine.Line.ConclusionState.{giving, over}
 use Rattle.pb_proof.specs.declared.line.conclusion.phase.Word as word
 use Rattle.pb_proof.specs.declared.line.conclusion.phase.Owner.TheVariants as owner

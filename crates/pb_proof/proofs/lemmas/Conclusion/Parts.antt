@@ -1,12 +1,12 @@
 -- How the conclusion machine walks through the parts of a conclusion.
-use Rattle.pb_proof.proofs.Common.{ℕ, ◌++◌, ◌+◌, ◌<◌, ◌∙◌, ◌∷◌, ◌≡◌, [], ap, append-nil, append_assoc, arith, Bool, cond, drop, false, IsTrue, length}
+use Rattle.pb_proof.proofs.Common.{ℕ, ◌++◌, ◌+◌, ◌<◌, ◌∙◌, ◌∷◌, ◌≡◌, [], ap, append-nil, append_assoc, arith, Bool, cond, drop, false, length}
 use Rattle.pb_proof.proofs.Common.{length-append, List, nat_eq, refl, Some, subst, sym, take, take-append-drop, true, slice_index, get_or-append_seam}
-use Rattle.pb_proof.proofs.Common.{eq-eqb, nat_tests, length-take-le, Leads, Walks, walks_then, blank_digit, Go, is_blank, is_digit, ◌⋅◌, Bytes}
-use Rattle.pb_proof.proofs.Common.{Language, signed, Letter, plain, Bound, Finite, To, Concluding, Owner, Side, Word, after_bound, after_id, between}
-use Rattle.pb_proof.proofs.Common.{digits, is_within, phase_after_bound, phase_after_word, spell, word_of, conclusion_at, conclusion_automaton}
+use Rattle.pb_proof.proofs.Common.{eq-eqb, nat_tests, length-take-le, Leads, Walks, walks_then, blank_digit, Go, is_digit, ◌⋅◌, Bytes, Language}
+use Rattle.pb_proof.proofs.Common.{signed, Letter, plain, Bound, Finite, To, Concluding, Owner, Side, Word, after_bound, after_id, between, digits}
+use Rattle.pb_proof.proofs.Common.{is_within, phase_after_bound, phase_after_word, spell, word_of, conclusion_at, conclusion_automaton}
 use Rattle.pb_proof.proofs.Common.{conclusion_last, conclusion_value, ConclusionState, Showing, ℤ, ◌*◌, ◌-◌, ◌≤◌, inl, inr, None, le-leb, digits_lead}
-use Rattle.pb_proof.proofs.Common.{TakesDigits, digit_blank, digit_byte, unmarked, Digits, Number, Infinite, Stop, id_digits, is_in_number, inf_word}
-use Rattle.pb_proof.proofs.Common.{SpellsBound, SpellsId}
+use Rattle.pb_proof.proofs.Common.{digit_blank, digit_byte, unmarked, Digits, Number, Infinite, Stop, id_digits, is_in_number, inf_word, SpellsBound}
+use Rattle.pb_proof.proofs.Common.{SpellsId}
 use Rattle.pb_proof.specs.engine.Line.Conclusion.{next_action, transition}
 use Rattle.pb_proof.specs.engine.Line.ConclusionState.{act}
 use Rattle.pb_proof.specs.declared.line.conclusion.phase.Phase.{Phase}

@@ -3,9 +3,9 @@ use Rattle.pb_proof.proofs.Common.{ℕ, ℤ, ◌&&◌, ◌*◌, ◌++◌, ◌+�
 use Rattle.pb_proof.proofs.Common.{nat_le, None, refl, Some, subst, sym, take, true, slice_index, and_parts, cond_both, eqb-true, Literal, ends_walk}
 use Rattle.pb_proof.proofs.Common.{Keeps, On, Walks, walks_more, digits-grown, digits-one, after_it, grown, inside, next, none_yet, regroup}
 use Rattle.pb_proof.proofs.Common.{as_unmarked, some_digit, word_grown, word_whole, End, Go, Next, Refuse, is_blank, is_digit, ◌⋅◌, Blanks0, Blanks1}
-use Rattle.pb_proof.proofs.Common.{Byte, Bytes, digit, Empty, Language, unmarked, Digits, Sign, signed, Letter, plain, Bound, Finite, Infinite}
-use Rattle.pb_proof.proofs.Common.{cond, Conclusion, Stop, To, Concluding, Owner, Showing, Side, Word, after_bound, after_id, begin_bound, between, colon, digits}
-use Rattle.pb_proof.proofs.Common.{first_word, id_digits, phase_after_bound, phase_after_word, PhaseFits, spell, word_of, conclusion_at}
+use Rattle.pb_proof.proofs.Common.{Byte, Bytes, digit, Empty, Language, unmarked, Digits, Sign, signed, Letter, plain, Bound, Finite, Infinite, cond}
+use Rattle.pb_proof.proofs.Common.{Conclusion, Stop, To, Concluding, Owner, Showing, Side, Word, after_bound, after_id, begin_bound, between, colon}
+use Rattle.pb_proof.proofs.Common.{digits, first_word, id_digits, phase_after_bound, phase_after_word, PhaseFits, spell, word_of, conclusion_at}
 use Rattle.pb_proof.proofs.Common.{conclusion_automaton, ConclusionState, is_in_number, literals_automaton, literals_first, LiteralsState}
 use Rattle.pb_proof.proofs.Common.{SpellsJoined, bounds_word, IdShown, inf_word, SpellsBound, SpellsConclusionLine, SpellsId, unsat_word}
 use Rattle.pb_proof.specs.meaning.Lines.{Minus}

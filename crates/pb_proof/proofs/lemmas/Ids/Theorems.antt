@@ -1,7 +1,7 @@
 -- The laws of the ids machine.
 use Rattle.pb_proof.proofs.Common.{ℕ, ℤ, ◌*◌, ◌++◌, ◌+◌, ◌-◌, ◌<◌, ◌^◌, ◌↔◌, ◌∷◌, ◌≡◌, ◌≤◌, [], ap, arith, Bool, false, length, length-append, List}
 use Rattle.pb_proof.proofs.Common.{nat_eq, nat_le, refl, subst, suc, sym, true, zero, min-le_left, cond_both, le-leb, leb-true, ReadsOn, is_state}
-use Rattle.pb_proof.proofs.Common.{IsOfOne, one_state, never, End, Go, IsState, Next, ReadsStatement, Refuse, reads_before, unmarked, signed, Letter}
+use Rattle.pb_proof.proofs.Common.{IsOfOne, one_state, never, End, Go, IsState, ReadsStatement, Refuse, reads_before, unmarked, signed, Letter}
 use Rattle.pb_proof.proofs.Common.{NumberByte, IdsAction, IdsPhase, Between, Done, Gap, Minus, number_byte, before, ids_at, ids_automaton, ids_first}
 use Rattle.pb_proof.proofs.Common.{ids_last, IdsState, IsIdsInOrder, SpellsIds, ◌∙◌, IsTrue, admits, end_or_refuse, go_or_refuse, Admits, keeps}
 use Rattle.pb_proof.proofs.Common.{AreDigits, value-grows, Runs, value_from, is_digit, begins_id}

@@ -1,10 +1,10 @@
 -- The laws of the literals machine.
 use Rattle.pb_proof.proofs.Common.{ℕ, ◌++◌, ◌+◌, ◌-◌, ◌^◌, ◌↔◌, ◌∷◌, ◌≡◌, ◌≤◌, [], ap, arith, Bool, cond, false, length, length-append, List, refl}
-use Rattle.pb_proof.proofs.Common.{subst, sym, true, min-le_left, add-grows, begin-grows, to-grows, Literal, reads_before, ReadsOn, is_state, IsOfOne, one_state}
-use Rattle.pb_proof.proofs.Common.{never, End, Go, IsState, Next, ReadsStatement, Refuse, unmarked, Letter, NameByte, LiteralsAction, LiteralsPhase}
-use Rattle.pb_proof.proofs.Common.{First, More, Negation, name_byte, flushed, is_begun, IsLiteralsInOrder, literal, literals_at, literals_automaton}
-use Rattle.pb_proof.proofs.Common.{literals_first, literals_last, LiteralsState, SpellsJoined, ◌<◌, ◌||◌, ◌∙◌, get_or, IsTrue, min, take, take_more}
-use Rattle.pb_proof.proofs.Common.{admits, end_or_refuse, go_or_refuse, Admits, adds, is_more}
+use Rattle.pb_proof.proofs.Common.{subst, sym, true, min-le_left, add-grows, begin-grows, to-grows, Literal, reads_before, ReadsOn, is_state, IsOfOne}
+use Rattle.pb_proof.proofs.Common.{one_state, never, End, Go, IsState, ReadsStatement, Refuse, unmarked, Letter, NameByte, LiteralsAction}
+use Rattle.pb_proof.proofs.Common.{LiteralsPhase, First, More, Negation, name_byte, flushed, is_begun, IsLiteralsInOrder, literal, literals_at}
+use Rattle.pb_proof.proofs.Common.{literals_automaton, literals_first, literals_last, LiteralsState, SpellsJoined, ◌<◌, ◌||◌, ◌∙◌, get_or, IsTrue}
+use Rattle.pb_proof.proofs.Common.{min, take, take_more, admits, end_or_refuse, go_or_refuse, Admits, adds, is_more}
 use Rattle.pb_proof.specs.engine.Line.Literals.{act, transition, next_action, before, is_midway, is_done, units, in_hand, ready, all_units}
 use Rattle.pb_proof.specs.declared.line.solution.phase.LiteralsPhase.TheVariants.{Start, Gap, Closing, Done}
 use Rattle.pb_proof.proofs.lemmas.Literals.Texts.{reads_each, Prefix, Whole, keeps_prefix}

@@ -108,13 +108,7 @@ module _ (limit top : ℕ) where
   blanks_stay : (f : Keyword) (prefix left : List ℕ) (d : ℕ) → words_of f ≡ prefix ++ 32 ∷ d ∷ left → (bs : List ℕ) → Each (λ b. IsTrue (is_blank b)) bs
       → Walks proofs (spelt f (length prefix + 1)) (plain bs) (spelt f (length prefix + 1))
   blanks_stay f prefix left d e [] h = refl
-  blanks_stay f prefix left d e (b ∷ bs) h = (
-    spelt f (length prefix + 1),
-    blank_stays f prefix left d b e h.0,
-    refl,
-    refl,
-    blanks_stay f prefix left d e bs h.1,
-  )
+  blanks_stay f prefix left d e (b ∷ bs) h = (spelt f (length prefix + 1), blank_stays f prefix left d b e h.0, refl, refl, blanks_stay f prefix left d e bs h.1)
 
   -- one byte of the words, or blanks
   one_walks : (f : Keyword) (prefix left : List ℕ) (c d : ℕ) (t : List Letter) → words_of f ≡ prefix ++ c ∷ d ∷ left → One c t → Walks proofs (spelt f (length prefix)) t (spelt f (length prefix + 1))

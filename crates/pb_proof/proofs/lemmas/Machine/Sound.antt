@@ -111,9 +111,18 @@ module _ (limit top : ℕ) (here : Stage) where
     begins : (r : LineKind) → stage_rest r ≡ here → (l.numeral ≡ false → Before r (p ++ l ∷ []))
         → After (action.Begin r)
     begins r at h = λ w n.
-        let m : LineMachine = line_first s.limit s.top r in
-        (k, (at, (m, refl, none_yet (Before r) (λ q. Walks line_automaton (line_first limit top r) q m) (p ++ l ∷ [])
-        (ap (λ x. line_first x s.top r) k.0 ∙ ap (λ x. line_first limit x r) k.1) (h (n ∙ (line_fresh s.limit s.top r).2)))))
+        let m : LineMachine = line_first s.limit s.top r in (
+          k,
+          (
+            at,
+            (
+              m,
+              refl,
+              none_yet (Before r) (λ q. Walks line_automaton (line_first limit top r) q m) (p ++ l ∷ [])
+                  (ap (λ x. line_first x s.top r) k.0 ∙ ap (λ x. line_first limit x r) k.1) (h (n ∙ (line_fresh s.limit s.top r).2)),
+            ),
+          ),
+        )
 
     -- all words have been read
     whole : s.line ≡ None → (f : Keyword) → stage_keyword f ≡ here → (l.numeral ≡ false → KeywordWords f (p ++ l ∷ [])) → After (next_action f)
@@ -210,9 +219,18 @@ module _ (limit top : ℕ) (here : Stage) where
     -- what the line machine does
     given : (r : LineKind) → stage_rest r ≡ here → (i : LineMachine) → (Before r ⋅ (λ q. Walks line_automaton (line_first limit top r) q i)) p → (x : Next LineMachine Statement)
         → line_automaton.step i l.byte ≡ x → Leaves (over s r x)
-    given r at i h (Go line) e = λ w n.
-        (k, (at, (line, refl, grown (Before r) (λ q. Walks line_automaton (line_first limit top r) q i) (λ q. Walks line_automaton (line_first limit top r) q line) p l
-        (λ q g. walks_more line_automaton q l (line_first limit top r) i line g e (line_begins i line l.byte e) n) h)))
+    given r at i h (Go line) e = λ w n. (
+      k,
+      (
+        at,
+        (
+          line,
+          refl,
+          grown (Before r) (λ q. Walks line_automaton (line_first limit top r) q i) (λ q. Walks line_automaton (line_first limit top r) q line) p l
+              (λ q g. walks_more line_automaton q l (line_first limit top r) i line g e (line_begins i line l.byte e) n) h,
+        ),
+      ),
+    )
     given r at i h (End e last) f = λ n.
         let t : (Before r ⋅ SpellsRest limit top r e) (p ++ l ∷ []) =
         grown (Before r) (λ q. Walks line_automaton (line_first limit top r) q i) (SpellsRest limit top r e) p l

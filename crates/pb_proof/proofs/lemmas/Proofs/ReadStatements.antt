@@ -1,5 +1,5 @@
 -- The statements that were read of a proof are its first ones, and they meet the rules.
-use Rattle.pb_proof.proofs.Common.{ℕ, ◌++◌, ◌<◌, ◌∙◌, ◌∷◌, ◌≡◌, ◌≤◌, [], All, ap, append-nil, arith, Bool, false, length, length-append, List, nat_le}
+use Rattle.pb_proof.proofs.Common.{ℕ, ◌++◌, ◌<◌, ◌∙◌, ◌∷◌, ◌≡◌, [], All, ap, append-nil, arith, Bool, false, length, length-append, List, nat_le}
 use Rattle.pb_proof.proofs.Common.{None, Option, refl, Some, subst, sym, true, false≢true, leb-false, lt-leb, All-cons, All-head, All-nil, All-tail}
 use Rattle.pb_proof.proofs.Common.{Spanned, bytes, Item, place_after, spans_of, spans_since, events_at, events_of, BeginProof, ReadStatements}
 use Rattle.pb_proof.proofs.Common.{IsStatementValue, Statement, IsProof}
