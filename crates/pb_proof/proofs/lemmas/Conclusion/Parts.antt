@@ -307,18 +307,11 @@ module _ (limit top : ℕ) where
   abbrev pub AtId : Owner → ℤ → ConclusionState → Type 0
   AtId x id s = (negative : Bool) × (n : ℕ) × (0 < n) × (id ≡ signed negative n) × (s ≡ here (phase.IdDigits x negative n))
 
+  id_read : (x : Owner) (negative : Bool) (n : ℕ) (id : ℤ) (s : ConclusionState) (t u v : List Letter) → Is limit top (phase.BeforeId x) s → 0 < n → id ≡ signed negative n → t ≡ u ++ v
+      → Walks conclusion_automaton (here (phase.BeforeId x)) (u ++ v) (here (phase.IdDigits x negative n)) → (new : ConclusionState) × Walks conclusion_automaton s t new × AtId x id new
+  id_read x negative n id s t u v i z e f w = (here (phase.IdDigits x negative n), rw (i, f) w, (negative, n, z, e, refl))
+
   pub id_carries : (x : Owner) (id : ℤ) → Carries limit top (Is limit top (phase.BeforeId x)) (SpellsId top id) (AtId x id)
-  id_carries x id s t i (true, n, z, l, e, (u, v, f, sign, ds)) = (
-    here (phase.IdDigits x true n),
-    subst (λ y. Walks conclusion_automaton y t (here (phase.IdDigits x true n))) (sym i)
-        (subst (λ y. Walks conclusion_automaton (here (phase.BeforeId x)) y (here (phase.IdDigits x true n))) (sym (f ∙ ap (λ y. y ++ v) sign))
-        (here (phase.IdSigned x), refl, refl, refl, id_lead x true (here (phase.IdSigned x)) (signed_id_step x) n l v ds)),
-    (true, n, z, e, refl),
-  )
-  id_carries x id s t i (false, n, z, l, e, (u, v, f, sign, ds)) = (
-    here (phase.IdDigits x false n),
-    subst (λ y. Walks conclusion_automaton y t (here (phase.IdDigits x false n))) (sym i)
-        (subst (λ y. Walks conclusion_automaton (here (phase.BeforeId x)) y (here (phase.IdDigits x false n))) (sym (f ∙ ap (λ y. y ++ v) sign))
-        (id_lead x false (here (phase.BeforeId x)) (first_id_step x) n l v ds)),
-    (false, n, z, e, refl),
-  )
+  id_carries x id s t i (true, n, z, l, e, (u, v, f, sign, ds)) = id_read x true n id s t u v i z e f
+      (rw sign (here (phase.IdSigned x), refl, refl, refl, id_lead x true (here (phase.IdSigned x)) (signed_id_step x) n l v ds))
+  id_carries x id s t i (false, n, z, l, e, (u, v, f, sign, ds)) = id_read x false n id s t u v i z e f (rw sign (id_lead x false (here (phase.BeforeId x)) (first_id_step x) n l v ds))
