@@ -5,17 +5,14 @@ use Rattle.pb_proof.proofs.Common.{Weakening, words, ◌∙◌, ap, subst, sym, 
 use Rattle.pb_proof.specs.contract.Leaving.{Leaves, WordsReport, WordsLeaveOne}
 use Rattle.pb_proof.specs.engine.Line.Finished.{finished_with}
 
--- from `d` expressions, these words lead to one
+abbrev Given : Option ℕ → (ℕ → Type 0) → Type 0
+Given None P = ⊥
+Given (Some n) P = P n
+
+-- from `d` finished expressions, these words lead to one
 abbrev pub Counts : ℕ → List PolWord → Type 0
 Counts d [] = d ≡ 1
-Counts d (Id id ∷ ws) = Counts (suc d) ws
-Counts d (Axiom literal ∷ ws) = Counts (suc d) ws
-Counts (suc (suc d)) (Add ∷ ws) = Counts (suc d) ws
-Counts (suc d) (Multiply k ∷ ws) = Counts (suc d) ws
-Counts (suc d) (Divide k ∷ ws) = Counts (suc d) ws
-Counts (suc d) (Saturate ∷ ws) = Counts (suc d) ws
-Counts (suc d) (Weaken name ∷ ws) = Counts (suc d) ws
-Counts _ _ = ⊥
+Counts d (w ∷ ws) = Given (finished_with d w) (λ n. Counts n ws)
 
 -- the words of a stack of expressions, the newest first
 abbrev stacked : List Tree → List PolWord
@@ -140,34 +137,5 @@ pub words_leave_one : WordsLeaveOne
 words_leave_one ws = ((λ h. count_leaves 0 ws (postfix_counts ws h)), (λ h. counts_postfix ws (leaves_count 0 ws h)))
 
 -- Words are those of one expression if and only if they lead from no finished expression to one.
-
-abbrev Given : Option ℕ → (ℕ → Type 0) → Type 0
-Given None P = ⊥
-Given (Some n) P = P n
-
--- from `d` finished expressions, the words lead to one
-abbrev pub Leads : ℕ → List PolWord → Type 0
-Leads d [] = d ≡ 1
-Leads d (w ∷ ws) = Given (finished_with d w) (λ n. Leads n ws)
-
-same : {A : Type 0} → A ↔ A
-same = (λ h. h, λ h. h)
-
-leads_counts : (ws : List PolWord) (d : ℕ) → Leads d ws ↔ Counts d ws
-leads_counts [] d = same
-leads_counts (Id id ∷ ws) d = leads_counts ws (suc d)
-leads_counts (Axiom literal ∷ ws) d = leads_counts ws (suc d)
-leads_counts (Add ∷ ws) zero = same
-leads_counts (Add ∷ ws) (suc zero) = same
-leads_counts (Add ∷ ws) (suc (suc d)) = leads_counts ws (suc d)
-leads_counts (Multiply k ∷ ws) zero = same
-leads_counts (Multiply k ∷ ws) (suc d) = leads_counts ws (suc d)
-leads_counts (Divide k ∷ ws) zero = same
-leads_counts (Divide k ∷ ws) (suc d) = leads_counts ws (suc d)
-leads_counts (Saturate ∷ ws) zero = same
-leads_counts (Saturate ∷ ws) (suc d) = leads_counts ws (suc d)
-leads_counts (Weaken name ∷ ws) zero = same
-leads_counts (Weaken name ∷ ws) (suc d) = leads_counts ws (suc d)
-
-pub postfix_leads : (ws : List PolWord) → IsPostfix ws ↔ Leads 0 ws
-postfix_leads ws = (λ p. (leads_counts ws 0).1 (postfix_counts ws p), λ h. counts_postfix ws ((leads_counts ws 0).0 h))
+pub postfix_leads : (ws : List PolWord) → IsPostfix ws ↔ Counts 0 ws
+postfix_leads ws = (postfix_counts ws, counts_postfix ws)
