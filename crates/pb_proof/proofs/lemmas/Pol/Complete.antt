@@ -214,17 +214,12 @@ module _ (limit top : ℕ) (e : List PolWord) (after : PolState) where
       → ((next : ℕ) → Counts next ws → R (done (vs ++ w ∷ []) next) u) → R (gap vs d) (t ++ u)
   word_run vs d (word.Id id) ws t u c h f = id_run vs d id t u h (f (suc d) c)
   word_run vs d (word.Axiom l) ws t u c h f = literal_run vs d l.negated l.name t u h (f (suc d) c)
-  word_run vs zero word.Add ws t u c h f = absurd c
-  word_run vs (suc zero) word.Add ws t u c h f = absurd c
   word_run vs (suc (suc d)) word.Add ws t u c h f = add_run vs d t u h (f (suc d) c)
-  word_run vs zero (word.Multiply k) ws t u c h f = absurd c
   word_run vs (suc d) (word.Multiply k) ws t u c h f = multiply_run vs d k t u h (f (suc d) c)
-  word_run vs zero (word.Divide k) ws t u c h f = absurd c
   word_run vs (suc d) (word.Divide k) ws t u c h f = divide_run vs d k t u h (f (suc d) c)
-  word_run vs zero word.Saturate ws t u c h f = absurd c
   word_run vs (suc d) word.Saturate ws t u c h f = saturate_run vs d t u h (f (suc d) c)
-  word_run vs zero (word.Weaken name) ws t u c h f = absurd c
   word_run vs (suc d) (word.Weaken name) ws t u c h f = weaken_run vs d name t u h.0 h.1 (f (suc d) c)
+  word_run vs _ _ ws t u c h f = absurd c
 
 module _ (limit top : ℕ) where
   -- the end of the line after the words of one expression
