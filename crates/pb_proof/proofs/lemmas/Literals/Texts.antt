@@ -212,8 +212,6 @@ module _ (joined : Bool) where
 
   literal_walks : (ls : List Literal) (s : S) (negated : Bool) (name : List ℕ) (t : List Letter) → Opens ls s → SpellsLiteral (literal negated name) t
       → Walks literals_automaton s t (at_more ls negated name)
-  literal_walks ls s negated [] t o h = absurd h.0
-  literal_walks ls s negated (a ∷ []) t o h = absurd h.0
   literal_walks ls s true (a ∷ b ∷ bs) t o h =
       let second = by_kind (literals_at joined ls [] Negation) a (kind.Letter a) (name_letter a h.0.0) in
       subst (λ x. Walks literals_automaton s x (at_more ls true (a ∷ b ∷ bs))) (sym h.1)
@@ -221,6 +219,7 @@ module _ (joined : Bool) where
   literal_walks ls s false (a ∷ b ∷ bs) t o h =
       subst (λ x. Walks literals_automaton s x (at_more ls false (a ∷ b ∷ bs))) (sym h.1)
       (literals_at joined ls (a ∷ []) (First false), o.letter a h.0.0, refl, refl, first_walks ls false a b bs h.0.1)
+  literal_walks ls s negated _ t o h = absurd h.0
 
   -- a further literal
   further_walks : (ls : List Literal) (l : Literal) (s : S) (t : List Letter) → IsAfter ls s → (Blanks1 ⋅ SpellsLiteral l) t

@@ -37,8 +37,6 @@ module _ (limit top d : ℕ) (ws : List PolWord) (some : 0 < top) where
   tilde_begins _ f = refl
 
   plain_runs : (h : Held) (text name : List ℕ) → IsFree h → IsName text → Runs pol_automaton (at name (phase.Gap h)) text (at text (phase.Name false))
-  plain_runs h [] name f w = absurd w
-  plain_runs h (b ∷ []) name f w = absurd w
   plain_runs h (b ∷ c ∷ bs) name f w =
       let r : Role = role_of d h (kind_of b) in
       further (phase.Gap h) (phase.Lone r) name (b ∷ []) b (c ∷ bs) (at (b ∷ c ∷ bs) (phase.Name false))
@@ -46,10 +44,9 @@ module _ (limit top d : ℕ) (ws : List PolWord) (some : 0 < top) where
       (further (phase.Lone r) (phase.Name false) (b ∷ []) (b ∷ c ∷ []) c bs (at (b ∷ c ∷ bs) (phase.Name false))
       (moved limit top ws d (b ∷ []) (phase.Lone r) c (kind_of c) (action.Add (phase.Name false)) refl (sym (transition_second limit top ws d r (named_role d h (kind_of b)) (kind_of c) (of_name c w.1.0)))) refl
       (more_runs false bs (b ∷ c ∷ []) w.1.1))
+  plain_runs h _ name f w = absurd w
 
   negated_runs : (h : Held) (text name : List ℕ) → IsFree h → IsName text → Runs pol_automaton (at name (phase.Gap h)) (126 ∷ text) (at text (phase.Name true))
-  negated_runs h [] name f w = absurd w
-  negated_runs h (b ∷ []) name f w = absurd w
   negated_runs h (b ∷ c ∷ bs) name f w =
       let last : PolState = at (b ∷ c ∷ bs) (phase.Name true) in
       further (phase.Gap h) phase.Tilde name name 126 (b ∷ c ∷ bs) last (moved limit top ws d name (phase.Gap h) 126 kind.Tilde (action.To phase.Tilde) refl (tilde_begins h f)) refl
@@ -58,6 +55,7 @@ module _ (limit top d : ℕ) (ws : List PolWord) (some : 0 < top) where
       (further phase.First (phase.Name true) (b ∷ []) (b ∷ c ∷ []) c bs last
       (moved limit top ws d (b ∷ []) phase.First c (kind_of c) (action.Add (phase.Name true)) refl (sym (transition_first limit top ws d (kind_of c) (of_name c w.1.0)))) refl
       (more_runs true bs (b ∷ c ∷ []) w.1.1)))
+  negated_runs h _ name f w = absurd w
 
 pub plain_is_word : (limit top d : ℕ) (h : Held) (text n : List ℕ) → n ≡ text → IsName text → IsWord limit top d h text (change.Axiom false) n (held_name false d)
 plain_is_word limit top d h text n same w ws name some f = rw same (

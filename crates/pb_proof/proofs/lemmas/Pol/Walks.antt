@@ -115,17 +115,14 @@ module _ (limit top : ℕ) (ws : List PolWord) (d : ℕ) where
   )
 
   pub name_walk : (name : List ℕ) → IsName name → Walks pol_automaton (st [] (phase.Gap held.Nothing)) (plain name) (st name (phase.Name false))
-  name_walk [] h = absurd h
-  name_walk (b ∷ []) h = absurd h
   name_walk (b ∷ c ∷ bs) h =
       let r : Role = role_of d held.Nothing (kind_of b) in
       let first = moves (st [] (phase.Gap held.Nothing)) b (action.Begin (phase.Lone r)) (sym (letter_begins limit top d held.Nothing (kind_of b) tt (of_letter b h.0))) in
       let second = moves (st (b ∷ []) (phase.Lone r)) c (action.Add (phase.Name false)) (transition_second r (named_role d held.Nothing (kind_of b)) (kind_of c) (of_name c h.1.0)) in
       (st (b ∷ []) (phase.Lone r), first, refl, refl, (st (b ∷ c ∷ []) (phase.Name false), second, refl, refl, more_walk false bs (b ∷ c ∷ []) h.1.1))
+  name_walk _ h = absurd h
 
   pub negated_walk : (name : List ℕ) → IsName name → Walks pol_automaton (st [] (phase.Gap held.Nothing)) (plain (126 ∷ name)) (st name (phase.Name true))
-  negated_walk [] h = absurd h
-  negated_walk (b ∷ []) h = absurd h
   negated_walk (b ∷ c ∷ bs) h =
       let first = moves (st [] phase.Tilde) b (action.Begin phase.First) (transition_tilde (kind_of b) (of_letter b h.0)) in
       let second = moves (st (b ∷ []) phase.First) c (action.Add (phase.Name true)) (transition_first (kind_of c) (of_name c h.1.0)) in (
@@ -135,6 +132,7 @@ module _ (limit top : ℕ) (ws : List PolWord) (d : ℕ) where
         refl,
         (st (b ∷ []) phase.First, first, refl, refl, (st (b ∷ c ∷ []) (phase.Name true), second, refl, refl, more_walk true bs (b ∷ c ∷ []) h.1.1)),
       )
+  negated_walk _ h = absurd h
 
   -- blanks
   transition_blank : (ph : Phase) (c : Change) (h : Held) → close limit top d ph ≡ Some (c, h) → transition limit top d ph kind.Blank ≡ action.Turn c (phase.Gap h)
