@@ -146,9 +146,6 @@ module _ (limit top : ℕ) where
 
 -- The laws of the count machine.
 
-abbrev N : Type 0
-N = Next CountState (Option ℕ)
-
 -- The phase that `transition` leads to is midway, and a count that is being read is at most top.
 digits_fit : (top n d : ℕ) → ActionFits top (digits top n d)
 digits_fit top n d = cond_both (nat_le (10 * n + d) top) _ _ (ActionFits top) (λ e. (leb-true (10 * n + d) top e, refl)) (λ _. tt)
@@ -178,8 +175,7 @@ record Steps (top : ℕ) (next : CountState) : Type 0 where
 acted : (top : ℕ) (m : CountAction) (next : CountState) → ActionFits top m → act top m ≡ Go next → Steps top next
 acted top (action.TheVariants.To p) next h e =
     subst (λ x. Steps top x) (one_state (at top p) next e) (record { same_top = refl; fits = h.0; midway = h.1 })
-acted top (action.TheVariants.End count) next h e = cc
-acted top action.TheVariants.Stop next h e = cc
+acted top _ next h e = cc
 
 continues : (s next : CountState) (b : ℕ) → count_automaton.step s b ≡ Go next → Steps s.top next
 continues s next b e = acted s.top (transition s.top s.phase (number_byte b)) next (transition_fits s.top s.phase (number_byte b)) e

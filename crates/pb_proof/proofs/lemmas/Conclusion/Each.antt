@@ -1,11 +1,11 @@
 -- The conclusion machine reads each conclusion.
-use Rattle.pb_proof.proofs.Common.{ℕ, ℤ, ◌++◌, ◌<◌, ◌∙◌, ◌∷◌, ◌≡◌, [], ap, Bool, IsTrue, List, None, Option, refl, Some, subst, sym, true, Literal}
-use Rattle.pb_proof.proofs.Common.{longer, reads_after, Walks, blank_digit, after_it, inside, regroup, Go, ReadsStatement, is_blank, ◌⋅◌, Blanks0}
-use Rattle.pb_proof.proofs.Common.{Blanks1, Byte, Bytes, Empty, Language, unmarked, signed, Letter, Bound, Conclusion, Bounds, NoClaim, Sat, Unsat}
-use Rattle.pb_proof.proofs.Common.{Concluding, Owner, Showing, phase_after_word, word_of, conclusion_automaton, conclusion_first, conclusion_last}
-use Rattle.pb_proof.proofs.Common.{conclusion_value, ConclusionState, showing_value, literals_automaton, literals_first, literals_last, LiteralsState}
-use Rattle.pb_proof.proofs.Common.{SpellsJoined, bounds_word, IdShown, LineEnd, LiteralsShown, none_word, SpellsBound, SpellsConclusionLine, SpellsId}
-use Rattle.pb_proof.proofs.Common.{SpellsShown, unsat_word}
+use Rattle.pb_proof.proofs.Common.{ℕ, ℤ, ◌++◌, ◌∙◌, ◌∷◌, ◌≡◌, [], ap, List, None, Option, refl, Some, subst, sym, true, Literal, longer, reads_after}
+use Rattle.pb_proof.proofs.Common.{Walks, blank_digit, after_it, inside, regroup, Go, ReadsStatement, ◌⋅◌, Blanks0, Blanks1, Byte, Bytes, Empty}
+use Rattle.pb_proof.proofs.Common.{Language, unmarked, signed, Letter, Bound, Conclusion, Bounds, NoClaim, Sat, Unsat, Concluding, Owner, Showing}
+use Rattle.pb_proof.proofs.Common.{phase_after_word, word_of, conclusion_automaton, conclusion_first, conclusion_last, conclusion_value}
+use Rattle.pb_proof.proofs.Common.{ConclusionState, showing_value, literals_automaton, literals_first, literals_last, LiteralsState, SpellsJoined}
+use Rattle.pb_proof.proofs.Common.{bounds_word, IdShown, LineEnd, LiteralsShown, none_word, SpellsBound, SpellsConclusionLine, SpellsId, SpellsShown}
+use Rattle.pb_proof.proofs.Common.{unsat_word}
 use Rattle.pb_proof.specs.engine.Line.ConclusionState.{giving, over}
 use Rattle.pb_proof.specs.declared.line.conclusion.phase.Word as word
 use Rattle.pb_proof.specs.declared.line.conclusion.phase.Owner.TheVariants as owner
@@ -130,16 +130,13 @@ module _ (limit top : ℕ) where
   carries_to : (A B C : ConclusionState → Type 0) (P : Language) → ((s : ConclusionState) → B s → C s) → Carries limit top A P B → Carries limit top A P C
   carries_to A B C P g f s t i h = let (new, w, k) = f s t i h in (new, w, g new k)
 
-  is_follows : (p : Phase) (s : ConclusionState) → s ≡ here p → Follows limit top p s
-  is_follows p s e = subst (Follows limit top p) (sym e) (itself p)
-
   word_carries : (w : word.Word) → Carries limit top (Is limit top phase.Before) (Bytes (word_of w)) (Is limit top (phase_after_word w))
   word_carries w = leads_carry limit top phase.Before (phase_after_word w) (Bytes (word_of w)) (word_leads limit top w)
 
   word_follows : (w : word.Word) (c : Concluding) → phase_after_word w ≡ phase.AfterValue c → Carries limit top (Is limit top phase.Before) (Bytes (word_of w)) (Follows limit top (phase.AfterValue c))
   word_follows w c e =
       carries_to (Is limit top phase.Before) (Is limit top (phase_after_word w)) (Follows limit top (phase.AfterValue c)) (Bytes (word_of w))
-      (λ s i. is_follows (phase.AfterValue c) s (i ∙ ap (λ q. here q) e)) (word_carries w)
+      (λ s i. subst (Follows limit top (phase.AfterValue c)) (sym (i ∙ ap (λ q. here q) e)) (itself (phase.AfterValue c))) (word_carries w)
 
   -- `UNSAT`, and an id
   unsat_gap : (s : ConclusionState) → s ≡ here (phase.AfterValue (concluding.Unsat None)) → TakesBlanks conclusion_automaton s (here (phase.AfterValue (concluding.Unsat None))) × Colons owner.Unsat s
@@ -176,15 +173,11 @@ module _ (limit top : ℕ) where
       let A : ConclusionState → Type 0 = Follows limit top (phase.Between x) in
       id_shown_carries (owner.Lower x) id A (blanks_carry A (Colons (owner.Lower x)) (here (phase.Spaced x)) (lower_gap x) refl)
 
-  id_blank : (x : Bound) (negative : Bool) (n b : ℕ) → 0 < n → IsTrue (is_blank b)
-      → conclusion_automaton.step (here (phase.IdDigits (owner.Lower x) negative n)) b ≡ Go (here (phase.BeforeBound (side.Upper x (Some (signed negative n)))))
-  id_blank x negative n b z h = id_steps limit top (owner.Lower x) negative n b z (blank_digit b h) ∙ rw h refl
-
   before_upper : (x : Bound) (id : ℤ) (s : ConclusionState) → AtId limit top (owner.Lower x) id s → TakesBlanks conclusion_automaton s (here (phase.BeforeBound (side.Upper x (Some id))))
   before_upper x id s (negative, n, z, e, i) =
       subst (λ y. TakesBlanks conclusion_automaton s (here (phase.BeforeBound (side.Upper x (Some y))))) (sym e)
       (subst (λ y. TakesBlanks conclusion_automaton y (here (phase.BeforeBound (side.Upper x (Some (signed negative n)))))) (sym i)
-      (record { enters = λ b h. id_blank x negative n b z h; stays = λ b h. rw h refl; begun = refl; plain = refl }))
+      (record { enters = λ b h. id_steps limit top (owner.Lower x) negative n b z (blank_digit b h) ∙ rw h refl; stays = λ b h. rw h refl; begun = refl; plain = refl }))
 
   gap_carries : (x : Bound) (id : Option ℤ) → Carries limit top (Middle x id) Blanks1 (Opens limit top (side.Upper x id))
   gap_carries x None s t f h =

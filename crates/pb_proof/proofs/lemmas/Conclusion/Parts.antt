@@ -1,12 +1,12 @@
 -- How the conclusion machine walks through the parts of a conclusion.
-use Rattle.pb_proof.proofs.Common.{ℕ, ◌++◌, ◌+◌, ◌<◌, ◌∙◌, ◌∷◌, ◌≡◌, [], ap, append-nil, append_assoc, arith, Bool, cond, drop, false, IsTrue, length}
+use Rattle.pb_proof.proofs.Common.{ℕ, ◌++◌, ◌+◌, ◌<◌, ◌∙◌, ◌∷◌, ◌≡◌, [], ap, append-nil, append_assoc, arith, Bool, cond, drop, false, length}
 use Rattle.pb_proof.proofs.Common.{length-append, List, nat_eq, refl, Some, subst, sym, take, take-append-drop, true, slice_index, get_or-append_seam}
-use Rattle.pb_proof.proofs.Common.{eq-eqb, nat_tests, length-take-le, Leads, Walks, walks_then, blank_digit, Go, is_blank, is_digit, ◌⋅◌, Bytes}
-use Rattle.pb_proof.proofs.Common.{Language, signed, Letter, plain, Bound, Finite, To, Concluding, Owner, Side, Word, after_bound, after_id, between}
-use Rattle.pb_proof.proofs.Common.{digits, is_within, phase_after_bound, phase_after_word, spell, word_of, conclusion_at, conclusion_automaton}
+use Rattle.pb_proof.proofs.Common.{eq-eqb, nat_tests, length-take-le, Leads, Walks, walks_then, blank_digit, Go, is_digit, ◌⋅◌, Bytes, Language}
+use Rattle.pb_proof.proofs.Common.{signed, Letter, plain, Bound, Finite, To, Concluding, Owner, Side, Word, after_bound, after_id, between, digits}
+use Rattle.pb_proof.proofs.Common.{is_within, phase_after_bound, phase_after_word, spell, word_of, conclusion_at, conclusion_automaton}
 use Rattle.pb_proof.proofs.Common.{conclusion_last, conclusion_value, ConclusionState, Showing, ℤ, ◌*◌, ◌-◌, ◌≤◌, inl, inr, None, le-leb, digits_lead}
-use Rattle.pb_proof.proofs.Common.{TakesDigits, digit_blank, digit_byte, unmarked, Digits, Number, Infinite, Stop, id_digits, is_in_number, inf_word}
-use Rattle.pb_proof.proofs.Common.{SpellsBound, SpellsId}
+use Rattle.pb_proof.proofs.Common.{digit_blank, digit_byte, unmarked, Digits, Number, Infinite, Stop, id_digits, is_in_number, inf_word, SpellsBound}
+use Rattle.pb_proof.proofs.Common.{SpellsId}
 use Rattle.pb_proof.specs.engine.Line.Conclusion.{next_action, transition}
 use Rattle.pb_proof.specs.engine.Line.ConclusionState.{act}
 use Rattle.pb_proof.specs.declared.line.conclusion.phase.Phase.{Phase}
@@ -117,19 +117,14 @@ module _ (limit top : ℕ) where
   word_leads word.Bounds = begins_word word.Bounds 66 _ refl refl (omega arith)
 
   -- blanks
-  blanks_after : (p q : Phase) → ((b : ℕ) → IsTrue (is_blank b) → conclusion_automaton.step (at p) b ≡ Go (at q)) → ((b : ℕ) → IsTrue (is_blank b) → conclusion_automaton.step (at q) b ≡ Go (at q))
-      → is_within q ≡ true → conclusion_automaton.in_number (at q) ≡ false
-      → TakesBlanks conclusion_automaton (at p) (at q)
-  blanks_after p q f g i n = record { enters = f; stays = g; begun = i; plain = n }
-
   pub start_blanks : TakesBlanks conclusion_automaton (at phase.Start) (at phase.Before)
-  start_blanks = blanks_after phase.Start phase.Before (λ b h. rw h refl) (λ b h. rw h refl) refl refl
+  start_blanks = record { enters = λ b h. rw h refl; stays = λ b h. rw h refl; begun = refl; plain = refl }
 
   pub bounded_blanks : TakesBlanks conclusion_automaton (at phase.Bounded) (at (phase.BeforeBound side.Lower))
-  bounded_blanks = blanks_after phase.Bounded (phase.BeforeBound side.Lower) (λ b h. rw h refl) (λ b h. rw h refl) refl refl
+  bounded_blanks = record { enters = λ b h. rw h refl; stays = λ b h. rw h refl; begun = refl; plain = refl }
 
   pub id_blanks : (x : Owner) → TakesBlanks conclusion_automaton (at (phase.BeforeId x)) (at (phase.BeforeId x))
-  id_blanks x = blanks_after (phase.BeforeId x) (phase.BeforeId x) (λ b h. rw h refl) (λ b h. rw h refl) refl refl
+  id_blanks x = record { enters = λ b h. rw h refl; stays = λ b h. rw h refl; begun = refl; plain = refl }
 
   -- A state that has, for each byte but a digit, the same step as that of a phase.
   abbrev pub Follows : Phase → ConclusionState → Type 0
@@ -140,11 +135,10 @@ module _ (limit top : ℕ) where
 
   pub after_blanks_of : (c : Concluding)
       → TakesBlanks conclusion_automaton (at (phase.AfterValue c)) (at (phase.AfterValue c))
-  after_blanks_of c =
-      blanks_after (phase.AfterValue c) (phase.AfterValue c) (λ b h. rw h refl) (λ b h. rw h refl) refl refl
+  after_blanks_of c = record { enters = λ b h. rw h refl; stays = λ b h. rw h refl; begun = refl; plain = refl }
 
   pub between_blanks : (x : Bound) → TakesBlanks conclusion_automaton (at (phase.Between x)) (at (phase.Spaced x))
-  between_blanks x = blanks_after (phase.Between x) (phase.Spaced x) (λ b h. rw h refl) (λ b h. rw h refl) refl refl
+  between_blanks x = record { enters = λ b h. rw h refl; stays = λ b h. rw h refl; begun = refl; plain = refl }
 
   -- the end of the line after a conclusion
   pub may_end : (c : Concluding) (s : ConclusionState) → Follows (phase.AfterValue c) s → MayEnd conclusion_automaton s (at (phase.AfterValue c)) (at (phase.Semicolon c)) (conclusion_value c) (conclusion_last limit top)
@@ -165,11 +159,8 @@ module _ (limit top : ℕ) where
   act_after : (p q : Phase) (b : ℕ) (c : Concluding) → act (at p) b (next_action c b) ≡ act (at q) b (next_action c b)
   act_after p q b c = act_same p q (phase.AfterValue c) b (next_action c b) (on_transition (at p) (phase.AfterValue c) b) (λ x e. cc)
 
-  act_between : (p q : Phase) (b : ℕ) (x : Bound) → act (at p) b (between x b) ≡ act (at q) b (between x b)
-  act_between p q b x = act_same p q (phase.Between x) b (between x b) (on_transition (at p) (phase.Between x) b) (λ y e. cc)
-
   act_after_bound : (p : Phase) (b : ℕ) (x : Side) (y : Bound) → act (at p) b (after_bound x y b) ≡ conclusion_automaton.step (at (phase_after_bound x y)) b
-  act_after_bound p b side.Lower y = act_between p (phase.Between y) b y
+  act_after_bound p b side.Lower y = act_same p (phase.Between y) (phase.Between y) b (between y b) (on_transition (at p) (phase.Between y) b) (λ x e. cc)
   act_after_bound p b (side.Upper x id) y = act_after p (phase.AfterValue (concluding.Shows (showing.Bounds x id y))) b (concluding.Shows (showing.Bounds x id y))
 
   pub number_follows : (x : Side) (negative : Bool) (n : ℕ) → Follows (phase_after_bound x (Finite (signed negative n))) (at (phase.Digits x negative n))
@@ -211,9 +202,6 @@ module _ (limit top : ℕ) where
   digits_first : (x : Side) (negative : Bool) (d : ℕ) → d < 10 → d ≤ limit → digits limit x negative 0 (48 + d) ≡ To (phase.Digits x negative d)
   digits_first x negative d h l = let e : 10 * 0 + d ≡ d = omega arith in digits_next x negative 0 d h (omega arith) ∙ ap (λ y. To (phase.Digits x negative y)) e
 
-  takes_digits : (x : Side) (negative : Bool) → TakesDigits conclusion_automaton (λ n. here (phase.Digits x negative n)) limit
-  takes_digits x negative = record { more = digits_step x negative; begun = λ n. refl; number = λ n. refl }
-
   -- A state before a bound.
   pub record Opens (x : Side) (s : ConclusionState) : Type 0 where
     pub plus : conclusion_automaton.step s 43 ≡ Go (here (phase.Signed x false))
@@ -241,7 +229,7 @@ module _ (limit top : ℕ) where
   -- the digits after a first byte
   number_lead : (x : Side) (negative : Bool) (s : ConclusionState) → ((d : ℕ) → d < 10 → d ≤ limit → conclusion_automaton.step s (48 + d) ≡ Go (here (phase.Digits x negative d)))
       → (n : ℕ) → n ≤ limit → Leads conclusion_automaton s (Digits n) (here (phase.Digits x negative n))
-  number_lead x negative s f n l = digits_lead conclusion_automaton (λ m. here (phase.Digits x negative m)) limit (takes_digits x negative) s f n l
+  number_lead x negative s f n l = digits_lead conclusion_automaton (λ m. here (phase.Digits x negative m)) limit (record { more = digits_step x negative; begun = λ n. refl; number = λ n. refl }) s f n l
 
   pub signed_step : (x : Side) (negative : Bool) → conclusion_automaton.step (here (phase.Signed x negative)) 48 ≡ Go (here (phase.Digits x negative 0))
   signed_step x negative = ap (λ y. act (here (phase.Signed x negative)) 48 y) (digits_first x negative 0 (omega arith) (omega arith))
@@ -250,29 +238,22 @@ module _ (limit top : ℕ) where
   signed_lead x negative n l =
       number_lead x negative (here (phase.Signed x negative)) (λ d h i. ap (λ y. act (here (phase.Signed x negative)) (48 + d) y) (digits_first x negative d h i)) n l
 
-  -- a sign
-  signed_walk : (x : Side) (negative : Bool) (b : ℕ) (s new : ConclusionState) (u v : List Letter) → conclusion_automaton.step s b ≡ Go (here (phase.Signed x negative)) → u ≡ unmarked b ∷ []
-      → Walks conclusion_automaton (here (phase.Signed x negative)) v new → Walks conclusion_automaton s (u ++ v) new
-  signed_walk x negative b s new u v g e w = subst (λ y. Walks conclusion_automaton s (y ++ v) new) (sym e) (here (phase.Signed x negative), g, refl, refl, w)
+  -- a sign, and the digits after it
+  signed_walk : (x : Side) (negative : Bool) (b n : ℕ) (s : ConclusionState) (t u v : List Letter) → conclusion_automaton.step s b ≡ Go (here (phase.Signed x negative)) → t ≡ u ++ v → u ≡ unmarked b ∷ []
+      → n ≤ limit → Digits n v → Walks conclusion_automaton s t (here (phase.Digits x negative n))
+  signed_walk x negative b n s t u v g f e l ds =
+      subst (λ y. Walks conclusion_automaton s y (here (phase.Digits x negative n))) (sym (f ∙ ap (λ y. y ++ v) e)) (here (phase.Signed x negative), g, refl, refl, signed_lead x negative n l v ds)
+
+  number_read : (x : Side) (negative : Bool) (n : ℕ) (z : ℤ) (s : ConclusionState) (t : List Letter) → z ≡ signed negative n → Walks conclusion_automaton s t (here (phase.Digits x negative n))
+      → (new : ConclusionState) × Walks conclusion_automaton s t new × Follows limit top (phase_after_bound x (Finite z)) new
+  number_read x negative n z s t e w =
+      (here (phase.Digits x negative n), w, subst (λ y. Follows limit top (phase_after_bound x (Finite y)) (here (phase.Digits x negative n))) (sym e) (number_follows limit top x negative n))
 
   number_carries : (x : Side) (z : ℤ) → Carries limit top (Opens x) (Number limit z) (Follows limit top (phase_after_bound x (Finite z)))
-  number_carries x z s t o (true, n, l, e, (u, v, f, sign, ds)) = (
-    here (phase.Digits x true n),
-    subst (λ y. Walks conclusion_automaton s y (here (phase.Digits x true n))) (sym f)
-        (signed_walk x true 45 s (here (phase.Digits x true n)) u v o.minus sign (signed_lead x true n l v ds)),
-    subst (λ y. Follows limit top (phase_after_bound x (Finite y)) (here (phase.Digits x true n))) (sym e) (number_follows limit top x true n),
-  )
-  number_carries x z s t o (false, n, l, e, (u, v, f, inr sign, ds)) = (
-    here (phase.Digits x false n),
-    subst (λ y. Walks conclusion_automaton s y (here (phase.Digits x false n))) (sym f)
-        (signed_walk x false 43 s (here (phase.Digits x false n)) u v o.plus sign (signed_lead x false n l v ds)),
-    subst (λ y. Follows limit top (phase_after_bound x (Finite y)) (here (phase.Digits x false n))) (sym e) (number_follows limit top x false n),
-  )
-  number_carries x z s t o (false, n, l, e, (u, v, f, inl sign, ds)) = (
-    here (phase.Digits x false n),
-    subst (λ y. Walks conclusion_automaton s y (here (phase.Digits x false n))) (sym (f ∙ ap (λ y. y ++ v) sign)) (number_lead x false s o.first n l v ds),
-    subst (λ y. Follows limit top (phase_after_bound x (Finite y)) (here (phase.Digits x false n))) (sym e) (number_follows limit top x false n),
-  )
+  number_carries x z s t o (true, n, l, e, (u, v, f, sign, ds)) = number_read x true n z s t e (signed_walk x true 45 n s t u v o.minus f sign l ds)
+  number_carries x z s t o (false, n, l, e, (u, v, f, inr sign, ds)) = number_read x false n z s t e (signed_walk x false 43 n s t u v o.plus f sign l ds)
+  number_carries x z s t o (false, n, l, e, (u, v, f, inl sign, ds)) =
+      number_read x false n z s t e (subst (λ y. Walks conclusion_automaton s y (here (phase.Digits x false n))) (sym (f ∙ ap (λ y. y ++ v) sign)) (number_lead x false s o.first n l v ds))
 
   -- the rest of `INF`
   infinity_spelled : (x : Side) → is_within (phase_after_bound x Infinite) ≡ true → is_in_number (here (phase_after_bound x Infinite)) (phase_after_bound x Infinite) ≡ false
@@ -312,12 +293,9 @@ module _ (limit top : ℕ) where
   id_first : (x : Owner) (negative : Bool) (d : ℕ) → d < 10 → d ≤ top → id_digits top x negative 0 (48 + d) ≡ To (phase.IdDigits x negative d)
   id_first x negative d h l = let e : 10 * 0 + d ≡ d = omega arith in id_next x negative 0 d h (omega arith) ∙ ap (λ y. To (phase.IdDigits x negative y)) e
 
-  takes_id_digits : (x : Owner) (negative : Bool) → TakesDigits conclusion_automaton (λ n. here (phase.IdDigits x negative n)) top
-  takes_id_digits x negative = record { more = id_step x negative; begun = λ n. refl; number = λ n. refl }
-
   id_lead : (x : Owner) (negative : Bool) (s : ConclusionState) → ((d : ℕ) → d < 10 → d ≤ top → conclusion_automaton.step s (48 + d) ≡ Go (here (phase.IdDigits x negative d)))
       → (n : ℕ) → n ≤ top → Leads conclusion_automaton s (Digits n) (here (phase.IdDigits x negative n))
-  id_lead x negative s f n l = digits_lead conclusion_automaton (λ m. here (phase.IdDigits x negative m)) top (takes_id_digits x negative) s f n l
+  id_lead x negative s f n l = digits_lead conclusion_automaton (λ m. here (phase.IdDigits x negative m)) top (record { more = id_step x negative; begun = λ n. refl; number = λ n. refl }) s f n l
 
   pub first_id_step : (x : Owner) (d : ℕ) → d < 10 → d ≤ top → conclusion_automaton.step (here (phase.BeforeId x)) (48 + d) ≡ Go (here (phase.IdDigits x false d))
   first_id_step x d h l = rw (digit_blank d h, digit-not d 45 h refl, id_first x false d h l) refl
@@ -329,18 +307,11 @@ module _ (limit top : ℕ) where
   abbrev pub AtId : Owner → ℤ → ConclusionState → Type 0
   AtId x id s = (negative : Bool) × (n : ℕ) × (0 < n) × (id ≡ signed negative n) × (s ≡ here (phase.IdDigits x negative n))
 
+  id_read : (x : Owner) (negative : Bool) (n : ℕ) (id : ℤ) (s : ConclusionState) (t u v : List Letter) → Is limit top (phase.BeforeId x) s → 0 < n → id ≡ signed negative n → t ≡ u ++ v
+      → Walks conclusion_automaton (here (phase.BeforeId x)) (u ++ v) (here (phase.IdDigits x negative n)) → (new : ConclusionState) × Walks conclusion_automaton s t new × AtId x id new
+  id_read x negative n id s t u v i z e f w = (here (phase.IdDigits x negative n), rw (i, f) w, (negative, n, z, e, refl))
+
   pub id_carries : (x : Owner) (id : ℤ) → Carries limit top (Is limit top (phase.BeforeId x)) (SpellsId top id) (AtId x id)
-  id_carries x id s t i (true, n, z, l, e, (u, v, f, sign, ds)) = (
-    here (phase.IdDigits x true n),
-    subst (λ y. Walks conclusion_automaton y t (here (phase.IdDigits x true n))) (sym i)
-        (subst (λ y. Walks conclusion_automaton (here (phase.BeforeId x)) y (here (phase.IdDigits x true n))) (sym (f ∙ ap (λ y. y ++ v) sign))
-        (here (phase.IdSigned x), refl, refl, refl, id_lead x true (here (phase.IdSigned x)) (signed_id_step x) n l v ds)),
-    (true, n, z, e, refl),
-  )
-  id_carries x id s t i (false, n, z, l, e, (u, v, f, sign, ds)) = (
-    here (phase.IdDigits x false n),
-    subst (λ y. Walks conclusion_automaton y t (here (phase.IdDigits x false n))) (sym i)
-        (subst (λ y. Walks conclusion_automaton (here (phase.BeforeId x)) y (here (phase.IdDigits x false n))) (sym (f ∙ ap (λ y. y ++ v) sign))
-        (id_lead x false (here (phase.BeforeId x)) (first_id_step x) n l v ds)),
-    (false, n, z, e, refl),
-  )
+  id_carries x id s t i (true, n, z, l, e, (u, v, f, sign, ds)) = id_read x true n id s t u v i z e f
+      (rw sign (here (phase.IdSigned x), refl, refl, refl, id_lead x true (here (phase.IdSigned x)) (signed_id_step x) n l v ds))
+  id_carries x id s t i (false, n, z, l, e, (u, v, f, sign, ds)) = id_read x false n id s t u v i z e f (rw sign (id_lead x false (here (phase.BeforeId x)) (first_id_step x) n l v ds))

@@ -3,9 +3,9 @@ use Rattle.pb_proof.proofs.Common.{ℕ, ℤ, ◌&&◌, ◌*◌, ◌++◌, ◌+�
 use Rattle.pb_proof.proofs.Common.{nat_le, None, refl, Some, subst, sym, take, true, slice_index, and_parts, cond_both, eqb-true, Literal, ends_walk}
 use Rattle.pb_proof.proofs.Common.{Keeps, On, Walks, walks_more, digits-grown, digits-one, after_it, grown, inside, next, none_yet, regroup}
 use Rattle.pb_proof.proofs.Common.{as_unmarked, some_digit, word_grown, word_whole, End, Go, Next, Refuse, is_blank, is_digit, ◌⋅◌, Blanks0, Blanks1}
-use Rattle.pb_proof.proofs.Common.{Byte, Bytes, digit, Empty, Language, unmarked, Digits, Sign, signed, Letter, plain, Bound, Finite, Infinite}
-use Rattle.pb_proof.proofs.Common.{Conclusion, To, Concluding, Owner, Showing, Side, Word, after_bound, after_id, begin_bound, between, colon, digits}
-use Rattle.pb_proof.proofs.Common.{first_word, id_digits, phase_after_bound, phase_after_word, PhaseFits, spell, word_of, conclusion_at}
+use Rattle.pb_proof.proofs.Common.{Byte, Bytes, digit, Empty, Language, unmarked, Digits, Sign, signed, Letter, plain, Bound, Finite, Infinite, cond}
+use Rattle.pb_proof.proofs.Common.{Conclusion, Stop, To, Concluding, Owner, Showing, Side, Word, after_bound, after_id, begin_bound, between, colon}
+use Rattle.pb_proof.proofs.Common.{digits, first_word, id_digits, phase_after_bound, phase_after_word, PhaseFits, spell, word_of, conclusion_at}
 use Rattle.pb_proof.proofs.Common.{conclusion_automaton, ConclusionState, is_in_number, literals_automaton, literals_first, LiteralsState}
 use Rattle.pb_proof.proofs.Common.{SpellsJoined, bounds_word, IdShown, inf_word, SpellsBound, SpellsConclusionLine, SpellsId, unsat_word}
 use Rattle.pb_proof.specs.meaning.Lines.{Minus}
@@ -145,19 +145,19 @@ module _ (s : ConclusionState) (l : Letter) (p : List Letter) where
   abbrev Value : ℕ → ℕ
   Value n = 10 * n + (l.byte - 48)
 
-  in_digits : (x : Side) (negative : Bool) (n : ℕ) → (l ≡ digit (l.byte - 48) → l.byte - 48 < 10 → At (phase.Digits x negative (Value n)))
-      → After (digits s.limit x negative n l.byte)
-  in_digits x negative n h =
-      cond_both (is_digit l.byte && nat_le (Value n) s.limit) _ _ After
-      (λ e u i. let d : (l ≡ digit (l.byte - 48)) × (l.byte - 48 < 10) = some_digit l i (and_parts (is_digit l.byte) (nat_le (Value n) s.limit) e).0 in h d.0 d.1)
+  in_digits : (most n : ℕ) (q : Phase) → (l.numeral ≡ is_in_number (conclusion_at s.limit s.top q) q → l.numeral ≡ true) → (l ≡ digit (l.byte - 48) → l.byte - 48 < 10 → At q)
+      → After (cond (is_digit l.byte && nat_le (Value n) most) (To q) Stop)
+  in_digits most n q plain h =
+      cond_both (is_digit l.byte && nat_le (Value n) most) _ _ After
+      (λ e u i. let d : (l ≡ digit (l.byte - 48)) × (l.byte - 48 < 10) = some_digit l (plain i) (and_parts (is_digit l.byte) (nat_le (Value n) most) e).0 in h d.0 d.1)
       (λ _. tt)
 
   first_digit : (x : Side) (negative : Bool) → (LeadOf x ⋅ Blanks1 ⋅ Sign negative) p → After (digits s.limit x negative 0 l.byte)
-  first_digit x negative h = in_digits x negative 0 (λ d i. next (LeadOf x ⋅ Blanks1 ⋅ Sign negative) (Digits (Value 0)) p l h (digits-one (l.byte - 48) l d i))
+  first_digit x negative h = in_digits s.limit 0 (phase.Digits x negative (Value 0)) (λ i. i) (λ d i. next (LeadOf x ⋅ Blanks1 ⋅ Sign negative) (Digits (Value 0)) p l h (digits-one (l.byte - 48) l d i))
 
   next_digit : (x : Side) (negative : Bool) (n : ℕ) → (LeadOf x ⋅ Blanks1 ⋅ Sign negative ⋅ Digits n) p → After (digits s.limit x negative n l.byte)
   next_digit x negative n h =
-      in_digits x negative n (λ d i. grown (LeadOf x ⋅ Blanks1 ⋅ Sign negative) (Digits n) (Digits (Value n)) p l (digits-grown n (l.byte - 48) l d i) h)
+      in_digits s.limit n (phase.Digits x negative (Value n)) (λ i. i) (λ d i. grown (LeadOf x ⋅ Blanks1 ⋅ Sign negative) (Digits n) (Digits (Value n)) p l (digits-grown n (l.byte - 48) l d i) h)
 
   in_begin : (x : Side) → (LeadOf x ⋅ Blanks1) p → After (begin_bound s.limit x l.byte)
   in_begin x h =
@@ -207,15 +207,8 @@ module _ (s : ConclusionState) (l : Letter) (p : List Letter) where
       (λ _. in_begin (side.Upper x None) (inside (Lower x) (Lower x ⋅ Empty) Blanks1 p (λ q. none_yet (Lower x) Empty q refl) h)))
 
   -- ids
-  in_id_digits : (x : Owner) (negative : Bool) (n : ℕ) → (l ≡ digit (l.byte - 48) → l.byte - 48 < 10 → At (phase.IdDigits x negative (Value n)))
-      → After (id_digits s.top x negative n l.byte)
-  in_id_digits x negative n h =
-      cond_both (is_digit l.byte && nat_le (Value n) s.top) _ _ After
-      (λ e u i. let d : (l ≡ digit (l.byte - 48)) × (l.byte - 48 < 10) = some_digit l i (and_parts (is_digit l.byte) (nat_le (Value n) s.top) e).0 in h d.0 d.1)
-      (λ _. tt)
-
   first_id_digit : (x : Owner) (negative : Bool) → (IdRead x ⋅ Minus negative) p → After (id_digits s.top x negative 0 l.byte)
-  first_id_digit x negative h = in_id_digits x negative 0 (λ d i. next (IdRead x ⋅ Minus negative) (Digits (Value 0)) p l h (digits-one (l.byte - 48) l d i))
+  first_id_digit x negative h = in_digits s.top 0 (phase.IdDigits x negative (Value 0)) (λ i. i) (λ d i. next (IdRead x ⋅ Minus negative) (Digits (Value 0)) p l h (digits-one (l.byte - 48) l d i))
 
   before_id : (x : Owner) → IdRead x p → After (transition s.limit s.top (phase.BeforeId x) l.byte)
   before_id x h =
@@ -240,7 +233,7 @@ module _ (s : ConclusionState) (l : Letter) (p : List Letter) where
       → After (transition s.limit s.top (phase.IdDigits x negative n) l.byte)
   in_id x negative n i h =
       cond_both (is_digit l.byte) _ _ After
-      (λ _. in_id_digits x negative n (λ d j. grown (IdRead x ⋅ Minus negative) (Digits n) (Digits (Value n)) p l (digits-grown n (l.byte - 48) l d j) h)) (λ _.
+      (λ _. in_digits s.top n (phase.IdDigits x negative (Value n)) (λ i. i) (λ d j. grown (IdRead x ⋅ Minus negative) (Digits n) (Digits (Value n)) p l (digits-grown n (l.byte - 48) l d j) h)) (λ _.
       cond_both (nat_eq n 0) _ _ After (λ _. tt) (λ z. in_after_id x (signed negative n) (id_of x negative n (positive n z) i h)))
 
   -- literals

@@ -74,15 +74,11 @@ module _ (limit top : ℕ) where
       (λ n. next (Before top ids ⋅ Sign false) (DigitsOf (10 * 0 + d)) p l (none_yet (Before top ids) (Sign false) p refl h) (digits-one d l (as_digit l d m.0 n) m.1))
   before_sound ids _ l p m h = tt
 
-  -- blanks before the first id
-  first_before : (ids : List ℤ) (p : List Letter) → ids ≡ [] → Blanks1 p → Before top ids p
-  first_before ids p e h = subst (λ y. Before top y p) (sym e) ([], p, refl, refl, h)
-
   sound : (ph : IdsPhase) (ids : List ℤ) (k : NumberByte) (l : Letter) (p : List Letter) → NumberMeans k l.byte → prefix top ph ids p → OnNext (act top ids (transition top ph k)) l (p ++ l ∷ [])
   sound Start ids kind.Blank l p m h =
       λ _ n. (h.0, ends.first_blank l p m n h.1)
   sound Gap ids kind.Blank l p m h = λ _ n. (h.0, ends.further_blank l p m n h.1)
-  sound Gap ids k l p m h = before_sound ids k l p m (first_before ids p h.0 h.1)
+  sound Gap ids k l p m h = before_sound ids k l p m (subst (λ y. Before top y p) (sym h.0) ([], p, refl, refl, h.1))
   sound Between ids kind.Blank l p m h =
       λ _ n. (h.0, ends.blanks_go_on (Row top ids) l p m n h.1)
   sound Between ids kind.Semicolon l p m h = λ _ n. (h.0, ends.semicolon_after_blanks (Row top ids) l p m n (ends.gapped_some (Row top ids) p h.1))

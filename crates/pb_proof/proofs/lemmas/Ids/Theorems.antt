@@ -1,7 +1,7 @@
 -- The laws of the ids machine.
 use Rattle.pb_proof.proofs.Common.{ℕ, ℤ, ◌*◌, ◌++◌, ◌+◌, ◌-◌, ◌<◌, ◌^◌, ◌↔◌, ◌∷◌, ◌≡◌, ◌≤◌, [], ap, arith, Bool, false, length, length-append, List}
 use Rattle.pb_proof.proofs.Common.{nat_eq, nat_le, refl, subst, suc, sym, true, zero, min-le_left, cond_both, le-leb, leb-true, ReadsOn, is_state}
-use Rattle.pb_proof.proofs.Common.{IsOfOne, one_state, never, End, Go, IsState, Next, ReadsStatement, Refuse, digit, unmarked, signed, Letter}
+use Rattle.pb_proof.proofs.Common.{IsOfOne, one_state, never, End, Go, IsState, ReadsStatement, Refuse, reads_before, unmarked, signed, Letter}
 use Rattle.pb_proof.proofs.Common.{NumberByte, IdsAction, IdsPhase, Between, Done, Gap, Minus, number_byte, before, ids_at, ids_automaton, ids_first}
 use Rattle.pb_proof.proofs.Common.{ids_last, IdsState, IsIdsInOrder, SpellsIds, ◌∙◌, IsTrue, admits, end_or_refuse, go_or_refuse, Admits, keeps}
 use Rattle.pb_proof.proofs.Common.{AreDigits, value-grows, Runs, value_from, is_digit, begins_id}
@@ -12,9 +12,6 @@ use Rattle.pb_proof.proofs.lemmas.Line.Ends.{reads_exactly}
 use Rattle.pb_proof.proofs.lemmas.Line.ByteKinds.{number_of_digit}
 use Rattle.pb_proof.specs.declared.line.byte_kind.NumberByte.TheVariants as kind
 use Rattle.pb_proof.specs.declared.line.delete.phase.IdsAction.TheVariants as action
-
-abbrev N : Type 0
-N = Next IdsState (List ℤ)
 
 -- the machine has read the digits of an id, and the byte ends it
 abbrev pub EndsId : IdsPhase → NumberByte → Type 0
@@ -112,39 +109,20 @@ module _ (top : ℕ) (some : 0 < top) (ids : List ℤ) where
   one_fits : (negative : Bool) → act top ids (digits top negative 0 1) ≡ Go (ids_at top ids (Digits negative 1))
   one_fits negative = rw (le-leb 1 top (omega arith)) refl
 
-  some_digits : (negative : Bool) (n : ℕ) → Some (Digits negative n)
-  some_digits negative zero = (
-    digit 1 ∷ unmarked 10 ∷ [],
-    ids ++ signed negative 1 ∷ [],
-    ids_last top,
-    (ids_at top ids (Digits negative 1), one_fits negative, refl, refl, (refl, refl)),
-  )
-  some_digits negative (suc n) = (
-    unmarked 10 ∷ [],
-    ids ++ signed negative (suc n) ∷ [],
-    ids_last top,
-    ((digits_after 0 top ids negative (suc n) (omega arith)).feed, refl),
-  )
+  -- after digits that are not 0, a line feed
+  some_more : (negative : Bool) (n : ℕ) → Some (Digits negative (suc n))
+  some_more negative n = (unmarked 10 ∷ [], ids ++ signed negative (suc n) ∷ [], ids_last top, ((digits_after 0 top ids negative (suc n) (omega arith)).feed, refl))
 
   some_one : (p : IdsPhase) (negative : Bool) → ids_automaton.step (ids_at top ids p) 49 ≡ Go (ids_at top ids (Digits negative 1)) → Some p
-  some_one p negative e = (
-    digit 1 ∷ unmarked 10 ∷ [],
-    ids ++ signed negative 1 ∷ [],
-    ids_last top,
-    (ids_at top ids (Digits negative 1), e, refl, refl, (refl, refl)),
-  )
+  some_one p negative e = reads_before ids_automaton (ids_at top ids p) (ids_at top ids (Digits negative 1)) 49 e refl (some_more negative 0)
 
   some_text : (p : IdsPhase) → is_done p ≡ false → Some p
-  some_text Start h = (
-    unmarked 32 ∷ digit 1 ∷ unmarked 10 ∷ [],
-    ids ++ signed false 1 ∷ [],
-    ids_last top,
-    (ids_at top ids Gap, refl, refl, refl, (ids_at top ids (Digits false 1), one_fits false, refl, refl, (refl, refl))),
-  )
+  some_text Start h = reads_before ids_automaton (ids_at top ids Start) (ids_at top ids Gap) 32 refl refl (some_one Gap false (one_fits false))
   some_text Gap h = some_one Gap false (one_fits false)
   some_text Between h = (unmarked 10 ∷ [], ids, ids_last top, (refl, refl))
   some_text Minus h = some_one Minus true (one_fits true)
-  some_text (Digits negative n) h = some_digits negative n
+  some_text (Digits negative zero) h = some_one (Digits negative 0) negative (one_fits negative)
+  some_text (Digits negative (suc n)) h = some_more negative n
   some_text Closing h = (unmarked 10 ∷ [], ids, ids_last top, (refl, refl))
   some_text Done h = cc
 

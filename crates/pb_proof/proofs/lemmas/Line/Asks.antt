@@ -71,9 +71,6 @@ module _ (limit : ℕ) where
       (ends_id s.top s.phase (number_byte b) (transition s.top s.phase (number_byte b)) (theorems.on_transition s.top s.phase (number_byte b)) h)
 
 -- ---- literals
-letter_begins : (text : List ℕ) (b : ℕ) → IsTrue (is_letter b) → AsksLiteral text b
-letter_begins text b h = inl ([], ends_nothing text, (h, tt))
-
 -- the byte that may allocate: one that may be the next of the name, or any after a complete one
 abbrev Allows : LiteralsPhase → ℕ → Type 0
 Allows (at.First negated) b = IsTrue (is_name_byte b)
@@ -105,7 +102,7 @@ literals_at (at.First negated) joined ls bs t b (a, c, e, p, (f, is)) k =
     inl (bs, literal_end (sound.Before joined ls) negated bs t (a, c, e, p, is), first_further bs b f k)
 literals_at (at.More negated) joined ls bs t b (a, c, e, p, (f, is)) k = at_name (bytes t) bs b (literal_end (sound.Before joined ls) negated bs t (a, c, e, p, is)) f
 literals_at at.Done joined ls bs t b h k = absurd h
-literals_at _ joined ls bs t b h k = letter_begins (bytes t) b k
+literals_at _ joined ls bs t b h k = inl ([], ends_nothing (bytes t), (k, tt))
 
 pub literals_asked : (joined : Bool) (t : List Letter) (s : LiteralsState) (b : ℕ) → Walks literals_automaton (literals_first joined) t s → literals_automaton.asks s b ≡ true → AsksLiteral (bytes t) b
 literals_asked joined t s b w h =

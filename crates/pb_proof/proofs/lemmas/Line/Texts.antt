@@ -132,16 +132,10 @@ bytes-conclusion (Unsat id) =
 bytes-conclusion (Sat shown) =
     join (plain sat_word) (shown_text shown) sat_word (shown_bytes shown) refl (bytes-shown shown)
 bytes-conclusion (Bounds lower id upper shown) =
-    let l : List Letter = bound_text lower in
-    let i : List Letter = id_shown_text id in
-    let u : List Letter = bound_text upper in
-    let s : List Letter = shown_text shown in
-    let w : List Letter = plain bounds_word in
-    let prefix : bytes (w ++ space ++ l) ≡ bounds_word ++ (32 ∷ []) ++ bound_bytes lower = join (w ++ space) l (bounds_word ++ (32 ∷ [])) (bound_bytes lower) refl (bytes-bound lower) in
-    let mid : bytes (w ++ space ++ l ++ i) ≡ bounds_word ++ (32 ∷ []) ++ bound_bytes lower ++ id_shown_bytes id = join (w ++ space ++ l) i _ (id_shown_bytes id) prefix (bytes-id id) in
-    let late : bytes (w ++ space ++ l ++ i ++ space) ≡ bounds_word ++ (32 ∷ []) ++ bound_bytes lower ++ id_shown_bytes id ++ (32 ∷ []) = join (w ++ space ++ l ++ i) space _ (32 ∷ []) mid refl in
-    let most : bytes (w ++ space ++ l ++ i ++ space ++ u) ≡ bounds_word ++ (32 ∷ []) ++ bound_bytes lower ++ id_shown_bytes id ++ (32 ∷ []) ++ bound_bytes upper = join (w ++ space ++ l ++ i ++ space) u _ (bound_bytes upper) late (bytes-bound upper) in
-    join (w ++ space ++ l ++ i ++ space ++ u) s _ (shown_bytes shown) most (bytes-shown shown)
+    let a : List Letter = plain bounds_word ++ space ++ bound_text lower in
+    let b : List Letter = a ++ id_shown_text id ++ space in
+    join (b ++ bound_text upper) (shown_text shown) _ _ (join b (bound_text upper) _ _ (join (a ++ id_shown_text id) space _ (32 ∷ []) (join a (id_shown_text id) _ _
+    (join (plain bounds_word ++ space) (bound_text lower) (bounds_word ++ (32 ∷ [])) _ refl (bytes-bound lower)) (bytes-id id)) refl) (bytes-bound upper)) (bytes-shown shown)
     ∙ bounds_grouped bounds_word (bound_bytes lower) (id_shown_bytes id) (bound_bytes upper) (shown_bytes shown)
 
 -- a word, and then a part and a line feed

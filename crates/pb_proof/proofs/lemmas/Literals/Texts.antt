@@ -157,9 +157,6 @@ module _ (joined : Bool) where
     pub semicolon : literals_automaton.step s 59 ≡ Go (at_closing ls)
     pub feed : literals_automaton.step s 10 ≡ End ls (literals_last joined)
 
-  gap_after : (ls : List Literal) → IsAfter ls (at_gap ls)
-  gap_after ls = record { blank = λ b h. by_kind (at_gap ls) b kind.Blank (name_blank b h); semicolon = refl; feed = refl }
-
   more_after : (ls : List Literal) (negated : Bool) (name : List ℕ) → IsAfter (ls ++ literal negated name ∷ []) (at_more ls negated name)
   more_after ls negated name = record {
     blank = λ b h. by_kind (at_more ls negated name) b kind.Blank (name_blank b h);
@@ -168,7 +165,7 @@ module _ (joined : Bool) where
   }
 
   takes_blanks : (ls : List Literal) (s : S) → IsAfter ls s → TakesBlanks literals_automaton s (at_gap ls)
-  takes_blanks ls s h = record { enters = h.blank; stays = (gap_after ls).blank; begun = refl; plain = refl }
+  takes_blanks ls s h = record { enters = h.blank; stays = λ b i. by_kind (at_gap ls) b kind.Blank (name_blank b i); begun = refl; plain = refl }
 
   may_end : (ls : List Literal) (s : S) → IsAfter ls s → MayEnd literals_automaton s (at_gap ls) (at_closing ls) ls (literals_last joined)
   may_end ls s h = record {
@@ -188,28 +185,19 @@ module _ (joined : Bool) where
   gap_opens : (ls : List Literal) → Opens ls (at_gap ls)
   gap_opens ls = record { tilde = refl; letter = λ b h. by_kind (at_gap ls) b (kind.Letter b) (name_letter b h) }
 
-  name_step : (ls : List Literal) (negated : Bool) (name : List ℕ) (b : ℕ) → IsTrue (is_name_byte b)
-      → literals_automaton.step (at_more ls negated name) b ≡ Go (at_more ls negated (name ++ b ∷ []))
-  name_step ls negated name b h =
-      elim (name_inner b h) [
-        | inl e ↦ by_kind (at_more ls negated name) b (kind.Letter b) e
-        | inr e ↦ by_kind (at_more ls negated name) b (kind.Inner b) e
-      ]
-
-  second_step : (ls : List Literal) (negated : Bool) (a b : ℕ) → IsTrue (is_name_byte b)
-      → literals_automaton.step (literals_at joined ls (a ∷ []) (First negated)) b ≡ Go (at_more ls negated (a ∷ b ∷ []))
-  second_step ls negated a b h =
-      elim (name_inner b h) [
-        | inl e ↦ by_kind (literals_at joined ls (a ∷ []) (First negated)) b (kind.Letter b) e
-        | inr e ↦ by_kind (literals_at joined ls (a ∷ []) (First negated)) b (kind.Inner b) e
-      ]
+  -- a state that takes letters and other bytes of names in the same way
+  name_step : (s next : S) (b : ℕ) → step s (kind.Letter b) ≡ Go next → step s (kind.Inner b) ≡ Go next → IsTrue (is_name_byte b) → literals_automaton.step s b ≡ Go next
+  name_step s next b f g h = elim (name_inner b h) [
+    | inl e ↦ by_kind s b (kind.Letter b) e ∙ f
+    | inr e ↦ by_kind s b (kind.Inner b) e ∙ g
+  ]
 
   name_walks : (ls : List Literal) (negated : Bool) (name bs : List ℕ) → Each (λ b. IsTrue (is_name_byte b)) bs
       → Walks literals_automaton (at_more ls negated name) (map unmarked bs) (at_more ls negated (name ++ bs))
   name_walks ls negated name [] h = ap (λ x. at_more ls negated x) (append-nil name)
   name_walks ls negated name (b ∷ bs) h = (
     at_more ls negated (name ++ b ∷ []),
-    name_step ls negated name b h.0,
+    name_step (at_more ls negated name) (at_more ls negated (name ++ b ∷ [])) b refl refl h.0,
     refl,
     refl,
     subst (λ x. Walks literals_automaton (at_more ls negated (name ++ b ∷ [])) (map unmarked bs) (at_more ls negated x))
@@ -219,29 +207,19 @@ module _ (joined : Bool) where
   first_walks : (ls : List Literal) (negated : Bool) (a b : ℕ) (bs : List ℕ) → Each (λ b. IsTrue (is_name_byte b)) (b ∷ bs)
       → Walks literals_automaton (literals_at joined ls (a ∷ []) (First negated)) (map unmarked (b ∷ bs)) (at_more ls negated (a ∷ b ∷ bs))
   first_walks ls negated a b bs h =
-      (at_more ls negated (a ∷ b ∷ []), second_step ls negated a b h.0, refl, refl, name_walks ls negated (a ∷ b ∷ []) bs h.1)
+      let second : S = at_more ls negated (a ∷ b ∷ []) in
+      (second, name_step (literals_at joined ls (a ∷ []) (First negated)) second b refl refl h.0, refl, refl, name_walks ls negated (a ∷ b ∷ []) bs h.1)
 
   literal_walks : (ls : List Literal) (s : S) (negated : Bool) (name : List ℕ) (t : List Letter) → Opens ls s → SpellsLiteral (literal negated name) t
       → Walks literals_automaton s t (at_more ls negated name)
-  literal_walks ls s negated [] t o h = absurd h.0
-  literal_walks ls s negated (a ∷ []) t o h = absurd h.0
   literal_walks ls s true (a ∷ b ∷ bs) t o h =
-      subst (λ x. Walks literals_automaton s x (at_more ls true (a ∷ b ∷ bs))) (sym h.1) (
-        literals_at joined ls [] Negation,
-        o.tilde,
-        refl,
-        refl,
-        (
-          literals_at joined ls (a ∷ []) (First true),
-          by_kind (literals_at joined ls [] Negation) a (kind.Letter a) (name_letter a h.0.0),
-          refl,
-          refl,
-          first_walks ls true a b bs h.0.1,
-        ),
-      )
+      let second = by_kind (literals_at joined ls [] Negation) a (kind.Letter a) (name_letter a h.0.0) in
+      subst (λ x. Walks literals_automaton s x (at_more ls true (a ∷ b ∷ bs))) (sym h.1)
+      (literals_at joined ls [] Negation, o.tilde, refl, refl, (literals_at joined ls (a ∷ []) (First true), second, refl, refl, first_walks ls true a b bs h.0.1))
   literal_walks ls s false (a ∷ b ∷ bs) t o h =
       subst (λ x. Walks literals_automaton s x (at_more ls false (a ∷ b ∷ bs))) (sym h.1)
       (literals_at joined ls (a ∷ []) (First false), o.letter a h.0.0, refl, refl, first_walks ls false a b bs h.0.1)
+  literal_walks ls s negated _ t o h = absurd h.0
 
   -- a further literal
   further_walks : (ls : List Literal) (l : Literal) (s : S) (t : List Letter) → IsAfter ls s → (Blanks1 ⋅ SpellsLiteral l) t

@@ -1,10 +1,10 @@
 -- The laws of the literals machine.
 use Rattle.pb_proof.proofs.Common.{ℕ, ◌++◌, ◌+◌, ◌-◌, ◌^◌, ◌↔◌, ◌∷◌, ◌≡◌, ◌≤◌, [], ap, arith, Bool, cond, false, length, length-append, List, refl}
-use Rattle.pb_proof.proofs.Common.{subst, sym, true, min-le_left, add-grows, begin-grows, to-grows, Literal, ReadsOn, is_state, IsOfOne, one_state}
-use Rattle.pb_proof.proofs.Common.{never, End, Go, IsState, Next, ReadsStatement, Refuse, unmarked, Letter, NameByte, LiteralsAction, LiteralsPhase}
-use Rattle.pb_proof.proofs.Common.{First, More, Negation, name_byte, flushed, is_begun, IsLiteralsInOrder, literal, literals_at, literals_automaton}
-use Rattle.pb_proof.proofs.Common.{literals_first, literals_last, LiteralsState, SpellsJoined, ◌<◌, ◌||◌, ◌∙◌, get_or, IsTrue, min, take, take_more}
-use Rattle.pb_proof.proofs.Common.{admits, end_or_refuse, go_or_refuse, Admits, adds, is_more}
+use Rattle.pb_proof.proofs.Common.{subst, sym, true, min-le_left, add-grows, begin-grows, to-grows, Literal, reads_before, ReadsOn, is_state, IsOfOne}
+use Rattle.pb_proof.proofs.Common.{one_state, never, End, Go, IsState, ReadsStatement, Refuse, unmarked, Letter, NameByte, LiteralsAction}
+use Rattle.pb_proof.proofs.Common.{LiteralsPhase, First, More, Negation, name_byte, flushed, is_begun, IsLiteralsInOrder, literal, literals_at}
+use Rattle.pb_proof.proofs.Common.{literals_automaton, literals_first, literals_last, LiteralsState, SpellsJoined, ◌<◌, ◌||◌, ◌∙◌, get_or, IsTrue}
+use Rattle.pb_proof.proofs.Common.{min, take, take_more, admits, end_or_refuse, go_or_refuse, Admits, adds, is_more}
 use Rattle.pb_proof.specs.engine.Line.Literals.{act, transition, next_action, before, is_midway, is_done, units, in_hand, ready, all_units}
 use Rattle.pb_proof.specs.declared.line.solution.phase.LiteralsPhase.TheVariants.{Start, Gap, Closing, Done}
 use Rattle.pb_proof.proofs.lemmas.Literals.Texts.{reads_each, Prefix, Whole, keeps_prefix}
@@ -12,9 +12,6 @@ use Rattle.pb_proof.proofs.lemmas.Line.Ends.{reads_exactly}
 use Rattle.pb_sums.proofs.lemmas.machine.Counts.{counted}
 use Rattle.pb_proof.specs.declared.line.byte_kind.NameByte.TheVariants as kind
 use Rattle.pb_proof.specs.declared.line.solution.phase.LiteralsAction as action
-
-abbrev N : Type 0
-N = Next LiteralsState (List Literal)
 
 -- The phase that a move leads to is midway, and a literal is being read if a name has begun.
 abbrev IsSane : Bool → LiteralsPhase → LiteralsAction → Type 0
@@ -108,8 +105,7 @@ module _ (joined : Bool) (ls : List Literal) (name : List ℕ) (ph : LiteralsPha
   acted (action.TheVariants.Begin q b) next h e = subst (λ x. Steps here x) (one_state _ next e) (begin_steps q b h.0 h.1 h.2)
   acted (action.TheVariants.Add q b) next h e =
       subst (λ x. Steps here x) (one_state _ next e) (add_steps q b h.0 h.1 h.2)
-  acted action.TheVariants.End next h e = cc
-  acted action.TheVariants.Stop next h e = cc
+  acted _ next h e = cc
 
   ended : (m : LiteralsAction) (next : LiteralsState) (e : List Literal) → act joined (flushed ph ls name) ls name m ≡ End e next → next ≡ literals_last joined
   ended (action.TheVariants.To q) next e i = cc
@@ -131,23 +127,20 @@ stops joined Done ls name k h = refl
 stops joined _ ls name k h = cc
 
 -- a further byte or two of a name, and the line feed
+some_more : (joined negated : Bool) (ls : List Literal) (name : List ℕ) → ReadsOn literals_automaton (literals_at joined ls name (More negated))
+some_more joined negated ls name = (unmarked 10 ∷ [], ls ++ literal negated name ∷ [], literals_last joined, (refl, refl))
+
+some_name : (joined negated : Bool) (ls : List Literal) (name : List ℕ) → ReadsOn literals_automaton (literals_at joined ls name (First negated))
+some_name joined negated ls name =
+    reads_before literals_automaton (literals_at joined ls name (First negated)) (literals_at joined ls (name ++ 97 ∷ []) (More negated)) 97 refl refl (some_more joined negated ls (name ++ 97 ∷ []))
+
 some_text : (joined : Bool) (ph : LiteralsPhase) (ls : List Literal) (name : List ℕ) → is_done ph ≡ false → ReadsOn literals_automaton (literals_at joined ls name ph)
 some_text true Start ls name h = (unmarked 10 ∷ [], ls, literals_last true, (refl, refl))
 some_text false Start ls name h = (unmarked 10 ∷ [], ls, literals_last false, (refl, refl))
 some_text joined Gap ls name h = (unmarked 10 ∷ [], ls, literals_last joined, (refl, refl))
-some_text joined Negation ls name h = (
-  unmarked 97 ∷ unmarked 97 ∷ unmarked 10 ∷ [],
-  ls ++ literal true (97 ∷ 97 ∷ []) ∷ [],
-  literals_last joined,
-  (literals_at joined ls (97 ∷ []) (First true), refl, refl, refl, (literals_at joined ls (97 ∷ 97 ∷ []) (More true), refl, refl, refl, (refl, refl))),
-)
-some_text joined (First negated) ls name h = (
-  unmarked 97 ∷ unmarked 10 ∷ [],
-  ls ++ literal negated (name ++ 97 ∷ []) ∷ [],
-  literals_last joined,
-  (literals_at joined ls (name ++ 97 ∷ []) (More negated), refl, refl, refl, (refl, refl)),
-)
-some_text joined (More negated) ls name h = (unmarked 10 ∷ [], ls ++ literal negated name ∷ [], literals_last joined, (refl, refl))
+some_text joined Negation ls name h = reads_before literals_automaton (literals_at joined ls name Negation) (literals_at joined ls (97 ∷ []) (First true)) 97 refl refl (some_name joined true ls (97 ∷ []))
+some_text joined (First negated) ls name h = some_name joined negated ls name
+some_text joined (More negated) ls name h = some_more joined negated ls name
 some_text joined Closing ls name h = (unmarked 10 ∷ [], ls, literals_last joined, (refl, refl))
 some_text joined Done ls name h = cc
 
@@ -213,10 +206,6 @@ wants s b m o f t a =
 
 pub same_state : (joined : Bool) (ls ms : List Literal) (m n : List ℕ) (p q : LiteralsPhase) → ls ≡ ms → m ≡ n → p ≡ q → literals_at joined ls m p ≡ literals_at joined ms n q
 same_state joined ls ms m n p q e f g = cc
-
--- a state within the literals
-pub midway_state : (joined : Bool) (ls : List Literal) (name : List ℕ) (q : LiteralsPhase) → is_midway q ≡ true → IsState literals_automaton (literals_at joined ls name q)
-midway_state joined ls name q h = literals_is_state (literals_at joined ls name q) (λ i. never (is_midway q) h i)
 
 -- a count that stays at its maximum
 pub count_more : (ls : List Literal) (i : ℕ) (d : Literal) (c m r : ℕ) → i < length ls → c ≡ min (units (take i ls)) (2 ^ 64 - 1) → m ≡ min (length (get_or ls i d).name + 1) (2 ^ 64 - 1)

@@ -61,9 +61,6 @@ meets_any c = by_test (nat_eq c 32) refl
     by_test true e = let is : c ≡ 32 = eqb-true c 32 e in subst (λ b. meets b b ≡ true) (sym is) refl
     by_test false e = meets_self c e
 
-meets_blank : (c b : ℕ) → nat_eq c 32 ≡ true → is_blank b ≡ true → meets c b ≡ true
-meets_blank c b e h = rw (e, h) refl
-
 module _ (limit top : ℕ) where
   -- after `k` bytes of the words
   abbrev pub spelt : Keyword → ℕ → ProofState
@@ -111,13 +108,7 @@ module _ (limit top : ℕ) where
   blanks_stay : (f : Keyword) (prefix left : List ℕ) (d : ℕ) → words_of f ≡ prefix ++ 32 ∷ d ∷ left → (bs : List ℕ) → Each (λ b. IsTrue (is_blank b)) bs
       → Walks proofs (spelt f (length prefix + 1)) (plain bs) (spelt f (length prefix + 1))
   blanks_stay f prefix left d e [] h = refl
-  blanks_stay f prefix left d e (b ∷ bs) h = (
-    spelt f (length prefix + 1),
-    blank_stays f prefix left d b e h.0,
-    refl,
-    refl,
-    blanks_stay f prefix left d e bs h.1,
-  )
+  blanks_stay f prefix left d e (b ∷ bs) h = (spelt f (length prefix + 1), blank_stays f prefix left d b e h.0, refl, refl, blanks_stay f prefix left d e bs h.1)
 
   -- one byte of the words, or blanks
   one_walks : (f : Keyword) (prefix left : List ℕ) (c d : ℕ) (t : List Letter) → words_of f ≡ prefix ++ c ∷ d ∷ left → One c t → Walks proofs (spelt f (length prefix)) t (spelt f (length prefix + 1))
@@ -128,7 +119,7 @@ module _ (limit top : ℕ) where
           let is : c ≡ 32 = eqb-true c 32 s in
           subst (λ x. Walks proofs (spelt f (length prefix)) x (spelt f (length prefix + 1))) (sym g) (
             spelt f (length prefix + 1),
-            step_on f prefix left c d b e (meets_blank c b s i),
+            step_on f prefix left c d b e (rw (s, i) refl),
             refl,
             refl,
             blanks_stay f prefix left d (e ∙ ap (λ x. prefix ++ x ∷ d ∷ left) is) bs j,
@@ -176,14 +167,11 @@ module _ (limit top : ℕ) where
 
   -- The last byte of the words is not a space.
   last_dark : (f : Keyword) (init : List ℕ) (c : ℕ) → words_of f ≡ init ++ c ∷ [] → nat_eq c 32 ≡ false
-  last_dark f init c e = by_or_dark (and_parts (not (nat_eq c 32) || false) true (laid_later init (c ∷ []) (subst (λ x. is_laid x ≡ true) e (words_laid f)))).0
+  last_dark f init c e = by_test (nat_eq c 32) (and_parts (not (nat_eq c 32) || false) true (laid_later init (c ∷ []) (subst (λ x. is_laid x ≡ true) e (words_laid f)))).0
     where
-      by_or_dark : (not (nat_eq c 32) || false) ≡ true → nat_eq c 32 ≡ false
-      by_or_dark h = at_test (nat_eq c 32) h
-        where
-          at_test : (x : Bool) → (not x || false) ≡ true → x ≡ false
-          at_test true g = sym g
-          at_test false g = refl
+      by_test : (x : Bool) → (not x || false) ≡ true → x ≡ false
+      by_test true g = sym g
+      by_test false g = refl
 
   -- a text of the words: the walk to its last letter, and the step at that letter
   record Spelled (f : Keyword) (t : List Letter) : Type 0 where

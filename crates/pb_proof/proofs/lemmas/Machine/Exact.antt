@@ -83,9 +83,6 @@ steps_order (e ∷ steps) c h =
     let k = step_stage e (All-head IsStep e steps h) in
     (k.0, subst (λ x. InOrder x (steps ++ ending c)) (sym k.1) (steps_order steps c (All-tail IsStep e steps h)))
 
-statements_order : (v : Proof) → All IsStep v.steps → InOrder Opening (statements_of v)
-statements_order v h = (refl, (refl, steps_order v.steps v.conclusion h))
-
 pub no_gap : IsGap []
 no_gap = (Nothing, refl)
 
@@ -125,7 +122,7 @@ module _ (limit top : ℕ) where
       (gap_later before i.gap k.0, e, k.1, later_each rest i.event h (All-tail Spelled i rest s))
 
   pub proof_each : (items : List (Item Statement)) → IsProof limit top items → IsStaged limit top Opening items
-  proof_each items (v, (steps, e, first, spelled)) = from_first items (subst (InOrder Opening) (sym e) (statements_order v steps)) first spelled
+  proof_each items (v, (steps, e, first, spelled)) = from_first items (subst (InOrder Opening) (sym e) (refl, (refl, steps_order v.steps v.conclusion steps))) first spelled
     where
       from_first : (items : List (Item Statement)) → InOrder Opening (events_of items) → BeginsAtOnce limit top items → AreSpelled limit top items → IsStaged limit top Opening items
       from_first [] h f s = absurd f

@@ -111,15 +111,15 @@ module _ (limit top : ℕ) (here : Stage) where
     begins : (r : LineKind) → stage_rest r ≡ here → (l.numeral ≡ false → Before r (p ++ l ∷ []))
         → After (action.Begin r)
     begins r at h = λ w n.
-        let plain : l.numeral ≡ false = n ∙ (line_fresh s.limit s.top r).2 in (
+        let m : LineMachine = line_first s.limit s.top r in (
           k,
           (
             at,
             (
-              line_first s.limit s.top r,
+              m,
               refl,
-              none_yet (Before r) (λ q. Walks line_automaton (line_first limit top r) q (line_first s.limit s.top r)) (p ++ l ∷ [])
-                  (ap (λ x. line_first x s.top r) k.0 ∙ ap (λ x. line_first limit x r) k.1) (h plain),
+              none_yet (Before r) (λ q. Walks line_automaton (line_first limit top r) q m) (p ++ l ∷ [])
+                  (ap (λ x. line_first x s.top r) k.0 ∙ ap (λ x. line_first limit x r) k.1) (h (n ∙ (line_fresh s.limit s.top r).2)),
             ),
           ),
         )

@@ -135,13 +135,7 @@ pol_leads limit top text ws n more long p o l space words closing h =
 pub rup_taken : (limit top : ℕ) (s : ProofState) (text : List ℕ) (c : Linear) (n : ℕ) → s ≡ idle limit top stage.Steps → IsInOrder s
     → n < length text → get_or text 0 0 ≡ 114 → get_or text n 0 ≡ 10 → LeadsToRup limit (take n text) c
     → TakesStatement proofs s text (Some (n, statement.Rup c)) s
-rup_taken limit top s text c n same h inside first feed leads = rw (same, first, feed) (
-  inside,
-  refl,
-  with_rup limit top c,
-  leads top (subst IsInOrder same h),
-  refl,
-)
+rup_taken limit top s text c n same h inside first feed leads = rw (same, first, feed) (inside, refl, with_rup limit top c, leads top (subst IsInOrder same h), refl)
 
 pub pol_taken : (limit top : ℕ) (s : ProofState) (text : List ℕ) (ws : List PolWord) (n : ℕ) → s ≡ idle limit top stage.Steps → IsInOrder s
     → n < length text → get_or text 0 0 ≡ 112 → get_or text n 0 ≡ 10 → LeadsToPol limit top (take n text) ws

@@ -2,6 +2,7 @@
 use Rattle.pb_proof.proofs.Common.{ℕ, ◌*◌, ◌++◌, ◌+◌, ◌-◌, ◌<◌, ◌∙◌, ◌∷◌, ◌≡◌, [], ap, arith, Bool, cond, false, List, nat_le, pos, refl, Some, subst}
 use Rattle.pb_proof.proofs.Common.{suc, sym, true, zero, neg_ℤ, le-leb, true≢false, reads_before, ReadsOn, End, Change, Held, Phase, Role, PolWord}
 use Rattle.pb_proof.proofs.Common.{bound, changed, close, counted, held_name, held_number, is_done, over, pol_automaton, PolState}
+use Rattle.pb_proof.specs.engine.Line.PolWhole.{IsFree}
 use Rattle.pb_proof.specs.engine.Line.Pol.{act}
 use Rattle.pb_proof.specs.declared.word.PolWord.TheVariants as word
 use Rattle.pb_proof.specs.declared.line.pol.phase.Held.TheVariants as held
@@ -10,7 +11,7 @@ use Rattle.pb_proof.specs.declared.line.pol.phase.Phase.TheVariants as phase
 use Rattle.pb_proof.specs.declared.line.pol.phase.Change.TheVariants as change
 use Rattle.pb_proof.specs.declared.line.pol.phase.Action.TheVariants as action
 use Rattle.pb_proof.proofs.lemmas.Pol.Covers.{state, as_gap}
-use Rattle.pb_proof.proofs.lemmas.Pol.Prefixes.{NotLarge, bound_of_id}
+use Rattle.pb_proof.proofs.lemmas.Pol.Prefixes.{bound_of_id}
 use Rattle.pb_proof.proofs.lemmas.Pol.Walks.{takes_blanks}
 use Rattle.pb_proof.proofs.lemmas.NumberTests.{not_zero}
 
@@ -46,7 +47,7 @@ module _ (limit top : ℕ) where
       (subst (λ x. Alive (st (ws ++ word.Add ∷ []) x [] phase.After)) (sym less)
       (alive_after (ws ++ word.Add ∷ []) (suc d) (alive_gap (suc d) (ws ++ word.Add ∷ []))))
 
-  same_gap : (h : Held) → NotLarge h → (ws : List PolWord) (d : ℕ) → Alive (st ws d [] (phase.Gap held.Nothing)) → Alive (st ws d [] (phase.Gap h))
+  same_gap : (h : Held) → IsFree h → (ws : List PolWord) (d : ℕ) → Alive (st ws d [] (phase.Gap held.Nothing)) → Alive (st ws d [] (phase.Gap h))
   same_gap h i ws d (t, e, after, r) = (t, e, after, as_gap limit top e after h i ws d t r)
 
   alive_held : (h : Held) (ws : List PolWord) (d : ℕ) → Alive (st ws d [] (phase.Gap h))

@@ -1,9 +1,10 @@
 -- The `pol` machine reads each line of postfix words: one lemma for each word.
 use Rattle.pb_proof.proofs.Common.{ℕ, ℤ, ◌++◌, ◌-◌, ◌<◌, ◌∙◌, ◌∷◌, ◌≡◌, ◌≤◌, [], ap, append-nil, append_assoc, arith, Bool, cond, false, List, nat_le}
-use Rattle.pb_proof.proofs.Common.{pos, refl, Some, subst, suc, sym, true, zero, neg_ℤ, le-leb, IsName, SpellsLiteral, longer, reads_after, Walks}
+use Rattle.pb_proof.proofs.Common.{pos, refl, Some, subst, suc, sym, true, neg_ℤ, le-leb, IsName, SpellsLiteral, longer, reads_after, Walks}
 use Rattle.pb_proof.proofs.Common.{walks_then, Go, ReadsStatement, ◌⋅◌, Blanks1, Byte, Bytes, unmarked, Digits, Letter, plain, Change, Held, Phase}
 use Rattle.pb_proof.proofs.Common.{Role, PolWord, changed, close, counted, held_name, held_number, turned, with_last, over, pol_automaton, pol_first}
 use Rattle.pb_proof.proofs.Common.{pol_last, PolState, Factor, LineEnd, Listed, SpellsId, SpellsWord, SpellsWords}
+use Rattle.pb_proof.specs.engine.Line.PolWhole.{IsFree}
 use Rattle.pb_proof.specs.engine.Line.Pol.{act}
 use Rattle.pb_proof.specs.declared.word.PolWord.TheVariants as word
 use Rattle.pb_proof.specs.declared.line.pol.phase.Held.TheVariants as held
@@ -12,24 +13,11 @@ use Rattle.pb_proof.specs.declared.line.pol.phase.Phase.TheVariants as phase
 use Rattle.pb_proof.specs.declared.line.pol.phase.Change.TheVariants as change
 use Rattle.pb_proof.specs.declared.line.pol.phase.Action.TheVariants as action
 use Rattle.pb_proof.proofs.lemmas.Line.Ends.{MayEnd, blanks1_lead, line_reads}
-use Rattle.pb_proof.proofs.lemmas.Pol.Covers.{state, as_after}
-use Rattle.pb_proof.proofs.lemmas.Pol.Prefixes.{NotLarge, with_last_append, bound_of_id, bound_of_factor}
+use Rattle.pb_proof.proofs.lemmas.Pol.Covers.{state, as_after, free_name, free_number}
+use Rattle.pb_proof.proofs.lemmas.Pol.Prefixes.{with_last_append, bound_of_id, bound_of_factor}
 use Rattle.pb_proof.proofs.lemmas.Pol.Postfix.{Counts, postfix_counts}
 use Rattle.pb_proof.proofs.lemmas.Pol.Walks.{unsigned_walk, signed_walk, name_walk, negated_walk, takes_blanks, late_blanks}
 use Rattle.pb_proof.proofs.lemmas.NumberTests.{not_zero}
-
-free_number : (limit d n : ℕ) → NotLarge (held_number limit d n)
-free_number limit zero n = tt
-free_number limit (suc d) n = go (nat_le n limit)
-  where
-    go : (b : Bool) → NotLarge (cond b held.Number held.Nothing)
-    go true = tt
-    go false = tt
-
-free_name : (negated : Bool) (d : ℕ) → NotLarge (held_name negated d)
-free_name true d = tt
-free_name false zero = tt
-free_name false (suc d) = tt
 
 -- a number that may be the operand of an operator
 abbrev IsOperand : Held → Type 0
@@ -48,7 +36,7 @@ module _ (limit top : ℕ) (e : List PolWord) (after : PolState) where
   done ws d = state limit top ws d [] phase.After
 
   -- a word that ends after a walk
-  ends : (ws : List PolWord) (d : ℕ) (name : List ℕ) (ph : Phase) (c : Change) (h : Held) (s : PolState) (t u : List Letter) → NotLarge h → close limit top d ph ≡ Some (c, h)
+  ends : (ws : List PolWord) (d : ℕ) (name : List ℕ) (ph : Phase) (c : Change) (h : Held) (s : PolState) (t u : List Letter) → IsFree h → close limit top d ph ≡ Some (c, h)
       → Walks pol_automaton s t (state limit top ws d name ph) → R (done (changed c ws name) (counted c d)) u → R s (t ++ u)
   ends ws d name ph c h s t u i q w r =
       reads_after pol_automaton t u s (state limit top ws d name ph) after e w (as_after limit top e after ph c h i ws d name u q r)
@@ -145,8 +133,7 @@ module _ (limit top : ℕ) (e : List PolWord) (after : PolState) where
       → pol_automaton.step (state limit top vs d [] (phase.Gap h)) 42 ≡ Go (done (with_last (turned change.Multiply) vs) (d - 1))
   star_step held.Number i vs d = refl
   star_step held.Large i vs d = refl
-  star_step held.Nothing i vs d = absurd i
-  star_step held.Name i vs d = absurd i
+  star_step _ i vs d = absurd i
 
   multiply_run : (ws : List PolWord) (d : ℕ) (k : ℤ) (t u : List Letter) → (Factor limit k ⋅ Blanks1 ⋅ Byte 42) t
       → R (done (ws ++ word.Multiply k ∷ []) (suc d)) u → R (gap ws (suc d)) (t ++ u)
@@ -169,14 +156,12 @@ module _ (limit top : ℕ) (e : List PolWord) (after : PolState) where
       → pol_automaton.step (state limit top vs d [] (phase.Gap h)) 100 ≡ Go (state limit top vs d (100 ∷ []) (phase.Lone (divide_role h)))
   d_step held.Number i vs d = refl
   d_step held.Large i vs d = refl
-  d_step held.Nothing i vs d = absurd i
-  d_step held.Name i vs d = absurd i
+  d_step _ i vs d = absurd i
 
   divide_close : (h : Held) → IsOperand h → (d : ℕ) → close limit top d (phase.Lone (divide_role h)) ≡ Some (change.Divide, held.Nothing)
   divide_close held.Number i d = refl
   divide_close held.Large i d = refl
-  divide_close held.Nothing i d = absurd i
-  divide_close held.Name i d = absurd i
+  divide_close _ i d = absurd i
 
   divide_run : (ws : List PolWord) (d : ℕ) (k : ℤ) (t u : List Letter) → (Factor limit k ⋅ Blanks1 ⋅ Byte 100) t
       → R (done (ws ++ word.Divide k ∷ []) (suc d)) u → R (gap ws (suc d)) (t ++ u)
@@ -214,17 +199,12 @@ module _ (limit top : ℕ) (e : List PolWord) (after : PolState) where
       → ((next : ℕ) → Counts next ws → R (done (vs ++ w ∷ []) next) u) → R (gap vs d) (t ++ u)
   word_run vs d (word.Id id) ws t u c h f = id_run vs d id t u h (f (suc d) c)
   word_run vs d (word.Axiom l) ws t u c h f = literal_run vs d l.negated l.name t u h (f (suc d) c)
-  word_run vs zero word.Add ws t u c h f = absurd c
-  word_run vs (suc zero) word.Add ws t u c h f = absurd c
   word_run vs (suc (suc d)) word.Add ws t u c h f = add_run vs d t u h (f (suc d) c)
-  word_run vs zero (word.Multiply k) ws t u c h f = absurd c
   word_run vs (suc d) (word.Multiply k) ws t u c h f = multiply_run vs d k t u h (f (suc d) c)
-  word_run vs zero (word.Divide k) ws t u c h f = absurd c
   word_run vs (suc d) (word.Divide k) ws t u c h f = divide_run vs d k t u h (f (suc d) c)
-  word_run vs zero word.Saturate ws t u c h f = absurd c
   word_run vs (suc d) word.Saturate ws t u c h f = saturate_run vs d t u h (f (suc d) c)
-  word_run vs zero (word.Weaken name) ws t u c h f = absurd c
   word_run vs (suc d) (word.Weaken name) ws t u c h f = weaken_run vs d name t u h.0 h.1 (f (suc d) c)
+  word_run vs _ _ ws t u c h f = absurd c
 
 module _ (limit top : ℕ) where
   -- the end of the line after the words of one expression

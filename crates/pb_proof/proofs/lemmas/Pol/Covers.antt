@@ -1,7 +1,8 @@
 -- A state that reads everything that another one reads.
-use Rattle.pb_proof.proofs.Common.{ℕ, ◌&&◌, ◌∙◌, ◌∷◌, ◌≡◌, [], Bool, cond, false, List, nat_eq, refl, Some, subst, sym, true, Automaton, End, Go}
+use Rattle.pb_proof.proofs.Common.{ℕ, ◌&&◌, ◌∙◌, ◌∷◌, ◌≡◌, [], Bool, cond, false, List, nat_eq, nat_le, suc, zero, refl, Some, subst, sym, true, Automaton, End, Go}
 use Rattle.pb_proof.proofs.Common.{Next, ReadsStatement, Refuse, Letter, Action, Change, Held, Kind, Phase, Role, PolWord, blank, changed, close}
-use Rattle.pb_proof.proofs.Common.{counted, feed, is_name_kind, kind_of, may_be_name, semicolon, transition, work, over, pol_automaton, PolState}
+use Rattle.pb_proof.proofs.Common.{counted, feed, held_name, held_number, is_name_kind, kind_of, may_be_name, semicolon, transition, work, over, pol_automaton, PolState}
+use Rattle.pb_proof.specs.engine.Line.PolWhole.{IsFree}
 use Rattle.pb_proof.specs.engine.Line.Pol.{act}
 use Rattle.pb_proof.specs.declared.line.pol.phase.Kind.TheVariants as kind
 use Rattle.pb_proof.specs.declared.line.pol.phase.Held.TheVariants as held
@@ -9,7 +10,20 @@ use Rattle.pb_proof.specs.declared.line.pol.phase.Role.TheVariants as role
 use Rattle.pb_proof.specs.declared.line.pol.phase.Phase.TheVariants as phase
 use Rattle.pb_proof.specs.declared.line.pol.phase.Change.TheVariants as change
 use Rattle.pb_proof.specs.declared.line.pol.phase.Action.TheVariants as action
-use Rattle.pb_proof.proofs.lemmas.Pol.Prefixes.{NotLarge}
+
+-- an operator need not follow a number or a name
+pub free_number : (limit d n : ℕ) → IsFree (held_number limit d n)
+free_number limit zero n = tt
+free_number limit (suc d) n = go (nat_le n limit)
+  where
+    go : (b : Bool) → IsFree (cond b held.Number held.Nothing)
+    go true = tt
+    go false = tt
+
+pub free_name : (negated : Bool) (d : ℕ) → IsFree (held_name negated d)
+free_name true d = tt
+free_name false zero = tt
+free_name false (suc d) = tt
 
 module _ {S E : Type 0} (m : Automaton S E) (t : List Letter) (e : E) (after : S) where
   -- after a byte, the second outcome reads everything that the first one reads
@@ -77,11 +91,11 @@ module _ (limit top : ℕ) (e : List PolWord) (after : PolState) where
       go k = further (is_name_kind k)
 
   -- after a word that may still change, everything is read that is read after one that may not
-  pub as_gap : (h : Held) → NotLarge h → (ws : List PolWord) (d : ℕ) (t : List Letter) → R (st ws d [] (phase.Gap held.Nothing)) t → R (st ws d [] (phase.Gap h)) t
+  pub as_gap : (h : Held) → IsFree h → (ws : List PolWord) (d : ℕ) (t : List Letter) → R (st ws d [] (phase.Gap held.Nothing)) t → R (st ws d [] (phase.Gap h)) t
   as_gap h i ws d [] x = absurd x
   as_gap h i ws d (l ∷ t) x = at_kind (st ws d [] (phase.Gap held.Nothing)) (st ws d [] (phase.Gap h)) l t (go h i (as_gap h i ws d t)) x
     where
-      go : (h : Held) → NotLarge h → (R (st ws d [] (phase.Gap held.Nothing)) t → R (st ws d [] (phase.Gap h)) t) → (k : Kind)
+      go : (h : Held) → IsFree h → (R (st ws d [] (phase.Gap held.Nothing)) t → R (st ws d [] (phase.Gap h)) t) → (k : Kind)
           → C t (by (st ws d [] (phase.Gap held.Nothing)) l.byte (transition limit top d (phase.Gap held.Nothing) k))
           (by (st ws d [] (phase.Gap h)) l.byte (transition limit top d (phase.Gap h) k))
       go held.Large i more k = absurd i
@@ -98,7 +112,7 @@ module _ (limit top : ℕ) (e : List PolWord) (after : PolState) where
   following c ws d name = st (changed c ws name) (counted c d) [] phase.After
 
   -- a state in which a word may end reads what may follow the word, unless an operator has to follow
-  pub as_after : (ph : Phase) (c : Change) (h : Held) → NotLarge h → (ws : List PolWord) (d : ℕ) (name : List ℕ) (t : List Letter) → close limit top d ph ≡ Some (c, h)
+  pub as_after : (ph : Phase) (c : Change) (h : Held) → IsFree h → (ws : List PolWord) (d : ℕ) (name : List ℕ) (t : List Letter) → close limit top d ph ≡ Some (c, h)
       → R (following c ws d name) t → R (st ws d name ph) t
   as_after ph c h i ws d name [] q x = absurd x
   as_after ph c h i ws d name (l ∷ t) q x = at_kind (following c ws d name) (st ws d name ph) l t (go ph q) x

@@ -1,7 +1,7 @@
 -- Literals among postfix words that are taken at once.
-use Rattle.pb_proof.proofs.Common.{◌∙◌, arith, ℕ, ◌++◌, ◌+◌, ◌<◌, ◌∷◌, ◌≡◌, [], ap, append-nil, append_assoc, Bool, false, get_or, IsTrue, length, List, nat_le, refl}
-use Rattle.pb_proof.proofs.Common.{subst, suc, sym, take, true, zero, cond, false≢true, all_rest, IsName, Runs, is_name_byte, Each, Held, Kind, Phase, Role}
-use Rattle.pb_proof.proofs.Common.{PolWord, held_name, is_letter_kind, kind_of, may_be_name, role_of, transition, pol_automaton, PolState}
+use Rattle.pb_proof.proofs.Common.{◌∙◌, arith, ℕ, ◌++◌, ◌+◌, ◌<◌, ◌∷◌, ◌≡◌, [], ap, append-nil, append_assoc, Bool, false, get_or, IsTrue, length, List, refl}
+use Rattle.pb_proof.proofs.Common.{subst, suc, sym, take, true, all_rest, IsName, Runs, is_name_byte, Each, Held, Kind, Phase, Role}
+use Rattle.pb_proof.proofs.Common.{Go, is_midway, PolWord, held_name, kind_of, role_of, transition, pol_automaton, PolState}
 use Rattle.pb_sums.specs.engine.Prefix.{text_after}
 use Rattle.pb_proof.specs.engine.Line.PolWhole.{IsFree, IsWord}
 use Rattle.pb_proof.specs.declared.line.pol.phase.Kind.TheVariants as kind
@@ -10,89 +10,52 @@ use Rattle.pb_proof.specs.declared.line.pol.phase.Role.TheVariants as role
 use Rattle.pb_proof.specs.declared.line.pol.phase.Phase.TheVariants as phase
 use Rattle.pb_proof.specs.declared.line.pol.phase.Change.TheVariants as change
 use Rattle.pb_proof.specs.declared.line.pol.phase.Action.TheVariants as action
-use Rattle.pb_proof.proofs.lemmas.Pol.Covers.{state}
+use Rattle.pb_proof.proofs.lemmas.Pol.Covers.{free_name, state}
 use Rattle.pb_proof.proofs.lemmas.Pol.Kinds.{of_letter, of_name}
 use Rattle.pb_proof.proofs.lemmas.Pol.Theorems.{moved, midway_state}
-use Rattle.pb_proof.proofs.lemmas.Pol.Walks.{transition_first, transition_name, transition_second, transition_tilde}
-
-free_name : (negated : Bool) (d : ℕ) → IsFree (held_name negated d)
-free_name false zero = tt
-free_name false (suc d) = tt
-free_name true d = tt
+use Rattle.pb_proof.proofs.lemmas.Pol.Walks.{letter_begins, named_role, transition_first, transition_name, transition_second, transition_tilde}
 
 module _ (limit top d : ℕ) (ws : List PolWord) (some : 0 < top) where
   abbrev at : List ℕ → Phase → PolState
   at name p = state limit top ws d name p
 
+  -- one more byte of a literal
+  further : (p q : Phase) (name new : List ℕ) (b : ℕ) (text : List ℕ) (last : PolState) → pol_automaton.step (at name p) b ≡ Go (at new q) → is_midway q ≡ true → Runs pol_automaton (at new q) text last
+      → Runs pol_automaton (at name p) (b ∷ text) last
+  further p q name new b text last e m r = (at new q, e, midway_state limit top ws d new q some m, r)
+
   -- bytes of a name after its first two
   more_runs : (negated : Bool) (bs name : List ℕ) → Each (λ b. IsTrue (is_name_byte b)) bs → Runs pol_automaton (at name (phase.Name negated)) bs (at (name ++ bs) (phase.Name negated))
   more_runs negated [] name h = ap (λ (n : List ℕ). at n (phase.Name negated)) (append-nil name)
-  more_runs negated (b ∷ bs) name h = (
-    at (name ++ b ∷ []) (phase.Name negated),
-    moved limit top ws d name (phase.Name negated) b (kind_of b) (action.Add (phase.Name negated)) refl (sym (transition_name limit top ws d negated (kind_of b) (of_name b h.0))),
-    midway_state limit top ws d (name ++ b ∷ []) (phase.Name negated) some refl,
-    subst (λ (n : List ℕ). Runs pol_automaton (at (name ++ b ∷ []) (phase.Name negated)) bs (at n (phase.Name negated))) (append_assoc name (b ∷ []) bs)
-        (more_runs negated bs (name ++ b ∷ []) h.1),
-  )
-
-  letter_begins : (h : Held) (k : Kind) → IsFree h → is_letter_kind k ≡ true → action.Begin (phase.Lone (role_of d h k)) ≡ transition limit top d (phase.Gap h) k
-  letter_begins held.Large k f e = absurd f
-  letter_begins h kind.D f e = refl
-  letter_begins h kind.S f e = refl
-  letter_begins h kind.W f e = refl
-  letter_begins h kind.Letter f e = refl
-  letter_begins h _ f e = absurd (false≢true e)
+  more_runs negated (b ∷ bs) name h =
+      let p : Phase = phase.Name negated in
+      further p p name (name ++ b ∷ []) b bs (at (name ++ b ∷ bs) p) (moved limit top ws d name p b (kind_of b) (action.Add p) refl (sym (transition_name limit top ws d negated (kind_of b) (of_name b h.0)))) refl
+      (subst (λ (n : List ℕ). Runs pol_automaton (at (name ++ b ∷ []) p) bs (at n p)) (append_assoc name (b ∷ []) bs) (more_runs negated bs (name ++ b ∷ []) h.1))
 
   tilde_begins : (h : Held) → IsFree h → action.To phase.Tilde ≡ transition limit top d (phase.Gap h) kind.Tilde
   tilde_begins held.Large f = absurd f
   tilde_begins _ f = refl
 
-  by_depth : (x : Bool) → may_be_name (cond x role.Saturate role.Name) ≡ true
-  by_depth true = refl
-  by_depth false = refl
-
-  named_role : (h : Held) (k : Kind) → may_be_name (role_of d h k) ≡ true
-  named_role held.Number kind.D = refl
-  named_role held.Name kind.W = refl
-  named_role h kind.S = by_depth (nat_le 1 d)
-  named_role h k = refl
-
   plain_runs : (h : Held) (text name : List ℕ) → IsFree h → IsName text → Runs pol_automaton (at name (phase.Gap h)) text (at text (phase.Name false))
-  plain_runs h [] name f w = absurd w
-  plain_runs h (b ∷ []) name f w = absurd w
   plain_runs h (b ∷ c ∷ bs) name f w =
-      let r : Role = role_of d h (kind_of b) in (
-        at (b ∷ []) (phase.Lone r),
-        moved limit top ws d name (phase.Gap h) b (kind_of b) (action.Begin (phase.Lone r)) refl (letter_begins h (kind_of b) f (of_letter b w.0)),
-        midway_state limit top ws d (b ∷ []) (phase.Lone r) some refl,
-        (
-          at (b ∷ c ∷ []) (phase.Name false),
-          moved limit top ws d (b ∷ []) (phase.Lone r) c (kind_of c) (action.Add (phase.Name false)) refl
-              (sym (transition_second limit top ws d r (named_role h (kind_of b)) (kind_of c) (of_name c w.1.0))),
-          midway_state limit top ws d (b ∷ c ∷ []) (phase.Name false) some refl,
-          more_runs false bs (b ∷ c ∷ []) w.1.1,
-        ),
-      )
+      let r : Role = role_of d h (kind_of b) in
+      further (phase.Gap h) (phase.Lone r) name (b ∷ []) b (c ∷ bs) (at (b ∷ c ∷ bs) (phase.Name false))
+      (moved limit top ws d name (phase.Gap h) b (kind_of b) (action.Begin (phase.Lone r)) refl (letter_begins limit top d h (kind_of b) f (of_letter b w.0))) refl
+      (further (phase.Lone r) (phase.Name false) (b ∷ []) (b ∷ c ∷ []) c bs (at (b ∷ c ∷ bs) (phase.Name false))
+      (moved limit top ws d (b ∷ []) (phase.Lone r) c (kind_of c) (action.Add (phase.Name false)) refl (sym (transition_second limit top ws d r (named_role d h (kind_of b)) (kind_of c) (of_name c w.1.0)))) refl
+      (more_runs false bs (b ∷ c ∷ []) w.1.1))
+  plain_runs h _ name f w = absurd w
 
   negated_runs : (h : Held) (text name : List ℕ) → IsFree h → IsName text → Runs pol_automaton (at name (phase.Gap h)) (126 ∷ text) (at text (phase.Name true))
-  negated_runs h [] name f w = absurd w
-  negated_runs h (b ∷ []) name f w = absurd w
-  negated_runs h (b ∷ c ∷ bs) name f w = (
-    at name phase.Tilde,
-    moved limit top ws d name (phase.Gap h) 126 kind.Tilde (action.To phase.Tilde) refl (tilde_begins h f),
-    midway_state limit top ws d name phase.Tilde some refl,
-    (
-      at (b ∷ []) phase.First,
-      moved limit top ws d name phase.Tilde b (kind_of b) (action.Begin phase.First) refl (sym (transition_tilde limit top ws d (kind_of b) (of_letter b w.0))),
-      midway_state limit top ws d (b ∷ []) phase.First some refl,
-      (
-        at (b ∷ c ∷ []) (phase.Name true),
-        moved limit top ws d (b ∷ []) phase.First c (kind_of c) (action.Add (phase.Name true)) refl (sym (transition_first limit top ws d (kind_of c) (of_name c w.1.0))),
-        midway_state limit top ws d (b ∷ c ∷ []) (phase.Name true) some refl,
-        more_runs true bs (b ∷ c ∷ []) w.1.1,
-      ),
-    ),
-  )
+  negated_runs h (b ∷ c ∷ bs) name f w =
+      let last : PolState = at (b ∷ c ∷ bs) (phase.Name true) in
+      further (phase.Gap h) phase.Tilde name name 126 (b ∷ c ∷ bs) last (moved limit top ws d name (phase.Gap h) 126 kind.Tilde (action.To phase.Tilde) refl (tilde_begins h f)) refl
+      (further phase.Tilde phase.First name (b ∷ []) b (c ∷ bs) last
+      (moved limit top ws d name phase.Tilde b (kind_of b) (action.Begin phase.First) refl (sym (transition_tilde limit top ws d (kind_of b) (of_letter b w.0)))) refl
+      (further phase.First (phase.Name true) (b ∷ []) (b ∷ c ∷ []) c bs last
+      (moved limit top ws d (b ∷ []) phase.First c (kind_of c) (action.Add (phase.Name true)) refl (sym (transition_first limit top ws d (kind_of c) (of_name c w.1.0)))) refl
+      (more_runs true bs (b ∷ c ∷ []) w.1.1)))
+  negated_runs h _ name f w = absurd w
 
 pub plain_is_word : (limit top d : ℕ) (h : Held) (text n : List ℕ) → n ≡ text → IsName text → IsWord limit top d h text (change.Axiom false) n (held_name false d)
 plain_is_word limit top d h text n same w ws name some f = rw same (

@@ -1,21 +1,18 @@
 -- Postfix words determine their expression, and leave one. Offered to other crates.
 use Rattle.pb_proof.proofs.Common.{ℕ, ◌++◌, ◌∷◌, ◌≡◌, [], append-nil, append_assoc, arith, length, List, refl, suc, PolWord, Add, Axiom, Divide, Id}
 use Rattle.pb_proof.proofs.Common.{Multiply, Saturate, Weaken, Constraint, IsPostfix, LiteralAxiom, Product, Quotient, Saturation, Sum, Tree}
-use Rattle.pb_proof.proofs.Common.{Weakening, words, ◌∙◌, ap, subst, sym, zero, ◌↔◌, None, Option, Some}
+use Rattle.pb_proof.proofs.Common.{Weakening, words, ◌∙◌, ap, subst, sym, ◌↔◌, None, Option, Some}
 use Rattle.pb_proof.specs.contract.Leaving.{Leaves, WordsReport, WordsLeaveOne}
 use Rattle.pb_proof.specs.engine.Line.Finished.{finished_with}
 
--- from `d` expressions, these words lead to one
+abbrev Given : Option ℕ → (ℕ → Type 0) → Type 0
+Given None P = ⊥
+Given (Some n) P = P n
+
+-- from `d` finished expressions, these words lead to one
 abbrev pub Counts : ℕ → List PolWord → Type 0
 Counts d [] = d ≡ 1
-Counts d (Id id ∷ ws) = Counts (suc d) ws
-Counts d (Axiom literal ∷ ws) = Counts (suc d) ws
-Counts (suc (suc d)) (Add ∷ ws) = Counts (suc d) ws
-Counts (suc d) (Multiply k ∷ ws) = Counts (suc d) ws
-Counts (suc d) (Divide k ∷ ws) = Counts (suc d) ws
-Counts (suc d) (Saturate ∷ ws) = Counts (suc d) ws
-Counts (suc d) (Weaken name ∷ ws) = Counts (suc d) ws
-Counts _ _ = ⊥
+Counts d (w ∷ ws) = Given (finished_with d w) (λ n. Counts n ws)
 
 -- the words of a stack of expressions, the newest first
 abbrev stacked : List Tree → List PolWord
@@ -38,17 +35,12 @@ counts_tree [] (a ∷ []) h = (a, simp append-nil)
 counts_tree [] (a ∷ b ∷ below) h = absurd (omega arith)
 counts_tree (Id id ∷ ws) below h = let r = counts_tree ws (Constraint id ∷ below) h in (r.0, simp append_assoc at r.1)
 counts_tree (Axiom l ∷ ws) below h = let r = counts_tree ws (LiteralAxiom l ∷ below) h in (r.0, simp append_assoc at r.1)
-counts_tree (Add ∷ ws) [] h = absurd h
-counts_tree (Add ∷ ws) (a ∷ []) h = absurd h
 counts_tree (Add ∷ ws) (b ∷ a ∷ below) h = let r = counts_tree ws (Sum a b ∷ below) h in (r.0, simp append_assoc (simp append_assoc at r.1))
-counts_tree (Multiply k ∷ ws) [] h = absurd h
 counts_tree (Multiply k ∷ ws) (a ∷ below) h = let r = counts_tree ws (Product a k ∷ below) h in (r.0, simp append_assoc (simp append_assoc at r.1))
-counts_tree (Divide k ∷ ws) [] h = absurd h
 counts_tree (Divide k ∷ ws) (a ∷ below) h = let r = counts_tree ws (Quotient a k ∷ below) h in (r.0, simp append_assoc (simp append_assoc at r.1))
-counts_tree (Saturate ∷ ws) [] h = absurd h
 counts_tree (Saturate ∷ ws) (a ∷ below) h = let r = counts_tree ws (Saturation a ∷ below) h in (r.0, simp append_assoc (simp append_assoc at r.1))
-counts_tree (Weaken k ∷ ws) [] h = absurd h
 counts_tree (Weaken k ∷ ws) (a ∷ below) h = let r = counts_tree ws (Weakening a k ∷ below) h in (r.0, simp append_assoc (simp append_assoc at r.1))
+counts_tree _ _ h = absurd h
 
 -- the words of an expression, and no others, lead from 0 to 1
 pub postfix_counts : (ws : List PolWord) → IsPostfix ws → Counts 0 ws
@@ -108,66 +100,27 @@ leaves_count : (d : ℕ) (ws : List PolWord) → Leaves d ws → Counts d ws
 leaves_count d [] h = h
 leaves_count d (Id id ∷ ws) h = leaves_count (suc d) ws (at _ (suc d) ws (omega arith) h.1)
 leaves_count d (Axiom l ∷ ws) h = leaves_count (suc d) ws (at _ (suc d) ws (omega arith) h.1)
-leaves_count zero (Add ∷ ws) h = absurd (omega (arith, h.0))
-leaves_count (suc zero) (Add ∷ ws) h = absurd (omega (arith, h.0))
 leaves_count (suc (suc d)) (Add ∷ ws) h = leaves_count (suc d) ws (at _ (suc d) ws (omega arith) h.1)
-leaves_count zero (Multiply k ∷ ws) h = absurd (omega (arith, h.0))
 leaves_count (suc d) (Multiply k ∷ ws) h = leaves_count (suc d) ws (at _ (suc d) ws (omega arith) h.1)
-leaves_count zero (Divide k ∷ ws) h = absurd (omega (arith, h.0))
 leaves_count (suc d) (Divide k ∷ ws) h = leaves_count (suc d) ws (at _ (suc d) ws (omega arith) h.1)
-leaves_count zero (Saturate ∷ ws) h = absurd (omega (arith, h.0))
 leaves_count (suc d) (Saturate ∷ ws) h = leaves_count (suc d) ws (at _ (suc d) ws (omega arith) h.1)
-leaves_count zero (Weaken name ∷ ws) h = absurd (omega (arith, h.0))
 leaves_count (suc d) (Weaken name ∷ ws) h = leaves_count (suc d) ws (at _ (suc d) ws (omega arith) h.1)
+leaves_count _ _ h = absurd (omega (arith, h.0))
 
 count_leaves : (d : ℕ) (ws : List PolWord) → Counts d ws → Leaves d ws
 count_leaves d [] h = h
 count_leaves d (Id id ∷ ws) h = (omega arith, at (suc d) _ ws (omega arith) (count_leaves (suc d) ws h))
 count_leaves d (Axiom l ∷ ws) h = (omega arith, at (suc d) _ ws (omega arith) (count_leaves (suc d) ws h))
-count_leaves zero (Add ∷ ws) h = absurd h
-count_leaves (suc zero) (Add ∷ ws) h = absurd h
 count_leaves (suc (suc d)) (Add ∷ ws) h = (omega arith, at (suc d) _ ws (omega arith) (count_leaves (suc d) ws h))
-count_leaves zero (Multiply k ∷ ws) h = absurd h
 count_leaves (suc d) (Multiply k ∷ ws) h = (omega arith, at (suc d) _ ws (omega arith) (count_leaves (suc d) ws h))
-count_leaves zero (Divide k ∷ ws) h = absurd h
 count_leaves (suc d) (Divide k ∷ ws) h = (omega arith, at (suc d) _ ws (omega arith) (count_leaves (suc d) ws h))
-count_leaves zero (Saturate ∷ ws) h = absurd h
 count_leaves (suc d) (Saturate ∷ ws) h = (omega arith, at (suc d) _ ws (omega arith) (count_leaves (suc d) ws h))
-count_leaves zero (Weaken name ∷ ws) h = absurd h
 count_leaves (suc d) (Weaken name ∷ ws) h = (omega arith, at (suc d) _ ws (omega arith) (count_leaves (suc d) ws h))
+count_leaves _ _ h = absurd h
 
 pub words_leave_one : WordsLeaveOne
 words_leave_one ws = ((λ h. count_leaves 0 ws (postfix_counts ws h)), (λ h. counts_postfix ws (leaves_count 0 ws h)))
 
 -- Words are those of one expression if and only if they lead from no finished expression to one.
-
-abbrev Given : Option ℕ → (ℕ → Type 0) → Type 0
-Given None P = ⊥
-Given (Some n) P = P n
-
--- from `d` finished expressions, the words lead to one
-abbrev pub Leads : ℕ → List PolWord → Type 0
-Leads d [] = d ≡ 1
-Leads d (w ∷ ws) = Given (finished_with d w) (λ n. Leads n ws)
-
-same : {A : Type 0} → A ↔ A
-same = (λ h. h, λ h. h)
-
-leads_counts : (ws : List PolWord) (d : ℕ) → Leads d ws ↔ Counts d ws
-leads_counts [] d = same
-leads_counts (Id id ∷ ws) d = leads_counts ws (suc d)
-leads_counts (Axiom literal ∷ ws) d = leads_counts ws (suc d)
-leads_counts (Add ∷ ws) zero = same
-leads_counts (Add ∷ ws) (suc zero) = same
-leads_counts (Add ∷ ws) (suc (suc d)) = leads_counts ws (suc d)
-leads_counts (Multiply k ∷ ws) zero = same
-leads_counts (Multiply k ∷ ws) (suc d) = leads_counts ws (suc d)
-leads_counts (Divide k ∷ ws) zero = same
-leads_counts (Divide k ∷ ws) (suc d) = leads_counts ws (suc d)
-leads_counts (Saturate ∷ ws) zero = same
-leads_counts (Saturate ∷ ws) (suc d) = leads_counts ws (suc d)
-leads_counts (Weaken name ∷ ws) zero = same
-leads_counts (Weaken name ∷ ws) (suc d) = leads_counts ws (suc d)
-
-pub postfix_leads : (ws : List PolWord) → IsPostfix ws ↔ Leads 0 ws
-postfix_leads ws = (λ p. (leads_counts ws 0).1 (postfix_counts ws p), λ h. counts_postfix ws ((leads_counts ws 0).0 h))
+pub postfix_leads : (ws : List PolWord) → IsPostfix ws ↔ Counts 0 ws
+postfix_leads ws = (postfix_counts ws, counts_postfix ws)

@@ -3,6 +3,7 @@ use Rattle.pb_proof.proofs.Common.{ℕ, ◌++◌, ◌-◌, ◌<◌, ◌∙◌, �
 use Rattle.pb_proof.proofs.Common.{zero, le-max_left, le-max_right, FirstOf, LiteralOf, IsName, regroup3, ◌⋅◌, Blanks1, Byte, Bytes, Language, Digits}
 use Rattle.pb_proof.proofs.Common.{Letter, Held, Phase, Role, PolWord, Axiom, Id, Multiply, bound, with_last, PolState, Listed, SpellsWord}
 use Rattle.pb_proof.proofs.Common.{SpellsWords}
+use Rattle.pb_proof.specs.engine.Line.PolWhole.{IsFree}
 use Rattle.pb_proof.specs.declared.line.pol.phase.Held.TheVariants as held
 use Rattle.pb_proof.specs.declared.line.pol.phase.Role.TheVariants as role
 use Rattle.pb_proof.specs.declared.line.pol.phase.Phase.TheVariants as phase
@@ -22,11 +23,6 @@ pub with_last_append : (f : PolWord → PolWord) (ws : List PolWord) (w : PolWor
 with_last_append f [] w = refl
 with_last_append f (x ∷ []) w = refl
 with_last_append f (x ∷ y ∷ ws) w = ap (λ t. x ∷ t) (with_last_append f (y ∷ ws) w)
-
--- the last word need not be followed by an operator
-abbrev pub NotLarge : Held → Type 0
-NotLarge held.Large = ⊥
-NotLarge _ = Unit {0}
 
 -- after these words there are `d` expressions
 abbrev pub Leads : List PolWord → ℕ → Type 0
@@ -72,7 +68,7 @@ module _ (limit top : ℕ) where
   at ws vs d e p f g h = subst (λ x. Settled x d p) (sym f) (subst (λ x. Settled vs x p) (sym g) h)
 
   -- the last word is a word on its own
-  pub released : (h : Held) (ws : List PolWord) (d : ℕ) (p : List Letter) → NotLarge h → Holds h ws d p → Settled ws d p
+  pub released : (h : Held) (ws : List PolWord) (d : ℕ) (p : List Letter) → IsFree h → Holds h ws d p → Settled ws d p
   released held.Nothing ws d p i k = k
   released held.Number ws d p i (vs, e, n, f, g, pos_n, le, fits, leads, t) =
       at ws (vs ++ Id (pos n) ∷ []) d (suc (suc e)) p f g

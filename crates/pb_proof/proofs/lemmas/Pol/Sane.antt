@@ -124,23 +124,18 @@ units_last f h (w ∷ []) = let i = h w in omega (arith, i)
 units_last f h (w ∷ v ∷ ws) = let i = units_last f h (v ∷ ws) in omega (arith, i)
 
 -- `*`, `d` and `w` add no units to a word
-multiply_units : (w : PolWord) → word_units (turned change.Multiply w) ≤ word_units w
-multiply_units (word.Id z) = omega arith
-multiply_units w = omega arith
-
-divide_units : (w : PolWord) → word_units (turned change.Divide w) ≤ word_units w
-divide_units (word.Id z) = omega arith
-divide_units _ = omega arith
-
-weaken_units : (w : PolWord) → word_units (turned change.Weaken w) ≤ word_units w
-weaken_units (word.Axiom l) = omega arith
-weaken_units w = omega arith
+turned_units : (c : Change) (w : PolWord) → word_units (turned c w) ≤ word_units w
+turned_units change.Multiply (word.Id z) = omega arith
+turned_units change.Divide (word.Id z) = omega arith
+turned_units change.Divide (word.Multiply k) = omega arith
+turned_units change.Weaken (word.Axiom l) = omega arith
+turned_units _ w = omega arith
 
 changed_units : (c : Change) (ws : List PolWord) (name : List ℕ) → adds c ≡ false → units (changed c ws name) ≤ units ws
 changed_units change.Keep ws name h = omega arith
-changed_units change.Multiply ws name h = units_last (turned change.Multiply) multiply_units ws
-changed_units change.Divide ws name h = units_last (turned change.Divide) divide_units ws
-changed_units change.Weaken ws name h = units_last (turned change.Weaken) weaken_units ws
+changed_units change.Multiply ws name h = units_last (turned change.Multiply) (turned_units change.Multiply) ws
+changed_units change.Divide ws name h = units_last (turned change.Divide) (turned_units change.Divide) ws
+changed_units change.Weaken ws name h = units_last (turned change.Weaken) (turned_units change.Weaken) ws
 changed_units _ ws name h = absurd (true≢false h)
 
 added_units : (c : Change) (ws : List PolWord) (name : List ℕ) → adds c ≡ true → units (changed c ws name) ≤ units ws + 1 + length name

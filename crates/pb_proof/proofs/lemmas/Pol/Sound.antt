@@ -7,6 +7,7 @@ use Rattle.pb_proof.proofs.Common.{Language, unmarked, Digits, Letter, plain, Ac
 use Rattle.pb_proof.proofs.Common.{close_lone, close_number, counted, feed, held_name, held_number, is_letter_kind, is_name_kind, kind_of, late}
 use Rattle.pb_proof.proofs.Common.{may_be_name, next_large, next_word, number, read, role_of, semicolon, star, transition, turned, with_last, work}
 use Rattle.pb_proof.proofs.Common.{over, pol_automaton, pol_first, PolState, LineEnd, SpellsWord, SpellsWords}
+use Rattle.pb_proof.specs.engine.Line.PolWhole.{IsFree}
 use Rattle.pb_text.proofs.lemmas.text.Languages.{next as next_part}
 use Rattle.pb_proof.specs.engine.Line.Pol.{act, next, signed}
 use Rattle.pb_proof.specs.engine.Line.Pol as pol
@@ -20,7 +21,7 @@ use Rattle.pb_proof.specs.declared.line.pol.phase.Action.TheVariants as action
 use Rattle.pb_proof.proofs.lemmas.Line.Ends.{semicolon_after_blanks, blank_closing, line_after_blanks, line_closing, gapped, first_blank, further_blank, gapped_some}
 use Rattle.pb_proof.proofs.lemmas.Pol.Kinds.{Says, kind_says, letter_kind, name_kind}
 use Rattle.pb_proof.proofs.lemmas.Pol.Postfix.{Counts, counts_postfix}
-use Rattle.pb_proof.proofs.lemmas.Pol.Prefixes.{Words, Settled, settle, Holds, NotLarge, released, whole, takes_number, with_last_append, lead, at, Named, IsRole, Before, prefix, Prefix, Whole}
+use Rattle.pb_proof.proofs.lemmas.Pol.Prefixes.{Words, Settled, settle, Holds, released, whole, takes_number, with_last_append, lead, at, Named, IsRole, Before, prefix, Prefix, Whole}
 use Rattle.pb_proof.proofs.lemmas.Literals.Texts.{first_grown, more_grown}
 use Rattle.pb_proof.proofs.lemmas.NumberTests.{positive}
 
@@ -277,10 +278,10 @@ module _ (limit top : ℕ) (ws : List PolWord) (d : ℕ) (name : List ℕ) (l : 
       multiplies (λ n e rest r. r) ws d (p ++ l ∷ []) (next_part (Holds limit top held.Number ws d ⋅ Blanks1) (Byte 42) p l t (one l 42 e f))
   stars _ e t = tt
 
-  freed : (h : Held) → NotLarge h → (Holds limit top h ws d ⋅ Blanks1) p → (Settled limit top ws d ⋅ Blanks1) p
+  freed : (h : Held) → IsFree h → (Holds limit top h ws d ⋅ Blanks1) p → (Settled limit top ws d ⋅ Blanks1) p
   freed h i t = inside (Holds limit top h ws d) (Settled limit top ws d) Blanks1 p (λ q. released limit top h ws d q i) t
 
-  roles : (h : Held) → NotLarge h → (k : Kind) → Says k l.byte → (Holds limit top h ws d ⋅ Blanks1) p
+  roles : (h : Held) → IsFree h → (k : Kind) → Says k l.byte → (Holds limit top h ws d ⋅ Blanks1) p
       → IsRole limit top (role_of d h k) (l.byte ∷ []) × (Before limit top (role_of d h k) ws d ⋅ Blanks1) p
   roles held.Number i kind.D e t = (ap (λ x. x ∷ []) e, t)
   roles held.Name i kind.W e t = (ap (λ x. x ∷ []) e, t)
@@ -291,13 +292,13 @@ module _ (limit top : ℕ) (ws : List PolWord) (d : ℕ) (name : List ℕ) (l : 
       go false f = (tt, freed h i t)
   roles h i k e t = (tt, freed h i t)
 
-  letters : (h : Held) → NotLarge h → (k : Kind) → Says k l.byte → (Holds limit top h ws d ⋅ Blanks1) p
+  letters : (h : Held) → IsFree h → (k : Kind) → Says k l.byte → (Holds limit top h ws d ⋅ Blanks1) p
       → OnAction (cond (is_letter_kind k) (action.Begin (phase.Lone (role_of d h k))) action.Stop)
   letters h i k e t = test (is_letter_kind k) (action.Begin (phase.Lone (role_of d h k))) (λ j g f.
       let (r, u) = roles h i k e t in
       (r, next_part (Before limit top (role_of d h k) ws d ⋅ Blanks1) (FirstOf false (l.byte ∷ [])) p l u (first_of k e j f)))
 
-  nexts_word : (h : Held) → NotLarge h → (k : Kind) → Says k l.byte → (Holds limit top h ws d ⋅ Blanks1) p → OnAction (next_word limit top d h k)
+  nexts_word : (h : Held) → IsFree h → (k : Kind) → Says k l.byte → (Holds limit top h ws d ⋅ Blanks1) p → OnAction (next_word limit top d h k)
   nexts_word h i (kind.Digit k) e t = number_one k e.0 e.1 (freed h i t)
   nexts_word h i kind.Minus e t = λ g f. next_part (Settled limit top ws d ⋅ Blanks1) (Byte 45) p l (freed h i t) (one l 45 e f)
   nexts_word h i kind.Tilde e t = λ g f. next_part (Settled limit top ws d ⋅ Blanks1) (Byte 126) p l (freed h i t) (one l 126 e f)

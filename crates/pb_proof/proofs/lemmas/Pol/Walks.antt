@@ -1,8 +1,9 @@
 -- How the `pol` machine reads digits, names and blanks.
 use Rattle.pb_proof.proofs.Common.{ℕ, ◌&&◌, ◌*◌, ◌++◌, ◌+◌, ◌∙◌, ◌∷◌, ◌≡◌, ◌≤◌, [], ap, append-nil, append_assoc, arith, Bool, cond, false, IsTrue}
-use Rattle.pb_proof.proofs.Common.{List, nat_le, refl, Some, subst, true, false≢true, le-leb, IsName, Walks, digits_lead, Go, is_name_byte, Each}
+use Rattle.pb_proof.proofs.Common.{List, nat_le, refl, Some, subst, sym, true, false≢true, le-leb, IsName, Walks, digits_lead, Go, is_name_byte, Each}
 use Rattle.pb_proof.proofs.Common.{Digits, Letter, plain, Action, Change, Held, Kind, Phase, Role, PolWord, blank, bound, changed, close, counted}
 use Rattle.pb_proof.proofs.Common.{is_letter_kind, is_name_kind, kind_of, may_be_name, role_of, transition, over, pol_automaton, PolState}
+use Rattle.pb_proof.specs.engine.Line.PolWhole.{IsFree}
 use Rattle.pb_proof.specs.engine.Line.Pol.{act}
 use Rattle.pb_proof.specs.declared.line.pol.phase.Kind.TheVariants as kind
 use Rattle.pb_proof.specs.declared.line.pol.phase.Held.TheVariants as held
@@ -19,6 +20,25 @@ steps s b k e = ap (λ x. over s (act s.work b (transition s.limit s.top s.work.
 
 pub moves : (s : PolState) (b : ℕ) (m : Action) → transition s.limit s.top s.work.depth s.work.phase (kind_of b) ≡ m → pol_automaton.step s b ≡ over s (act s.work b m)
 moves s b m e = ap (λ x. over s (act s.work b x)) e
+
+-- a letter that begins a word
+pub letter_begins : (limit top d : ℕ) (h : Held) (k : Kind) → IsFree h → is_letter_kind k ≡ true → action.Begin (phase.Lone (role_of d h k)) ≡ transition limit top d (phase.Gap h) k
+letter_begins limit top d held.Large k f e = absurd f
+letter_begins limit top d h kind.D f e = refl
+letter_begins limit top d h kind.S f e = refl
+letter_begins limit top d h kind.W f e = refl
+letter_begins limit top d h kind.Letter f e = refl
+letter_begins limit top d h _ f e = absurd (false≢true e)
+
+pub named_role : (d : ℕ) (h : Held) (k : Kind) → may_be_name (role_of d h k) ≡ true
+named_role d held.Number kind.D = refl
+named_role d held.Name kind.W = refl
+named_role d h kind.S = go (nat_le 1 d)
+  where
+    go : (x : Bool) → may_be_name (cond x role.Saturate role.Name) ≡ true
+    go true = refl
+    go false = refl
+named_role d h k = refl
 
 module _ (limit top : ℕ) (ws : List PolWord) (d : ℕ) where
   abbrev st : List ℕ → Phase → PolState
@@ -58,13 +78,6 @@ module _ (limit top : ℕ) (ws : List PolWord) (d : ℕ) where
       n l t h
 
   -- names
-  transition_letter : (k : Kind) → is_letter_kind k ≡ true → transition limit top d (phase.Gap held.Nothing) k ≡ action.Begin (phase.Lone (role_of d held.Nothing k))
-  transition_letter kind.D e = refl
-  transition_letter kind.S e = refl
-  transition_letter kind.W e = refl
-  transition_letter kind.Letter e = refl
-  transition_letter _ e = absurd (false≢true e)
-
   pub transition_name : (negated : Bool) (k : Kind) → is_name_kind k ≡ true → transition limit top d (phase.Name negated) k ≡ action.Add (phase.Name negated)
   transition_name negated kind.Blank e = absurd (false≢true e)
   transition_name negated kind.Semicolon e = absurd (false≢true e)
@@ -89,14 +102,6 @@ module _ (limit top : ℕ) (ws : List PolWord) (d : ℕ) where
   transition_first kind.Feed e = absurd (false≢true e)
   transition_first k e = ap (λ x. cond x (action.Add (phase.Name true)) action.Stop) e
 
-  named_role : (k : Kind) → may_be_name (role_of d held.Nothing k) ≡ true
-  named_role kind.S = go (nat_le 1 d)
-    where
-      go : (x : Bool) → may_be_name (cond x role.Saturate role.Name) ≡ true
-      go true = refl
-      go false = refl
-  named_role _ = refl
-
   more_walk : (negated : Bool) (bs name : List ℕ) → Each (λ e. IsTrue (is_name_byte e)) bs
       → Walks pol_automaton (st name (phase.Name negated)) (plain bs) (st (name ++ bs) (phase.Name negated))
   more_walk negated [] name h = ap (λ x. st x (phase.Name negated)) (append-nil name)
@@ -110,17 +115,14 @@ module _ (limit top : ℕ) (ws : List PolWord) (d : ℕ) where
   )
 
   pub name_walk : (name : List ℕ) → IsName name → Walks pol_automaton (st [] (phase.Gap held.Nothing)) (plain name) (st name (phase.Name false))
-  name_walk [] h = absurd h
-  name_walk (b ∷ []) h = absurd h
   name_walk (b ∷ c ∷ bs) h =
       let r : Role = role_of d held.Nothing (kind_of b) in
-      let first = moves (st [] (phase.Gap held.Nothing)) b (action.Begin (phase.Lone r)) (transition_letter (kind_of b) (of_letter b h.0)) in
-      let second = moves (st (b ∷ []) (phase.Lone r)) c (action.Add (phase.Name false)) (transition_second r (named_role (kind_of b)) (kind_of c) (of_name c h.1.0)) in
+      let first = moves (st [] (phase.Gap held.Nothing)) b (action.Begin (phase.Lone r)) (sym (letter_begins limit top d held.Nothing (kind_of b) tt (of_letter b h.0))) in
+      let second = moves (st (b ∷ []) (phase.Lone r)) c (action.Add (phase.Name false)) (transition_second r (named_role d held.Nothing (kind_of b)) (kind_of c) (of_name c h.1.0)) in
       (st (b ∷ []) (phase.Lone r), first, refl, refl, (st (b ∷ c ∷ []) (phase.Name false), second, refl, refl, more_walk false bs (b ∷ c ∷ []) h.1.1))
+  name_walk _ h = absurd h
 
   pub negated_walk : (name : List ℕ) → IsName name → Walks pol_automaton (st [] (phase.Gap held.Nothing)) (plain (126 ∷ name)) (st name (phase.Name true))
-  negated_walk [] h = absurd h
-  negated_walk (b ∷ []) h = absurd h
   negated_walk (b ∷ c ∷ bs) h =
       let first = moves (st [] phase.Tilde) b (action.Begin phase.First) (transition_tilde (kind_of b) (of_letter b h.0)) in
       let second = moves (st (b ∷ []) phase.First) c (action.Add (phase.Name true)) (transition_first (kind_of c) (of_name c h.1.0)) in (
@@ -130,6 +132,7 @@ module _ (limit top : ℕ) (ws : List PolWord) (d : ℕ) where
         refl,
         (st (b ∷ []) phase.First, first, refl, refl, (st (b ∷ c ∷ []) (phase.Name true), second, refl, refl, more_walk true bs (b ∷ c ∷ []) h.1.1)),
       )
+  negated_walk _ h = absurd h
 
   -- blanks
   transition_blank : (ph : Phase) (c : Change) (h : Held) → close limit top d ph ≡ Some (c, h) → transition limit top d ph kind.Blank ≡ action.Turn c (phase.Gap h)

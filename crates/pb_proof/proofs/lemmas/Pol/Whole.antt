@@ -1,12 +1,12 @@
 -- Postfix words that are taken in one call are a run of the automaton.
 use Rattle.pb_proof.proofs.Common.{ℕ, ◌&&◌, ◌*◌, ◌++◌, ◌+◌, ◌-◌, ◌<◌, ◌∙◌, ◌∷◌, ◌≡◌, ◌≤◌, [], ap, arith, Bool, cond, false, get_or, IsTrue, length}
-use Rattle.pb_proof.proofs.Common.{List, nat_eq, nat_le, Option, pos, refl, Some, subst, suc, sym, take, true, and_parts, eqb-true, le-leb, same_Some}
+use Rattle.pb_proof.proofs.Common.{List, nat_eq, nat_le, Option, pos, refl, Some, subst, sym, take, true, and_parts, eqb-true, le-leb, same_Some}
 use Rattle.pb_proof.proofs.Common.{runs_more, AreDigits, value-grows, Go, IsState, Runs, value_from, is_digit, Change, Held, Kind, Phase, Role}
-use Rattle.pb_proof.proofs.Common.{PolWord, bound, close, close_lone, zero, changed, counted, held_number, kind_of, number, transition, pol_automaton}
+use Rattle.pb_proof.proofs.Common.{PolWord, bound, close, close_lone, changed, counted, held_number, kind_of, number, transition, pol_automaton}
 use Rattle.pb_proof.proofs.Common.{PolState, drop, append-nil, inl, inr, runs_on, runs_further, End, blank, feed, semicolon, pol_first, pol_last}
 use Rattle.pb_proof.specs.engine.Line.PolFast.{held_operator, operator, held_before}
 use Rattle.pb_proof.specs.engine.Line.PolWhole.{IsFree, EndsAs, IsWord, AreWords, IsExpression, IsClosing, standing, no_words}
-use Rattle.pb_proof.proofs.lemmas.Pol.Covers.{state}
+use Rattle.pb_proof.proofs.lemmas.Pol.Covers.{free_number, state}
 use Rattle.pb_proof.proofs.lemmas.Pol.Theorems.{moved, midway_state}
 use Rattle.pb_proof.proofs.lemmas.Pol.Prefixes.{bound_of_id}
 use Rattle.pb_proof.proofs.lemmas.NumberTests.{not_zero}
@@ -73,14 +73,6 @@ module _ (limit top d : ℕ) (ws : List PolWord) (name : List ℕ) (some : 0 < t
   id_digits h [] f all i l = absurd (omega arith)
   id_digits h (b ∷ ds) f all i l = digits_run (phase.Gap h) 0 b ds (takes_digits h f) all l
 
-  free_number : (n v : ℕ) → IsFree (held_number limit n v)
-  free_number zero v = tt
-  free_number (suc n) v = by (nat_le v limit)
-    where
-      by : (b : Bool) → IsFree (cond b held.Number held.Nothing)
-      by true = tt
-      by false = tt
-
   plus_planned : (h : Held) → IsFree h → nat_le 2 d ≡ true → action.Turn change.Sum phase.After ≡ transition limit top d (phase.Gap h) kind.Plus
   plus_planned held.Nothing e t = rw t refl
   plus_planned held.Number e t = rw t refl
@@ -106,52 +98,23 @@ module _ (limit top d : ℕ) (ws : List PolWord) (name : List ℕ) (some : 0 < t
         let runs : Runs pol_automaton (at (phase.Gap h)) ds (at (phase.Number v)) =
         subst (λ (m : ℕ). Runs pol_automaton (at (phase.Gap h)) ds (at (phase.Number m))) (sym same)
         (id_digits h ds f all (subst (λ (m : ℕ). 0 < m) same i) (subst (λ (m : ℕ). m ≤ bound limit top d) same (bound_of_id limit top d v l))) in
-        ((ws, d, name, phase.Number v, change.Id (pos v), runs, closes, refl, refl), free_number d v)
+        ((ws, d, name, phase.Number v, change.Id (pos v), runs, closes, refl, refl), free_number limit d v)
 
     -- an operator that takes effect at its own byte
     turned_first : (h : Held) (b : ℕ) (k : Kind) (c : Change) → k ≡ kind_of b → action.Turn c phase.After ≡ transition limit top d (phase.Gap h) k → changed c ws name ≡ changed c ws n → Stands h (b ∷ []) c held.Nothing
-    turned_first h b k c e f i = (
-      (
-        changed c ws name,
-        counted c d,
-        [],
-        phase.After,
-        change.Keep,
-        (
-          state limit top (changed c ws name) (counted c d) [] phase.After,
-          moved limit top ws d name (phase.Gap h) b k (action.Turn c phase.After) e f,
-          midway_state limit top (changed c ws name) (counted c d) [] phase.After some refl,
-          refl,
-        ),
-        refl,
-        i,
-        refl,
-      ),
-      tt,
-    )
+    turned_first h b k c e f i =
+        let next : PolState = state limit top (changed c ws name) (counted c d) [] phase.After in
+        let goes = moved limit top ws d name (phase.Gap h) b k (action.Turn c phase.After) e f in
+        let there = midway_state limit top (changed c ws name) (counted c d) [] phase.After some refl in
+        ((changed c ws name, counted c d, [], phase.After, change.Keep, (next, goes, there, refl), refl, i, refl), tt)
 
     -- and one that is a letter
     turned_last : (h : Held) (b : ℕ) (k : Kind) (r : Role) (c : Change) → k ≡ kind_of b → action.Begin (phase.Lone r) ≡ transition limit top d (phase.Gap h) k
         → close_lone r ≡ Some (c, held.Nothing) → changed c ws (b ∷ []) ≡ changed c ws n → Stands h (b ∷ []) c held.Nothing
-    turned_last h b k r c e f g i = (
-      (
-        ws,
-        d,
-        b ∷ [],
-        phase.Lone r,
-        c,
-        (
-          state limit top ws d (b ∷ []) (phase.Lone r),
-          moved limit top ws d name (phase.Gap h) b k (action.Begin (phase.Lone r)) e f,
-          midway_state limit top ws d (b ∷ []) (phase.Lone r) some refl,
-          refl,
-        ),
-        g,
-        i,
-        refl,
-      ),
-      tt,
-    )
+    turned_last h b k r c e f g i =
+        let next : PolState = state limit top ws d (b ∷ []) (phase.Lone r) in
+        let goes = moved limit top ws d name (phase.Gap h) b k (action.Begin (phase.Lone r)) e f in
+        ((ws, d, b ∷ [], phase.Lone r, c, (next, goes, midway_state limit top ws d (b ∷ []) (phase.Lone r) some refl, refl), g, i, refl), tt)
 
     abbrev Operates : Held → ℕ → Change → Type 0
     Operates h b c = Stands h (b ∷ []) c held.Nothing

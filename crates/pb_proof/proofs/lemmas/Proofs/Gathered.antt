@@ -32,16 +32,14 @@ steps_after (s ∷ steps) rest v h =
     ∙ (steps_after steps rest (with_steps v (s ∷ [])) (All-tail IsStep s steps h)
     ∙ ap (λ (xs : List Statement). gathered with (record v { steps = xs }) rest) (append_assoc v.steps (s ∷ []) steps))
 
-proof_gathered : (v : Proof) → All IsStep v.steps → gathered with nothing (statements_of v) ≡ v
-proof_gathered v h = steps_after v.steps (Output ∷ Conclude v.conclusion ∷ End ∷ []) (record nothing { count = v.count }) h
-
 proof_of : (events : List Statement) (b : ProofSoFar) → (gathered one_more b events).proof ≡ gathered with b.proof events
 proof_of [] b = refl
 proof_of (e ∷ events) b = proof_of events (one_more b e)
 
 gathered_is : (events : List Statement) (b c : ProofSoFar) (v : Proof) → b.proof ≡ nothing → c ≡ gathered one_more b events → All IsStep v.steps → events ≡ statements_of v → c.proof ≡ v
 gathered_is events b c v n e h k =
-    ap (λ (x : ProofSoFar). x.proof) e ∙ (proof_of events b ∙ (ap (λ (x : Proof). gathered with x events) n ∙ (ap (gathered with nothing) k ∙ proof_gathered v h)))
+    ap (λ (x : ProofSoFar). x.proof) e ∙ (proof_of events b ∙ (ap (λ (x : Proof). gathered with x events) n
+    ∙ (ap (gathered with nothing) k ∙ steps_after v.steps (Output ∷ Conclude v.conclusion ∷ End ∷ []) (record nothing { count = v.count }) h)))
 
 module _ (limit top longest : ℕ) (accepted : List (Item Statement) → Type 0) (same : (items : List (Item Statement)) → accepted items ↔ IsProof limit top items) (used : List ℕ) where
   only : (items : List (Item Statement)) → accepted items → IsProof limit top items

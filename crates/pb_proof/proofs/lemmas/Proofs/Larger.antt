@@ -28,9 +28,6 @@ listed_grows P Q f (x ∷ xs) t h =
     both_grow (Blanks1 ⋅ P x) (Blanks1 ⋅ Q x) (Listed P xs) (Listed Q xs) (last_grows Blanks1 (P x) (Q x) (f x)) (listed_grows P Q f xs) t h
 
 module _ (limit limit' top top' : ℕ) (h : limit ≤ limit') (j : top ≤ top') where
-  count_grows : (n : ℕ) → Within (Count top n) (Count top' n)
-  count_grows n t (i, d) = (omega arith, d)
-
   id_grows : (id : ℤ) → Within (SpellsId top id) (SpellsId top' id)
   id_grows id t (negative, n, some, within, e, k) = (negative, n, some, omega arith, e, k)
 
@@ -70,7 +67,7 @@ module _ (limit limit' top top' : ℕ) (h : limit ≤ limit') (j : top ≤ top')
   spelt_count : (c : Option ℕ) → Within (SpellsCount limit top c) (SpellsCount limit' top' c)
   spelt_count None t k = k
   spelt_count (Some n) t k =
-      first_grows (Blanks1 ⋅ Count top n) (Blanks1 ⋅ Count top' n) LineEnd (last_grows Blanks1 (Count top n) (Count top' n) (count_grows n)) t k
+      first_grows (Blanks1 ⋅ Count top n) (Blanks1 ⋅ Count top' n) LineEnd (last_grows Blanks1 (Count top n) (Count top' n) (λ u i. (omega (arith, i.0), i.1))) t k
 
   linear_grows : (c : Linear) → Within (SpellsLinear Blank limit c) (SpellsLinear Blank limit' c)
   linear_grows c t k = (spells_larger Blank limit limit' h part.TheVariants.Linear t (sum.TheVariants.Linear c) (refl, k)).1

@@ -1,5 +1,5 @@
 -- The statements that were read of a proof are its first ones, and they meet the rules.
-use Rattle.pb_proof.proofs.Common.{ℕ, ◌++◌, ◌<◌, ◌∙◌, ◌∷◌, ◌≡◌, ◌≤◌, [], All, ap, append-nil, arith, Bool, false, length, length-append, List, nat_le}
+use Rattle.pb_proof.proofs.Common.{ℕ, ◌++◌, ◌<◌, ◌∙◌, ◌∷◌, ◌≡◌, [], All, ap, append-nil, arith, Bool, false, length, length-append, List, nat_le}
 use Rattle.pb_proof.proofs.Common.{None, Option, refl, Some, subst, sym, true, false≢true, leb-false, lt-leb, All-cons, All-head, All-nil, All-tail}
 use Rattle.pb_proof.proofs.Common.{Spanned, bytes, Item, place_after, spans_of, spans_since, events_at, events_of, BeginProof, ReadStatements}
 use Rattle.pb_proof.proofs.Common.{IsStatementValue, Statement, IsProof}
@@ -12,14 +12,11 @@ use Rattle.pb_proof.proofs.lemmas.Proofs.Values.{events_values, proof_values}
 abbrev following : List ℕ → Item Statement → List ℕ
 following before i = before ++ (i.gap ++ bytes i.text)
 
-longer : (before : List ℕ) (i : Item Statement) → length before ≤ length (following before i)
-longer before i = omega (arith, length-append before (i.gap ++ bytes i.text))
-
 -- statements after more than `n` bytes do not end within `n` bytes
 later : (n : ℕ) (items : List (Item Statement)) (start : Option Place) (before : List ℕ) → n < length before → ended_within n (spans_since start before items) ≡ []
 later n [] start before h = refl
 later n (i ∷ rest) start before h =
-    let more : n < length (following before i) = omega (arith, h, longer before i) in
+    let more : n < length (following before i) = omega (arith, h, length-append before (i.gap ++ bytes i.text)) in
     rw (place_after-offset (following before i), lt-leb (length (following before i)) n more) (later n rest None (following before i) more)
 
 -- statements that end within `n` bytes are the first ones

@@ -13,11 +13,8 @@ listed_values : {A : Type 0} (P : A → Language) (R : A → Type 0) → ((x : A
 listed_values P R f [] t h = All-nil R
 listed_values P R f (x ∷ xs) t (ab, c, e, (a, b, g, s, h), k) = All-cons R x xs (f x b h) (listed_values P R f xs c k)
 
-literal_value : (l : Literal) (t : List Letter) → SpellsLiteral l t → IsName l.name
-literal_value l t h = h.0
-
 literals_value : (ls : List Literal) (t : List Letter) → Listed SpellsLiteral ls t → AreLiterals ls
-literals_value ls t h = listed_values SpellsLiteral (λ l. IsName l.name) literal_value ls t h
+literals_value ls t h = listed_values SpellsLiteral (λ l. IsName l.name) (λ l u k. k.0) ls t h
 
 shown_value : (shown : Option (List Literal)) (t : List Letter) → LiteralsShown shown t → IfGiven AreLiterals shown
 shown_value None t h = tt

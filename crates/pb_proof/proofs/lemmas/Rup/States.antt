@@ -181,9 +181,6 @@ pub rup_first_in_order : (limit : ℕ) → IsState sums (sum_first limit) → Is
 rup_first_in_order limit state = record { holds = (refl, refl); state = state }
 
 -- What holds of the machine after a byte.
-pub to_order : (s : RupState) → IsRupInOrder s → (b : ℕ) (p : RupPhase) → rup_transition s.phase b ≡ To p → IsRupInOrder (record s { phase = p })
-to_order s h b p e = record { holds = (known s b (To p) e).1 h.holds; state = h.state }
-
 pub give_order : (s : RupState) → IsRupInOrder s → (b : ℕ) (inner : SumState) → rup_transition s.phase b ≡ Give → sums.step s.sums b ≡ Go inner → IsState sums inner → IsRupInOrder (record s { phase = Inside; sums = inner })
 give_order s h b inner e g state = record {
   holds = ((known s b Give e h.holds).0, midway-not-done inner.work.phase (continues-midway s.sums inner b g));

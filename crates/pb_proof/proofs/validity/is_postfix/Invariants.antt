@@ -1,7 +1,7 @@
 use Rattle.pb_proof.proofs.Common.{◌↔◌, ◌≤◌, drop, IsPostfix}
-use Rattle.pb_proof.proofs.lemmas.Pol.Postfix.{Leads}
+use Rattle.pb_proof.proofs.lemmas.Pol.Postfix.{Counts}
 use Rattle.pb_proof.proofs.validity.is_postfix.Given as goal
 
 -- the words are those of one expression if and only if the rest leads from the finished ones to one
 abbrev pub invariant-loop-word : goal.invariant-loop-word
-invariant-loop-word l = record { most : l.finished ≤ l.word-index; leads : IsPostfix l.words ↔ Leads l.finished (drop l.word-index l.words) }
+invariant-loop-word l = record { most : l.finished ≤ l.word-index; leads : IsPostfix l.words ↔ Counts l.finished (drop l.word-index l.words) }
