@@ -3,7 +3,10 @@ use Rattle.pb_propagate.proofs.Common.{ℕ, ◌+◌, ◌∙◌, ◌≤◌, [], a
 use Rattle.pb_propagate.proofs.Common.{Clauses, Waiting, Heads, Rests, Run, Store, Walked, AreJoined, clauses_of, heads_at, IsRunning, Advances, database, Database}
 use Rattle.pb_propagate.proofs.Common.{IsRooted, HasUpdated, list_of, progress, reasons_of, shapes_in, values_of, AreOpen, IsCounted, Progress, RunIsOpen}
 use Rattle.pb_propagate.proofs.Common.{IsReadyRun, Propagates, RunGains, RunPuts, RunVisits, RunVisitsEach, RunReasons}
+use Rattle.pb_propagate.proofs.Common.{◌≡◌, AreReady, Form, IsAtRest, IsKeptConflict, Option}
+use Rattle.pb_propagate.specs.declared.engine.conflict.Conflict.{Conflict}
 use Rattle.pb_propagate.specs.declared.engine.root.Root.{Root}
+use Rattle.pb_propagate.specs.engine.Engine.Root.{IsLeft, IsRootOf, IsStanding}
 use Rattle.pb_propagate.proofs.lemmas.clauses.Heads.{mark-more}
 use Rattle.pb_propagate.proofs.lemmas.clauses.Walks.{kept-then, running-grow}
 use Rattle.pb_propagate.proofs.lemmas.engine.Advances.{advances-refl, advances-then, advances-as}
@@ -116,3 +119,11 @@ pub updated-ready : {store : Store} {old clauses : Clauses} {before root : Root}
 updated-ready {store} {old} {clauses} {before} {root} r joined u =
     let ready = root-ready r joined u.running in
     subst (λ h. IsReadyRun store root.rests clauses [] h root.run) u.walked (subst (λ w. IsReadyRun store root.rests clauses w root.walked.heads root.run) u.none ready)
+
+-- between two calls no question is in progress
+pub rest-standing : {store : Store} {clauses : Clauses} {forms : List (Option Form)} {root : Root} → IsAtRest store clauses forms → IsRootOf store clauses root → IsStanding store clauses root
+rest-standing r rooted = record { rooted = rooted; sound = r.sound; joined = r.joined; ready = r.ready; widths = r.widths }
+
+-- what a question leaves if the store is the same
+pub standing-left : {store : Store} {old clauses : Clauses} {before root : Root} {conflict : Conflict} → IsStanding store old before → AreReady clauses → length clauses.lists.items ≡ length old.lists.items → IsRootOf store clauses root → IsKeptConflict (all_of store old) store.variables conflict → IsLeft store store old clauses root conflict
+standing-left s ready lists rooted kept = record { sound = s.sound; kept = refl; ready = ready; lists = lists; rooted = rooted; conflict = kept }

@@ -1,4 +1,4 @@
-use Rattle.pb_propagate.proofs.Common.{ℕ, ◌+◌, ◌<◌, ◌∙◌, ◌≤◌, ap, arith, drop, get_or, Global, inl, inr, length, length-append, List, refl, subst, sym, Vec}
+use Rattle.pb_propagate.proofs.Common.{ℕ, ◌+◌, ◌<◌, ◌∙◌, ◌≤◌, ap, arith, drop, get_or, Global, inl, inr, length, length-append, List, refl, subst, Vec}
 use Rattle.pb_propagate.proofs.Common.{sum, drop_all, get_or_default, length-map, take_rest, NumberedLiteral}
 use Rattle.pb_propagate.proofs.Common.{passed_of, all_of, clauses_of, joined, heads_at, IsAhead, spent, entries_of}
 use Rattle.pb_propagate.proofs.Common.{shapes_of, stored_shape, Conflicts, IsSettled, database, progress, RunReasons}
@@ -58,11 +58,8 @@ returns-then-branch-2-clause-reasons c =
     run-reasons-then c.work.invariant.reasons (subst (λ ls. RunReasons (joined (shapes_of c.args.store.now.stored.items) ls) c.work.run c.walk.new.run) w.literals c.in_ok-walk.ensures.walks.reasons)
 
 pub returns-then-branch-2-clause-conflict : goal.returns-then-branch-2-clause-conflict
-returns-then-branch-2-clause-conflict c =
-    let store = c.args.store.now in
-    let run = c.work.run in
-    let w = c.work.invariant.watching in
-    λ found. subst (λ ls. Conflicts (joined (shapes_of c.args.store.now.stored.items) ls) c.walk.new.run.assignment.list.items) w.literals (c.in_ok-walk.ensures.conflict c.if-branch-2.true)
+returns-then-branch-2-clause-conflict c = λ found.
+    subst (λ ls. Conflicts (joined (shapes_of c.args.store.now.stored.items) ls) c.walk.new.run.assignment.list.items) c.work.invariant.watching.literals (c.in_ok-walk.ensures.conflict c.if-branch-2.true)
 
 pub work-smaller-in-Some : goal.work-smaller-in-Some
 work-smaller-in-Some c =

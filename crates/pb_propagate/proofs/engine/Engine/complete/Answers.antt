@@ -2,6 +2,7 @@ use Rattle.pb_propagate.proofs.Common.{◌∙◌, ◌≡◌, ap, length, refl, a
 use Rattle.pb_propagate.proofs.lemmas.engine.Rests.{slots-kept}
 use Rattle.pb_propagate.proofs.lemmas.engine.Assumed.{refuted-meets, ended-free, ended-completion}
 use Rattle.pb_propagate.proofs.lemmas.root.Kept.{kept-conflicts, kept-vacant}
+use Rattle.pb_propagate.proofs.lemmas.root.Ready.{rest-standing}
 use Rattle.pb_propagate.proofs.lemmas.root.Transplants.{clash-refuted, root-clash, map-none, map-some}
 use Rattle.pb_propagate.proofs.lemmas.store.Placed.{placed-kept}
 use Rattle.pb_propagate.proofs.lemmas.engine.Reasoned.{reasons-derive}
@@ -11,13 +12,7 @@ use Rattle.pb_propagate.proofs.engine.Engine.complete.Goals as goal
 pub extend-requires-clause-standing : goal.extend-requires-clause-standing
 extend-requires-clause-standing c =
     let both = c.self.invariant (ap (λ (v : Standing). v.spent) c.self.view_is ∙ c.requires.ready) in
-    record {
-      rooted = both.2;
-      sound = both.0.sound;
-      joined = both.0.joined;
-      ready = both.0.ready;
-      widths = both.0.widths;
-    }
+    rest-standing both.0 both.2
 
 pub extend-requires-clause-vacant : goal.extend-requires-clause-vacant
 extend-requires-clause-vacant c =

@@ -1,10 +1,11 @@
-use Rattle.pb_propagate.proofs.Common.{sum_by, ◌+◌, ◌*◌, ◌∙◌, ◌≡◌, ◌≤◌, [], ap, arith, inl, inr, length, List, of_z, pos, refl, sym, true, w128}
+use Rattle.pb_propagate.proofs.Common.{Bool, false, sum_by, ◌+◌, ◌*◌, ◌∙◌, ◌≡◌, ◌≤◌, [], ap, arith, inl, inr, length, List, of_z, pos, refl, sym, true, w128}
 use Rattle.pb_propagate.proofs.Common.{NumberedLiteral, negation_of, all_of, clauses_of, forms_of, Live, one_in, Standing, terms_in, alone, numbered}
 use Rattle.pb_propagate.proofs.Common.{IsCompletion, MeetsConflict, With}
 use Rattle.pb_propagate.proofs.lemmas.engine.Bounds.{slots-terms}
-use Rattle.pb_propagate.proofs.lemmas.root.Asked.{asked-meets, asked-free}
+use Rattle.pb_propagate.proofs.lemmas.root.Asked.{asked-meets, asked-free, IsFree}
 use Rattle.pb_propagate.proofs.lemmas.root.Kept.{conflict-answered, conflict-few, kept-vacant}
-use Rattle.pb_propagate.proofs.engine.Engine.rup.Goals.{After-ask}
+use Rattle.pb_propagate.proofs.lemmas.root.Ready.{rest-standing}
+use Rattle.pb_propagate.proofs.engine.Engine.rup.Goals.{After-ask, After-of-self-inside, In_ok-answer}
 use Rattle.pb_propagate.proofs.engine.Engine.rup.Goals as goal
 
 pub returns-then-degree-eq0-clause-not_implied : goal.returns-then-degree-eq0-clause-not_implied
@@ -16,13 +17,7 @@ returns-then-degree-eq0-clause-completion c = λ found. absurd cc
 pub ask-requires-clause-standing : goal.ask-requires-clause-standing
 ask-requires-clause-standing c =
     let both = c.self.invariant (ap (λ (v : Standing). v.spent) c.self.view_is ∙ c.requires.ready) in
-    record {
-      rooted = both.2;
-      sound = both.0.sound;
-      joined = both.0.joined;
-      ready = both.0.ready;
-      widths = both.0.widths;
-    }
+    rest-standing both.0 both.2
 
 pub ask-requires-clause-vacant : goal.ask-requires-clause-vacant
 ask-requires-clause-vacant c =
@@ -59,48 +54,39 @@ invariant_of-self-2 c = λ ready.
 pub returns-clause-forms : goal.returns-clause-forms
 returns-clause-forms c = rw c.in_ok-answer.ensures.left.kept (ap (λ (v : Standing). v.forms) c.self.view_is)
 
-pub returns-clause-implied : goal.returns-clause-implied
-returns-clause-implied c = λ found.
+-- a conflict that the question has met
+met : (c : In_ok-answer) → c.in_ok-answer.answer ≡ true → (m : MeetsConflict (With (Live (numbered (forms_of c.self.inside.store.stored.items) c.self.inside.places.items)) (negation_of c.args.goal.now)) []) × (length m.list ≤ c.ask.new.visits)
+met c found =
     let e = c.self.inside in
     let both = c.self.invariant (ap (λ (v : Standing). v.spent) c.self.view_is ∙ c.requires.ready) in
-    let forms = forms_of e.store.stored.items in
-    let g = negation_of c.args.goal.now in
-    let meets = asked-meets forms e.places.items (all_of e.store e.clauses) g c.ask.new.visits c.in_ok-answer.answer both.1 both.0.slots found c.in_ok-answer.ensures.asked in
-    rw (← c.self.view_is) (inr meets.0)
+    asked-meets (forms_of e.store.stored.items) e.places.items (all_of e.store e.clauses) (negation_of c.args.goal.now) c.ask.new.visits c.in_ok-answer.answer both.1 both.0.slots found c.in_ok-answer.ensures.asked
+
+pub returns-clause-implied : goal.returns-clause-implied
+returns-clause-implied c = λ found. rw (← c.self.view_is) (inr (met (goal.at.returns-clause-implied c).In_ok-answer found).0)
+
+-- a completion that the question has found
+free : (c : In_ok-answer) → c.in_ok-answer.answer ≡ false → IsFree (With (Live (numbered (forms_of c.self.inside.store.stored.items) c.self.inside.places.items)) (negation_of c.args.goal.now)) c.ask.new.visits
+free c found =
+    let e = c.self.inside in
+    let both = c.self.invariant (ap (λ (v : Standing). v.spent) c.self.view_is ∙ c.requires.ready) in
+    asked-free (forms_of e.store.stored.items) e.places.items (all_of e.store e.clauses) (negation_of c.args.goal.now) c.ask.new.visits c.in_ok-answer.answer both.1 both.0.slots found c.in_ok-answer.ensures.asked
 
 pub returns-clause-not_implied : goal.returns-clause-not_implied
 returns-clause-not_implied c = λ found rup.
     let e = c.self.inside in
-    let both = c.self.invariant (ap (λ (v : Standing). v.spent) c.self.view_is ∙ c.requires.ready) in
-    let forms = forms_of e.store.stored.items in
-    let g = negation_of c.args.goal.now in
-    let free = asked-free forms e.places.items (all_of e.store e.clauses) g c.ask.new.visits c.in_ok-answer.answer both.1 both.0.slots found c.in_ok-answer.ensures.asked in
-    let shown = numbered forms e.places.items in
-    let none : MeetsConflict (With (Live shown) g) [] → ⊥ = free.none in
-    let free_goal : MeetsConflict (With (Live shown) (negation_of c.args.goal.now)) [] → ⊥ = none in
-    let same : shown ≡ c.args.self.now.forms = ap (λ (v : Standing). v.forms) c.self.view_is in
+    let same : numbered (forms_of e.store.stored.items) e.places.items ≡ c.args.self.now.forms = ap (λ (v : Standing). v.forms) c.self.view_is in
     elim rup [
       | inl nothing ↦ c.if-degree-eq0.false (ap (of_z w128) (c.degree.ensures.degree ∙ ap pos nothing))
-      | inr m ↦ free_goal (rw (← same) at m)
+      | inr m ↦ (free (goal.at.returns-clause-not_implied c).In_ok-answer found).none (rw (← same) at m)
     ]
 
 pub returns-clause-conflict : goal.returns-clause-conflict
-returns-clause-conflict c = λ found.
-    let e = c.self.inside in
-    let both = c.self.invariant (ap (λ (v : Standing). v.spent) c.self.view_is ∙ c.requires.ready) in
-    let forms = forms_of e.store.stored.items in
-    let g = negation_of c.args.goal.now in
-    let meets = asked-meets forms e.places.items (all_of e.store e.clauses) g c.ask.new.visits c.in_ok-answer.answer both.1 both.0.slots found c.in_ok-answer.ensures.asked in
-    rw (← c.self.view_is) (inr meets)
+returns-clause-conflict c = λ found. rw (← c.self.view_is) (inr (met (goal.at.returns-clause-conflict c).In_ok-answer found))
 
 pub returns-clause-completion : goal.returns-clause-completion
 returns-clause-completion c = λ found.
-    let e = c.self.inside in
-    let both = c.self.invariant (ap (λ (v : Standing). v.spent) c.self.view_is ∙ c.requires.ready) in
-    let forms = forms_of e.store.stored.items in
-    let g = negation_of c.args.goal.now in
-    let free = asked-free forms e.places.items (all_of e.store e.clauses) g c.ask.new.visits c.in_ok-answer.answer both.1 both.0.slots found c.in_ok-answer.ensures.asked in
-    let whole : (list : List NumberedLiteral) × IsCompletion (With (Live (numbered forms e.places.items)) g) [] list × (length list ≤ c.ask.new.visits) = (free.list, free.complete, free.few) in
+    let made = free (goal.at.returns-clause-completion c).In_ok-answer found in
+    let whole : (list : List NumberedLiteral) × IsCompletion (With (Live (numbered (forms_of c.self.inside.store.stored.items) c.self.inside.places.items)) (negation_of c.args.goal.now)) [] list × (length list ≤ c.ask.new.visits) = (made.list, made.complete, made.few) in
     rw (← c.self.view_is) whole
 
 pub returns-in_err-answer-clause-forms : goal.returns-in_err-answer-clause-forms
@@ -126,17 +112,17 @@ pub returns-in_err-answer-clause-most : goal.returns-in_err-answer-clause-most
 returns-in_err-answer-clause-most c = asked-most (goal.at.returns-in_err-answer-clause-most c).After-ask
 
 -- a conflict of the root
-pub returns-then-self-clause-implied : goal.returns-then-self-clause-implied
-returns-then-self-clause-implied c = λ found.
+kept : (c : After-of-self-inside) → (m : MeetsConflict (With (Live (numbered (forms_of c.self.inside.store.stored.items) c.self.inside.places.items)) (negation_of c.args.goal.now)) []) × (length m.list ≤ c.of-self-inside.result)
+kept c =
     let e = c.self.inside in
     let both = c.self.invariant (ap (λ (v : Standing). v.spent) c.self.view_is ∙ c.requires.ready) in
-    let forms = forms_of e.store.stored.items in
     let shapes = all_of e.store e.clauses in
     let visits = c.of-self-inside.result in
-    let list = e.conflict.assignment.list in
-    let answered = conflict-answered shapes visits e.conflict.assignment (omega (arith, c.of-self-inside.ensures, c.len.ensures, list.ok.0)) (both.3.holds c.if-self.true) in
-    let meets = asked-meets forms e.places.items shapes (negation_of c.args.goal.now) visits true both.1 both.0.slots refl (alone refl answered) in
-    rw (← c.self.view_is) (inr meets.0)
+    let answered = conflict-answered shapes visits e.conflict.assignment (omega (arith, c.of-self-inside.ensures, c.len.ensures, e.conflict.assignment.list.ok.0)) (both.3.holds c.if-self.true) in
+    asked-meets (forms_of e.store.stored.items) e.places.items shapes (negation_of c.args.goal.now) visits true both.1 both.0.slots refl (alone refl answered)
+
+pub returns-then-self-clause-implied : goal.returns-then-self-clause-implied
+returns-then-self-clause-implied c = λ found. rw (← c.self.view_is) (inr (kept (goal.at.returns-then-self-clause-implied c).After-of-self-inside).0)
 
 pub returns-then-self-clause-not_implied : goal.returns-then-self-clause-not_implied
 returns-then-self-clause-not_implied c = λ found. absurd cc
@@ -145,16 +131,7 @@ pub returns-then-self-clause-completion : goal.returns-then-self-clause-completi
 returns-then-self-clause-completion c = λ found. absurd cc
 
 pub returns-then-self-clause-conflict : goal.returns-then-self-clause-conflict
-returns-then-self-clause-conflict c = λ found.
-    let e = c.self.inside in
-    let both = c.self.invariant (ap (λ (v : Standing). v.spent) c.self.view_is ∙ c.requires.ready) in
-    let forms = forms_of e.store.stored.items in
-    let shapes = all_of e.store e.clauses in
-    let visits = c.of-self-inside.result in
-    let list = e.conflict.assignment.list in
-    let answered = conflict-answered shapes visits e.conflict.assignment (omega (arith, c.of-self-inside.ensures, c.len.ensures, list.ok.0)) (both.3.holds c.if-self.true) in
-    let meets = asked-meets forms e.places.items shapes (negation_of c.args.goal.now) visits true both.1 both.0.slots refl (alone refl answered) in
-    rw (← c.self.view_is) (inr meets)
+returns-then-self-clause-conflict c = λ found. rw (← c.self.view_is) (inr (kept (goal.at.returns-then-self-clause-conflict c).After-of-self-inside))
 
 pub returns-then-self-clause-unasked : goal.returns-then-self-clause-unasked
 returns-then-self-clause-unasked c = λ nothing. absurd (c.if-degree-eq0.false (ap (of_z w128) (c.degree.ensures.degree ∙ ap pos nothing)))

@@ -22,14 +22,10 @@ propagate-requires-clause-waiting c =
 
 -- an allocation ends it
 pub returns-in_err-found-clause-costs : goal.returns-in_err-found-clause-costs
-returns-in_err-found-clause-costs c =
-    let spends = rw c.as_slice.ensures.value at c.propagate.ensures.costs in
-    record { ended = c.propagate.new.run; spends = spends; visits = refl }
+returns-in_err-found-clause-costs c = record { ended = c.propagate.new.run; spends = rw c.as_slice.ensures.value at c.propagate.ensures.costs; visits = refl }
 
 pub returns-in_err-note-clause-costs : goal.returns-in_err-note-clause-costs
-returns-in_err-note-clause-costs c =
-    let spends = rw c.as_slice.ensures.value at c.propagate.ensures.costs in
-    record { ended = c.propagate.new.run; spends = spends; visits = refl }
+returns-in_err-note-clause-costs c = record { ended = c.propagate.new.run; spends = rw c.as_slice.ensures.value at c.propagate.ensures.costs; visits = refl }
 
 -- a conflict is met
 pub note-requires-clause-values : goal.note-requires-clause-values
@@ -42,9 +38,7 @@ pub returns-then-found-clause-lists : goal.returns-then-found-clause-lists
 returns-then-found-clause-lists c = omega (arith, ap (λ (v : Vec (Vec Listed Global) Global). length v.items) c.back.ensures.lists, c.in_ok-found.ensures.left.running.sizes, c.in_ok-found.ensures.left.values, c.requires.standing.rooted.values, c.requires.standing.widths)
 
 pub returns-then-found-clause-costs : goal.returns-then-found-clause-costs
-returns-then-found-clause-costs c =
-    let spends = rw c.as_slice.ensures.value at c.propagate.ensures.costs in
-    record { ended = c.propagate.new.run; spends = spends; visits = c.back.ensures.visits }
+returns-then-found-clause-costs c = record { ended = c.propagate.new.run; spends = rw c.as_slice.ensures.value at c.propagate.ensures.costs; visits = c.back.ensures.visits }
 
 pub returns-then-found-clause-rooted : goal.returns-then-found-clause-rooted
 returns-then-found-clause-rooted c =
@@ -76,9 +70,7 @@ returns-then-found-clause-met c = λ found. record {
 
 -- none is met
 pub returns-clause-costs : goal.returns-clause-costs
-returns-clause-costs c =
-    let spends = rw c.as_slice.ensures.value at c.propagate.ensures.costs in
-    record { ended = c.propagate.new.run; spends = spends; visits = c.save.ensures.visits }
+returns-clause-costs c = record { ended = c.propagate.new.run; spends = rw c.as_slice.ensures.value at c.propagate.ensures.costs; visits = c.save.ensures.visits }
 
 pub returns-clause-rooted : goal.returns-clause-rooted
 returns-clause-rooted c =
@@ -115,9 +107,7 @@ returns-clause-kept c = vacant-kept (all_of c.args.store.now c.args.clauses.now)
 
 pub returns-clause-updated : goal.returns-clause-updated
 returns-clause-updated c = λ none.
-    let me = c.args.self.now in
     let reported = c.in_ok-found.ensures in
-    let count_is : c.len-count.result ≡ length me.run.assignment.list.items = omega (arith, c.len-count.ensures, me.run.assignment.list.ok.0) in
     let pays = rw c.as_slice.ensures.value at (reported.settled c.if-found.false).pays in
     let done = c.propagate.new.run in
     let whole_is : c.len-whole.result ≡ length done.assignment.list.items = omega (arith, c.len-whole.ensures, done.assignment.list.ok.0, ap (λ (a : Assignment). length a.list.items) c.save.ensures.assignment, c.save.new.run.assignment.list.ok.0) in
@@ -135,9 +125,7 @@ returns-clause-updated c = λ none.
     }
 
 pub returns-in_err-finish-clause-costs : goal.returns-in_err-finish-clause-costs
-returns-in_err-finish-clause-costs c =
-    let spends = rw c.as_slice.ensures.value at c.propagate.ensures.costs in
-    record { ended = c.propagate.new.run; spends = spends; visits = c.save.ensures.visits }
+returns-in_err-finish-clause-costs c = record { ended = c.propagate.new.run; spends = rw c.as_slice.ensures.value at c.propagate.ensures.costs; visits = c.save.ensures.visits }
 
 pub propagate-requires-clause-ready : goal.propagate-requires-clause-ready
 propagate-requires-clause-ready c =
