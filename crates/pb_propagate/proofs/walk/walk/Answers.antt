@@ -5,7 +5,7 @@ use Rattle.pb_propagate.proofs.lemmas.clauses.Literals.{true-listed, false-liste
 use Rattle.pb_propagate.proofs.lemmas.clauses.Shapes.{broken-conflicts, conflicts-joined}
 use Rattle.pb_propagate.proofs.lemmas.clauses.Walks.{kept-then, IsWalking, walking-start, walking-next, walking-pass, walking-forces, walked-end}
 use Rattle.pb_propagate.proofs.lemmas.clauses.Readings.{running-bounded}
-use Rattle.pb_propagate.proofs.lemmas.engine.Watched.{walk-start, walk-next, walk-pass, walk-ends, walk-then, walk-costs, walk-done}
+use Rattle.pb_propagate.proofs.lemmas.engine.Watched.{walk-start, walk-next, walk-pass, walk-ends, walk-then, walk-costs}
 use Rattle.pb_propagate.proofs.lemmas.engine.Advances.{on-err}
 use Rattle.pb_propagate.proofs.lemmas.engine.Reasoned.{run-reasons-none}
 use Rattle.pb_propagate.proofs.lemmas.root.Ready.{open-later}
@@ -154,17 +154,4 @@ returns-in-Falsified-clause-walks c =
           let more = c.visit_clause.ensures.counted few in
           let old = i.walking.found (omega (arith, few, more)) in
           omega (arith, old, more);
-    }
-
-pub returns-clause-walks : goal.returns-clause-walks
-returns-clause-walks c =
-    let i = c.watches.invariant in
-    record {
-      advances = walk-done (database c.args.store.now c.args.rests.now) c.args.clauses.now c.watches.clauses c.args.literal c.watches.index i.advances;
-      reasons = i.reasons;
-      tidy = i.tidy;
-      running = i.walking.running;
-      kept = i.walking.kept;
-      grows = i.walking.grows;
-      found = i.walking.found;
     }

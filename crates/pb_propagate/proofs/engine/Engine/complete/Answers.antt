@@ -1,4 +1,4 @@
-use Rattle.pb_propagate.proofs.Common.{◌∙◌, ◌≡◌, ap, length, refl, all_of, clauses_of, forms_of, Live, Standing, numbered}
+use Rattle.pb_propagate.proofs.Common.{◌∙◌, ap, refl, all_of, forms_of, Live, Standing, numbered}
 use Rattle.pb_propagate.proofs.lemmas.engine.Rests.{slots-kept}
 use Rattle.pb_propagate.proofs.lemmas.engine.Assumed.{refuted-meets, ended-free, ended-completion}
 use Rattle.pb_propagate.proofs.lemmas.root.Kept.{kept-conflicts, kept-vacant}
@@ -19,26 +19,6 @@ extend-requires-clause-vacant c =
     let e = c.self.inside in
     let both = c.self.invariant (ap (λ (v : Standing). v.spent) c.self.view_is ∙ c.requires.ready) in
     kept-vacant (all_of e.store e.clauses) e.store.variables e.conflict c.if-self.false both.3
-
-pub invariant_of-self-2 : goal.invariant_of-self-2
-invariant_of-self-2 c = λ ready.
-    let e = c.self.inside in
-    let both = c.self.invariant (ap (λ (v : Standing). v.spent) c.self.view_is ∙ c.requires.ready) in
-    let r = both.0 in
-    let reported = c.in_ok-values.ensures in
-    let lit : clauses_of c.extend.new.clauses ≡ clauses_of e.clauses = c.extend.ensures.literals in (
-      record {
-        sound = r.sound;
-        slots = rw lit r.slots;
-        joined = rw lit r.joined;
-        ready = reported.left.ready;
-        widths = reported.left.lists ∙ r.widths;
-        known = ap length c.extend.ensures.literals ∙ r.known;
-      },
-      both.1,
-      reported.left.rooted,
-      rw lit reported.left.conflict,
-    )
 
 pub returns-clause-conflict : goal.returns-clause-conflict
 returns-clause-conflict c =
@@ -66,18 +46,6 @@ returns-clause-completed c =
     let shapes = all_of e.store e.clauses in
     let kept = placed-kept forms e.places.items shapes both.1 (slots-kept forms shapes both.0.slots) in
     rw (← c.self.view_is) (map-some c.in_ok-values.values (λ values made. ended-completion (Live (numbered forms e.places.items)) shapes c.args.given.now made.list values.items values.items kept made.agrees refl made.ended) c.in_ok-values.ensures.ended)
-
-pub returns-in_err-values-clause-forms : goal.returns-in_err-values-clause-forms
-returns-in_err-values-clause-forms c = ap (λ (v : Standing). v.forms) c.self.view_is
-
-pub returns-clause-forms : goal.returns-clause-forms
-returns-clause-forms c = ap (λ (v : Standing). v.forms) c.self.view_is
-
-pub returns-clause-variables : goal.returns-clause-variables
-returns-clause-variables c = ap (λ (v : Standing). v.variables) c.self.view_is
-
-pub returns-clause-visits : goal.returns-clause-visits
-returns-clause-visits c = ap (λ (v : Standing). v.visits) c.self.view_is
 
 -- a conflict of the root
 pub returns-then-self-clause-conflict : goal.returns-then-self-clause-conflict

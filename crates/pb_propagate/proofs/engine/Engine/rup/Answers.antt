@@ -1,4 +1,4 @@
-use Rattle.pb_propagate.proofs.Common.{Bool, false, sum_by, ◌+◌, ◌*◌, ◌∙◌, ◌≡◌, ◌≤◌, [], ap, arith, inl, inr, length, List, of_z, pos, refl, sym, true, w128}
+use Rattle.pb_propagate.proofs.Common.{false, sum_by, ◌+◌, ◌*◌, ◌∙◌, ◌≡◌, ◌≤◌, [], ap, arith, inl, inr, length, List, of_z, pos, refl, sym, true, w128}
 use Rattle.pb_propagate.proofs.Common.{NumberedLiteral, negation_of, all_of, clauses_of, forms_of, Live, one_in, Standing, terms_in, alone, numbered}
 use Rattle.pb_propagate.proofs.Common.{IsCompletion, MeetsConflict, With}
 use Rattle.pb_propagate.proofs.lemmas.engine.Bounds.{slots-terms}
@@ -7,12 +7,6 @@ use Rattle.pb_propagate.proofs.lemmas.root.Kept.{conflict-answered, conflict-few
 use Rattle.pb_propagate.proofs.lemmas.root.Ready.{rest-standing}
 use Rattle.pb_propagate.proofs.engine.Engine.rup.Goals.{After-ask, After-of-self-inside, In_ok-answer}
 use Rattle.pb_propagate.proofs.engine.Engine.rup.Goals as goal
-
-pub returns-then-degree-eq0-clause-not_implied : goal.returns-then-degree-eq0-clause-not_implied
-returns-then-degree-eq0-clause-not_implied c = λ found. absurd cc
-
-pub returns-then-degree-eq0-clause-completion : goal.returns-then-degree-eq0-clause-completion
-returns-then-degree-eq0-clause-completion c = λ found. absurd cc
 
 pub ask-requires-clause-standing : goal.ask-requires-clause-standing
 ask-requires-clause-standing c =
@@ -24,12 +18,6 @@ ask-requires-clause-vacant c =
     let e = c.self.inside in
     let both = c.self.invariant (ap (λ (v : Standing). v.spent) c.self.view_is ∙ c.requires.ready) in
     kept-vacant (all_of e.store e.clauses) e.store.variables e.conflict c.if-self.false both.3
-
-pub ask-requires-clause-inside : goal.ask-requires-clause-inside
-ask-requires-clause-inside c =
-    let e = c.self.inside in
-    let count : e.store.variables ≡ c.args.self.now.variables = ap (λ (v : Standing). v.variables) c.self.view_is in
-    λ k d h. let one = c.requires.inside k d h in omega (arith, one, count)
 
 pub invariant_of-self-2 : goal.invariant_of-self-2
 invariant_of-self-2 c = λ ready.
@@ -50,9 +38,6 @@ invariant_of-self-2 c = λ ready.
       reported.left.rooted,
       rw (reported.left.kept, lit, c.ask.ensures.variables) reported.left.conflict,
     )
-
-pub returns-clause-forms : goal.returns-clause-forms
-returns-clause-forms c = rw c.in_ok-answer.ensures.left.kept (ap (λ (v : Standing). v.forms) c.self.view_is)
 
 -- a conflict that the question has met
 met : (c : In_ok-answer) → c.in_ok-answer.answer ≡ true → (m : MeetsConflict (With (Live (numbered (forms_of c.self.inside.store.stored.items) c.self.inside.places.items)) (negation_of c.args.goal.now)) []) × (length m.list ≤ c.ask.new.visits)
@@ -89,12 +74,6 @@ returns-clause-completion c = λ found.
     let whole : (list : List NumberedLiteral) × IsCompletion (With (Live (numbered (forms_of c.self.inside.store.stored.items) c.self.inside.places.items)) (negation_of c.args.goal.now)) [] list × (length list ≤ c.ask.new.visits) = (made.list, made.complete, made.few) in
     rw (← c.self.view_is) whole
 
-pub returns-in_err-answer-clause-forms : goal.returns-in_err-answer-clause-forms
-returns-in_err-answer-clause-forms c =
-    let e = c.self.inside in
-    let both = c.self.invariant (ap (λ (v : Standing). v.spent) c.self.view_is ∙ c.requires.ready) in
-    c.in_err-answer.ensures.forms e.places.items both.1 ∙ ap (λ (v : Standing). v.forms) c.self.view_is
-
 -- the visits of the question
 asked-most : (c : After-ask) → c.ask.new.visits ≤ 3 * (sum_by terms_in c.args.self.now.forms + length c.args.goal.now.terms) + (sum_by one_in c.args.self.now.forms + 1)
 asked-most c =
@@ -124,17 +103,8 @@ kept c =
 pub returns-then-self-clause-implied : goal.returns-then-self-clause-implied
 returns-then-self-clause-implied c = λ found. rw (← c.self.view_is) (inr (kept (goal.at.returns-then-self-clause-implied c).After-of-self-inside).0)
 
-pub returns-then-self-clause-not_implied : goal.returns-then-self-clause-not_implied
-returns-then-self-clause-not_implied c = λ found. absurd cc
-
-pub returns-then-self-clause-completion : goal.returns-then-self-clause-completion
-returns-then-self-clause-completion c = λ found. absurd cc
-
 pub returns-then-self-clause-conflict : goal.returns-then-self-clause-conflict
 returns-then-self-clause-conflict c = λ found. rw (← c.self.view_is) (inr (kept (goal.at.returns-then-self-clause-conflict c).After-of-self-inside))
-
-pub returns-then-self-clause-unasked : goal.returns-then-self-clause-unasked
-returns-then-self-clause-unasked c = λ nothing. absurd (c.if-degree-eq0.false (ap (of_z w128) (c.degree.ensures.degree ∙ ap pos nothing)))
 
 pub returns-then-self-clause-most : goal.returns-then-self-clause-most
 returns-then-self-clause-most c =
@@ -145,21 +115,3 @@ returns-then-self-clause-most c =
     let few = conflict-few e.store e.clauses e.conflict.assignment both.0.sound both.0.joined (both.3.holds c.if-self.true) in
     let same : numbered forms e.places.items ≡ c.args.self.now.forms = ap (λ (v : Standing). v.forms) c.self.view_is in
     rw (← same) (omega (arith, few, terms, c.of-self-inside.ensures, c.len.ensures, e.conflict.assignment.list.ok.0, both.1.alike terms_in refl))
-
-pub returns-then-self-clause-forms : goal.returns-then-self-clause-forms
-returns-then-self-clause-forms c = ap (λ (v : Standing). v.forms) c.self.view_is
-
-pub returns-then-self-clause-variables : goal.returns-then-self-clause-variables
-returns-then-self-clause-variables c = ap (λ (v : Standing). v.variables) c.self.view_is
-
-pub invariant_of-self-in_err-answer : goal.invariant_of-self-in_err-answer
-invariant_of-self-in_err-answer c = λ ready. absurd cc
-
-pub returns-in_err-answer-clause-unasked : goal.returns-in_err-answer-clause-unasked
-returns-in_err-answer-clause-unasked c = λ nothing. absurd (c.if-degree-eq0.false (ap (of_z w128) (c.degree.ensures.degree ∙ ap pos nothing)))
-
-pub returns-clause-unasked : goal.returns-clause-unasked
-returns-clause-unasked c = λ nothing. absurd (c.if-degree-eq0.false (ap (of_z w128) (c.degree.ensures.degree ∙ ap pos nothing)))
-
-pub returns-clause-variables : goal.returns-clause-variables
-returns-clause-variables c = c.ask.ensures.variables ∙ ap (λ (v : Standing). v.variables) c.self.view_is

@@ -33,11 +33,6 @@ returns-clause-ended c =
     let found = subst (λ xs. IfSome c.in_ok-values.values (λ values. HasEnded xs list c.args.given.now values.items)) same c.in_ok-values.ensures.ended in
     map-some c.in_ok-values.values (λ values. ended-made (all_of store c.args.clauses.now) list c.args.given.now values.items (subst (λ xs. Derives xs [] list) same (reasons-derive c.in_ok-update.ensures.rooted.reasoned))) found
 
-pub returns-then-branch-clause-left : goal.returns-then-branch-clause-left
-returns-then-branch-clause-left c =
-    let update = c.in_ok-update.ensures in
-    standing-left c.requires.standing (update.met c.if-branch.true).ready update.lists update.rooted update.kept
-
 pub propagate_given-requires-clause-ready : goal.propagate_given-requires-clause-ready
 propagate_given-requires-clause-ready c = updated-ready c.in_ok-update.ensures.rooted (rw c.update.ensures.literals c.requires.standing.joined) (c.in_ok-update.ensures.updated c.if-branch.false)
 

@@ -5,7 +5,7 @@ use Rattle.pb_propagate.proofs.lemmas.clauses.Heads.{heads-is}
 use Rattle.pb_propagate.proofs.lemmas.engine.Derivations.{derivation-keeps}
 use Rattle.pb_propagate.proofs.lemmas.engine.Spent.{sum-bounded}
 use Rattle.pb_propagate.proofs.lemmas.engine.Values.{opposite}
-use Rattle.pb_propagate.proofs.lemmas.root.Denials.{denied-conflicts, denied-derives, denied-later, denial-settled, more-conflicts, more-settled}
+use Rattle.pb_propagate.proofs.lemmas.root.Denials.{denied-conflicts, denied-derives, denial-settled, more-conflicts, more-settled}
 use Rattle.pb_propagate.proofs.lemmas.root.Ready.{gains-then, left-then, puts-left, puts-ready}
 use Rattle.pb_propagate.proofs.lemmas.root.Returns.{refutes-short, refutes-long}
 use Rattle.pb_propagate.proofs.lemmas.engine.Reasoned.{reasons-derive}
@@ -62,8 +62,8 @@ pub returns-clause-settled : goal.returns-clause-settled
 returns-clause-settled c = λ found.
     let done = c.propagate.new.run.assignment in
     let shapes = all_of c.args.store.now c.args.clauses.now in
-    let denied = denied-later c.args.goal.now c.deny_all.new.run.assignment.list.items done.list.items (derivation-keeps shapes c.deny_all.new.run.assignment.list.items done.list.items (reasons-derive c.in_ok-found.ensures.reasons.added)) (c.in_ok-deny_all.ensures.denied c.if-branch.false) in
-    more-settled shapes (denial_of c.args.goal.now) done.list.items (c.in_ok-found.ensures.settled found).settled (denial-settled done.list.items c.args.goal.now c.requires.light (λ l on. opposite done.values.items done.list.items l done.agrees on) denied)
+    let within = derivation-keeps shapes c.deny_all.new.run.assignment.list.items done.list.items (reasons-derive c.in_ok-found.ensures.reasons.added) in
+    more-settled shapes (denial_of c.args.goal.now) done.list.items (c.in_ok-found.ensures.settled found).settled (denial-settled done.list.items c.args.goal.now c.requires.light (λ l on. opposite done.values.items done.list.items l done.agrees on) (λ k d less. within _ (c.in_ok-deny_all.ensures.denied c.if-branch.false k d less)))
 
 pub propagate-requires-clause-ready : goal.propagate-requires-clause-ready
 propagate-requires-clause-ready c =
@@ -77,9 +77,6 @@ returns-then-branch-clause-left c = puts-left c.requires.ready c.in_ok-deny_all.
 
 pub returns-clause-left : goal.returns-clause-left
 returns-clause-left c = left-then c.in_ok-deny_all.ensures.puts c.in_ok-found.ensures.left
-
-pub returns-then-branch-clause-gains : goal.returns-then-branch-clause-gains
-returns-then-branch-clause-gains c = record { found = c.in_ok-deny_all.ensures.found; rising = c.in_ok-deny_all.ensures.puts.advances.rising }
 
 pub returns-clause-gains : goal.returns-clause-gains
 returns-clause-gains c =

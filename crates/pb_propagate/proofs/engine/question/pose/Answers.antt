@@ -14,7 +14,6 @@ use Rattle.pb_propagate.proofs.lemmas.engine.Values.{opposite}
 use Rattle.pb_propagate.proofs.lemmas.root.Extends.{extends-then}
 use Rattle.pb_propagate.proofs.lemmas.root.Kept.{met-asked}
 use Rattle.pb_propagate.proofs.lemmas.root.Questions.{IsEntered, entered-shapes, opened-counted, opened-tidy, undone-same, derives-entered, kept-terms, found-after, found-both, question-most, updated-most, both-parts}
-use Rattle.pb_propagate.proofs.lemmas.root.Ready.{standing-left}
 use Rattle.pb_propagate.proofs.lemmas.store.Placed.{numbered-entered}
 use Rattle.pb_propagate.proofs.lemmas.engine.Reasoned.{reasons-derive, reasons-keep}
 use Rattle.pb_propagate.specs.engine.Engine.Root.{terms_of_all}
@@ -115,11 +114,6 @@ returns-clause-asked c =
       conflict = λ found. subst (λ xs. Conflicts xs done.assignment.list.items) (whole_now) (reported.conflict found);
       settled = λ found f has. (reported.settled found).settled f (subst (λ xs. Contains xs f) (sym whole_now) has);
     })
-
-pub returns-then-branch-clause-left : goal.returns-then-branch-clause-left
-returns-then-branch-clause-left c =
-    let update = c.in_ok-update.ensures in
-    standing-left c.requires.standing (update.met c.if-branch.true).ready update.lists update.rooted update.kept
 
 pub returns-clause-left : goal.returns-clause-left
 returns-clause-left c =

@@ -22,17 +22,6 @@ returns-then-branch-clause-most c = omega (arith, updated-most c.requires.standi
 pub returns-then-branch-clause-asked : goal.returns-then-branch-clause-asked
 returns-then-branch-clause-asked c = met-asked c.requires.visits (c.in_ok-update.ensures.met c.if-branch.true) c.in_ok-update.ensures.kept
 
-pub refute-requires-clause-inside : goal.refute-requires-clause-inside
-refute-requires-clause-inside c = rw c.terms.ensures.terms c.requires.inside
-
-pub refute-requires-clause-light : goal.refute-requires-clause-light
-refute-requires-clause-light c = rw c.terms.ensures.terms c.requires.clause.light
-
-pub refute-requires-clause-work : goal.refute-requires-clause-work
-refute-requires-clause-work c =
-    let r = c.in_ok-update.ensures.rooted in
-    (r.work, r.next)
-
 -- the visits of both parts
 posed-most : (c : After-refute) → c.refute.new.run.visits ≤ 3 * (terms_of_all c.args.store.now c.args.clauses.now + length c.args.goal.now.terms) + (length c.args.root.now.waiting.list.items + 1)
 posed-most c =
@@ -78,11 +67,6 @@ returns-clause-asked c =
       conflict = λ found. subst (λ xs. Conflicts xs done.assignment.list.items) whole (reported.conflict found);
       settled = λ found. subst (λ xs. AreSettled xs done.assignment.list.items) whole (reported.settled found);
     })
-
-pub returns-then-branch-clause-left : goal.returns-then-branch-clause-left
-returns-then-branch-clause-left c =
-    let update = c.in_ok-update.ensures in
-    standing-left c.requires.standing (update.met c.if-branch.true).ready update.lists update.rooted update.kept
 
 pub refute-requires-clause-ready : goal.refute-requires-clause-ready
 refute-requires-clause-ready c = updated-ready c.in_ok-update.ensures.rooted (rw c.update.ensures.literals c.requires.standing.joined) (c.in_ok-update.ensures.updated c.if-branch.false)

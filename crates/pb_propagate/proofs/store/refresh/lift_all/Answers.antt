@@ -1,17 +1,10 @@
 use Rattle.pb_propagate.proofs.lemmas.store.Stored.{stored-small}
 use Rattle.pb_propagate.proofs.Common.{ℕ, ◌+◌, ◌∙◌, [], drop, drop_all, get_or, get_or_read, map, set, size, stored_shape, subst, Shape, Term, ap, arith, length, length-map, shapes_of, weighted, slice_get_within}
-use Rattle.pb_propagate.proofs.lemmas.root.Retracted.{ahead-entry, all-next, lacks-fits, lacks-next, listed-entries, IsOccurrence, occurrence-read, refreshed-none, refreshed-then}
+use Rattle.pb_propagate.proofs.lemmas.root.Retracted.{ahead-entry, all-next, lacks-fits, lacks-next, listed-entries, IsOccurrence, occurrence-read, refreshed-then}
 use Rattle.pb_propagate.proofs.lemmas.engine.VisitSteps.{shape-at, weight-read}
 use Rattle.pb_propagate.specs.engine.Engine.Refreshed.{Lacks}
 use Rattle.pb_propagate.proofs.store.refresh.lift_all.Goals.{After-index-entry}
 use Rattle.pb_propagate.proofs.store.refresh.lift_all.Goals as goal
-
-pub entries-init : goal.entries-init
-entries-init c = record {
-  each = refreshed-none c.args.store.now c.args.root.now c.requires.sized;
-  all = λ j e less at. absurd (omega (arith, less));
-  lacks = subst (Lacks c.args.store.now c.args.root.now) (listed-entries c.args.store.now c.args.literal c.place_of.result c.index-entries.result.now c.requires.store c.requires.inside c.place_of.ensures.place c.index-entries.ensures) c.requires.lacks;
-}
 
 -- the entry that is read is one of the literal's
 read : (c : After-index-entry) → IsOccurrence c.args.store.now c.args.literal c.index-entries.result.now.items c.entries.j c.index-entry.result.now

@@ -1,14 +1,7 @@
-use Rattle.pb_propagate.proofs.Common.{◌∙◌, get_or_read, refl, set, set-get_or, ap, arith, length, length-map, shapes_of, weighted, slice_get_within}
-use Rattle.pb_propagate.proofs.lemmas.root.Retracted.{all-next, listed-entries, IsOccurrence, occurrence-read, refreshed-none, refreshed-then}
+use Rattle.pb_propagate.proofs.Common.{◌∙◌, get_or_read, set, set-get_or, ap, arith, length, length-map, shapes_of, weighted, slice_get_within}
+use Rattle.pb_propagate.proofs.lemmas.root.Retracted.{all-next, listed-entries, IsOccurrence, occurrence-read, refreshed-then}
 use Rattle.pb_propagate.proofs.store.refresh.refresh_all.Goals.{After-index-entry}
 use Rattle.pb_propagate.proofs.store.refresh.refresh_all.Goals as goal
-
-pub entries-init : goal.entries-init
-entries-init c = record {
-  each = refreshed-none c.args.store.now c.args.root.now c.requires.sized;
-  all = λ j e less at. absurd (omega (arith, less));
-  opens = refl;
-}
 
 -- the entry that is read is one of the literal's
 read : (c : After-index-entry) → IsOccurrence c.args.store.now c.args.literal c.index-entries.result.now.items c.entries.j c.index-entry.result.now

@@ -48,12 +48,6 @@ refresh_all-requires c =
       sized = c.lift_all.ensures.each.sized;
     }
 
-pub returns-clause-list : goal.returns-clause-list
-returns-clause-list c =
-    let me = c.args.self.now in
-    let last_is : c.len-count.result - 1 ≡ length me.run.assignment.list.items - 1 = omega (arith, c.len-count.ensures, me.run.assignment.list.ok.0) in
-    ap (λ (a : Assignment). a.list.items) (c.refresh_all.ensures.each.assignment ∙ c.lift_all.ensures.each.assignment) ∙ c.cut.ensures.list ∙ ap (λ n. take n me.run.assignment.list.items) last_is
-
 pub returns-clause-shortened : goal.returns-clause-shortened
 returns-clause-shortened c =
     let list = c.args.self.now.run.assignment.list.items in

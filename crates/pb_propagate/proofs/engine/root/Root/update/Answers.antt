@@ -1,5 +1,5 @@
-use Rattle.pb_propagate.proofs.Common.{ℕ, ◌∙◌, ◌≡◌, [], ap, arith, get_or, Global, length, refl, sym, take, Vec, slice_get-get_or, slice_get_within, all_of}
-use Rattle.pb_propagate.proofs.Common.{◌++◌, ◌-◌, forms_of, Assignment, Listed, heads_at}
+use Rattle.pb_propagate.proofs.Common.{ℕ, ◌∙◌, ◌≡◌, [], ap, arith, get_or, Global, length, refl, take, Vec, slice_get-get_or, slice_get_within, all_of}
+use Rattle.pb_propagate.proofs.Common.{◌++◌, ◌-◌, forms_of, Assignment, heads_at}
 use Rattle.std.proofs.Math.ListN.{replicate}
 use Rattle.pb_propagate.proofs.lemmas.clauses.Heads.{heads-is, visits-back, walks-back, walks-ended}
 use Rattle.pb_propagate.proofs.lemmas.clauses.Watching.{ready-running}
@@ -27,15 +27,8 @@ returns-in_err-found-clause-costs c = record { ended = c.propagate.new.run; spen
 pub returns-in_err-note-clause-costs : goal.returns-in_err-note-clause-costs
 returns-in_err-note-clause-costs c = record { ended = c.propagate.new.run; spends = rw c.as_slice.ensures.value at c.propagate.ensures.costs; visits = refl }
 
--- a conflict is met
-pub note-requires-clause-values : goal.note-requires-clause-values
-note-requires-clause-values c = c.requires.vacant.values ∙ sym (c.in_ok-found.ensures.left.values ∙ c.requires.standing.rooted.values)
-
 pub note-requires-clause-reasoned : goal.note-requires-clause-reasoned
 note-requires-clause-reasoned c = (all_of c.args.store.now c.args.clauses.now, run-reasons-rooted c.requires.standing.rooted.reasoned c.in_ok-found.ensures.reasons)
-
-pub returns-then-found-clause-lists : goal.returns-then-found-clause-lists
-returns-then-found-clause-lists c = omega (arith, ap (λ (v : Vec (Vec Listed Global) Global). length v.items) c.back.ensures.lists, c.in_ok-found.ensures.left.running.sizes, c.in_ok-found.ensures.left.values, c.requires.standing.rooted.values, c.requires.standing.widths)
 
 pub returns-then-found-clause-costs : goal.returns-then-found-clause-costs
 returns-then-found-clause-costs c = record { ended = c.propagate.new.run; spends = rw c.as_slice.ensures.value at c.propagate.ensures.costs; visits = c.back.ensures.visits }
@@ -60,13 +53,6 @@ returns-then-found-clause-kept c =
     let reasoned = run-reasons-rooted c.requires.standing.rooted.reasoned reported.reasons in
     let holds = conflict-same forms done c.note.new.self.assignment noted.list noted.reasons (conflicts-kept forms done reasoned (reported.conflict c.if-found.true)) in
     met-kept forms c.args.store.now.variables c.note.new.self (noted.values ∙ c.requires.vacant.values) noted.met holds
-
-pub returns-then-found-clause-met : goal.returns-then-found-clause-met
-returns-then-found-clause-met c = λ found. record {
-  ready = c.back.ensures.ready;
-  met = c.in_ok-note.ensures.met;
-  found = rw (c.in_ok-note.ensures.list, c.back.ensures.visits) c.in_ok-found.ensures.gains.found;
-}
 
 -- none is met
 pub returns-clause-costs : goal.returns-clause-costs
@@ -98,9 +84,6 @@ returns-clause-rooted c =
     c.save.ensures
     (ap (λ (v : Vec ℕ Global). length v.items) c.clear.ensures.positions ∙ r.positions)
     (λ i s at. absurd (omega (arith, slice_get_within c.clear.new.self.list.items i s at, ap length c.clear.ensures.list)))
-
-pub returns-clause-lists : goal.returns-clause-lists
-returns-clause-lists c = omega (arith, c.in_ok-found.ensures.left.running.sizes, c.in_ok-found.ensures.left.values, c.requires.standing.rooted.values, c.requires.standing.widths)
 
 pub returns-clause-kept : goal.returns-clause-kept
 returns-clause-kept c = vacant-kept (all_of c.args.store.now c.args.clauses.now) c.args.store.now.variables c.args.conflict.now c.requires.vacant
