@@ -123,10 +123,7 @@ updated-ready {store} {old} {clauses} {before} {root} r joined u =
     let ready = root-ready r joined u.running in
     subst (λ h. IsReadyRun store root.rests clauses [] h root.run) u.walked (subst (λ w. IsReadyRun store root.rests clauses w root.walked.heads root.run) u.none ready)
 
--- between two calls no question is in progress
-pub rest-standing : {store : Store} {clauses : Clauses} {forms : List (Option Form)} {root : Root} → IsAtRest store clauses forms → IsRootOf store clauses root → IsStanding store clauses root
-rest-standing r rooted = record { rooted = rooted; sound = r.sound; joined = r.joined; ready = r.ready; widths = r.widths }
-
+-- the constraints keep the live forms
 pub rest-kept : {store : Store} {clauses : Clauses} {forms : List (Option Form)} {places : List ℕ} → IsAtRest store clauses forms → ArePlaced forms places → AreKept (Live (numbered forms places)) (all_of store clauses)
 rest-kept {store} {clauses} {forms} {places} r placed = placed-kept forms places (all_of store clauses) placed (slots-kept forms (all_of store clauses) r.slots)
 

@@ -1,22 +1,10 @@
 use Rattle.pb_propagate.proofs.Common.{◌∙◌, ap, refl, all_of, Standing}
 use Rattle.pb_propagate.proofs.lemmas.engine.Assumed.{refuted-meets, ended-free, ended-completion}
-use Rattle.pb_propagate.proofs.lemmas.root.Kept.{kept-conflicts, kept-vacant}
-use Rattle.pb_propagate.proofs.lemmas.root.Ready.{rest-kept, rest-standing}
+use Rattle.pb_propagate.proofs.lemmas.root.Kept.{kept-conflicts}
+use Rattle.pb_propagate.proofs.lemmas.root.Ready.{rest-kept}
 use Rattle.pb_propagate.proofs.lemmas.root.Transplants.{clash-refuted, root-clash, map-none, map-some}
 use Rattle.pb_propagate.proofs.lemmas.engine.Reasoned.{reasons-derive}
 use Rattle.pb_propagate.proofs.engine.Engine.complete.Goals as goal
-
--- a completion that continues from the root
-pub extend-requires-clause-standing : goal.extend-requires-clause-standing
-extend-requires-clause-standing c =
-    let both = c.self.invariant (ap (λ (v : Standing). v.spent) c.self.view_is ∙ c.requires.ready) in
-    rest-standing both.0 both.2
-
-pub extend-requires-clause-vacant : goal.extend-requires-clause-vacant
-extend-requires-clause-vacant c =
-    let e = c.self.inside in
-    let both = c.self.invariant (ap (λ (v : Standing). v.spent) c.self.view_is ∙ c.requires.ready) in
-    kept-vacant (all_of e.store e.clauses) e.store.variables e.conflict c.if-self.false both.3
 
 pub returns-clause-conflict : goal.returns-clause-conflict
 returns-clause-conflict c =

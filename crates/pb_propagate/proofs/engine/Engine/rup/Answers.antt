@@ -1,43 +1,11 @@
-use Rattle.pb_propagate.proofs.Common.{false, sum_by, ◌+◌, ◌*◌, ◌∙◌, ◌≡◌, ◌≤◌, [], ap, arith, inl, inr, length, List, of_z, pos, refl, sym, true, w128}
-use Rattle.pb_propagate.proofs.Common.{NumberedLiteral, negation_of, all_of, clauses_of, forms_of, Live, one_in, Standing, terms_in, alone, numbered}
+use Rattle.pb_propagate.proofs.Common.{false, sum_by, ◌+◌, ◌*◌, ◌∙◌, ◌≡◌, ◌≤◌, [], ap, arith, inl, inr, length, List, of_z, pos, refl, true, w128}
+use Rattle.pb_propagate.proofs.Common.{NumberedLiteral, negation_of, all_of, forms_of, Live, one_in, Standing, terms_in, alone, numbered}
 use Rattle.pb_propagate.proofs.Common.{IsCompletion, MeetsConflict, With}
 use Rattle.pb_propagate.proofs.lemmas.engine.Bounds.{slots-terms}
 use Rattle.pb_propagate.proofs.lemmas.root.Asked.{asked-meets, asked-free, IsFree}
-use Rattle.pb_propagate.proofs.lemmas.root.Kept.{conflict-answered, conflict-few, kept-vacant}
-use Rattle.pb_propagate.proofs.lemmas.root.Ready.{rest-standing}
+use Rattle.pb_propagate.proofs.lemmas.root.Kept.{conflict-answered, conflict-few}
 use Rattle.pb_propagate.proofs.engine.Engine.rup.Goals.{After-ask, After-of-self-inside, In_ok-answer}
 use Rattle.pb_propagate.proofs.engine.Engine.rup.Goals as goal
-
-pub ask-requires-clause-standing : goal.ask-requires-clause-standing
-ask-requires-clause-standing c =
-    let both = c.self.invariant (ap (λ (v : Standing). v.spent) c.self.view_is ∙ c.requires.ready) in
-    rest-standing both.0 both.2
-
-pub ask-requires-clause-vacant : goal.ask-requires-clause-vacant
-ask-requires-clause-vacant c =
-    let e = c.self.inside in
-    let both = c.self.invariant (ap (λ (v : Standing). v.spent) c.self.view_is ∙ c.requires.ready) in
-    kept-vacant (all_of e.store e.clauses) e.store.variables e.conflict c.if-self.false both.3
-
-pub invariant_of-self-2 : goal.invariant_of-self-2
-invariant_of-self-2 c = λ ready.
-    let e = c.self.inside in
-    let both = c.self.invariant (ap (λ (v : Standing). v.spent) c.self.view_is ∙ c.requires.ready) in
-    let r = both.0 in
-    let reported = c.in_ok-answer.ensures in
-    let lit : clauses_of c.ask.new.clauses ≡ clauses_of e.clauses = c.ask.ensures.literals in (
-      record {
-        sound = reported.left.sound;
-        slots = rw (reported.left.kept, lit) r.slots;
-        joined = rw (reported.left.kept, lit) r.joined;
-        ready = reported.left.ready;
-        widths = reported.left.lists ∙ r.widths ∙ ap (λ n. 4 * n) (sym c.ask.ensures.variables);
-        known = ap length c.ask.ensures.literals ∙ r.known ∙ sym (ap length reported.left.kept);
-      },
-      rw reported.left.kept both.1,
-      reported.left.rooted,
-      rw (reported.left.kept, lit, c.ask.ensures.variables) reported.left.conflict,
-    )
 
 -- a conflict that the question has met
 met : (c : In_ok-answer) → c.in_ok-answer.answer ≡ true → (m : MeetsConflict (With (Live (numbered (forms_of c.self.inside.store.stored.items) c.self.inside.places.items)) (negation_of c.args.goal.now)) []) × (length m.list ≤ c.ask.new.visits)
