@@ -1,9 +1,6 @@
-use Rattle.pb_propagate.proofs.Common.{◌+◌, ◌∙◌, ap, arith, drop, false, length, length-set, None, refl, subst, sym}
+use Rattle.pb_propagate.proofs.Common.{◌+◌, ◌∙◌, ap, arith, drop, false, length, length-set, None, subst, sym}
 use Rattle.pb_propagate.proofs.lemmas.engine.Values.{Forgotten, forget-next, forget-none, forget-inside}
 use Rattle.pb_propagate.proofs.assignment.forget.Goals as goal
-
-pub list-init : goal.list-init
-list-init c = record { sizes = refl; forgotten = λ l h. c.requires.agrees l ∙ h; marked = c.requires.marked }
 
 pub unassign-requires-clause-inside : goal.unassign-requires-clause-inside
 unassign-requires-clause-inside c =

@@ -1,14 +1,11 @@
 -- What a part of a run does: nothing, one part after another, and more that pays.
 use Rattle.pb_propagate.proofs.Common.{ℕ, ◌+◌, ◌∙◌, ◌≡◌, ◌≤◌, ap, arith, length, List, refl, Err, Ok, OnErr, Result, sum, spent, Advances, Costs}
-use Rattle.pb_propagate.proofs.Common.{Database, passed_to, Progress, visited_to}
+use Rattle.pb_propagate.proofs.Common.{Database, Progress, visited_to}
 use Rattle.pb_propagate.proofs.lemmas.root.Extends.{extends-none, extends-then}
 
 pub on-err : {A E P : Type 0} (r : Result A E) → P → OnErr r P
 on-err (Ok _) p = tt
 on-err (Err _) p = p
-
-pub costs-refl : (d : Database) (p : Progress) → Costs d 0 0 p p
-costs-refl d p = record { extends = extends-none p.list; single = λ s. s; paid = omega arith }
 
 -- only the rest of the run has changed
 pub costs-none : {d : Database} (old new : Progress) → new.list ≡ old.list → new.candidates ≡ old.candidates → new.visits ≡ old.visits → Costs d 0 0 old new
@@ -55,7 +52,7 @@ advances-as k l h p = record {
 }
 
 -- some visits were made, and terms passed
-advances-counted : (d : Database) (p : Progress) (passed : List ℕ) (seen m n : ℕ) → length passed ≡ length p.candidates → p.visits ≤ seen → seen + m + sum p.candidates ≤ p.visits + n + sum passed → Advances d m n p (record p { candidates = passed; visits = seen })
+pub advances-counted : (d : Database) (p : Progress) (passed : List ℕ) (seen m n : ℕ) → length passed ≡ length p.candidates → p.visits ≤ seen → seen + m + sum p.candidates ≤ p.visits + n + sum passed → Advances d m n p (record p { candidates = passed; visits = seen })
 advances-counted d p passed seen m n sizes rising most = record {
   costs = record { extends = extends-none p.list; single = λ s. s; paid = omega (arith, most) };
   values = refl;
@@ -74,7 +71,3 @@ advances-refl d p = advances-counted d p p.candidates p.visits 0 0 refl (omega a
 -- some visits were made
 pub advances-visit : (d : Database) (p : Progress) (seen m n : ℕ) → p.visits ≤ seen → seen + m ≤ p.visits + n → Advances d m n p (visited_to seen p)
 advances-visit d p seen m n rising most = advances-counted d p p.candidates seen m n refl rising (omega (arith, most))
-
--- a term was passed
-pub advances-pass : (d : Database) (p : Progress) (passed : List ℕ) → length passed ≡ length p.candidates → sum passed ≡ sum p.candidates + 1 → Advances d 1 0 p (passed_to passed p)
-advances-pass d p passed sizes more = advances-counted d p passed p.visits 1 0 sizes (omega arith) (omega (arith, more))

@@ -8,8 +8,8 @@ use Rattle.pb_propagate.proofs.lemmas.engine.Runs.{Tidy-next, calm-settled, abse
 use Rattle.pb_propagate.proofs.lemmas.engine.Sources.{source}
 use Rattle.pb_propagate.proofs.lemmas.engine.VisitSteps.{open-now}
 use Rattle.pb_propagate.proofs.lemmas.engine.Spent.{spent-le}
-use Rattle.pb_propagate.proofs.lemmas.engine.Advances.{costs-refl, costs-as}
-use Rattle.pb_propagate.proofs.lemmas.root.Extends.{extends-then, spent-extends, reached-extends}
+use Rattle.pb_propagate.proofs.lemmas.engine.Advances.{costs-as}
+use Rattle.pb_propagate.proofs.lemmas.root.Extends.{extends-none, extends-then, spent-extends, reached-extends}
 use Rattle.pb_propagate.proofs.lemmas.clauses.Watching.{reached}
 use Rattle.pb_propagate.proofs.lemmas.store.Stored.{stored-falling}
 
@@ -47,7 +47,7 @@ propagating-start b begun counted tidy o c = record {
   begun = begun;
   counted = counted;
   tidy = tidy;
-  costs = costs-as b.before (b.before + (b.start.next - b.start.next)) (omega arith) (costs-refl b.base b.start);
+  costs = costs-as {m = 0} {n = 0} b.before (b.before + (b.start.next - b.start.next)) (omega arith) (record { extends = extends-none b.start.list; single = λ s. s; paid = omega arith });
   works = omega (arith, length-append b.start.work []);
   started = omega arith;
   found = λ few. omega arith;

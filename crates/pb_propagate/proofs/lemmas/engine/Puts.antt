@@ -7,9 +7,8 @@ use Rattle.pb_propagate.proofs.Common.{Database, database, entries_against, Lowe
 use Rattle.std.proofs.Math.ListN.{get_or-map as get_or-map-default}
 use Rattle.pb_propagate.specs.declared.store.Visited.{Visited}
 use Rattle.pb_propagate.specs.engine.Engine.Fields.{entry_at}
-use Rattle.pb_propagate.proofs.lemmas.root.Extends.{extends-one}
 use Rattle.pb_propagate.proofs.lemmas.store.Weights.{index-within}
-use Rattle.pb_propagate.proofs.lemmas.engine.Runs.{Counted-fits, Counted-lower, Tidy-lower, done-push, grown-before, grown-length}
+use Rattle.pb_propagate.proofs.lemmas.engine.Runs.{Counted-fits, Counted-lower, Tidy-lower, done-push, grown-absent, grown-length}
 
 -- the literal is on the list, and nothing else has changed
 pub record Assigns (l : NumberedLiteral) (old new : Progress) : Type 0 where
@@ -93,7 +92,7 @@ putting-next {d} {es} {start} {now} {j} seen e after read within count rising p 
       within = omega (arith, read.inside);
       counted = rw l.list (Counted-lower d.forms now.opens after.opens now.list entry (drop (j + 1) es) l.opens inside (subst (IsCounted d.forms now.opens now.list) ahead p.counted));
       tidy = λ aside busy t. Tidy-lower d aside busy e l read.form inside (omega (arith, p.longer, within, p.next)) (p.tidy aside busy t);
-      absent = λ s gone. p.absent s (grown-before e.form now.work after.work s l.work gone);
+      absent = λ s gone. p.absent s (grown-absent e.form now.work after.work 0 s l.work gone);
       sizes = ap length l.opens ∙ length-set now.opens e.form (get_or now.opens e.form 0 - coefficient_at d.forms e.form e.index) ∙ p.sizes;
       grown = omega (arith, queued.1, p.grown);
       longer = omega (arith, queued.0, p.longer);
@@ -125,7 +124,7 @@ pub putting-costs : {d : Database} {l : NumberedLiteral} {old start now : Progre
 putting-costs {d} {l} {old} {start} {now} {j} new a lists candidates visits p =
     let listed : new.list ≡ old.list ++ (l ∷ []) = lists ∙ p.list ∙ a.list in
     record {
-      extends = extends-one old.list new.list l listed;
+      extends = (l ∷ [], listed);
       single = λ s. rw listed (more l s a.absent);
       paid = omega (arith, visits, p.upper, a.visits, spent-push d l old start a, ap (spent d.lists) (lists ∙ p.list), ap sum (candidates ∙ p.candidates ∙ a.candidates));
     }

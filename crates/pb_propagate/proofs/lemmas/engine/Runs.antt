@@ -100,9 +100,6 @@ done-push list l k h =
       | inr off ↦ or_right (has (list ++ (l ∷ [])) k) (has (list ++ (l ∷ [])) (negation k)) (has-push_old list l (negation k) off)
     ]
 
-pub done-new : (list : List NumberedLiteral) (l : NumberedLiteral) → IsDone (list ++ (l ∷ [])) l
-done-new list l = or_left (has (list ++ (l ∷ [])) l) (has (list ++ (l ∷ [])) (negation l)) (has-push_new list l)
-
 -- a literal is assigned: its entries are still to be subtracted from the open sums
 pub Counted-put : (forms : List Shape) (opens : List ℕ) (list next : List NumberedLiteral) (l : NumberedLiteral) (entries : List Weighted) → next ≡ list ++ (l ∷ []) → has list l ≡ false → ((s : ℕ) (d : Shape) → s < length forms → weight_in s entries ≡ weight_on (negation l) (get_or forms s d).terms) → IsCounted forms opens list [] → IsCounted forms opens next entries
 Counted-put forms opens list next l entries e absent linked r = rw e (record {
@@ -140,7 +137,7 @@ Counted-lower forms opens lower list e rest is room r = rw is (record { each = �
         omega (arith, now, total, head, part)
 
 -- the elements of a list that may grow by a number
-grown-absent : {needless : Type 0} (x : ℕ) (old new : List ℕ) (n s : ℕ) → Grown needless x old new → IsAbsent new n s → IsAbsent old n s
+pub grown-absent : {needless : Type 0} (x : ℕ) (old new : List ℕ) (n s : ℕ) → Grown needless x old new → IsAbsent new n s → IsAbsent old n s
 grown-absent x old _ n s pushed gone = absent-push old x n s gone
 grown-absent x old _ n s (spared p) gone = gone
 
@@ -159,9 +156,6 @@ grown-all P x old _ this (spared p) all = all
 pub grown-length : {needless : Type 0} (x : ℕ) (old new : List ℕ) → Grown needless x old new → (length old ≤ length new) × (length new ≤ length old + 1)
 grown-length x old _ pushed = (omega (arith, length-append old (x ∷ [])), omega (arith, length-append old (x ∷ [])))
 grown-length x old _ (spared p) = (omega arith, omega arith)
-
-pub grown-before : {needless : Type 0} (x : ℕ) (old new : List ℕ) (s : ℕ) → Grown needless x old new → IsAbsent new 0 s → IsAbsent old 0 s
-grown-before x old new s g gone = grown-absent x old new 0 s g gone
 
 -- an entry is subtracted
 pub Tidy-lower : (d : Database) (aside : List ℕ) (busy : ℕ) (e : Visited) {old new : Progress} → Lowers d e old new → e.form < length d.forms → e.form < length old.opens → old.next ≤ length old.work → IsTidyAt d aside busy old → IsTidyAt d aside busy new

@@ -170,9 +170,6 @@ pub forget-inside : (values0 values : List (Option Bool)) (list : List NumberedL
 forget-inside values0 values list i d inside e a =
     omega (arith, e, says-inside values0 (get_or list i d) (sym (a (get_or list i d)) ∙ has-get list i d inside))
 
-pub Agree-none : (values : List (Option Bool)) → ((k : ℕ) → get_or values k None ≡ None) → Agree values []
-Agree-none values n l = has-none l ∙ sym (says-none values l (n l.variable))
-
 pub vacancy-none : (values : List (Option Bool)) → ((k : ℕ) → get_or values k None ≡ None) → sum_by vacancy values ≡ length values
 vacancy-none [] n = refl
 vacancy-none (o ∷ os) n =
@@ -181,7 +178,7 @@ vacancy-none (o ∷ os) n =
     omega (arith, sum_by-cons vacancy o os, rest, first)
 
 pub Agree-cleared : (values : List (Option Bool)) (list : List NumberedLiteral) → list ≡ [] → ((k : ℕ) → get_or values k None ≡ None) → Agree values list
-Agree-cleared values list e n = rw e (Agree-none values n)
+Agree-cleared values list e n = rw e (λ l. has-none l ∙ sym (says-none values l (n l.variable)))
 
 pub vacancy-cleared : (values : List (Option Bool)) (list : List NumberedLiteral) → list ≡ [] → ((k : ℕ) → get_or values k None ≡ None) → length list + sum_by vacancy values ≡ length values
 vacancy-cleared values list e n = omega (arith, ap length e, vacancy-none values n)

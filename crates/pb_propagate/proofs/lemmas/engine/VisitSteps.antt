@@ -7,10 +7,12 @@ use Rattle.pb_propagate.proofs.Common.{Term, added, Adopted, Grown, IsAbsent, Is
 use Rattle.pb_propagate.proofs.Common.{weight_in, shapes_of, stored_shape, coefficient_at, AreInside, broken, by_reason, Conflicts, has, HaveReasons}
 use Rattle.pb_propagate.proofs.Common.{KeepsReasons, open_sum, Shape, size, Advances, Database, database, IsOpen, IsTidyAt, passed_to, Progress}
 use Rattle.pb_propagate.proofs.Common.{StaysTidy, visited_to, VisitsEach}
-use Rattle.pb_propagate.proofs.lemmas.engine.Advances.{advances-refl, advances-then, advances-as, advances-visit, advances-pass}
+use Rattle.pb_propagate.proofs.lemmas.engine.Advances.{advances-refl, advances-then, advances-as, advances-visit, advances-counted}
+use Rattle.pb_propagate.proofs.Common.{◌++◌, or_left}
 use Rattle.pb_propagate.proofs.lemmas.engine.Derivations.{one_itself}
+use Rattle.pb_propagate.proofs.lemmas.engine.Literals.{has-push_new}
 use Rattle.pb_propagate.proofs.lemmas.engine.Reasoned.{reasons-keep}
-use Rattle.pb_propagate.proofs.lemmas.engine.Runs.{Tidy-pass, Tidy-settle, done-new}
+use Rattle.pb_propagate.proofs.lemmas.engine.Runs.{Tidy-pass, Tidy-settle}
 
 -- a form's terms are being passed
 pub record IsVisiting (d : Database) (aside : List ℕ) (form : ℕ) (start now : Progress) : Type 0 where
@@ -37,7 +39,7 @@ sum-raise xs i inside =
 
 adopted-done : (l : NumberedLiteral) (old new : List NumberedLiteral) → Adopted l old new → IsDone new l
 adopted-done l old _ (kept d) = d
-adopted-done l old _ (added absent opened) = done-new old l
+adopted-done l old _ (added absent opened) = or_left (has (old ++ (l ∷ [])) l) (has (old ++ (l ∷ [])) (negation l)) (has-push_new old l)
 
 adopted-length : (l : NumberedLiteral) (old new : List NumberedLiteral) → Adopted l old new → length new ≤ length old + 1
 adopted-length l old _ (kept d) = omega arith
@@ -85,7 +87,7 @@ visiting-next {d} {aside} {form} {start} {now} {f} {t} {c} seen mid p forced cou
     let raised : sum (set mid.candidates form (c + 1)) ≡ sum mid.candidates + 1 = ap (λ x. sum (set mid.candidates form (x + 1))) at ∙ sum-raise mid.candidates form room in
     let visit = advances-visit d now seen 0 1 rising (omega (arith, count)) in
     record {
-      advances = advances-as 0 0 (omega arith) (advances-then p.advances (advances-then visit (advances-then a (advances-pass d mid (set mid.candidates form (c + 1)) sizes raised))));
+      advances = advances-as 0 0 (omega arith) (advances-then p.advances (advances-then visit (advances-then a (advances-counted d mid (set mid.candidates form (c + 1)) mid.visits 1 0 sizes (omega arith) (omega (arith, raised))))));
       tidy = Tidy-pass d aside form mid f c t at room forced.is forced.here (adopted-done (get_or f.terms c t).literal now.list mid.list adopted_f) (λ gone. p.there (a.absent form gone)) (tidy aside form p.tidy);
       there = λ gone. p.there (a.absent form gone);
       found = λ few.

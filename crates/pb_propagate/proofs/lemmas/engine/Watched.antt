@@ -42,10 +42,6 @@ walk-ends d c0 c c' l index seen {start} {now} inside covered rising a =
 pub walk-then : {d : Database} {m n : ℕ} {start now after : Progress} → Advances d m n start now → Advances d 0 0 now after → Advances d m n start after
 walk-then {d} {m} {n} a b = advances-as m n (omega arith) (advances-then a b)
 
--- at the end of the list
-pub walk-done : (d : Database) (c0 c : Clauses) (l index : ℕ) {start now : Progress} → WalkIsAt d c0 c l index start now → WalkIsDone d c0 c l start now
-walk-done d c0 c l index a = advances-as (sum (passed_of c0)) (2 * size_at c0 l + sum (passed_of c)) (omega arith) a
-
 pub walk-costs : {d : Database} {m n : ℕ} {start now after : Progress} → Costs d m n start now → Costs d 0 0 now after → Costs d m n start after
 walk-costs {d} {m} {n} a b = costs-as m n (omega arith) (costs-then a b)
 

@@ -143,9 +143,6 @@ denied-derives forms x start mid new first second =
     last y (zero, inside, is) = subst (λ z. Contains (forms ++ (x ∷ [])) z) is (Contains-push forms x)
     last y (suc n, inside, is) = absurd (omega (arith, inside))
 
-pub denied-later : (goal : List Entry) (a b : List NumberedLiteral) → IsWithin a b → AreDenied goal a → AreDenied goal b
-denied-later goal a b within denied k d less = within _ (denied k d less)
-
 -- the negation of a clause is stored as the sum of its negated literals
 entries-back : (es : List Entry) → map entry_of (map as_term es) ≡ es
 entries-back [] = refl

@@ -21,9 +21,6 @@ extends-within a b (r, e) l h = ap (λ xs. listed xs l) e ∙ longer a r l h
 pub extends-then : (a b c : List NumberedLiteral) → Extends a b → Extends b c → Extends a c
 extends-then a b c (r, e) (s, f) = (r ++ s, f ∙ ap (λ xs. xs ++ s) e ∙ append_assoc a r s)
 
-pub extends-one : (a b : List NumberedLiteral) (l : NumberedLiteral) → b ≡ a ++ (l ∷ []) → Extends a b
-extends-one a b l e = (l ∷ [], e)
-
 pub spent-extends : (lists : List (List Weighted)) (a b : List NumberedLiteral) → Extends a b → spent lists a ≤ spent lists b
 spent-extends lists a b (r, e) = omega (arith, ap (spent lists) e, sum_by-append (λ l. length (get_or lists (place (negation l)) [])) a r)
 

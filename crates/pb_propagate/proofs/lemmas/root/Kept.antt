@@ -5,7 +5,9 @@ use Rattle.pb_propagate.proofs.Common.{slice_get-get_or, slice_get_within, Numbe
 use Rattle.pb_propagate.proofs.Common.{clause_shape, clauses_of, literal_at, one_term, none, forms_of, IsSound, shapes_of, stored_shape, broken}
 use Rattle.pb_propagate.proofs.Common.{Conflicts, has, HaveReasons, KeepsReasons, open_part, open_sum, opposed, Shape, AreSlots, HasGained, by_reason, from_given}
 use Rattle.pb_propagate.proofs.Common.{HasCleared, IsAnswered, IsConflict, IsFree, IsKeptConflict, IsMet, IsNeedless, IsVacant, form_at}
+use Rattle.pb_propagate.proofs.Common.{alone, HasMet, IsAsked, list_of}
 use Rattle.pb_propagate.specs.declared.engine.conflict.Conflict.{Conflict}
+use Rattle.pb_propagate.specs.declared.engine.root.Root.{Root}
 use Rattle.pb_propagate.proofs.lemmas.clauses.Literals.{Agree, false-listed}
 use Rattle.pb_propagate.proofs.lemmas.engine.Literals.{open_part-open, has-get, has-push_cases}
 use Rattle.pb_propagate.proofs.lemmas.engine.Spent.{derivation-single}
@@ -13,7 +15,7 @@ use Rattle.pb_propagate.proofs.lemmas.engine.Values.{opposite, says-inside}
 use Rattle.pb_propagate.proofs.lemmas.engine.Reasoned.{reasons-derive, reasons-keep, recorded}
 use Rattle.pb_propagate.proofs.lemmas.root.Added.{gained-at, gained-reasons}
 use Rattle.pb_propagate.proofs.lemmas.root.Lost.{vacated-all, lost-reasons}
-use Rattle.pb_propagate.proofs.lemmas.root.Questions.{root-few}
+use Rattle.pb_propagate.proofs.lemmas.root.Questions.{found-after, root-few}
 use Rattle.pb_propagate.proofs.lemmas.store.Gets.{get-set_same, get-set_other}
 
 -- a conflict falsifies a constraint, since no two literals of the list are opposite
@@ -55,6 +57,13 @@ conflict-answered forms visits a few h = record {
   conflict = λ found. kept-conflicts forms a h;
   settled = λ found. absurd cc;
 }
+
+-- a question that met a conflict before it began
+pub met-asked : {form : Form} {store : Store} {old clauses : Clauses} {before root : Root} {conflict : Conflict} → before.run.visits ≡ length (list_of before.run) → HasMet store old clauses before root conflict → IsKeptConflict (all_of store old) store.variables conflict → IsAsked form (all_of store old) root.run.visits true
+met-asked {form} {store} {old} {clauses} {before} {root} {conflict} visits met kept =
+    let a = conflict.assignment in
+    let few = found-after (length a.list.items) root.run.visits (length (list_of before.run)) (rw visits at met.found) (omega (arith, a.list.ok.0, a.list.ok.1)) in
+    alone refl (conflict-answered (all_of store old) root.run.visits a few (kept.holds met.met))
 
 pub conflict-few : (store : Store) (clauses : Clauses) (a : Assignment) → IsSound store → AreJoined (shapes_of store.stored.items) (clauses_of clauses) → IsConflict (all_of store clauses) a → length a.list.items ≤ sum_by (λ (f : Shape). length f.terms) (all_of store clauses)
 conflict-few store clauses a sound j h =

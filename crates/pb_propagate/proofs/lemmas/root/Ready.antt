@@ -3,15 +3,21 @@ use Rattle.pb_propagate.proofs.Common.{ℕ, ◌+◌, ◌∙◌, ◌≤◌, [], a
 use Rattle.pb_propagate.proofs.Common.{Clauses, Waiting, Heads, Rests, Run, Store, Walked, AreJoined, clauses_of, heads_at, IsRunning, Advances, database, Database}
 use Rattle.pb_propagate.proofs.Common.{IsRooted, HasUpdated, list_of, progress, reasons_of, shapes_in, values_of, AreOpen, IsCounted, Progress, RunIsOpen}
 use Rattle.pb_propagate.proofs.Common.{IsReadyRun, Propagates, RunGains, RunPuts, RunVisits, RunVisitsEach, RunReasons}
+use Rattle.pb_propagate.proofs.Common.{◌≡◌, ArePlaced, AreReady, Form, IsAtRest, IsKeptConflict, Live, numbered, Option}
+use Rattle.pb_propagate.specs.declared.engine.conflict.Conflict.{Conflict}
 use Rattle.pb_propagate.specs.declared.engine.root.Root.{Root}
+use Rattle.pb_propagate.specs.engine.Engine.Root.{IsLeft, IsRootOf, IsStanding}
 use Rattle.pb_propagate.proofs.lemmas.clauses.Heads.{mark-more}
 use Rattle.pb_propagate.proofs.lemmas.clauses.Walks.{kept-then, running-grow}
 use Rattle.pb_propagate.proofs.lemmas.engine.Advances.{advances-refl, advances-then, advances-as}
 use Rattle.pb_propagate.proofs.lemmas.engine.Reasoned.{keeps-then, reasons-derive}
 use Rattle.pb_propagate.proofs.lemmas.engine.Spent.{derivation-single}
 use Rattle.pb_propagate.proofs.lemmas.engine.VisitSteps.{IsVisiting}
+use Rattle.pb_propagate.proofs.lemmas.engine.Bridge.{AreKept}
+use Rattle.pb_propagate.proofs.lemmas.engine.Rests.{slots-kept}
 use Rattle.pb_propagate.proofs.lemmas.root.Extends.{extends-then, extends-within}
 use Rattle.pb_propagate.proofs.lemmas.root.Returns.{assigned-grow, root-counted}
+use Rattle.pb_propagate.proofs.lemmas.store.Placed.{placed-kept}
 
 -- the open sums after a part of a run
 pub open-later : {store : Store} {d : Database} {m n : ℕ} {p q : Progress} → Advances d m n p q → AreOpen store p.opens p.candidates p.work p.next p.values p.list → IsCounted (shapes_in store) q.opens q.list [] → AreOpen store q.opens q.candidates q.work q.next q.values q.list
@@ -116,3 +122,11 @@ pub updated-ready : {store : Store} {old clauses : Clauses} {before root : Root}
 updated-ready {store} {old} {clauses} {before} {root} r joined u =
     let ready = root-ready r joined u.running in
     subst (λ h. IsReadyRun store root.rests clauses [] h root.run) u.walked (subst (λ w. IsReadyRun store root.rests clauses w root.walked.heads root.run) u.none ready)
+
+-- the constraints keep the live forms
+pub rest-kept : {store : Store} {clauses : Clauses} {forms : List (Option Form)} {places : List ℕ} → IsAtRest store clauses forms → ArePlaced forms places → AreKept (Live (numbered forms places)) (all_of store clauses)
+rest-kept {store} {clauses} {forms} {places} r placed = placed-kept forms places (all_of store clauses) placed (slots-kept forms (all_of store clauses) r.slots)
+
+-- what a question leaves if the store is the same
+pub standing-left : {store : Store} {old clauses : Clauses} {before root : Root} {conflict : Conflict} → IsStanding store old before → AreReady clauses → length clauses.lists.items ≡ length old.lists.items → IsRootOf store clauses root → IsKeptConflict (all_of store old) store.variables conflict → IsLeft store store old clauses root conflict
+standing-left s ready lists rooted kept = record { sound = s.sound; kept = refl; ready = ready; lists = lists; rooted = rooted; conflict = kept }

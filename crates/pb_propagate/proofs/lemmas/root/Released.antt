@@ -52,9 +52,6 @@ released-then {store} {slot} {a} {b} {c} p q = record {
 pub some-sized : (store : Store) (root : Root) → IsSomeRoot store root → IsSized store root
 some-sized store root r = rooted-sized store r.0 root r.3
 
-pub some-shortened : {store : Store} {old new : Root} → IsSomeRoot store old → IsShortened store old new → IsSomeRoot store new
-some-shortened r s = (r.0, r.1, r.2, s.rooted r.0 r.2 r.3)
-
 pub some-released : {store : Store} {slot : ℕ} {old new : Root} → IsSomeRoot store old → IsReleased store slot old new → IsSomeRoot store new
 some-released r s = (r.0, r.1, r.2, s.rooted r.0 r.1 r.2 r.3)
 

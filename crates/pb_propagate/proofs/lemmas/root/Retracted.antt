@@ -7,6 +7,7 @@ use Rattle.pb_propagate.proofs.Common.{or_cases, or_left, or_right, get_or_defau
 use Rattle.pb_propagate.proofs.Common.{sum_by-cons, take_all, take-append-le, get_or-map, map, Occurrence, weighted, Waiting, Rests, NumberedLiteral, negation, Form, Assignment, Clauses, Store, Term, all_of, clauses_of}
 use Rattle.pb_propagate.proofs.Common.{IsCalm, place, weight_in, entries_of, forms_of, IsSound, shapes_of, spots_of, stored_shape, terms_at}
 use Rattle.pb_propagate.proofs.Common.{HaveReasons, open_sum, Shape, size, Weighted, AreSlots, HasForm, IsWalkedTo, from_given, by_reason}
+use Rattle.pb_propagate.proofs.Common.{Walked}
 use Rattle.pb_propagate.specs.declared.engine.root.Root.{Root}
 use Rattle.pb_propagate.specs.engine.Engine.Counts.{entry_weight, IsDone}
 use Rattle.pb_propagate.specs.engine.Engine.Lists.{has, open_part}
@@ -113,6 +114,9 @@ pub record IsCut (old mid : Root) (first : List NumberedLiteral) : Type 0 where
   pub values : length mid.run.assignment.values.items ≡ length old.run.assignment.values.items
   pub reasons : mid.run.assignment.reasons ≡ old.run.assignment.reasons
 
+pub cut-off : (old : Root) (a : Assignment) (walked : Walked) {first : List NumberedLiteral} → a.list.items ≡ first → length a.values.items ≡ length old.run.assignment.values.items → a.reasons ≡ old.run.assignment.reasons → IsCut old (record old { run = record old.run { assignment = a }; walked = walked }) first
+cut-off old a walked list values reasons = record { opens = refl; candidates = refl; rests = refl; waiting = refl; work = refl; trail = refl; next = refl; list = list; values = values; reasons = reasons }
+
 -- each form with an entry of the literal is refreshed
 abbrev pub AllRefreshed : Store → Root → NumberedLiteral → Type 0
 AllRefreshed store r l = (j : ℕ) (e : Weighted) → slice_get (get_or (entries_of (shapes_of store.stored.items) store.occurrences.items) (place l) []) j ≡ Some e → IsRefreshed store r e.form
@@ -216,7 +220,9 @@ retracted-rooted store clauses old mid new first l listed absent reasoned sound 
         ]
 
 -- an entry of the list of a literal
-pub record IsOccurrence (store : Store) (l : NumberedLiteral) (items : List Occurrence) (o : Occurrence) : Type 0 where
+pub record IsOccurrence (store : Store) (l : NumberedLiteral) (items : List Occurrence) (j : ℕ) (o : Occurrence) : Type 0 where
+  pub read : o ≡ get_or items j o
+  pub inside : j < length items
   pub form : o.form < length store.stored.items
   pub index : o.index < length (terms_at (shapes_of store.stored.items) o.form)
   pub some : 0 < length (terms_at (shapes_of store.stored.items) o.form)
@@ -229,13 +235,15 @@ listed-entries store l q v sound inside at read =
     let there : q < length store.occurrences.items = omega (arith, place-inside l store.variables inside, at, sound.places, length-map store.occurrences.items (λ (w : Vec Occurrence Global). map (weighted forms) w.items)) in
     entries-at forms store.occurrences.items (place l) q v there read at
 
-pub occurrence-read : (store : Store) (l : NumberedLiteral) (q : ℕ) (v : Vec Occurrence Global) (j : ℕ) (o : Occurrence) → IsSound store → l.variable < store.variables → q ≡ place l → v ≡ get_or store.occurrences.items q v → o ≡ get_or v.items j o → j < length v.items → IsOccurrence store l v.items o
+pub occurrence-read : (store : Store) (l : NumberedLiteral) (q : ℕ) (v : Vec Occurrence Global) (j : ℕ) (o : Occurrence) → IsSound store → l.variable < store.variables → q ≡ place l → v ≡ get_or store.occurrences.items q v → o ≡ get_or v.items j o → j < length v.items → IsOccurrence store l v.items j o
 occurrence-read store l q v j o sound inside at read item less =
     let forms = shapes_of store.stored.items in
     let same = listed-entries store l q v sound inside at read in
     let form = form-within forms (get_or (entries_of forms store.occurrences.items) (place l) []) v.items j o (length forms) same item less (sound.named (place l)) in
     let index = index-within forms (spots_of store.spots.items) store.occurrences.items (place l) j v.items o same item less sound.whole in
     record {
+      read = item;
+      inside = less;
       form = omega (arith, form, length-map store.stored.items stored_shape);
       index = index;
       some = omega (arith, index);
@@ -243,15 +251,15 @@ occurrence-read store l q v j o sound inside at read item less =
     }
 
 -- one more entry is refreshed
-pub all-next : (store : Store) (l : NumberedLiteral) (items : List Occurrence) (b c : Root) (i : ℕ) (o : Occurrence) → IsOccurrence store l items o → o ≡ get_or items i o → i < length items → AreRefreshed store b c → IsRefreshed store c o.form →
+pub all-next : (store : Store) (l : NumberedLiteral) (items : List Occurrence) (b c : Root) (i : ℕ) (o : Occurrence) → IsOccurrence store l items i o → AreRefreshed store b c → IsRefreshed store c o.form →
     ((j : ℕ) (e : Weighted) → j < i → slice_get (get_or (entries_of (shapes_of store.stored.items) store.occurrences.items) (place l) []) j ≡ Some e → IsRefreshed store b e.form) → (j : ℕ) (e : Weighted) → j < i + 1 → slice_get (get_or (entries_of (shapes_of store.stored.items) store.occurrences.items) (place l) []) j ≡ Some e → IsRefreshed store c e.form
-all-next store l items b c i o there item inside next mine old j e less at = elim (cases_lt j i) [
+all-next store l items b c i o there next mine old j e less at = elim (cases_lt j i) [
   | inl before ↦ refreshed-stays store b c e.form next (old j e before at)
   | inr after ↦
       let forms = shapes_of store.stored.items in
       let here : j ≡ i = omega (arith, after, less) in
       let got : slice_get (map (weighted forms) items) i ≡ Some e = ap (λ xs. slice_get xs i) (sym there.entries) ∙ ap (slice_get (get_or (entries_of forms store.occurrences.items) (place l) [])) (sym here) ∙ at in
-      let is : e ≡ weighted forms o = sym (get_or_from_slice_get (map (weighted forms) items) i e e got) ∙ get_or_default (map (weighted forms) items) i e (weighted forms o) (omega (arith, inside, length-map items (weighted forms))) ∙ get_or-map (weighted forms) items i o (weighted forms o) inside ∙ ap (weighted forms) (sym item) in
+      let is : e ≡ weighted forms o = sym (get_or_from_slice_get (map (weighted forms) items) i e e got) ∙ get_or_default (map (weighted forms) items) i e (weighted forms o) (omega (arith, there.inside, length-map items (weighted forms))) ∙ get_or-map (weighted forms) items i o (weighted forms o) there.inside ∙ ap (weighted forms) (sym there.read) in
       subst (IsRefreshed store c) (ap (λ (x : Weighted). x.form) (sym is)) mine
 ]
 
@@ -292,7 +300,7 @@ lacks-fits store a e rest d less lacks =
     omega (arith, lacks e.form d less, sum_by-cons (entry_weight e.form) e rest, entry_weight-same e.form e refl, open_sum-small (list_of a.run) terms)
 
 -- what is still to be added after one more entry
-pub lacks-next : (store : Store) (l : NumberedLiteral) (items : List Occurrence) (a b : Root) (j : ℕ) (o : Occurrence) → IsOccurrence store l items o → o ≡ get_or items j o → j < length items → IsSized store a → b.run.opens.items ≡ set a.run.opens.items o.form (get_or a.run.opens.items o.form 0 + coefficient_at (shapes_of store.stored.items) o.form o.index) → b.run.assignment ≡ a.run.assignment →
+pub lacks-next : (store : Store) (l : NumberedLiteral) (items : List Occurrence) (a b : Root) (j : ℕ) (o : Occurrence) → IsOccurrence store l items j o → IsSized store a → b.run.opens.items ≡ set a.run.opens.items o.form (get_or a.run.opens.items o.form 0 + coefficient_at (shapes_of store.stored.items) o.form o.index) → b.run.assignment ≡ a.run.assignment →
     Lacks store a (drop j (map (weighted (shapes_of store.stored.items)) items)) → Lacks store b (drop (j + 1) (map (weighted (shapes_of store.stored.items)) items))
-lacks-next store l items a b j o there item inside sized opens same lacks =
-    lifted store a b (weighted (shapes_of store.stored.items) o) (drop (j + 1) (map (weighted (shapes_of store.stored.items)) items)) (omega (arith, there.form, sized.opens)) opens same (subst (Lacks store a) (ahead-entry store items j o item inside) lacks)
+lacks-next store l items a b j o there sized opens same lacks =
+    lifted store a b (weighted (shapes_of store.stored.items) o) (drop (j + 1) (map (weighted (shapes_of store.stored.items)) items)) (omega (arith, there.form, sized.opens)) opens same (subst (Lacks store a) (ahead-entry store items j o there.read there.inside) lacks)

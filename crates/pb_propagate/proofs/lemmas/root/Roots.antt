@@ -1,6 +1,6 @@
 -- The state to which questions return becomes that of the run.
 use Rattle.pb_propagate.proofs.Common.{ℕ, ◌+◌, ◌<◌, ◌∙◌, ◌≡◌, ◌≤◌, ◌⊎◌, [], ap, arith, get_or, get_or-set_other, get_or-set_same, inl, inr, length}
-use Rattle.pb_propagate.proofs.Common.{List, refl, set, sym, slice_get, slice_get_within, Some, cases_eq, ext_get_or, get_or_default, get_or_read}
+use Rattle.pb_propagate.proofs.Common.{List, set, sym, slice_get, slice_get_within, Some, cases_eq, ext_get_or, get_or_default, get_or_read}
 use Rattle.pb_propagate.proofs.Common.{length-map, Assignment, Clauses, Waiting, Rests, Run, Store, all_of, Walked, IsWalkedTo}
 use Rattle.pb_propagate.proofs.Common.{heads_at, IsAbsent, IsCounted, IsUndone, rest_open, rest_start, shapes_of, stored_shape}
 use Rattle.pb_propagate.proofs.Common.{HaveReasons, KeepsReasons, Shape, size, from_given, HasForm, IsRooted}
@@ -115,9 +115,6 @@ rooted-as a visits waiting' list values reasoned waits positions r = record {
   positions = rw positions r.positions;
   live = rw waits r.live;
 }
-
-pub rooted-counted : {store : Store} {clauses : Clauses} {run : Run} {rests : Rests} {waiting : Waiting} {walked : Walked} {busy : ℕ} (visits : ℕ) → IsRooted store clauses run rests waiting walked busy → IsRooted store clauses (record run { visits = visits }) rests waiting walked busy
-rooted-counted {store} {clauses} {run} {rests} {waiting} visits r = rooted-as {run = run} {waiting = waiting} run.assignment visits waiting refl refl r.reasoned refl refl r
 
 -- one more variable, which has no value
 pub widened-rooted : (store store' : Store) (clauses clauses' : Clauses) (run : Run) (assignment : Assignment) (rests : Rests) (waiting : Waiting) (walked : Walked) → store'.stored ≡ store.stored → store'.variables ≡ store.variables + 1 → clauses'.blocks.literals ≡ clauses.blocks.literals → clauses'.blocks.watches ≡ clauses.blocks.watches → assignment.list.items ≡ run.assignment.list.items → length assignment.values.items ≡ length run.assignment.values.items + 1 → KeepsReasons run.assignment.list.items run.assignment.reasons.items assignment.reasons.items →

@@ -58,11 +58,8 @@ returns-then-branch-2-clause-reasons c =
     run-reasons-then c.work.invariant.reasons (subst (λ ls. RunReasons (joined (shapes_of c.args.store.now.stored.items) ls) c.work.run c.walk.new.run) w.literals c.in_ok-walk.ensures.walks.reasons)
 
 pub returns-then-branch-2-clause-conflict : goal.returns-then-branch-2-clause-conflict
-returns-then-branch-2-clause-conflict c =
-    let store = c.args.store.now in
-    let run = c.work.run in
-    let w = c.work.invariant.watching in
-    λ found. subst (λ ls. Conflicts (joined (shapes_of c.args.store.now.stored.items) ls) c.walk.new.run.assignment.list.items) w.literals (c.in_ok-walk.ensures.conflict c.if-branch-2.true)
+returns-then-branch-2-clause-conflict c = λ found.
+    subst (λ ls. Conflicts (joined (shapes_of c.args.store.now.stored.items) ls) c.walk.new.run.assignment.list.items) c.work.invariant.watching.literals (c.in_ok-walk.ensures.conflict c.if-branch-2.true)
 
 pub work-smaller-in-Some : goal.work-smaller-in-Some
 work-smaller-in-Some c =
@@ -176,22 +173,11 @@ work-preserved c =
           (omega (arith, c.requires.waiting c.work.taken 0 less, length-map store.stored.items stored_shape)) c.in_ok-push-2.ensures.items c.in_ok-push.ensures.items;
     }
 
-pub returns-else-taken-waiting-clause-reasons : goal.returns-else-taken-waiting-clause-reasons
-returns-else-taken-waiting-clause-reasons c = c.work.invariant.reasons
-
 pub returns-then-branch-clause-marks : goal.returns-then-branch-clause-marks
 returns-then-branch-clause-marks c = (marking-grow c.work.invariant.marking c.visit_form.new.run.assignment.list.items c.in_ok-visit_form.ensures.visits.advances.costs.extends).kept
 
 pub returns-then-branch-2-clause-marks : goal.returns-then-branch-2-clause-marks
 returns-then-branch-2-clause-marks c = (marking-grow (marking-found c.work.invariant.marking c.work.run.assignment.values.items c.walk.new.clauses c.work.run.assignment.agrees c.in_ok-walk.ensures.literals c.in_ok-walk.ensures.walks.kept) c.walk.new.run.assignment.list.items c.in_ok-walk.ensures.walks.advances.costs.extends).kept
-
-pub returns-else-taken-waiting-clause-marks : goal.returns-else-taken-waiting-clause-marks
-returns-else-taken-waiting-clause-marks c = c.work.invariant.marking.kept
-
-pub overflow_sub-count : goal.overflow_sub-count
-overflow_sub-count c =
-    let e = c.in_ok-walk.ensures.walks.advances.costs.extends in
-    omega (arith, c.work.invariant.marking.within, c.len-count.ensures, ap length e.1, length-append c.work.run.assignment.list.items e.0)
 
 pub returns-in_err-push-clause-costs : goal.returns-in_err-push-clause-costs
 returns-in_err-push-clause-costs c = stopped c.args.clauses.now c.work.clauses c.work.heads _ c.work.invariant.state c.work.invariant.watching refl refl refl
@@ -261,20 +247,6 @@ returns-then-branch-2-clause-left c =
       reasons = (returns-then-branch-2-clause-reasons c).kept;
     }
 
-pub returns-else-taken-waiting-clause-left : goal.returns-else-taken-waiting-clause-left
-returns-else-taken-waiting-clause-left c =
-    let state = c.work.invariant.state in
-    record {
-      running = c.work.invariant.watching.running;
-      kept = c.work.invariant.kept;
-      values = state.values;
-      opens = state.open_sizes;
-      candidates = state.candidate_sizes;
-      undone = record { clean = state.tidy.clean; named = state.tidy.marked };
-      extends = state.costs.extends;
-      reasons = c.work.invariant.reasons.kept;
-    }
-
 -- each new literal was visited
 pub returns-then-branch-clause-gains : goal.returns-then-branch-clause-gains
 returns-then-branch-clause-gains c =
@@ -283,9 +255,6 @@ returns-then-branch-clause-gains c =
 pub returns-then-branch-2-clause-gains : goal.returns-then-branch-2-clause-gains
 returns-then-branch-2-clause-gains c =
     gains-then c.args.run.now c.work.run c.walk.new.run (record { found = c.work.invariant.state.found; rising = c.work.invariant.state.rising }) c.in_ok-walk.ensures.walks.found c.in_ok-walk.ensures.walks.advances.rising
-
-pub returns-else-taken-waiting-clause-gains : goal.returns-else-taken-waiting-clause-gains
-returns-else-taken-waiting-clause-gains c = record { found = c.work.invariant.state.found; rising = c.work.invariant.state.rising }
 
 -- no conflict was met
 pub returns-else-taken-waiting-clause-settled : goal.returns-else-taken-waiting-clause-settled
@@ -308,19 +277,3 @@ returns-else-taken-waiting-clause-settled c = λ found.
       tidy = rw (drop_all c.work.taken c.args.waiting.now none_waits) at state.tidy;
       done = all;
     }
-
-pub visit_form-requires-clause-sums : goal.visit_form-requires-clause-sums
-visit_form-requires-clause-sums c =
-    let state = c.work.invariant.state in
-    record {
-      values = state.values ∙ c.requires.ready.sums.values;
-      opens = state.open_sizes;
-      candidates = state.candidate_sizes;
-      next = omega (arith, c.if-run-len.true, c.len.ensures, c.work.run.work.ok.0);
-      counted = state.counted;
-    }
-
-pub walk-requires-clause-sums : goal.walk-requires-clause-sums
-walk-requires-clause-sums c =
-    let state = c.work.invariant.state in
-    record { values = state.values ∙ c.requires.ready.sums.values; opens = state.open_sizes; candidates = state.candidate_sizes; next = state.within; counted = state.counted }

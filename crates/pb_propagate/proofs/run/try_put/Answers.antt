@@ -1,5 +1,5 @@
-use Rattle.pb_propagate.proofs.Common.{◌≡◌, false, true, both_ways, or_left, or_right, negation, added, kept, has}
-use Rattle.pb_propagate.proofs.lemmas.root.Ready.{open-later, puts-none}
+use Rattle.pb_propagate.proofs.Common.{◌≡◌, false, true, or_left, or_right, negation, added, kept, has}
+use Rattle.pb_propagate.proofs.lemmas.root.Ready.{open-later}
 use Rattle.pb_propagate.proofs.run.try_put.Goals as goal
 
 pub returns-then-contains-clause-adopted : goal.returns-then-contains-clause-adopted
@@ -17,22 +17,6 @@ returns-clause-adopted c =
     let absent : has c.args.run.now.assignment.list.items c.args.literal ≡ false = cc (c.contains.ensures, c.if-contains.false) in
     let opened : has c.args.run.now.assignment.list.items (negation c.args.literal) ≡ false = cc (c.contains-2.ensures, c.if-contains-2.false, c.negation.ensures) in
     rw c.in_ok-found.ensures.list (added absent opened)
-
-pub returns-then-contains-clause-puts : goal.returns-then-contains-clause-puts
-returns-then-contains-clause-puts c = puts-none c.args.store.now c.args.rests.now c.args.run.now
-
-pub returns-then-contains-2-clause-puts : goal.returns-then-contains-2-clause-puts
-returns-then-contains-2-clause-puts c = puts-none c.args.store.now c.args.rests.now c.args.run.now
-
-pub returns-then-contains-clause-reason : goal.returns-then-contains-clause-reason
-returns-then-contains-clause-reason c =
-    let on : has c.args.run.now.assignment.list.items c.args.literal ≡ true = cc (c.contains.ensures, c.if-contains.true) in
-    λ absent opened. absurd (both_ways _ absent on)
-
-pub returns-then-contains-2-clause-reason : goal.returns-then-contains-2-clause-reason
-returns-then-contains-2-clause-reason c =
-    let off : has c.args.run.now.assignment.list.items (negation c.args.literal) ≡ true = cc (c.contains-2.ensures, c.if-contains-2.true, c.negation.ensures) in
-    λ absent opened. absurd (both_ways _ opened off)
 
 pub returns-clause-sums : goal.returns-clause-sums
 returns-clause-sums c = λ found. open-later c.in_ok-found.ensures.puts.advances c.requires.sums (c.in_ok-found.ensures.counted found)

@@ -2,13 +2,13 @@ use Rattle.pb_propagate.proofs.Common.{stored_degree, stored_terms}
 use Rattle.pb_propagate.proofs.lemmas.store.Stored.{stored-small, stored-low}
 use Rattle.pb_propagate.proofs.Common.{ℕ, ◌+◌, ◌<◌, ◌∙◌, ap, arith, get_or, Global, length, refl, set, sym, Vec, sum, get_or_read, length-map}
 use Rattle.pb_propagate.proofs.Common.{get_or-le-sum_by, Term, shapes_of, stored_shape, database, list_of, passed_to, progress, reasons_of}
-use Rattle.pb_propagate.proofs.Common.{RunReasons}
+use Rattle.pb_propagate.proofs.Common.{◌≤◌, IsTidyAt, RunReasons}
 use Rattle.pb_propagate.proofs.lemmas.engine.Advances.{advances-visit, advances-then, costs-then, on-err}
 use Rattle.pb_propagate.proofs.lemmas.engine.VisitSteps.{IsVisiting, visiting-start, visiting-next, visiting-reasons, forced-read, calm-by, waiting-by, visiting-settled, Visiting-conflict, shape-at, term-inside}
 use Rattle.pb_propagate.proofs.lemmas.root.Ready.{open-later, visiting-visits}
 use Rattle.pb_propagate.proofs.lemmas.engine.Spent.{sum-bounded}
 use Rattle.pb_propagate.proofs.lemmas.engine.Reasoned.{run-reasons-none, keeps-then, reasons-within}
-use Rattle.pb_propagate.proofs.run.visit_form.Goals.{In_ok-found}
+use Rattle.pb_propagate.proofs.run.visit_form.Goals.{After-index-candidate, In_ok-found}
 use Rattle.pb_propagate.proofs.run.visit_form.Goals as goal
 
 pub terms-init : goal.terms-init
@@ -74,27 +74,24 @@ returns-then-falsified-clause-conflict c = λ found.
     Visiting-conflict (shapes_of store.stored.items) run.opens.items run.assignment.list.items c.args.form (stored_shape c.index-kept.result.now) inside
     (shape-at store.stored.items c.args.form c.index-kept.result.now c.requires.form c.index-kept.ensures) c.terms.invariant.counted low
 
-pub returns-then-candidate-len-clause-tidy : goal.returns-then-candidate-len-clause-tidy
-returns-then-candidate-len-clause-tidy c = λ found.
-    let store = c.args.store.now in
+-- a form that is not falsified is settled if no term from its candidate on is forced
+settled : (c : After-index-candidate) → ((d : Term) → c.index-candidate.result.now < length (stored_terms c.index-kept.result.now) → stored_degree c.index-kept.result.now + (get_or (stored_terms c.index-kept.result.now) c.index-candidate.result.now d).coefficient ≤ c.index-opened.result.now) →
+    IsTidyAt (database c.args.store.now c.args.rests.now) c.args.waiting.now (length c.args.store.now.stored.items) (progress c.terms.run)
+settled c none =
+    let keep = c.args.store.now.stored.items in
+    let k = c.index-kept.result.now in
     let run = c.terms.run in
     let in_visit = c.terms.invariant.in_visit in
-    let sizes = length-map store.stored.items stored_shape in
-    let room : c.args.form < length run.opens.items = omega (arith, in_visit.opens, sizes, c.requires.form) in
-    let roomc : c.args.form < length run.candidates.items = omega (arith, in_visit.candidates, sizes, c.requires.form) in
-    let calm = calm-by c.index-kept.result.now run.opens.items run.candidates.items c.args.form c.index-opened.result.now c.index-candidate.result.now room roomc c.index-opened.ensures c.index-candidate.ensures (rw c.degree-degree.ensures at (c.is_below-falsified.ensures.above c.if-falsified.false)) (λ d less. absurd (omega (arith, less, c.len.ensures, c.if-candidate-len.true))) in
-    visiting-settled (stored_shape c.index-kept.result.now) (length store.stored.items) sizes (shape-at store.stored.items c.args.form c.index-kept.result.now c.requires.form c.index-kept.ensures) calm in_visit
+    let sizes = length-map keep stored_shape in
+    let calm = calm-by k run.opens.items run.candidates.items c.args.form c.index-opened.result.now c.index-candidate.result.now (omega (arith, in_visit.opens, sizes, c.requires.form)) (omega (arith, in_visit.candidates, sizes, c.requires.form)) c.index-opened.ensures c.index-candidate.ensures (rw c.degree-degree.ensures at (c.is_below-falsified.ensures.above c.if-falsified.false)) none in
+    visiting-settled (stored_shape k) (length keep) sizes (shape-at keep c.args.form k c.requires.form c.index-kept.ensures) calm in_visit
+
+pub returns-then-candidate-len-clause-tidy : goal.returns-then-candidate-len-clause-tidy
+returns-then-candidate-len-clause-tidy c = λ found. settled (goal.at.returns-then-candidate-len-clause-tidy c).After-index-candidate (λ d less. absurd (omega (arith, less, c.len.ensures, c.if-candidate-len.true)))
 
 pub returns-then-not-demands-clause-tidy : goal.returns-then-not-demands-clause-tidy
-returns-then-not-demands-clause-tidy c = λ found.
-    let store = c.args.store.now in
-    let run = c.terms.run in
-    let in_visit = c.terms.invariant.in_visit in
-    let sizes = length-map store.stored.items stored_shape in
-    let room : c.args.form < length run.opens.items = omega (arith, in_visit.opens, sizes, c.requires.form) in
-    let roomc : c.args.form < length run.candidates.items = omega (arith, in_visit.candidates, sizes, c.requires.form) in
-    let calm = calm-by c.index-kept.result.now run.opens.items run.candidates.items c.args.form c.index-opened.result.now c.index-candidate.result.now room roomc c.index-opened.ensures c.index-candidate.ensures (rw c.degree-degree.ensures at (c.is_below-falsified.ensures.above c.if-falsified.false)) (waiting-by c.index-kept.result.now (stored_terms c.index-kept.result.now) c.index-opened.result.now c.index-candidate.result.now c.visit_term-term.result refl (c.visit_term-term.ensures.item c.visit_term-term.result) (rw c.degree-degree.ensures at (c.is_below-demands.ensures.above c.if-not-demands.true))) in
-    visiting-settled (stored_shape c.index-kept.result.now) (length store.stored.items) sizes (shape-at store.stored.items c.args.form c.index-kept.result.now c.requires.form c.index-kept.ensures) calm in_visit
+returns-then-not-demands-clause-tidy c = λ found. settled (goal.at.returns-then-not-demands-clause-tidy c).After-index-candidate
+    (waiting-by c.index-kept.result.now (stored_terms c.index-kept.result.now) c.index-opened.result.now c.index-candidate.result.now c.visit_term-term.result refl (c.visit_term-term.ensures.item c.visit_term-term.result) (rw c.degree-degree.ensures at (c.is_below-demands.ensures.above c.if-not-demands.true)))
 
 pub returns-in_err-found-clause-costs : goal.returns-in_err-found-clause-costs
 returns-in_err-found-clause-costs c =

@@ -1,5 +1,5 @@
 use Rattle.pb_propagate.proofs.Common.{stored_form}
-use Rattle.pb_propagate.proofs.Common.{arith, inr, None, length-map, forms_of}
+use Rattle.pb_propagate.proofs.Common.{arith, None, length-map, forms_of}
 use Rattle.pb_propagate.proofs.lemmas.store.Gets.{get-push_same}
 use Rattle.pb_propagate.proofs.lemmas.store.Changes.{forms-more, forms-widened}
 use Rattle.pb_propagate.proofs.lemmas.store.Slots.{rest-widened}
@@ -24,11 +24,3 @@ pub returns-clause-forms : goal.returns-clause-forms
 returns-clause-forms c = λ s.
     let k = c.in_ok-widen.ensures.kept in
     forms-more c.args.store.now.stored.items c.widen.new.store.stored.items k.0 s k.2 k.1.form
-
-pub returns-clause-widened : goal.returns-clause-widened
-returns-clause-widened c =
-    let k = c.in_ok-widen.ensures.kept in
-    record {
-      kept = inr (omega (arith, c.len-slot.ensures, c.args.store.now.stored.ok.0), k.0, k.2, c.in_ok-extend.ensures.literals);
-      watched = c.in_ok-extend.ensures.watches;
-    }

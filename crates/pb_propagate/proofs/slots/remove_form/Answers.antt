@@ -16,11 +16,3 @@ pub returns-clause-forms : goal.returns-clause-forms
 returns-clause-forms c =
     let k = c.clear_slot.ensures.kept in
     forms-filled c.args.store.now.stored.items c.clear_slot.new.store.stored.items k.0 c.args.slot None k.2 k.1.form
-
-pub returns-clause-vacated : goal.returns-clause-vacated
-returns-clause-vacated c = record {
-  variables = c.clear_slot.ensures.variables;
-  kept = c.clear_slot.ensures.kept;
-  emptied = c.empty.ensures.literals;
-  watched = c.empty.ensures.watches;
-}

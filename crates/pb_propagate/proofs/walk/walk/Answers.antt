@@ -1,11 +1,11 @@
 use Rattle.pb_propagate.proofs.Common.{◌++◌, ◌+◌, ◌<◌, ◌∙◌, ◌∷◌, [], ap, arith, length, refl, subst, sym, NumberedLiteral, negation}
-use Rattle.pb_propagate.proofs.Common.{Falsified, Forces, Leaves, Stays, list_at, watch_lists, HasVisited, IsBroken, IsUnit, all_of, clauses_of}
+use Rattle.pb_propagate.proofs.Common.{Leaves, Stays, list_at, watch_lists, IsBroken, IsUnit, all_of, clauses_of}
 use Rattle.pb_propagate.proofs.Common.{shapes_of, has, database, progress}
 use Rattle.pb_propagate.proofs.lemmas.clauses.Literals.{true-listed, false-listed}
 use Rattle.pb_propagate.proofs.lemmas.clauses.Shapes.{broken-conflicts, conflicts-joined}
 use Rattle.pb_propagate.proofs.lemmas.clauses.Walks.{kept-then, IsWalking, walking-start, walking-next, walking-pass, walking-forces, walked-end}
 use Rattle.pb_propagate.proofs.lemmas.clauses.Readings.{running-bounded}
-use Rattle.pb_propagate.proofs.lemmas.engine.Watched.{walk-start, walk-next, walk-pass, walk-ends, walk-then, walk-costs, walk-done}
+use Rattle.pb_propagate.proofs.lemmas.engine.Watched.{walk-start, walk-next, walk-pass, walk-ends, walk-then, walk-costs}
 use Rattle.pb_propagate.proofs.lemmas.engine.Advances.{on-err}
 use Rattle.pb_propagate.proofs.lemmas.engine.Reasoned.{run-reasons-none}
 use Rattle.pb_propagate.proofs.lemmas.root.Ready.{open-later}
@@ -28,7 +28,7 @@ pub watches-preserved-in-Stays : goal.watches-preserved-in-Stays
 watches-preserved-in-Stays c =
     let i = c.watches.invariant in
     let inside : c.watches.index < length (list_at (watch_lists c.watches.clauses.lists.items) c.args.literal) = omega (arith, c.watches-test.true, c.watch_count.ensures) in
-    let v : HasVisited c.watches.run.assignment.values.items c.watches.clauses c.visit_clause.new.clauses c.args.literal c.watches.index Stays = subst (HasVisited c.watches.run.assignment.values.items c.watches.clauses c.visit_clause.new.clauses c.args.literal c.watches.index) c.in-Stays.is c.in_ok-visit_clause.ensures.watch in
+    let v = rw c.in-Stays.is at c.in_ok-visit_clause.ensures.watch in
     let passed = c.pass_true-index.ensures in
     record {
       reasons = record { kept = i.reasons.kept; added = i.reasons.added };
@@ -43,7 +43,7 @@ pub watches-preserved-in-Leaves : goal.watches-preserved-in-Leaves
 watches-preserved-in-Leaves c =
     let i = c.watches.invariant in
     let inside : c.watches.index < length (list_at (watch_lists c.watches.clauses.lists.items) c.args.literal) = omega (arith, c.watches-test.true, c.watch_count.ensures) in
-    let v : HasVisited c.watches.run.assignment.values.items c.watches.clauses c.visit_clause.new.clauses c.args.literal c.watches.index Leaves = subst (HasVisited c.watches.run.assignment.values.items c.watches.clauses c.visit_clause.new.clauses c.args.literal c.watches.index) c.in-Leaves.is c.in_ok-visit_clause.ensures.watch in
+    let v = rw c.in-Leaves.is at c.in_ok-visit_clause.ensures.watch in
     record {
       reasons = record { kept = i.reasons.kept; added = i.reasons.added };
       walking = walking-next c.visit_clause.new.clauses Leaves c.visit_clause.new.visits i.walking v c.visit_clause.ensures.literals (omega (arith, inside, v.found)) (record { counted = c.visit_clause.ensures.counted; rising = c.visit_clause.ensures.rising });
@@ -57,7 +57,7 @@ pub watches-preserved : goal.watches-preserved
 watches-preserved c =
     let i = c.watches.invariant in
     let inside : c.watches.index < length (list_at (watch_lists c.watches.clauses.lists.items) c.args.literal) = omega (arith, c.watches-test.true, c.watch_count.ensures) in
-    let v : HasVisited c.watches.run.assignment.values.items c.watches.clauses c.visit_clause.new.clauses c.args.literal c.watches.index (Forces c.in-Forces.forced) = subst (HasVisited c.watches.run.assignment.values.items c.watches.clauses c.visit_clause.new.clauses c.args.literal c.watches.index) c.in-Forces.is c.in_ok-visit_clause.ensures.watch in
+    let v = rw c.in-Forces.is at c.in_ok-visit_clause.ensures.watch in
     let shapes = shapes_of c.args.store.now.stored.items in
     let unit : IsUnit c.watches.run.assignment.values.items (clauses_of c.args.clauses.now) c.in-Forces.forced.slot c.in-Forces.forced.code = subst (λ ls. IsUnit c.watches.run.assignment.values.items ls c.in-Forces.forced.slot c.in-Forces.forced.code) (c.visit_clause.ensures.literals ∙ c.watches.invariant.walking.literals) v.found.1 in
     let reported = c.in_ok-put-in-Forces.ensures in
@@ -73,20 +73,20 @@ watches-preserved c =
 pub put-requires-clause-absent : goal.put-requires-clause-absent
 put-requires-clause-absent c =
     let values = c.watches.run.assignment.values.items in
-    let v : HasVisited c.watches.run.assignment.values.items c.watches.clauses c.visit_clause.new.clauses c.args.literal c.watches.index (Forces c.in-Forces.forced) = subst (HasVisited c.watches.run.assignment.values.items c.watches.clauses c.visit_clause.new.clauses c.args.literal c.watches.index) c.in-Forces.is c.in_ok-visit_clause.ensures.watch in
+    let v = rw c.in-Forces.is at c.in_ok-visit_clause.ensures.watch in
     ap (λ (k : NumberedLiteral). has c.watches.run.assignment.list.items k) c.literal_of.ensures ∙ sym (true-listed values c.watches.run.assignment.list.items c.in-Forces.forced.code c.watches.run.assignment.agrees) ∙ v.found.1.not_true
 
 pub put-requires-clause-not_falsified : goal.put-requires-clause-not_falsified
 put-requires-clause-not_falsified c =
     let values = c.watches.run.assignment.values.items in
-    let v : HasVisited c.watches.run.assignment.values.items c.watches.clauses c.visit_clause.new.clauses c.args.literal c.watches.index (Forces c.in-Forces.forced) = subst (HasVisited c.watches.run.assignment.values.items c.watches.clauses c.visit_clause.new.clauses c.args.literal c.watches.index) c.in-Forces.is c.in_ok-visit_clause.ensures.watch in
+    let v = rw c.in-Forces.is at c.in_ok-visit_clause.ensures.watch in
     ap (λ (k : NumberedLiteral). has c.watches.run.assignment.list.items (negation k)) c.literal_of.ensures ∙ sym (false-listed values c.watches.run.assignment.list.items c.in-Forces.forced.code c.watches.run.assignment.agrees) ∙ v.found.1.not_false
 
 -- where a form is falsified: the literal was put
 forced : (c : goal.Then-branch) → IsWalking c.args.clauses.now c.visit_clause.new.clauses c.args.literal (c.watches.index + 1) (progress c.args.run.now) (progress c.put.new.run)
 forced c =
     let inside : c.watches.index < length (list_at (watch_lists c.watches.clauses.lists.items) c.args.literal) = omega (arith, c.watches-test.true, c.watch_count.ensures) in
-    let v : HasVisited c.watches.run.assignment.values.items c.watches.clauses c.visit_clause.new.clauses c.args.literal c.watches.index (Forces c.in-Forces.forced) = subst (HasVisited c.watches.run.assignment.values.items c.watches.clauses c.visit_clause.new.clauses c.args.literal c.watches.index) c.in-Forces.is c.in_ok-visit_clause.ensures.watch in
+    let v = rw c.in-Forces.is at c.in_ok-visit_clause.ensures.watch in
     let reported = c.in_ok-put-in-Forces.ensures in
     walking-forces c.visit_clause.new.clauses c.visit_clause.new.visits c.in-Forces.forced (progress c.put.new.run) c.watches.invariant.walking v c.visit_clause.ensures.literals inside (record { counted = c.visit_clause.ensures.counted; rising = c.visit_clause.ensures.rising }) reported.puts.advances.rising reported.puts.advances.values (reported.list ∙ ap (λ k. c.watches.run.assignment.list.items ++ (k ∷ [])) c.literal_of.ensures) c.watches.run.assignment.agrees c.put.new.run.assignment.agrees
 
@@ -97,7 +97,7 @@ returns-then-branch-clause-conflict c = λ found.
 pub returns-in-Falsified-clause-conflict : goal.returns-in-Falsified-clause-conflict
 returns-in-Falsified-clause-conflict c = λ yes.
     let shapes = shapes_of c.args.store.now.stored.items in
-    let v : HasVisited c.watches.run.assignment.values.items c.watches.clauses c.visit_clause.new.clauses c.args.literal c.watches.index Falsified = subst (HasVisited c.watches.run.assignment.values.items c.watches.clauses c.visit_clause.new.clauses c.args.literal c.watches.index) c.in-Falsified.is c.in_ok-visit_clause.ensures.watch in
+    let v = rw c.in-Falsified.is at c.in_ok-visit_clause.ensures.watch in
     let same = c.visit_clause.ensures.literals ∙ c.watches.invariant.walking.literals in
     broken-conflicts shapes (clauses_of c.args.clauses.now) c.watches.run.assignment.values.items c.watches.run.assignment.list.items c.requires.joined c.watches.run.assignment.agrees (subst (λ ls. IsBroken c.watches.run.assignment.values.items ls) same v.found)
 
@@ -124,7 +124,7 @@ pub returns-then-branch-clause-walks : goal.returns-then-branch-clause-walks
 returns-then-branch-clause-walks c =
     let i = c.watches.invariant in
     let inside : c.watches.index < length (list_at (watch_lists c.watches.clauses.lists.items) c.args.literal) = omega (arith, c.watches-test.true, c.watch_count.ensures) in
-    let v : HasVisited c.watches.run.assignment.values.items c.watches.clauses c.visit_clause.new.clauses c.args.literal c.watches.index (Forces c.in-Forces.forced) = subst (HasVisited c.watches.run.assignment.values.items c.watches.clauses c.visit_clause.new.clauses c.args.literal c.watches.index) c.in-Forces.is c.in_ok-visit_clause.ensures.watch in
+    let v = rw c.in-Forces.is at c.in_ok-visit_clause.ensures.watch in
     let shapes = shapes_of c.args.store.now.stored.items in
     let unit : IsUnit c.watches.run.assignment.values.items (clauses_of c.args.clauses.now) c.in-Forces.forced.slot c.in-Forces.forced.code = subst (λ ls. IsUnit c.watches.run.assignment.values.items ls c.in-Forces.forced.slot c.in-Forces.forced.code) (c.visit_clause.ensures.literals ∙ c.watches.invariant.walking.literals) v.found.1 in
     let reported = c.in_ok-put-in-Forces.ensures in
@@ -142,7 +142,7 @@ pub returns-in-Falsified-clause-walks : goal.returns-in-Falsified-clause-walks
 returns-in-Falsified-clause-walks c =
     let i = c.watches.invariant in
     let inside : c.watches.index < length (list_at (watch_lists c.watches.clauses.lists.items) c.args.literal) = omega (arith, c.watches-test.true, c.watch_count.ensures) in
-    let v : HasVisited c.watches.run.assignment.values.items c.watches.clauses c.visit_clause.new.clauses c.args.literal c.watches.index Falsified = subst (HasVisited c.watches.run.assignment.values.items c.watches.clauses c.visit_clause.new.clauses c.args.literal c.watches.index) c.in-Falsified.is c.in_ok-visit_clause.ensures.watch in
+    let v = rw c.in-Falsified.is at c.in_ok-visit_clause.ensures.watch in
     record {
       advances = walk-ends (database c.args.store.now c.args.rests.now) c.args.clauses.now c.watches.clauses c.visit_clause.new.clauses c.args.literal c.watches.index c.visit_clause.new.visits inside c.visit_clause.ensures.covered c.visit_clause.ensures.rising c.watches.invariant.advances;
       reasons = record { kept = i.reasons.kept; added = i.reasons.added };
@@ -154,17 +154,4 @@ returns-in-Falsified-clause-walks c =
           let more = c.visit_clause.ensures.counted few in
           let old = i.walking.found (omega (arith, few, more)) in
           omega (arith, old, more);
-    }
-
-pub returns-clause-walks : goal.returns-clause-walks
-returns-clause-walks c =
-    let i = c.watches.invariant in
-    record {
-      advances = walk-done (database c.args.store.now c.args.rests.now) c.args.clauses.now c.watches.clauses c.args.literal c.watches.index i.advances;
-      reasons = i.reasons;
-      tidy = i.tidy;
-      running = i.walking.running;
-      kept = i.walking.kept;
-      grows = i.walking.grows;
-      found = i.walking.found;
     }

@@ -1,98 +1,33 @@
-use Rattle.pb_propagate.proofs.Common.{◌∙◌, ◌≡◌, ap, length, refl, all_of, clauses_of, forms_of, Live, Standing, numbered}
-use Rattle.pb_propagate.proofs.lemmas.engine.Rests.{slots-kept}
+use Rattle.pb_propagate.proofs.Common.{◌∙◌, ap, refl, all_of, Standing}
 use Rattle.pb_propagate.proofs.lemmas.engine.Assumed.{refuted-meets, ended-free, ended-completion}
-use Rattle.pb_propagate.proofs.lemmas.root.Kept.{kept-conflicts, kept-vacant}
+use Rattle.pb_propagate.proofs.lemmas.root.Kept.{kept-conflicts}
+use Rattle.pb_propagate.proofs.lemmas.root.Ready.{rest-kept}
 use Rattle.pb_propagate.proofs.lemmas.root.Transplants.{clash-refuted, root-clash, map-none, map-some}
-use Rattle.pb_propagate.proofs.lemmas.store.Placed.{placed-kept}
 use Rattle.pb_propagate.proofs.lemmas.engine.Reasoned.{reasons-derive}
 use Rattle.pb_propagate.proofs.engine.Engine.complete.Goals as goal
 
--- a completion that continues from the root
-pub extend-requires-clause-standing : goal.extend-requires-clause-standing
-extend-requires-clause-standing c =
-    let both = c.self.invariant (ap (λ (v : Standing). v.spent) c.self.view_is ∙ c.requires.ready) in
-    record {
-      rooted = both.2;
-      sound = both.0.sound;
-      joined = both.0.joined;
-      ready = both.0.ready;
-      widths = both.0.widths;
-    }
-
-pub extend-requires-clause-vacant : goal.extend-requires-clause-vacant
-extend-requires-clause-vacant c =
-    let e = c.self.inside in
-    let both = c.self.invariant (ap (λ (v : Standing). v.spent) c.self.view_is ∙ c.requires.ready) in
-    kept-vacant (all_of e.store e.clauses) e.store.variables e.conflict c.if-self.false both.3
-
-pub invariant_of-self-2 : goal.invariant_of-self-2
-invariant_of-self-2 c = λ ready.
-    let e = c.self.inside in
-    let both = c.self.invariant (ap (λ (v : Standing). v.spent) c.self.view_is ∙ c.requires.ready) in
-    let r = both.0 in
-    let reported = c.in_ok-values.ensures in
-    let lit : clauses_of c.extend.new.clauses ≡ clauses_of e.clauses = c.extend.ensures.literals in (
-      record {
-        sound = r.sound;
-        slots = rw lit r.slots;
-        joined = rw lit r.joined;
-        ready = reported.left.ready;
-        widths = reported.left.lists ∙ r.widths;
-        known = ap length c.extend.ensures.literals ∙ r.known;
-      },
-      both.1,
-      reported.left.rooted,
-      rw lit reported.left.conflict,
-    )
-
 pub returns-clause-conflict : goal.returns-clause-conflict
 returns-clause-conflict c =
-    let e = c.self.inside in
     let both = c.self.invariant (ap (λ (v : Standing). v.spent) c.self.view_is ∙ c.requires.ready) in
-    let forms = forms_of e.store.stored.items in
-    let shapes = all_of e.store e.clauses in
-    let kept = placed-kept forms e.places.items shapes both.1 (slots-kept forms shapes both.0.slots) in
-    rw (← c.self.view_is) (map-none c.in_ok-values.values (λ clash. refuted-meets (Live (numbered forms e.places.items)) shapes c.args.given.now clash.0 kept clash.1) c.in_ok-values.ensures.clash)
+    rw (← c.self.view_is) (map-none c.in_ok-values.values (λ clash. refuted-meets _ _ c.args.given.now clash.0 (rest-kept both.0 both.1) clash.1) c.in_ok-values.ensures.clash)
 
 pub returns-clause-no_conflict : goal.returns-clause-no_conflict
 returns-clause-no_conflict c =
-    let e = c.self.inside in
     let both = c.self.invariant (ap (λ (v : Standing). v.spent) c.self.view_is ∙ c.requires.ready) in
-    let forms = forms_of e.store.stored.items in
-    let shapes = all_of e.store e.clauses in
-    let kept = placed-kept forms e.places.items shapes both.1 (slots-kept forms shapes both.0.slots) in
-    rw (← c.self.view_is) (map-some c.in_ok-values.values (λ values made. ended-free (Live (numbered forms e.places.items)) shapes c.args.given.now made.list values.items kept made.agrees made.ended) c.in_ok-values.ensures.ended)
+    rw (← c.self.view_is) (map-some c.in_ok-values.values (λ values made. ended-free _ _ c.args.given.now made.list values.items (rest-kept both.0 both.1) made.agrees made.ended) c.in_ok-values.ensures.ended)
 
 pub returns-clause-completed : goal.returns-clause-completed
 returns-clause-completed c =
-    let e = c.self.inside in
     let both = c.self.invariant (ap (λ (v : Standing). v.spent) c.self.view_is ∙ c.requires.ready) in
-    let forms = forms_of e.store.stored.items in
-    let shapes = all_of e.store e.clauses in
-    let kept = placed-kept forms e.places.items shapes both.1 (slots-kept forms shapes both.0.slots) in
-    rw (← c.self.view_is) (map-some c.in_ok-values.values (λ values made. ended-completion (Live (numbered forms e.places.items)) shapes c.args.given.now made.list values.items values.items kept made.agrees refl made.ended) c.in_ok-values.ensures.ended)
-
-pub returns-in_err-values-clause-forms : goal.returns-in_err-values-clause-forms
-returns-in_err-values-clause-forms c = ap (λ (v : Standing). v.forms) c.self.view_is
-
-pub returns-clause-forms : goal.returns-clause-forms
-returns-clause-forms c = ap (λ (v : Standing). v.forms) c.self.view_is
-
-pub returns-clause-variables : goal.returns-clause-variables
-returns-clause-variables c = ap (λ (v : Standing). v.variables) c.self.view_is
-
-pub returns-clause-visits : goal.returns-clause-visits
-returns-clause-visits c = ap (λ (v : Standing). v.visits) c.self.view_is
+    rw (← c.self.view_is) (map-some c.in_ok-values.values (λ values made. ended-completion _ _ c.args.given.now made.list values.items values.items (rest-kept both.0 both.1) made.agrees refl made.ended) c.in_ok-values.ensures.ended)
 
 -- a conflict of the root
 pub returns-then-self-clause-conflict : goal.returns-then-self-clause-conflict
 returns-then-self-clause-conflict c =
     let e = c.self.inside in
     let both = c.self.invariant (ap (λ (v : Standing). v.spent) c.self.view_is ∙ c.requires.ready) in
-    let forms = forms_of e.store.stored.items in
     let shapes = all_of e.store e.clauses in
-    let kept = placed-kept forms e.places.items shapes both.1 (slots-kept forms shapes both.0.slots) in
     let h = both.3.holds c.if-self.true in
     let list = e.conflict.assignment.list.items in
     let clash = clash-refuted shapes list c.args.given.now (reasons-derive h.reasoned) (root-clash shapes list c.args.given.now (kept-conflicts shapes e.conflict.assignment h)) in
-    rw (← c.self.view_is) (refuted-meets (Live (numbered forms e.places.items)) shapes c.args.given.now clash.0 kept clash.1)
+    rw (← c.self.view_is) (refuted-meets _ _ c.args.given.now clash.0 (rest-kept both.0 both.1) clash.1)

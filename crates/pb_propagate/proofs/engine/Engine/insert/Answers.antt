@@ -1,5 +1,5 @@
 use Rattle.pb_propagate.proofs.Common.{◌++◌, ◌-◌, ◌<◌, ◌^◌, ◌∙◌, ◌∷◌, ◌≡◌, [], ap, arith, None, rules, set, Some, slice_get_within}
-use Rattle.pb_propagate.proofs.Common.{forms_of, Standing, numbered}
+use Rattle.pb_propagate.proofs.Common.{ArePlaced, forms_of, Standing, numbered}
 use Rattle.pb_propagate.proofs.lemmas.store.Changes.{forms-length}
 use Rattle.pb_propagate.proofs.lemmas.store.Placed.{numbered-same, numbered-filled, numbered-grown, placed-agree, placed-filled}
 use Rattle.pb_propagate.proofs.lemmas.root.Kept.{gained-kept}
@@ -7,18 +7,23 @@ use Rattle.pb_propagate.proofs.lemmas.root.Gained.{gained-both}
 use Rattle.pb_propagate.proofs.engine.Engine.insert.Goals.{In_ok-slot}
 use Rattle.pb_propagate.proofs.engine.Engine.insert.Goals as goal
 
-pub invariant_of-self-2 : goal.invariant_of-self-2
-invariant_of-self-2 c = λ ready.
+-- the numbers have their slots still, and the new slot is none that says "no form"
+open-places : (c : In_ok-slot) → (c.in_ok-slot.slot < 2 ^ 64 - 1) × ArePlaced (forms_of c.empty_slot.new.store.stored.items) c.self.inside.places.items
+open-places c =
     let e = c.self.inside in
     let r = c.self.invariant (ap (λ (v : Standing). v.spent) c.self.view_is ∙ c.requires.ready) in
     let keep = c.empty_slot.new.store.stored in
     let forms = forms_of keep.items in
-    let was = forms_of e.store.stored.items in
+    (omega (arith, slice_get_within forms c.in_ok-slot.slot None c.in_ok-slot.ensures.slot, keep.ok.0, keep.ok.1, forms-length keep.items), placed-agree (forms_of e.store.stored.items) forms e.places.items c.empty_slot.ensures.forms r.1)
+
+pub invariant_of-self-2 : goal.invariant_of-self-2
+invariant_of-self-2 c = λ ready.
+    let e = c.self.inside in
+    let r = c.self.invariant (ap (λ (v : Standing). v.spent) c.self.view_is ∙ c.requires.ready) in
+    let forms = forms_of c.empty_slot.new.store.stored.items in
     let slot = c.in_ok-slot.slot in
-    let none = c.in_ok-slot.ensures.slot in
-    let small : slot < 2 ^ 64 - 1 = omega (arith, slice_get_within forms slot None none, keep.ok.0, keep.ok.1, forms-length keep.items) in
-    let placed = placed-agree was forms e.places.items c.empty_slot.ensures.forms r.1 in
-    (c.in_ok-add_form.ensures.rest, rw (c.in_ok-add_form.ensures.forms, c.in_ok-push.ensures.items) (placed-filled forms e.places.items slot c.args.form none small placed), c.in_ok-add.ensures, gained-kept e.store c.add_form.new.store e.clauses c.add_form.new.clauses slot e.conflict r.0.slots (gained-both e.store c.empty_slot.new.store c.add_form.new.store e.clauses c.empty_slot.new.clauses c.add_form.new.clauses slot c.empty_slot.ensures.variables c.in_ok-slot.ensures.widened c.in_ok-add_form.ensures.gained) r.3)
+    let places = open-places (goal.at.invariant_of-self-2 c).In_ok-slot in
+    (c.in_ok-add_form.ensures.rest, rw (c.in_ok-add_form.ensures.forms, c.in_ok-push.ensures.items) (placed-filled forms e.places.items slot c.args.form c.in_ok-slot.ensures.slot places.0 places.1), c.in_ok-add.ensures, gained-kept e.store c.add_form.new.store e.clauses c.add_form.new.clauses slot e.conflict r.0.slots (gained-both e.store c.empty_slot.new.store c.add_form.new.store e.clauses c.empty_slot.new.clauses c.add_form.new.clauses slot c.empty_slot.ensures.variables c.in_ok-slot.ensures.widened c.in_ok-add_form.ensures.gained) r.3)
 
 pub returns-in_err-slot-clause-unchanged : goal.returns-in_err-slot-clause-unchanged
 returns-in_err-slot-clause-unchanged c =
@@ -41,15 +46,11 @@ returns-in_err-add_form-clause-unchanged c =
 same-forms : (c : In_ok-slot) → numbered (set (forms_of c.empty_slot.new.store.stored.items) c.in_ok-slot.slot (Some c.args.form)) c.self.inside.places.items ≡ c.args.self.now.forms
 same-forms c =
     let e = c.self.inside in
-    let r = c.self.invariant (ap (λ (v : Standing). v.spent) c.self.view_is ∙ c.requires.ready) in
-    let keep = c.empty_slot.new.store.stored in
-    let forms = forms_of keep.items in
+    let forms = forms_of c.empty_slot.new.store.stored.items in
     let was = forms_of e.store.stored.items in
     let slot = c.in_ok-slot.slot in
-    let none = c.in_ok-slot.ensures.slot in
-    let small : slot < 2 ^ 64 - 1 = omega (arith, slice_get_within forms slot None none, keep.ok.0, keep.ok.1, forms-length keep.items) in
-    let placed = placed-agree was forms e.places.items c.empty_slot.ensures.forms r.1 in
-    numbered-filled forms e.places.items slot c.args.form none small placed ∙ numbered-same was forms e.places.items (λ n s h. c.empty_slot.ensures.forms s) ∙ ap (λ (v : Standing). v.forms) c.self.view_is
+    let places = open-places c in
+    numbered-filled forms e.places.items slot c.args.form c.in_ok-slot.ensures.slot places.0 places.1 ∙ numbered-same was forms e.places.items (λ n s h. c.empty_slot.ensures.forms s) ∙ ap (λ (v : Standing). v.forms) c.self.view_is
 
 pub returns-in_err-push-clause-unchanged : goal.returns-in_err-push-clause-unchanged
 returns-in_err-push-clause-unchanged c = let same = same-forms (goal.at.returns-in_err-push-clause-unchanged c).In_ok-slot in search (rules, same)
@@ -60,16 +61,12 @@ returns-in_err-add-clause-unchanged c = let same = same-forms (goal.at.returns-i
 pub returns-clause-forms : goal.returns-clause-forms
 returns-clause-forms c =
     let e = c.self.inside in
-    let r = c.self.invariant (ap (λ (v : Standing). v.spent) c.self.view_is ∙ c.requires.ready) in
-    let keep = c.empty_slot.new.store.stored in
-    let forms = forms_of keep.items in
+    let forms = forms_of c.empty_slot.new.store.stored.items in
     let was = forms_of e.store.stored.items in
     let slot = c.in_ok-slot.slot in
-    let none = c.in_ok-slot.ensures.slot in
-    let small : slot < 2 ^ 64 - 1 = omega (arith, slice_get_within forms slot None none, keep.ok.0, keep.ok.1, forms-length keep.items) in
-    let placed = placed-agree was forms e.places.items c.empty_slot.ensures.forms r.1 in
+    let places = open-places (goal.at.returns-clause-forms c).In_ok-slot in
     let same = numbered-same was forms e.places.items (λ n s h. c.empty_slot.ensures.forms s) ∙ ap (λ (v : Standing). v.forms) c.self.view_is in
-    rw (c.in_ok-add_form.ensures.forms, c.in_ok-push.ensures.items) (numbered-grown forms e.places.items slot c.args.form none small placed ∙ ap (λ xs. xs ++ (Some c.args.form ∷ [])) same)
+    rw (c.in_ok-add_form.ensures.forms, c.in_ok-push.ensures.items) (numbered-grown forms e.places.items slot c.args.form c.in_ok-slot.ensures.slot places.0 places.1 ∙ ap (λ xs. xs ++ (Some c.args.form ∷ [])) same)
 
 pub add-requires-clause-gained : goal.add-requires-clause-gained
 add-requires-clause-gained c =

@@ -5,11 +5,6 @@ use Rattle.pb_propagate.proofs.lemmas.root.Kept.{lost-kept}
 use Rattle.pb_propagate.proofs.lemmas.root.Lost.{lost-rooted}
 use Rattle.pb_propagate.proofs.engine.Engine.remove.Goals as goal
 
-pub remove_form-requires-clause-rest : goal.remove_form-requires-clause-rest
-remove_form-requires-clause-rest c =
-    let r = c.self.invariant (ap (λ (v : Standing). v.spent) c.self.view_is ∙ c.requires.ready) in
-    r.0
-
 pub invariant_of-self : goal.invariant_of-self
 invariant_of-self c = λ ready.
     let e = c.self.inside in

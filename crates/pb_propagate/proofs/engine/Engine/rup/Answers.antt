@@ -1,113 +1,46 @@
-use Rattle.pb_propagate.proofs.Common.{sum_by, ◌+◌, ◌*◌, ◌∙◌, ◌≡◌, ◌≤◌, [], ap, arith, inl, inr, length, List, of_z, pos, refl, sym, true, w128}
-use Rattle.pb_propagate.proofs.Common.{NumberedLiteral, negation_of, all_of, clauses_of, forms_of, Live, one_in, Standing, terms_in, alone, numbered}
+use Rattle.pb_propagate.proofs.Common.{false, sum_by, ◌+◌, ◌*◌, ◌∙◌, ◌≡◌, ◌≤◌, [], ap, arith, inl, inr, length, List, of_z, pos, refl, true, w128}
+use Rattle.pb_propagate.proofs.Common.{NumberedLiteral, negation_of, all_of, forms_of, Live, one_in, Standing, terms_in, alone, numbered}
 use Rattle.pb_propagate.proofs.Common.{IsCompletion, MeetsConflict, With}
 use Rattle.pb_propagate.proofs.lemmas.engine.Bounds.{slots-terms}
-use Rattle.pb_propagate.proofs.lemmas.root.Asked.{asked-meets, asked-free}
-use Rattle.pb_propagate.proofs.lemmas.root.Kept.{conflict-answered, conflict-few, kept-vacant}
-use Rattle.pb_propagate.proofs.engine.Engine.rup.Goals.{After-ask}
+use Rattle.pb_propagate.proofs.lemmas.root.Asked.{asked-meets, asked-free, IsFree}
+use Rattle.pb_propagate.proofs.lemmas.root.Kept.{conflict-answered, conflict-few}
+use Rattle.pb_propagate.proofs.engine.Engine.rup.Goals.{After-ask, After-of-self-inside, In_ok-answer}
 use Rattle.pb_propagate.proofs.engine.Engine.rup.Goals as goal
 
-pub returns-then-degree-eq0-clause-not_implied : goal.returns-then-degree-eq0-clause-not_implied
-returns-then-degree-eq0-clause-not_implied c = λ found. absurd cc
-
-pub returns-then-degree-eq0-clause-completion : goal.returns-then-degree-eq0-clause-completion
-returns-then-degree-eq0-clause-completion c = λ found. absurd cc
-
-pub ask-requires-clause-standing : goal.ask-requires-clause-standing
-ask-requires-clause-standing c =
-    let both = c.self.invariant (ap (λ (v : Standing). v.spent) c.self.view_is ∙ c.requires.ready) in
-    record {
-      rooted = both.2;
-      sound = both.0.sound;
-      joined = both.0.joined;
-      ready = both.0.ready;
-      widths = both.0.widths;
-    }
-
-pub ask-requires-clause-vacant : goal.ask-requires-clause-vacant
-ask-requires-clause-vacant c =
+-- a conflict that the question has met
+met : (c : In_ok-answer) → c.in_ok-answer.answer ≡ true → (m : MeetsConflict (With (Live (numbered (forms_of c.self.inside.store.stored.items) c.self.inside.places.items)) (negation_of c.args.goal.now)) []) × (length m.list ≤ c.ask.new.visits)
+met c found =
     let e = c.self.inside in
     let both = c.self.invariant (ap (λ (v : Standing). v.spent) c.self.view_is ∙ c.requires.ready) in
-    kept-vacant (all_of e.store e.clauses) e.store.variables e.conflict c.if-self.false both.3
-
-pub ask-requires-clause-inside : goal.ask-requires-clause-inside
-ask-requires-clause-inside c =
-    let e = c.self.inside in
-    let count : e.store.variables ≡ c.args.self.now.variables = ap (λ (v : Standing). v.variables) c.self.view_is in
-    λ k d h. let one = c.requires.inside k d h in omega (arith, one, count)
-
-pub invariant_of-self-2 : goal.invariant_of-self-2
-invariant_of-self-2 c = λ ready.
-    let e = c.self.inside in
-    let both = c.self.invariant (ap (λ (v : Standing). v.spent) c.self.view_is ∙ c.requires.ready) in
-    let r = both.0 in
-    let reported = c.in_ok-answer.ensures in
-    let lit : clauses_of c.ask.new.clauses ≡ clauses_of e.clauses = c.ask.ensures.literals in (
-      record {
-        sound = reported.left.sound;
-        slots = rw (reported.left.kept, lit) r.slots;
-        joined = rw (reported.left.kept, lit) r.joined;
-        ready = reported.left.ready;
-        widths = reported.left.lists ∙ r.widths ∙ ap (λ n. 4 * n) (sym c.ask.ensures.variables);
-        known = ap length c.ask.ensures.literals ∙ r.known ∙ sym (ap length reported.left.kept);
-      },
-      rw reported.left.kept both.1,
-      reported.left.rooted,
-      rw (reported.left.kept, lit, c.ask.ensures.variables) reported.left.conflict,
-    )
-
-pub returns-clause-forms : goal.returns-clause-forms
-returns-clause-forms c = rw c.in_ok-answer.ensures.left.kept (ap (λ (v : Standing). v.forms) c.self.view_is)
+    asked-meets (forms_of e.store.stored.items) e.places.items (all_of e.store e.clauses) (negation_of c.args.goal.now) c.ask.new.visits c.in_ok-answer.answer both.1 both.0.slots found c.in_ok-answer.ensures.asked
 
 pub returns-clause-implied : goal.returns-clause-implied
-returns-clause-implied c = λ found.
+returns-clause-implied c = λ found. rw (← c.self.view_is) (inr (met (goal.at.returns-clause-implied c).In_ok-answer found).0)
+
+-- a completion that the question has found
+free : (c : In_ok-answer) → c.in_ok-answer.answer ≡ false → IsFree (With (Live (numbered (forms_of c.self.inside.store.stored.items) c.self.inside.places.items)) (negation_of c.args.goal.now)) c.ask.new.visits
+free c found =
     let e = c.self.inside in
     let both = c.self.invariant (ap (λ (v : Standing). v.spent) c.self.view_is ∙ c.requires.ready) in
-    let forms = forms_of e.store.stored.items in
-    let g = negation_of c.args.goal.now in
-    let meets = asked-meets forms e.places.items (all_of e.store e.clauses) g c.ask.new.visits c.in_ok-answer.answer both.1 both.0.slots found c.in_ok-answer.ensures.asked in
-    rw (← c.self.view_is) (inr meets.0)
+    asked-free (forms_of e.store.stored.items) e.places.items (all_of e.store e.clauses) (negation_of c.args.goal.now) c.ask.new.visits c.in_ok-answer.answer both.1 both.0.slots found c.in_ok-answer.ensures.asked
 
 pub returns-clause-not_implied : goal.returns-clause-not_implied
 returns-clause-not_implied c = λ found rup.
     let e = c.self.inside in
-    let both = c.self.invariant (ap (λ (v : Standing). v.spent) c.self.view_is ∙ c.requires.ready) in
-    let forms = forms_of e.store.stored.items in
-    let g = negation_of c.args.goal.now in
-    let free = asked-free forms e.places.items (all_of e.store e.clauses) g c.ask.new.visits c.in_ok-answer.answer both.1 both.0.slots found c.in_ok-answer.ensures.asked in
-    let shown = numbered forms e.places.items in
-    let none : MeetsConflict (With (Live shown) g) [] → ⊥ = free.none in
-    let free_goal : MeetsConflict (With (Live shown) (negation_of c.args.goal.now)) [] → ⊥ = none in
-    let same : shown ≡ c.args.self.now.forms = ap (λ (v : Standing). v.forms) c.self.view_is in
+    let same : numbered (forms_of e.store.stored.items) e.places.items ≡ c.args.self.now.forms = ap (λ (v : Standing). v.forms) c.self.view_is in
     elim rup [
       | inl nothing ↦ c.if-degree-eq0.false (ap (of_z w128) (c.degree.ensures.degree ∙ ap pos nothing))
-      | inr m ↦ free_goal (rw (← same) at m)
+      | inr m ↦ (free (goal.at.returns-clause-not_implied c).In_ok-answer found).none (rw (← same) at m)
     ]
 
 pub returns-clause-conflict : goal.returns-clause-conflict
-returns-clause-conflict c = λ found.
-    let e = c.self.inside in
-    let both = c.self.invariant (ap (λ (v : Standing). v.spent) c.self.view_is ∙ c.requires.ready) in
-    let forms = forms_of e.store.stored.items in
-    let g = negation_of c.args.goal.now in
-    let meets = asked-meets forms e.places.items (all_of e.store e.clauses) g c.ask.new.visits c.in_ok-answer.answer both.1 both.0.slots found c.in_ok-answer.ensures.asked in
-    rw (← c.self.view_is) (inr meets)
+returns-clause-conflict c = λ found. rw (← c.self.view_is) (inr (met (goal.at.returns-clause-conflict c).In_ok-answer found))
 
 pub returns-clause-completion : goal.returns-clause-completion
 returns-clause-completion c = λ found.
-    let e = c.self.inside in
-    let both = c.self.invariant (ap (λ (v : Standing). v.spent) c.self.view_is ∙ c.requires.ready) in
-    let forms = forms_of e.store.stored.items in
-    let g = negation_of c.args.goal.now in
-    let free = asked-free forms e.places.items (all_of e.store e.clauses) g c.ask.new.visits c.in_ok-answer.answer both.1 both.0.slots found c.in_ok-answer.ensures.asked in
-    let whole : (list : List NumberedLiteral) × IsCompletion (With (Live (numbered forms e.places.items)) g) [] list × (length list ≤ c.ask.new.visits) = (free.list, free.complete, free.few) in
+    let made = free (goal.at.returns-clause-completion c).In_ok-answer found in
+    let whole : (list : List NumberedLiteral) × IsCompletion (With (Live (numbered (forms_of c.self.inside.store.stored.items) c.self.inside.places.items)) (negation_of c.args.goal.now)) [] list × (length list ≤ c.ask.new.visits) = (made.list, made.complete, made.few) in
     rw (← c.self.view_is) whole
-
-pub returns-in_err-answer-clause-forms : goal.returns-in_err-answer-clause-forms
-returns-in_err-answer-clause-forms c =
-    let e = c.self.inside in
-    let both = c.self.invariant (ap (λ (v : Standing). v.spent) c.self.view_is ∙ c.requires.ready) in
-    c.in_err-answer.ensures.forms e.places.items both.1 ∙ ap (λ (v : Standing). v.forms) c.self.view_is
 
 -- the visits of the question
 asked-most : (c : After-ask) → c.ask.new.visits ≤ 3 * (sum_by terms_in c.args.self.now.forms + length c.args.goal.now.terms) + (sum_by one_in c.args.self.now.forms + 1)
@@ -126,38 +59,20 @@ pub returns-in_err-answer-clause-most : goal.returns-in_err-answer-clause-most
 returns-in_err-answer-clause-most c = asked-most (goal.at.returns-in_err-answer-clause-most c).After-ask
 
 -- a conflict of the root
-pub returns-then-self-clause-implied : goal.returns-then-self-clause-implied
-returns-then-self-clause-implied c = λ found.
+kept : (c : After-of-self-inside) → (m : MeetsConflict (With (Live (numbered (forms_of c.self.inside.store.stored.items) c.self.inside.places.items)) (negation_of c.args.goal.now)) []) × (length m.list ≤ c.of-self-inside.result)
+kept c =
     let e = c.self.inside in
     let both = c.self.invariant (ap (λ (v : Standing). v.spent) c.self.view_is ∙ c.requires.ready) in
-    let forms = forms_of e.store.stored.items in
     let shapes = all_of e.store e.clauses in
     let visits = c.of-self-inside.result in
-    let list = e.conflict.assignment.list in
-    let answered = conflict-answered shapes visits e.conflict.assignment (omega (arith, c.of-self-inside.ensures, c.len.ensures, list.ok.0)) (both.3.holds c.if-self.true) in
-    let meets = asked-meets forms e.places.items shapes (negation_of c.args.goal.now) visits true both.1 both.0.slots refl (alone refl answered) in
-    rw (← c.self.view_is) (inr meets.0)
+    let answered = conflict-answered shapes visits e.conflict.assignment (omega (arith, c.of-self-inside.ensures, c.len.ensures, e.conflict.assignment.list.ok.0)) (both.3.holds c.if-self.true) in
+    asked-meets (forms_of e.store.stored.items) e.places.items shapes (negation_of c.args.goal.now) visits true both.1 both.0.slots refl (alone refl answered)
 
-pub returns-then-self-clause-not_implied : goal.returns-then-self-clause-not_implied
-returns-then-self-clause-not_implied c = λ found. absurd cc
-
-pub returns-then-self-clause-completion : goal.returns-then-self-clause-completion
-returns-then-self-clause-completion c = λ found. absurd cc
+pub returns-then-self-clause-implied : goal.returns-then-self-clause-implied
+returns-then-self-clause-implied c = λ found. rw (← c.self.view_is) (inr (kept (goal.at.returns-then-self-clause-implied c).After-of-self-inside).0)
 
 pub returns-then-self-clause-conflict : goal.returns-then-self-clause-conflict
-returns-then-self-clause-conflict c = λ found.
-    let e = c.self.inside in
-    let both = c.self.invariant (ap (λ (v : Standing). v.spent) c.self.view_is ∙ c.requires.ready) in
-    let forms = forms_of e.store.stored.items in
-    let shapes = all_of e.store e.clauses in
-    let visits = c.of-self-inside.result in
-    let list = e.conflict.assignment.list in
-    let answered = conflict-answered shapes visits e.conflict.assignment (omega (arith, c.of-self-inside.ensures, c.len.ensures, list.ok.0)) (both.3.holds c.if-self.true) in
-    let meets = asked-meets forms e.places.items shapes (negation_of c.args.goal.now) visits true both.1 both.0.slots refl (alone refl answered) in
-    rw (← c.self.view_is) (inr meets)
-
-pub returns-then-self-clause-unasked : goal.returns-then-self-clause-unasked
-returns-then-self-clause-unasked c = λ nothing. absurd (c.if-degree-eq0.false (ap (of_z w128) (c.degree.ensures.degree ∙ ap pos nothing)))
+returns-then-self-clause-conflict c = λ found. rw (← c.self.view_is) (inr (kept (goal.at.returns-then-self-clause-conflict c).After-of-self-inside))
 
 pub returns-then-self-clause-most : goal.returns-then-self-clause-most
 returns-then-self-clause-most c =
@@ -168,21 +83,3 @@ returns-then-self-clause-most c =
     let few = conflict-few e.store e.clauses e.conflict.assignment both.0.sound both.0.joined (both.3.holds c.if-self.true) in
     let same : numbered forms e.places.items ≡ c.args.self.now.forms = ap (λ (v : Standing). v.forms) c.self.view_is in
     rw (← same) (omega (arith, few, terms, c.of-self-inside.ensures, c.len.ensures, e.conflict.assignment.list.ok.0, both.1.alike terms_in refl))
-
-pub returns-then-self-clause-forms : goal.returns-then-self-clause-forms
-returns-then-self-clause-forms c = ap (λ (v : Standing). v.forms) c.self.view_is
-
-pub returns-then-self-clause-variables : goal.returns-then-self-clause-variables
-returns-then-self-clause-variables c = ap (λ (v : Standing). v.variables) c.self.view_is
-
-pub invariant_of-self-in_err-answer : goal.invariant_of-self-in_err-answer
-invariant_of-self-in_err-answer c = λ ready. absurd cc
-
-pub returns-in_err-answer-clause-unasked : goal.returns-in_err-answer-clause-unasked
-returns-in_err-answer-clause-unasked c = λ nothing. absurd (c.if-degree-eq0.false (ap (of_z w128) (c.degree.ensures.degree ∙ ap pos nothing)))
-
-pub returns-clause-unasked : goal.returns-clause-unasked
-returns-clause-unasked c = λ nothing. absurd (c.if-degree-eq0.false (ap (of_z w128) (c.degree.ensures.degree ∙ ap pos nothing)))
-
-pub returns-clause-variables : goal.returns-clause-variables
-returns-clause-variables c = c.ask.ensures.variables ∙ ap (λ (v : Standing). v.variables) c.self.view_is

@@ -1,7 +1,7 @@
-use Rattle.pb_propagate.proofs.Common.{◌≡◌, [], ap, arith, Global, length, refl, subst, Vec, IfNone, IfSome, Listed}
+use Rattle.pb_propagate.proofs.Common.{◌≡◌, [], ap, arith, Global, length, subst, Vec, IfNone, IfSome, Listed}
 use Rattle.pb_propagate.proofs.Common.{all_of, clauses_of, Derives, joined, shapes_of, HasClash, HasEnded}
 use Rattle.pb_propagate.proofs.lemmas.root.Kept.{kept-conflicts}
-use Rattle.pb_propagate.proofs.lemmas.root.Ready.{updated-ready}
+use Rattle.pb_propagate.proofs.lemmas.root.Ready.{standing-left, updated-ready}
 use Rattle.pb_propagate.proofs.lemmas.root.Returns.{question-back}
 use Rattle.pb_propagate.proofs.lemmas.root.Transplants.{clash-refuted, ended-made, root-clash, map-none, map-some}
 use Rattle.pb_propagate.proofs.lemmas.engine.Reasoned.{reasons-derive}
@@ -33,16 +33,6 @@ returns-clause-ended c =
     let found = subst (λ xs. IfSome c.in_ok-values.values (λ values. HasEnded xs list c.args.given.now values.items)) same c.in_ok-values.ensures.ended in
     map-some c.in_ok-values.values (λ values. ended-made (all_of store c.args.clauses.now) list c.args.given.now values.items (subst (λ xs. Derives xs [] list) same (reasons-derive c.in_ok-update.ensures.rooted.reasoned))) found
 
-pub returns-then-branch-clause-left : goal.returns-then-branch-clause-left
-returns-then-branch-clause-left c = record {
-  sound = c.requires.standing.sound;
-  kept = refl;
-  ready = (c.in_ok-update.ensures.met c.if-branch.true).ready;
-  lists = c.in_ok-update.ensures.lists;
-  rooted = c.in_ok-update.ensures.rooted;
-  conflict = c.in_ok-update.ensures.kept;
-}
-
 pub propagate_given-requires-clause-ready : goal.propagate_given-requires-clause-ready
 propagate_given-requires-clause-ready c = updated-ready c.in_ok-update.ensures.rooted (rw c.update.ensures.literals c.requires.standing.joined) (c.in_ok-update.ensures.updated c.if-branch.false)
 
@@ -51,11 +41,6 @@ returns-clause-left c =
     let run = c.update.new.self.run in
     let left = c.in_ok-values.ensures.left in
     let r = c.in_ok-update.ensures.rooted in
-    record {
-      sound = c.requires.standing.sound;
-      kept = refl;
-      ready = c.back.ensures.ready;
-      lists = omega (arith, ap (λ (v : Vec (Vec Listed Global) Global). length v.items) c.back.ensures.lists, left.running.sizes, left.values, r.values, c.requires.standing.widths);
-      conflict = c.in_ok-update.ensures.kept;
-      rooted = question-back c.update.new.self r left c.back.ensures (omega (arith, c.len-count.ensures, run.assignment.list.ok.0)) c.propagate_given.ensures.literals;
-    }
+    let lists = ap (λ (v : Vec (Vec Listed Global) Global). length v.items) c.back.ensures.lists in
+    standing-left c.requires.standing c.back.ensures.ready (omega (arith, lists, left.running.sizes, left.values, r.values, c.requires.standing.widths))
+    (question-back c.update.new.self r left c.back.ensures (omega (arith, c.len-count.ensures, run.assignment.list.ok.0)) c.propagate_given.ensures.literals) c.in_ok-update.ensures.kept

@@ -7,9 +7,6 @@ use Rattle.pb_propagate.proofs.lemmas.root.Transplants.{clash-joined}
 use Rattle.pb_propagate.proofs.lemmas.engine.Reasoned.{reasons-derive}
 use Rattle.pb_propagate.proofs.engine.completion.propagate_given.Goals as goal
 
-pub propagate-requires-clause-waiting : goal.propagate-requires-clause-waiting
-propagate-requires-clause-waiting c = rw (c.as_slice.ensures.value, c.new-none.ensures.items) (λ k d less. absurd (omega (arith, less)))
-
 pub returns-then-branch-clause-clash : goal.returns-then-branch-clause-clash
 returns-then-branch-clause-clash c =
     clash-joined (shapes_of c.args.store.now.stored.items) (clauses_of c.args.clauses.now) c.args.run.now.assignment.list.items c.args.given.now c.requires.ready.joined (c.in_ok-assume.ensures.clash c.if-branch.true)

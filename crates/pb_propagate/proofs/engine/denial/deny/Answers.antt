@@ -1,4 +1,4 @@
-use Rattle.pb_propagate.proofs.Common.{◌∙◌, ◌≡◌, ap, arith, false, inl, inr, true, or_right, negation, kept, has, database, progress}
+use Rattle.pb_propagate.proofs.Common.{◌∙◌, ◌≡◌, ap, arith, false, inr, true, or_right, negation, kept, has, database, progress}
 use Rattle.pb_propagate.proofs.lemmas.engine.Advances.{advances-visit, advances-then, costs-then, on-err}
 use Rattle.pb_propagate.proofs.lemmas.engine.Literals.{negation-negation}
 use Rattle.pb_propagate.proofs.lemmas.root.Denials.{adopted-denied, adopted-found}
@@ -13,11 +13,6 @@ returns-then-contains-clause-adopted c =
     let list = c.args.run.now.assignment.list.items in
     let on : has list c.args.literal ≡ true = cc (c.contains.ensures, c.if-contains.true) in
     kept (or_right (has list (negation c.args.literal)) (has list (negation (negation c.args.literal))) (ap (has list) (negation-negation c.args.literal) ∙ on))
-
-pub returns-then-contains-clause-conflict : goal.returns-then-contains-clause-conflict
-returns-then-contains-clause-conflict c = λ found.
-    let on : has c.args.run.now.assignment.list.items c.args.literal ≡ true = cc (c.contains.ensures, c.if-contains.true) in
-    inl on
 
 pub returns-clause-denied : goal.returns-clause-denied
 returns-clause-denied c = λ free.

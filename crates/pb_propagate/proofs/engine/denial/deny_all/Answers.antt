@@ -18,11 +18,6 @@ literals-init c = record {
   found = λ few. omega arith;
 }
 
-pub deny-requires-clause-inside : goal.deny-requires-clause-inside
-deny-requires-clause-inside c =
-    let here = ap (λ (t : Term). t.literal.variable) c.term_of-term.ensures ∙ ap (λ (e : Entry). e.variable) (c.get-entry.ensures.read bare) in
-    omega (arith, here, c.requires.inside c.literals.i bare (omega (arith, c.literals-test.true, c.len-i-end.ensures.length)))
-
 pub literals-preserved : goal.literals-preserved
 literals-preserved c =
     let i = c.literals.invariant in
@@ -54,18 +49,6 @@ returns-then-branch-clause-conflict c = λ found.
     let is = ap (λ (t : Term). t.literal) c.term_of-term.ensures ∙ ap (λ (e : Entry). (as_term e).literal) (c.get-entry.ensures.read bare) in
     let hit = subst (λ (l : NumberedLiteral). IsHit (shapes_of c.args.store.now.stored.items) c.deny.new.run.assignment.list.items l) is (c.in_ok-deny.ensures.conflict c.if-branch.true) in
     hit-conflicts (shapes_of c.args.store.now.stored.items) c.args.goal.now c.deny.new.run.assignment.list.items c.literals.i bare (omega (arith, c.literals-test.true, c.len-i-end.ensures.length)) c.requires.light hit
-
-pub returns-then-branch-clause-found : goal.returns-then-branch-clause-found
-returns-then-branch-clause-found c = λ few.
-    let two = c.in_ok-deny.ensures.found few in
-    let one = c.literals.invariant.found (omega (arith, few, c.in_ok-deny.ensures.puts.advances.rising)) in
-    omega (arith, one, two)
-
-pub returns-clause-derived : goal.returns-clause-derived
-returns-clause-derived c = c.literals.invariant.derived
-
-pub returns-clause-found : goal.returns-clause-found
-returns-clause-found c = c.literals.invariant.found
 
 pub returns-then-branch-clause-puts : goal.returns-then-branch-clause-puts
 returns-then-branch-clause-puts c = puts-as _ (omega (arith, c.literals-test.true, c.len-i-end.ensures.length)) (puts-then c.literals.invariant.puts c.in_ok-deny.ensures.puts)

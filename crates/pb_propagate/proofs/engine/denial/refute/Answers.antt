@@ -1,15 +1,15 @@
 use Rattle.pb_propagate.proofs.Common.{ℕ, ◌∙◌, ◌≡◌, ap, arith, Global, length, sym, Vec, sum, length-map, all_of, clauses_of, denial_of, shapes_of}
-use Rattle.pb_propagate.proofs.Common.{stored_shape, begin, RunRefutes}
+use Rattle.pb_propagate.proofs.Common.{stored_shape, begin, Costs, database, progress, RunRefutes}
 use Rattle.pb_propagate.proofs.lemmas.clauses.Readings.{running-bounded}
 use Rattle.pb_propagate.proofs.lemmas.clauses.Heads.{heads-is}
 use Rattle.pb_propagate.proofs.lemmas.engine.Derivations.{derivation-keeps}
 use Rattle.pb_propagate.proofs.lemmas.engine.Spent.{sum-bounded}
 use Rattle.pb_propagate.proofs.lemmas.engine.Values.{opposite}
-use Rattle.pb_propagate.proofs.lemmas.root.Denials.{denied-conflicts, denied-derives, denied-later, denial-settled, more-conflicts, more-settled}
+use Rattle.pb_propagate.proofs.lemmas.root.Denials.{denied-conflicts, denied-derives, denial-settled, more-conflicts, more-settled}
 use Rattle.pb_propagate.proofs.lemmas.root.Ready.{gains-then, left-then, puts-left, puts-ready}
 use Rattle.pb_propagate.proofs.lemmas.root.Returns.{refutes-short, refutes-long}
 use Rattle.pb_propagate.proofs.lemmas.engine.Reasoned.{reasons-derive}
-use Rattle.pb_propagate.proofs.engine.denial.refute.Goals.{After-propagate}
+use Rattle.pb_propagate.proofs.engine.denial.refute.Goals.{After-deny_all, After-propagate}
 use Rattle.pb_propagate.proofs.engine.denial.refute.Goals as goal
 
 pub returns-then-branch-clause-derived : goal.returns-then-branch-clause-derived
@@ -20,21 +20,21 @@ pub returns-then-branch-clause-conflict : goal.returns-then-branch-clause-confli
 returns-then-branch-clause-conflict c = λ found.
     denied-conflicts (shapes_of c.args.store.now.stored.items) (clauses_of c.args.clauses.now) (denial_of c.args.goal.now) c.deny_all.new.run.assignment.list.items c.requires.ready.joined (c.in_ok-deny_all.ensures.conflict c.if-branch.true)
 
-pub returns-then-branch-clause-costs : goal.returns-then-branch-clause-costs
-returns-then-branch-clause-costs c =
+-- the cost if nothing is propagated
+short : (c : After-deny_all) → Costs (database c.args.store.now c.args.rests.now) 0 (length c.args.goal.now) (progress c.args.run.now) (progress c.deny_all.new.run) → RunRefutes c.args.store.now c.args.rests.now c.args.clauses.now (length c.args.goal.now) c.args.run.now c.deny_all.new.run
+short c costs =
     let store = c.args.store.now in
     let run = c.args.run.now in
-    let same = ap (λ (v : Vec ℕ Global). v.items) c.deny_all.ensures.candidates in
-    let bounded = sum-bounded (shapes_of store.stored.items) run.candidates.items (c.requires.ready.sums.candidates ∙ sym (length-map store.stored.items stored_shape)) c.requires.ready.tidy.bounded in
-    refutes-short store c.args.rests.now c.args.clauses.now (length c.args.goal.now) run c.deny_all.new.run (running-bounded c.args.clauses.now run.assignment.values.items c.requires.ready.running) c.requires.ready.single (omega (arith, bounded, ap sum same)) c.in_ok-deny_all.ensures.puts.advances.costs
+    let ready = c.requires.ready in
+    let same = ap (λ (v : Vec ℕ Global). sum v.items) c.deny_all.ensures.candidates in
+    let bounded = sum-bounded (shapes_of store.stored.items) run.candidates.items (ready.sums.candidates ∙ sym (length-map store.stored.items stored_shape)) ready.tidy.bounded in
+    refutes-short store c.args.rests.now c.args.clauses.now (length c.args.goal.now) run c.deny_all.new.run (running-bounded c.args.clauses.now run.assignment.values.items ready.running) ready.single (omega (arith, bounded, same)) costs
+
+pub returns-then-branch-clause-costs : goal.returns-then-branch-clause-costs
+returns-then-branch-clause-costs c = short (goal.at.returns-then-branch-clause-costs c).After-deny_all c.in_ok-deny_all.ensures.puts.advances.costs
 
 pub returns-in_err-deny_all-clause-costs : goal.returns-in_err-deny_all-clause-costs
-returns-in_err-deny_all-clause-costs c =
-    let store = c.args.store.now in
-    let run = c.args.run.now in
-    let same = ap (λ (v : Vec ℕ Global). v.items) c.deny_all.ensures.candidates in
-    let bounded = sum-bounded (shapes_of store.stored.items) run.candidates.items (c.requires.ready.sums.candidates ∙ sym (length-map store.stored.items stored_shape)) c.requires.ready.tidy.bounded in
-    refutes-short store c.args.rests.now c.args.clauses.now (length c.args.goal.now) run c.deny_all.new.run (running-bounded c.args.clauses.now run.assignment.values.items c.requires.ready.running) c.requires.ready.single (omega (arith, bounded, ap sum same)) c.in_err-deny_all.ensures.costs
+returns-in_err-deny_all-clause-costs c = short (goal.at.returns-in_err-deny_all-clause-costs c).After-deny_all c.in_err-deny_all.ensures.costs
 
 -- the cost of both parts
 refuted : (c : After-propagate) → RunRefutes c.args.store.now c.args.rests.now c.args.clauses.now (length c.args.goal.now) c.args.run.now c.propagate.new.run
@@ -62,8 +62,8 @@ pub returns-clause-settled : goal.returns-clause-settled
 returns-clause-settled c = λ found.
     let done = c.propagate.new.run.assignment in
     let shapes = all_of c.args.store.now c.args.clauses.now in
-    let denied = denied-later c.args.goal.now c.deny_all.new.run.assignment.list.items done.list.items (derivation-keeps shapes c.deny_all.new.run.assignment.list.items done.list.items (reasons-derive c.in_ok-found.ensures.reasons.added)) (c.in_ok-deny_all.ensures.denied c.if-branch.false) in
-    more-settled shapes (denial_of c.args.goal.now) done.list.items (c.in_ok-found.ensures.settled found).settled (denial-settled done.list.items c.args.goal.now c.requires.light (λ l on. opposite done.values.items done.list.items l done.agrees on) denied)
+    let within = derivation-keeps shapes c.deny_all.new.run.assignment.list.items done.list.items (reasons-derive c.in_ok-found.ensures.reasons.added) in
+    more-settled shapes (denial_of c.args.goal.now) done.list.items (c.in_ok-found.ensures.settled found).settled (denial-settled done.list.items c.args.goal.now c.requires.light (λ l on. opposite done.values.items done.list.items l done.agrees on) (λ k d less. within _ (c.in_ok-deny_all.ensures.denied c.if-branch.false k d less)))
 
 pub propagate-requires-clause-ready : goal.propagate-requires-clause-ready
 propagate-requires-clause-ready c =
@@ -77,9 +77,6 @@ returns-then-branch-clause-left c = puts-left c.requires.ready c.in_ok-deny_all.
 
 pub returns-clause-left : goal.returns-clause-left
 returns-clause-left c = left-then c.in_ok-deny_all.ensures.puts c.in_ok-found.ensures.left
-
-pub returns-then-branch-clause-gains : goal.returns-then-branch-clause-gains
-returns-then-branch-clause-gains c = record { found = c.in_ok-deny_all.ensures.found; rising = c.in_ok-deny_all.ensures.puts.advances.rising }
 
 pub returns-clause-gains : goal.returns-clause-gains
 returns-clause-gains c =

@@ -1,17 +1,7 @@
 use Rattle.pb_propagate.proofs.Common.{arith, slice_get, forms_of}
 use Rattle.pb_propagate.proofs.lemmas.engine.Bounds.{listed-few}
-use Rattle.pb_propagate.proofs.lemmas.root.Roots.{rooted-counted}
 use Rattle.pb_propagate.proofs.lemmas.store.Options.{some-one}
 use Rattle.pb_propagate.proofs.engine.question.ask.Goals as goal
-
-pub question-answer-requires-clause-standing : goal.question-answer-requires-clause-standing
-question-answer-requires-clause-standing c = record {
-  rooted = rooted-counted c.of-root.result c.requires.standing.rooted;
-  sound = c.requires.standing.sound;
-  joined = c.requires.standing.joined;
-  ready = c.requires.standing.ready;
-  widths = c.requires.standing.widths;
-}
 
 pub returns-clause-most : goal.returns-clause-most
 returns-clause-most c =

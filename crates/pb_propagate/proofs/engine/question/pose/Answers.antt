@@ -1,9 +1,9 @@
 use Rattle.pb_propagate.proofs.Common.{stored_total}
-use Rattle.pb_propagate.proofs.Common.{ℕ, ◌++◌, ◌+◌, ◌∙◌, ◌∷◌, ◌≡◌, [], ap, arith, get_or, Global, length, length-append, length-set, List, refl}
+use Rattle.pb_propagate.proofs.Common.{ℕ, ◌++◌, ◌+◌, ◌∙◌, ◌∷◌, ◌≡◌, [], ap, arith, get_or, Global, length, length-append, length-set, List}
 use Rattle.pb_propagate.proofs.Common.{rules, set, subst, sym, take, Vec, Contains, sum, sum_by, take-append_seam, length-map, sum_by_push}
 use Rattle.pb_propagate.proofs.Common.{NumberedLiteral, Assignment, Listed, KeepsWalked, IsMark, all_of, clauses_of, joined, none}
 use Rattle.pb_propagate.proofs.Common.{forms_of, shapes_of, stored_shape, Conflicts, Derives, KeepsReasons, open_sum, Shape, list_of, reasons_of}
-use Rattle.pb_propagate.proofs.Common.{alone, posed, ArePlaced, numbered, ◌*◌, ◌≤◌}
+use Rattle.pb_propagate.proofs.Common.{posed, ArePlaced, numbered, ◌*◌, ◌≤◌}
 use Rattle.pb_propagate.proofs.lemmas.clauses.Heads.{heads-is, visits-back, walks-kept}
 use Rattle.pb_propagate.proofs.lemmas.clauses.Slots.{joined-push}
 use Rattle.pb_propagate.proofs.lemmas.engine.Derivations.{derivation-then}
@@ -12,7 +12,7 @@ use Rattle.pb_propagate.proofs.lemmas.engine.Runs.{grown-length}
 use Rattle.pb_propagate.proofs.lemmas.engine.Spent.{derivation-single}
 use Rattle.pb_propagate.proofs.lemmas.engine.Values.{opposite}
 use Rattle.pb_propagate.proofs.lemmas.root.Extends.{extends-then}
-use Rattle.pb_propagate.proofs.lemmas.root.Kept.{conflict-answered}
+use Rattle.pb_propagate.proofs.lemmas.root.Kept.{met-asked}
 use Rattle.pb_propagate.proofs.lemmas.root.Questions.{IsEntered, entered-shapes, opened-counted, opened-tidy, undone-same, derives-entered, kept-terms, found-after, found-both, question-most, updated-most, both-parts}
 use Rattle.pb_propagate.proofs.lemmas.store.Placed.{numbered-entered}
 use Rattle.pb_propagate.proofs.lemmas.engine.Reasoned.{reasons-derive, reasons-keep}
@@ -21,24 +21,16 @@ use Rattle.pb_propagate.proofs.engine.question.pose.Goals.{After-propagate}
 use Rattle.pb_propagate.proofs.engine.question.pose.Goals as goal
 
 pub returns-in_err-update-clause-most : goal.returns-in_err-update-clause-most
-returns-in_err-update-clause-most c =
-    let most = updated-most c.requires.standing c.requires.visits c.update.ensures.costs in
-    omega (arith, most)
+returns-in_err-update-clause-most c = omega (arith, updated-most c.requires.standing c.requires.visits c.update.ensures.costs)
 
 pub returns-then-branch-clause-most : goal.returns-then-branch-clause-most
-returns-then-branch-clause-most c =
-    let most = updated-most c.requires.standing c.requires.visits c.update.ensures.costs in
-    omega (arith, most)
+returns-then-branch-clause-most c = omega (arith, updated-most c.requires.standing c.requires.visits c.update.ensures.costs)
 
 pub returns-in_err-enter-clause-most : goal.returns-in_err-enter-clause-most
-returns-in_err-enter-clause-most c =
-    let most = updated-most c.requires.standing c.requires.visits c.update.ensures.costs in
-    omega (arith, most, c.enter.ensures.rest.3)
+returns-in_err-enter-clause-most c = omega (arith, updated-most c.requires.standing c.requires.visits c.update.ensures.costs, c.enter.ensures.rest.3)
 
 pub returns-in_err-open_form-clause-most : goal.returns-in_err-open_form-clause-most
-returns-in_err-open_form-clause-most c =
-    let most = updated-most c.requires.standing c.requires.visits c.update.ensures.costs in
-    omega (arith, most, c.enter.ensures.rest.3, c.open_form.ensures.visits)
+returns-in_err-open_form-clause-most c = omega (arith, updated-most c.requires.standing c.requires.visits c.update.ensures.costs, c.enter.ensures.rest.3, c.open_form.ensures.visits)
 
 pub returns-in_err-open_form-clause-forms : goal.returns-in_err-open_form-clause-forms
 returns-in_err-open_form-clause-forms c =
@@ -55,11 +47,7 @@ returns-in_err-found-clause-forms c =
     search (rules, same)
 
 pub returns-then-branch-clause-asked : goal.returns-then-branch-clause-asked
-returns-then-branch-clause-asked c =
-    let met = c.in_ok-update.ensures.met c.if-branch.true in
-    let a = c.update.new.conflict.assignment in
-    let few = found-after (length a.list.items) c.update.new.self.run.visits (length c.args.root.now.run.assignment.list.items) (rw c.requires.visits at met.found) (omega (arith, a.list.ok.0, a.list.ok.1)) in
-    alone refl (conflict-answered (all_of c.args.store.now c.args.clauses.now) c.update.new.self.run.visits a few (c.in_ok-update.ensures.kept.holds met.met))
+returns-then-branch-clause-asked c = met-asked c.requires.visits (c.in_ok-update.ensures.met c.if-branch.true) c.in_ok-update.ensures.kept
 
 -- the visits of both parts
 posed-most : (c : After-propagate) → c.propagate.new.run.visits ≤ 3 * (terms_of_all c.args.store.now c.args.clauses.now + length c.args.form.terms) + (length c.args.root.now.waiting.list.items + 1)
@@ -72,9 +60,7 @@ posed-most c =
     let r = c.in_ok-update.ensures.rooted in
     let new = c.enter.new in
     let h = c.in_ok-enter.ensures.entered in
-    let list_is = ap (λ (a : Assignment). a.list.items) c.enter.ensures.rest.0 in
     let opened_is = ap (λ (a : Assignment). a.list.items) (c.open_form.ensures.assignment ∙ c.enter.ensures.rest.0) in
-    let number_is : c.len-number.result ≡ length keep = omega (arith, c.len-number.ensures, store.stored.ok.0) in
     let lit : clauses_of between ≡ clauses_of c.args.clauses.now = c.update.ensures.literals in
     let count_is : c.len-count.result ≡ length run.assignment.list.items = omega (arith, c.len-count.ensures, run.assignment.list.ok.0) in
     let clauses = clauses_of c.args.clauses.now in
@@ -109,9 +95,7 @@ returns-clause-asked c =
     let r = c.in_ok-update.ensures.rooted in
     let new = c.enter.new in
     let h = c.in_ok-enter.ensures.entered in
-    let list_is = ap (λ (a : Assignment). a.list.items) c.enter.ensures.rest.0 in
     let opened_is = ap (λ (a : Assignment). a.list.items) (c.open_form.ensures.assignment ∙ c.enter.ensures.rest.0) in
-    let number_is : c.len-number.result ≡ length keep = omega (arith, c.len-number.ensures, store.stored.ok.0) in
     let lit : clauses_of between ≡ clauses_of c.args.clauses.now = c.update.ensures.literals in
     let clauses = clauses_of c.args.clauses.now in
     let whole : all_of new.store c.args.clauses.now ≡ all_of store c.args.clauses.now ++ (stored_shape h.kept ∷ []) =
@@ -131,16 +115,6 @@ returns-clause-asked c =
       settled = λ found f has. (reported.settled found).settled f (subst (λ xs. Contains xs f) (sym whole_now) has);
     })
 
-pub returns-then-branch-clause-left : goal.returns-then-branch-clause-left
-returns-then-branch-clause-left c = record {
-  sound = c.requires.standing.sound;
-  kept = refl;
-  ready = (c.in_ok-update.ensures.met c.if-branch.true).ready;
-  lists = c.in_ok-update.ensures.lists;
-  rooted = c.in_ok-update.ensures.rooted;
-  conflict = c.in_ok-update.ensures.kept;
-}
-
 pub returns-clause-left : goal.returns-clause-left
 returns-clause-left c =
     let store = c.args.store.now in
@@ -152,9 +126,7 @@ returns-clause-left c =
     let r = c.in_ok-update.ensures.rooted in
     let new = c.enter.new in
     let h = c.in_ok-enter.ensures.entered in
-    let list_is = ap (λ (a : Assignment). a.list.items) c.enter.ensures.rest.0 in
     let opened_is = ap (λ (a : Assignment). a.list.items) (c.open_form.ensures.assignment ∙ c.enter.ensures.rest.0) in
-    let number_is : c.len-number.result ≡ length keep = omega (arith, c.len-number.ensures, store.stored.ok.0) in
     let count_is : c.len-count.result ≡ length run.assignment.list.items = omega (arith, c.len-count.ensures, run.assignment.list.ok.0) in
     let done = c.propagate.new.run in
     let reported = c.in_ok-found.ensures in

@@ -1,12 +1,12 @@
 use Rattle.pb_propagate.proofs.Common.{◌++◌, ◌+◌, ◌∷◌, ◌≡◌, [], ap, arith, Global, length, List, refl, subst, Vec, sum, Entry, Listed, all_of}
-use Rattle.pb_propagate.proofs.Common.{clauses_of, joined, denial_of, shapes_of, Conflicts, Derives, AreSettled, alone, posed, ◌*◌, ◌≤◌}
+use Rattle.pb_propagate.proofs.Common.{clauses_of, joined, denial_of, shapes_of, Conflicts, Derives, AreSettled, posed, ◌*◌, ◌≤◌}
 use Rattle.pb_propagate.proofs.lemmas.engine.Derivations.{derivation-then}
 use Rattle.pb_propagate.proofs.lemmas.engine.Values.{opposite}
 use Rattle.pb_propagate.proofs.lemmas.root.Denials.{denial-stored}
 use Rattle.pb_propagate.proofs.lemmas.root.Extends.{extends-then}
-use Rattle.pb_propagate.proofs.lemmas.root.Kept.{conflict-answered}
+use Rattle.pb_propagate.proofs.lemmas.root.Kept.{met-asked}
 use Rattle.pb_propagate.proofs.lemmas.root.Questions.{derives-entered, found-after, found-both, question-most, updated-most}
-use Rattle.pb_propagate.proofs.lemmas.root.Ready.{updated-ready}
+use Rattle.pb_propagate.proofs.lemmas.root.Ready.{standing-left, updated-ready}
 use Rattle.pb_propagate.proofs.lemmas.root.Returns.{both-costs, question-back}
 use Rattle.pb_propagate.proofs.lemmas.engine.Reasoned.{reasons-derive}
 use Rattle.pb_propagate.specs.engine.Engine.Root.{terms_of_all}
@@ -14,32 +14,13 @@ use Rattle.pb_propagate.proofs.engine.question.pose_clause.Goals.{After-refute}
 use Rattle.pb_propagate.proofs.engine.question.pose_clause.Goals as goal
 
 pub returns-in_err-update-clause-most : goal.returns-in_err-update-clause-most
-returns-in_err-update-clause-most c =
-    let most = updated-most c.requires.standing c.requires.visits c.update.ensures.costs in
-    omega (arith, most)
+returns-in_err-update-clause-most c = omega (arith, updated-most c.requires.standing c.requires.visits c.update.ensures.costs)
 
 pub returns-then-branch-clause-most : goal.returns-then-branch-clause-most
-returns-then-branch-clause-most c =
-    let most = updated-most c.requires.standing c.requires.visits c.update.ensures.costs in
-    omega (arith, most)
+returns-then-branch-clause-most c = omega (arith, updated-most c.requires.standing c.requires.visits c.update.ensures.costs)
 
 pub returns-then-branch-clause-asked : goal.returns-then-branch-clause-asked
-returns-then-branch-clause-asked c =
-    let met = c.in_ok-update.ensures.met c.if-branch.true in
-    let a = c.update.new.conflict.assignment in
-    let few = found-after (length a.list.items) c.update.new.self.run.visits (length c.args.root.now.run.assignment.list.items) (rw c.requires.visits at met.found) (omega (arith, a.list.ok.0, a.list.ok.1)) in
-    alone refl (conflict-answered (all_of c.args.store.now c.args.clauses.now) c.update.new.self.run.visits a few (c.in_ok-update.ensures.kept.holds met.met))
-
-pub refute-requires-clause-inside : goal.refute-requires-clause-inside
-refute-requires-clause-inside c = rw c.terms.ensures.terms c.requires.inside
-
-pub refute-requires-clause-light : goal.refute-requires-clause-light
-refute-requires-clause-light c = rw c.terms.ensures.terms c.requires.clause.light
-
-pub refute-requires-clause-work : goal.refute-requires-clause-work
-refute-requires-clause-work c =
-    let r = c.in_ok-update.ensures.rooted in
-    (r.work, r.next)
+returns-then-branch-clause-asked c = met-asked c.requires.visits (c.in_ok-update.ensures.met c.if-branch.true) c.in_ok-update.ensures.kept
 
 -- the visits of both parts
 posed-most : (c : After-refute) → c.refute.new.run.visits ≤ 3 * (terms_of_all c.args.store.now c.args.clauses.now + length c.args.goal.now.terms) + (length c.args.root.now.waiting.list.items + 1)
@@ -87,16 +68,6 @@ returns-clause-asked c =
       settled = λ found. subst (λ xs. AreSettled xs done.assignment.list.items) whole (reported.settled found);
     })
 
-pub returns-then-branch-clause-left : goal.returns-then-branch-clause-left
-returns-then-branch-clause-left c = record {
-  sound = c.requires.standing.sound;
-  kept = refl;
-  ready = (c.in_ok-update.ensures.met c.if-branch.true).ready;
-  lists = c.in_ok-update.ensures.lists;
-  rooted = c.in_ok-update.ensures.rooted;
-  conflict = c.in_ok-update.ensures.kept;
-}
-
 pub refute-requires-clause-ready : goal.refute-requires-clause-ready
 refute-requires-clause-ready c = updated-ready c.in_ok-update.ensures.rooted (rw c.update.ensures.literals c.requires.standing.joined) (c.in_ok-update.ensures.updated c.if-branch.false)
 
@@ -105,11 +76,6 @@ returns-clause-left c =
     let run = c.update.new.self.run in
     let left = c.in_ok-found.ensures.left in
     let r = c.in_ok-update.ensures.rooted in
-    record {
-      sound = c.requires.standing.sound;
-      kept = refl;
-      ready = c.back.ensures.ready;
-      lists = omega (arith, ap (λ (v : Vec (Vec Listed Global) Global). length v.items) c.back.ensures.lists, left.running.sizes, left.values, r.values, c.requires.standing.widths);
-      conflict = c.in_ok-update.ensures.kept;
-      rooted = question-back c.update.new.self r left c.back.ensures (omega (arith, c.len-count.ensures, run.assignment.list.ok.0)) c.refute.ensures.literals;
-    }
+    let lists = ap (λ (v : Vec (Vec Listed Global) Global). length v.items) c.back.ensures.lists in
+    standing-left c.requires.standing c.back.ensures.ready (omega (arith, lists, left.running.sizes, left.values, r.values, c.requires.standing.widths))
+    (question-back c.update.new.self r left c.back.ensures (omega (arith, c.len-count.ensures, run.assignment.list.ok.0)) c.refute.ensures.literals) c.in_ok-update.ensures.kept

@@ -19,9 +19,6 @@ returns-in_default-clause-most c =
     let few = root-few c.args.store.now (clauses_of c.args.clauses.now) list c.requires.standing.sound c.requires.standing.joined single (λ l on. opposite run.assignment.values.items list l run.assignment.agrees on) (reasons-derive c.requires.standing.rooted.reasoned) in
     omega (arith, few, c.requires.visits)
 
-pub returns-clause-asked : goal.returns-clause-asked
-returns-clause-asked c = rw c.in-Ok.ensures.negation at c.in_ok-found-2.ensures.asked
-
 pub returns-clause-most : goal.returns-clause-most
 returns-clause-most c =
     let terms = ap (λ (f : Form). length f.terms) c.in-Ok.ensures.negation in

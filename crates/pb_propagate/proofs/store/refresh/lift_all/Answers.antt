@@ -1,22 +1,19 @@
 use Rattle.pb_propagate.proofs.lemmas.store.Stored.{stored-small}
-use Rattle.pb_propagate.proofs.Common.{ℕ, ◌+◌, ◌∙◌, [], drop, drop_all, get_or, get_or_read, map, set, size, stored_shape, subst, Shape, Term, ◌<◌, ap, arith, length, length-map, shapes_of, weighted, slice_get_within}
-use Rattle.pb_propagate.proofs.lemmas.root.Retracted.{ahead-entry, all-next, lacks-fits, lacks-next, listed-entries, occurrence-read, refreshed-none, refreshed-then}
+use Rattle.pb_propagate.proofs.Common.{ℕ, ◌+◌, ◌∙◌, [], drop, drop_all, get_or, get_or_read, map, set, size, stored_shape, subst, Shape, Term, ap, arith, length, length-map, shapes_of, weighted, slice_get_within}
+use Rattle.pb_propagate.proofs.lemmas.root.Retracted.{ahead-entry, all-next, lacks-fits, lacks-next, listed-entries, IsOccurrence, occurrence-read, refreshed-then}
 use Rattle.pb_propagate.proofs.lemmas.engine.VisitSteps.{shape-at, weight-read}
 use Rattle.pb_propagate.specs.engine.Engine.Refreshed.{Lacks}
+use Rattle.pb_propagate.proofs.store.refresh.lift_all.Goals.{After-index-entry}
 use Rattle.pb_propagate.proofs.store.refresh.lift_all.Goals as goal
 
-pub entries-init : goal.entries-init
-entries-init c = record {
-  each = refreshed-none c.args.store.now c.args.root.now c.requires.sized;
-  all = λ j e less at. absurd (omega (arith, less));
-  lacks = subst (Lacks c.args.store.now c.args.root.now) (listed-entries c.args.store.now c.args.literal c.place_of.result c.index-entries.result.now c.requires.store c.requires.inside c.place_of.ensures.place c.index-entries.ensures) c.requires.lacks;
-}
+-- the entry that is read is one of the literal's
+read : (c : After-index-entry) → IsOccurrence c.args.store.now c.args.literal c.index-entries.result.now.items c.entries.j c.index-entry.result.now
+read c = occurrence-read c.args.store.now c.args.literal c.place_of.result c.index-entries.result.now c.entries.j c.index-entry.result.now c.requires.store c.requires.inside c.place_of.ensures.place c.index-entries.ensures c.index-entry.ensures
+    (omega (arith, c.entries-test.true, c.len-j-end.ensures, c.index-entries.result.now.ok.0))
 
 pub refresh-requires : goal.refresh-requires
 refresh-requires c =
-    let v = c.index-entries.result.now in
-    let less : c.entries.j < length v.items = omega (arith, c.entries-test.true, c.len-j-end.ensures, v.ok.0) in
-    let o = occurrence-read c.args.store.now c.args.literal c.place_of.result v c.entries.j c.index-entry.result.now c.requires.store c.requires.inside c.place_of.ensures.place c.index-entries.ensures c.index-entry.ensures less in
+    let o = read (goal.at.refresh-requires c).After-index-entry in
     record {
       form = o.form;
       some = o.some;
@@ -26,15 +23,14 @@ refresh-requires c =
 pub entries-preserved : goal.entries-preserved
 entries-preserved c =
     let v = c.index-entries.result.now in
-    let less : c.entries.j < length v.items = omega (arith, c.entries-test.true, c.len-j-end.ensures, v.ok.0) in
-    let o = occurrence-read c.args.store.now c.args.literal c.place_of.result v c.entries.j c.index-entry.result.now c.requires.store c.requires.inside c.place_of.ensures.place c.index-entries.ensures c.index-entry.ensures less in
+    let o = read (goal.at.entries-preserved c).After-index-entry in
     let form = c.index-entry.result.now.form in
     let read = get_or_read c.entries.root.run.opens.items form c.index-before.result.now (omega (arith, o.form, c.entries.invariant.each.sized.opens)) c.index-before.ensures 0 in
     let weight = weight-read c.args.store.now.stored.items form c.index-entry.result.now.index c.index-kept.result.now c.term.result.coefficient o.form c.index-kept.ensures (λ d. ap (λ (t : Term). t.coefficient) (c.term.ensures d)) in
     record {
       each = refreshed-then c.args.store.now c.args.root.now c.entries.root c.refresh.new.root c.entries.invariant.each c.refresh.ensures.each;
-      all = all-next c.args.store.now c.args.literal v.items c.entries.root c.refresh.new.root c.entries.j c.index-entry.result.now o c.index-entry.ensures less c.refresh.ensures.each c.refresh.ensures.form c.entries.invariant.all;
-      lacks = lacks-next c.args.store.now c.args.literal v.items c.entries.root c.refresh.new.root c.entries.j c.index-entry.result.now o c.index-entry.ensures less c.entries.invariant.each.sized
+      all = all-next c.args.store.now c.args.literal v.items c.entries.root c.refresh.new.root c.entries.j c.index-entry.result.now o c.refresh.ensures.each c.refresh.ensures.form c.entries.invariant.all;
+      lacks = lacks-next c.args.store.now c.args.literal v.items c.entries.root c.refresh.new.root c.entries.j c.index-entry.result.now o c.entries.invariant.each.sized
           (c.refresh.ensures.opens ∙ ap (set c.entries.root.run.opens.items c.index-entry.result.now.form) (ap (λ (n : ℕ). n + c.term.result.coefficient) read ∙ ap (λ n. get_or c.entries.root.run.opens.items form 0 + n) weight)) c.refresh.ensures.each.assignment c.entries.invariant.lacks;
     }
 
@@ -46,32 +42,25 @@ returns-clause-all c = λ j e at.
     c.entries.invariant.all j e (omega (arith, inside, ap length same, length-map v.items (weighted (shapes_of c.args.store.now.stored.items)), c.entries-test.false, c.len-j-end.ensures, v.ok.0)) at
 
 pub index-before-requires : goal.index-before-requires
-index-before-requires c =
-    let v = c.index-entries.result.now in
-    let less : c.entries.j < length v.items = omega (arith, c.entries-test.true, c.len-j-end.ensures, v.ok.0) in
-    let o = occurrence-read c.args.store.now c.args.literal c.place_of.result v c.entries.j c.index-entry.result.now c.requires.store c.requires.inside c.place_of.ensures.place c.index-entries.ensures c.index-entry.ensures less in
-    omega (arith, o.form, c.entries.invariant.each.sized.opens, c.entries.root.run.opens.ok.0)
+index-before-requires c = omega (arith, (read (goal.at.index-before-requires c).After-index-entry).form, c.entries.invariant.each.sized.opens, c.entries.root.run.opens.ok.0)
 
 pub term-requires : goal.term-requires
 term-requires c =
-    let v = c.index-entries.result.now in
-    let less : c.entries.j < length v.items = omega (arith, c.entries-test.true, c.len-j-end.ensures, v.ok.0) in
-    let o = occurrence-read c.args.store.now c.args.literal c.place_of.result v c.entries.j c.index-entry.result.now c.requires.store c.requires.inside c.place_of.ensures.place c.index-entries.ensures c.index-entry.ensures less in
+    let o = read (goal.at.term-requires c).After-index-entry in
     let shape = shape-at c.args.store.now.stored.items c.index-entry.result.now.form c.index-kept.result.now o.form c.index-kept.ensures (record { terms = []; degree = 0 }) in
     omega (arith, o.index, ap (λ (f : Shape). length f.terms) shape)
 
 pub overflow_add-opened : goal.overflow_add-opened
 overflow_add-opened c =
     let v = c.index-entries.result.now in
-    let less : c.entries.j < length v.items = omega (arith, c.entries-test.true, c.len-j-end.ensures, v.ok.0) in
-    let o = occurrence-read c.args.store.now c.args.literal c.place_of.result v c.entries.j c.index-entry.result.now c.requires.store c.requires.inside c.place_of.ensures.place c.index-entries.ensures c.index-entry.ensures less in
+    let o = read (goal.at.overflow_add-opened c).After-index-entry in
     let store = c.args.store.now in
     let forms = shapes_of store.stored.items in
     let form = c.index-entry.result.now.form in
     let k = c.index-kept.result.now in
     let read = get_or_read c.entries.root.run.opens.items form c.index-before.result.now (omega (arith, o.form, c.entries.invariant.each.sized.opens)) c.index-before.ensures 0 in
     let weight = weight-read store.stored.items form c.index-entry.result.now.index k c.term.result.coefficient o.form c.index-kept.ensures (λ d. ap (λ (t : Term). t.coefficient) (c.term.ensures d)) in
-    let lacks = subst (Lacks store c.entries.root) (ahead-entry store v.items c.entries.j c.index-entry.result.now c.index-entry.ensures less) c.entries.invariant.lacks in
+    let lacks = subst (Lacks store c.entries.root) (ahead-entry store v.items c.entries.j c.index-entry.result.now o.read o.inside) c.entries.invariant.lacks in
     let fits = lacks-fits store c.entries.root (weighted forms c.index-entry.result.now) (drop (c.entries.j + 1) (map (weighted forms) v.items)) (stored_shape k) o.form lacks in
     let shape = shape-at store.stored.items form k o.form c.index-kept.ensures (stored_shape k) in
     omega (arith, fits, read, weight, ap (λ (f : Shape). size f.terms) shape, stored-small k)
@@ -82,8 +71,4 @@ returns-clause-lacks c =
     subst (Lacks c.args.store.now c.entries.root) (drop_all c.entries.j es (omega (arith, c.entries-test.false, c.len-j-end.ensures, c.index-entries.result.now.ok.0, length-map c.index-entries.result.now.items (weighted (shapes_of c.args.store.now.stored.items))))) c.entries.invariant.lacks
 
 pub index-kept-requires : goal.index-kept-requires
-index-kept-requires c =
-    let v = c.index-entries.result.now in
-    let less : c.entries.j < length v.items = omega (arith, c.entries-test.true, c.len-j-end.ensures, v.ok.0) in
-    let o = occurrence-read c.args.store.now c.args.literal c.place_of.result v c.entries.j c.index-entry.result.now c.requires.store c.requires.inside c.place_of.ensures.place c.index-entries.ensures c.index-entry.ensures less in
-    omega (arith, o.form, c.args.store.now.stored.ok.0)
+index-kept-requires c = omega (arith, (read (goal.at.index-kept-requires c).After-index-entry).form, c.args.store.now.stored.ok.0)

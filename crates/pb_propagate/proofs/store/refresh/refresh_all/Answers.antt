@@ -1,19 +1,16 @@
-use Rattle.pb_propagate.proofs.Common.{◌∙◌, get_or_read, refl, set, set-get_or, ◌<◌, ap, arith, length, length-map, shapes_of, weighted, slice_get_within}
-use Rattle.pb_propagate.proofs.lemmas.root.Retracted.{all-next, listed-entries, occurrence-read, refreshed-none, refreshed-then}
+use Rattle.pb_propagate.proofs.Common.{◌∙◌, get_or_read, set, set-get_or, ap, arith, length, length-map, shapes_of, weighted, slice_get_within}
+use Rattle.pb_propagate.proofs.lemmas.root.Retracted.{all-next, listed-entries, IsOccurrence, occurrence-read, refreshed-then}
+use Rattle.pb_propagate.proofs.store.refresh.refresh_all.Goals.{After-index-entry}
 use Rattle.pb_propagate.proofs.store.refresh.refresh_all.Goals as goal
 
-pub entries-init : goal.entries-init
-entries-init c = record {
-  each = refreshed-none c.args.store.now c.args.root.now c.requires.sized;
-  all = λ j e less at. absurd (omega (arith, less));
-  opens = refl;
-}
+-- the entry that is read is one of the literal's
+read : (c : After-index-entry) → IsOccurrence c.args.store.now c.args.literal c.index-entries.result.now.items c.entries.j c.index-entry.result.now
+read c = occurrence-read c.args.store.now c.args.literal c.place_of.result c.index-entries.result.now c.entries.j c.index-entry.result.now c.requires.store c.requires.inside c.place_of.ensures.place c.index-entries.ensures c.index-entry.ensures
+    (omega (arith, c.entries-test.true, c.len-j-end.ensures, c.index-entries.result.now.ok.0))
 
 pub refresh-requires : goal.refresh-requires
 refresh-requires c =
-    let v = c.index-entries.result.now in
-    let less : c.entries.j < length v.items = omega (arith, c.entries-test.true, c.len-j-end.ensures, v.ok.0) in
-    let o = occurrence-read c.args.store.now c.args.literal c.place_of.result v c.entries.j c.index-entry.result.now c.requires.store c.requires.inside c.place_of.ensures.place c.index-entries.ensures c.index-entry.ensures less in
+    let o = read (goal.at.refresh-requires c).After-index-entry in
     record {
       form = o.form;
       some = o.some;
@@ -23,11 +20,10 @@ refresh-requires c =
 pub entries-preserved : goal.entries-preserved
 entries-preserved c =
     let v = c.index-entries.result.now in
-    let less : c.entries.j < length v.items = omega (arith, c.entries-test.true, c.len-j-end.ensures, v.ok.0) in
-    let o = occurrence-read c.args.store.now c.args.literal c.place_of.result v c.entries.j c.index-entry.result.now c.requires.store c.requires.inside c.place_of.ensures.place c.index-entries.ensures c.index-entry.ensures less in
+    let o = read (goal.at.entries-preserved c).After-index-entry in
     record {
       each = refreshed-then c.args.store.now c.args.root.now c.entries.root c.refresh.new.root c.entries.invariant.each c.refresh.ensures.each;
-      all = all-next c.args.store.now c.args.literal v.items c.entries.root c.refresh.new.root c.entries.j c.index-entry.result.now o c.index-entry.ensures less c.refresh.ensures.each c.refresh.ensures.form c.entries.invariant.all;
+      all = all-next c.args.store.now c.args.literal v.items c.entries.root c.refresh.new.root c.entries.j c.index-entry.result.now o c.refresh.ensures.each c.refresh.ensures.form c.entries.invariant.all;
       opens =
           let form = c.index-entry.result.now.form in
           let read = get_or_read c.entries.root.run.opens.items form c.index-opened.result.now (omega (arith, o.form, c.entries.invariant.each.sized.opens)) c.index-opened.ensures 0 in
@@ -42,8 +38,4 @@ returns-clause-all c = λ j e at.
     c.entries.invariant.all j e (omega (arith, inside, ap length same, length-map v.items (weighted (shapes_of c.args.store.now.stored.items)), c.entries-test.false, c.len-j-end.ensures, v.ok.0)) at
 
 pub index-opened-requires : goal.index-opened-requires
-index-opened-requires c =
-    let v = c.index-entries.result.now in
-    let less : c.entries.j < length v.items = omega (arith, c.entries-test.true, c.len-j-end.ensures, v.ok.0) in
-    let o = occurrence-read c.args.store.now c.args.literal c.place_of.result v c.entries.j c.index-entry.result.now c.requires.store c.requires.inside c.place_of.ensures.place c.index-entries.ensures c.index-entry.ensures less in
-    omega (arith, o.form, c.entries.invariant.each.sized.opens, c.entries.root.run.opens.ok.0)
+index-opened-requires c = omega (arith, (read (goal.at.index-opened-requires c).After-index-entry).form, c.entries.invariant.each.sized.opens, c.entries.root.run.opens.ok.0)

@@ -1,33 +1,10 @@
-use Rattle.pb_propagate.proofs.Common.{arith}
 use Rattle.pb_propagate.proofs.lemmas.root.Replaced.{needless-codes, needless-terms}
 use Rattle.pb_propagate.proofs.engine.root.Root.release.Goals as goal
-
-pub release_by_literals-requires : goal.release_by_literals-requires
-release_by_literals-requires c = record {
-  sound = c.requires.sound;
-  rooted = (c.args.clauses.now, c.requires.joined, c.requires.slots, c.requires.rooted);
-  ready = c.requires.ready;
-  slot = omega (arith, c.requires.slot, c.requires.known);
-  widths = c.requires.widths;
-}
-
-pub returns-then-is_filled-clause-rooted : goal.returns-then-is_filled-clause-rooted
-returns-then-is_filled-clause-rooted c = c.release_by_literals.ensures.released.rooted c.args.clauses.now c.requires.joined c.requires.slots c.requires.rooted
 
 pub returns-then-is_filled-clause-needless : goal.returns-then-is_filled-clause-needless
 returns-then-is_filled-clause-needless c =
     let left = c.release_by_literals.ensures.released.rooted c.args.clauses.now c.requires.joined c.requires.slots c.requires.rooted in
     needless-codes c.args.store.now c.args.clauses.now c.args.slot c.release_by_literals.new.root.run.assignment c.requires.slot (c.is_filled.ensures.yes c.if-is_filled.true) left.reasoned c.release_by_literals.ensures.needless
-
-pub release_by_terms-requires : goal.release_by_terms-requires
-release_by_terms-requires c = record {
-  sound = c.requires.sound;
-  rooted = (c.args.clauses.now, c.requires.joined, c.requires.slots, c.requires.rooted);
-  slot = c.requires.slot;
-}
-
-pub returns-clause-rooted : goal.returns-clause-rooted
-returns-clause-rooted c = c.release_by_terms.ensures.released.rooted c.args.clauses.now c.requires.joined c.requires.slots c.requires.rooted
 
 pub returns-clause-needless : goal.returns-clause-needless
 returns-clause-needless c =

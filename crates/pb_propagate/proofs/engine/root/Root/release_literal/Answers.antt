@@ -4,9 +4,6 @@ use Rattle.pb_propagate.proofs.lemmas.root.Released.{released-then, replaced-rel
 use Rattle.pb_propagate.proofs.lemmas.store.Places.{entries-length}
 use Rattle.pb_propagate.proofs.engine.root.Root.release_literal.Goals as goal
 
-pub replace_reason-requires-clause-inside : goal.replace_reason-requires-clause-inside
-replace_reason-requires-clause-inside c = omega (arith, c.requires.inside, c.requires.rooted.3.values)
-
 pub replace_reason-requires-clause-fits : goal.replace_reason-requires-clause-fits
 replace_reason-requires-clause-fits c =
     let store = c.args.store.now in

@@ -1,11 +1,11 @@
-use Rattle.pb_propagate.proofs.Common.{◌+◌, ◌-◌, ◌<◌, ◌∙◌, ◌≡◌, [], ap, arith, get_or, length, refl, subst, sym, take, none, all_of, Extends}
+use Rattle.pb_propagate.proofs.Common.{◌+◌, ◌-◌, ◌<◌, ◌∙◌, ◌≡◌, [], ap, arith, get_or, length, subst, sym, take, none, all_of, Extends}
 use Rattle.pb_propagate.proofs.Common.{NumberedLiteral, Assignment, open_sum, shapes_of}
 use Rattle.pb_propagate.proofs.lemmas.clauses.Heads.{take-whole, walks-cut}
 use Rattle.pb_propagate.proofs.lemmas.clauses.Watching.{fresh-take, listed-small}
 use Rattle.pb_propagate.proofs.lemmas.engine.Reasoned.{reasons-derive}
 use Rattle.pb_propagate.proofs.lemmas.engine.Spent.{derivation-single}
 use Rattle.pb_propagate.proofs.lemmas.root.Cuts.{last-split}
-use Rattle.pb_propagate.proofs.lemmas.root.Retracted.{AllRefreshed, cut-lacks, reasons-first, refreshed-stays, refreshed-then, retracted-rooted}
+use Rattle.pb_propagate.proofs.lemmas.root.Retracted.{AllRefreshed, cut-lacks, cut-off, reasons-first, refreshed-stays, refreshed-then, retracted-rooted}
 use Rattle.pb_propagate.proofs.engine.root.Root.retract.Goals as goal
 
 pub lift_all-requires : goal.lift_all-requires
@@ -33,18 +33,7 @@ lift_all-requires c =
         rest_starts = sym (ap length r.starts) ∙ r.start_sizes;
         positions = r.positions;
       };
-      lacks = rw c.negation.ensures (cut-lacks store clauses me (record me { run = record me.run { assignment = c.cut.new.self }; walked = c.cut-2.new.self }) (take last list) l (last-split list last l (sym size) c.index-literal.ensures) absent c.requires.sound r (record {
-        opens = refl;
-        candidates = refl;
-        rests = refl;
-        waiting = refl;
-        work = refl;
-        trail = refl;
-        next = refl;
-        list = c.cut.ensures.list;
-        values = c.cut.ensures.values;
-        reasons = c.cut.ensures.reasons;
-      }));
+      lacks = rw c.negation.ensures (cut-lacks store clauses me _ (take last list) l (last-split list last l (sym size) c.index-literal.ensures) absent c.requires.sound r (cut-off me c.cut.new.self c.cut-2.new.self c.cut.ensures.list c.cut.ensures.values c.cut.ensures.reasons));
     }
 
 pub refresh_all-requires : goal.refresh_all-requires
@@ -58,12 +47,6 @@ refresh_all-requires c =
       inside = omega (arith, small, ap (λ (l : NumberedLiteral). l.variable) c.index-literal.ensures, c.requires.rooted.3.values);
       sized = c.lift_all.ensures.each.sized;
     }
-
-pub returns-clause-list : goal.returns-clause-list
-returns-clause-list c =
-    let me = c.args.self.now in
-    let last_is : c.len-count.result - 1 ≡ length me.run.assignment.list.items - 1 = omega (arith, c.len-count.ensures, me.run.assignment.list.ok.0) in
-    ap (λ (a : Assignment). a.list.items) (c.refresh_all.ensures.each.assignment ∙ c.lift_all.ensures.each.assignment) ∙ c.cut.ensures.list ∙ ap (λ n. take n me.run.assignment.list.items) last_is
 
 pub returns-clause-shortened : goal.returns-clause-shortened
 returns-clause-shortened c =
@@ -86,17 +69,6 @@ returns-clause-shortened c =
           let walks = walks-cut clauses list last me.walked c.cut-2.new.self inside r.walks c.cut-2.ensures.heads c.cut-2.ensures.marks in
           let f = refreshed-then store _ _ _ c.lift_all.ensures.each c.refresh_all.ensures.each in
           let theirs : AllRefreshed store c.refresh_all.new.root c.negation.result = λ j e at. refreshed-stays store _ _ e.form c.refresh_all.ensures.each (c.lift_all.ensures.all j e at) in
-          retracted-rooted store clauses me _ _ (take last list) l listed absent (reasons-first list last r.reasoned) c.requires.sound slots r f (record {
-            opens = refl;
-            candidates = refl;
-            rests = refl;
-            waiting = refl;
-            work = refl;
-            trail = refl;
-            next = refl;
-            list = c.cut.ensures.list;
-            values = c.cut.ensures.values;
-            reasons = c.cut.ensures.reasons;
-          }) c.refresh_all.ensures.all (subst (AllRefreshed store _) c.negation.ensures theirs) walks
+          retracted-rooted store clauses me _ _ (take last list) l listed absent (reasons-first list last r.reasoned) c.requires.sound slots r f (cut-off me c.cut.new.self c.cut-2.new.self c.cut.ensures.list c.cut.ensures.values c.cut.ensures.reasons) c.refresh_all.ensures.all (subst (AllRefreshed store _) c.negation.ensures theirs) walks
           (λ s d less. ap (λ xs. get_or xs s 0 + 0) c.refresh_all.ensures.opens ∙ c.lift_all.ensures.lacks s d less ∙ ap (λ (a : Assignment). open_sum a.list.items (get_or (shapes_of store.stored.items) s d).terms) (sym c.refresh_all.ensures.each.assignment));
     }

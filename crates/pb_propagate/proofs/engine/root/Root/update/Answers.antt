@@ -1,5 +1,5 @@
-use Rattle.pb_propagate.proofs.Common.{ℕ, ◌∙◌, ◌≡◌, [], ap, arith, get_or, Global, length, refl, sym, take, Vec, slice_get-get_or, slice_get_within, all_of}
-use Rattle.pb_propagate.proofs.Common.{◌++◌, ◌-◌, forms_of, Assignment, Listed, heads_at}
+use Rattle.pb_propagate.proofs.Common.{ℕ, ◌∙◌, ◌≡◌, [], ap, arith, get_or, Global, length, refl, take, Vec, slice_get-get_or, slice_get_within, all_of}
+use Rattle.pb_propagate.proofs.Common.{◌++◌, ◌-◌, forms_of, Assignment, heads_at}
 use Rattle.std.proofs.Math.ListN.{replicate}
 use Rattle.pb_propagate.proofs.lemmas.clauses.Heads.{heads-is, visits-back, walks-back, walks-ended}
 use Rattle.pb_propagate.proofs.lemmas.clauses.Watching.{ready-running}
@@ -22,29 +22,16 @@ propagate-requires-clause-waiting c =
 
 -- an allocation ends it
 pub returns-in_err-found-clause-costs : goal.returns-in_err-found-clause-costs
-returns-in_err-found-clause-costs c =
-    let spends = rw c.as_slice.ensures.value at c.propagate.ensures.costs in
-    record { ended = c.propagate.new.run; spends = spends; visits = refl }
+returns-in_err-found-clause-costs c = record { ended = c.propagate.new.run; spends = rw c.as_slice.ensures.value at c.propagate.ensures.costs; visits = refl }
 
 pub returns-in_err-note-clause-costs : goal.returns-in_err-note-clause-costs
-returns-in_err-note-clause-costs c =
-    let spends = rw c.as_slice.ensures.value at c.propagate.ensures.costs in
-    record { ended = c.propagate.new.run; spends = spends; visits = refl }
-
--- a conflict is met
-pub note-requires-clause-values : goal.note-requires-clause-values
-note-requires-clause-values c = c.requires.vacant.values ∙ sym (c.in_ok-found.ensures.left.values ∙ c.requires.standing.rooted.values)
+returns-in_err-note-clause-costs c = record { ended = c.propagate.new.run; spends = rw c.as_slice.ensures.value at c.propagate.ensures.costs; visits = refl }
 
 pub note-requires-clause-reasoned : goal.note-requires-clause-reasoned
 note-requires-clause-reasoned c = (all_of c.args.store.now c.args.clauses.now, run-reasons-rooted c.requires.standing.rooted.reasoned c.in_ok-found.ensures.reasons)
 
-pub returns-then-found-clause-lists : goal.returns-then-found-clause-lists
-returns-then-found-clause-lists c = omega (arith, ap (λ (v : Vec (Vec Listed Global) Global). length v.items) c.back.ensures.lists, c.in_ok-found.ensures.left.running.sizes, c.in_ok-found.ensures.left.values, c.requires.standing.rooted.values, c.requires.standing.widths)
-
 pub returns-then-found-clause-costs : goal.returns-then-found-clause-costs
-returns-then-found-clause-costs c =
-    let spends = rw c.as_slice.ensures.value at c.propagate.ensures.costs in
-    record { ended = c.propagate.new.run; spends = spends; visits = c.back.ensures.visits }
+returns-then-found-clause-costs c = record { ended = c.propagate.new.run; spends = rw c.as_slice.ensures.value at c.propagate.ensures.costs; visits = c.back.ensures.visits }
 
 pub returns-then-found-clause-rooted : goal.returns-then-found-clause-rooted
 returns-then-found-clause-rooted c =
@@ -67,18 +54,9 @@ returns-then-found-clause-kept c =
     let holds = conflict-same forms done c.note.new.self.assignment noted.list noted.reasons (conflicts-kept forms done reasoned (reported.conflict c.if-found.true)) in
     met-kept forms c.args.store.now.variables c.note.new.self (noted.values ∙ c.requires.vacant.values) noted.met holds
 
-pub returns-then-found-clause-met : goal.returns-then-found-clause-met
-returns-then-found-clause-met c = λ found. record {
-  ready = c.back.ensures.ready;
-  met = c.in_ok-note.ensures.met;
-  found = rw (c.in_ok-note.ensures.list, c.back.ensures.visits) c.in_ok-found.ensures.gains.found;
-}
-
 -- none is met
 pub returns-clause-costs : goal.returns-clause-costs
-returns-clause-costs c =
-    let spends = rw c.as_slice.ensures.value at c.propagate.ensures.costs in
-    record { ended = c.propagate.new.run; spends = spends; visits = c.save.ensures.visits }
+returns-clause-costs c = record { ended = c.propagate.new.run; spends = rw c.as_slice.ensures.value at c.propagate.ensures.costs; visits = c.save.ensures.visits }
 
 pub returns-clause-rooted : goal.returns-clause-rooted
 returns-clause-rooted c =
@@ -107,17 +85,12 @@ returns-clause-rooted c =
     (ap (λ (v : Vec ℕ Global). length v.items) c.clear.ensures.positions ∙ r.positions)
     (λ i s at. absurd (omega (arith, slice_get_within c.clear.new.self.list.items i s at, ap length c.clear.ensures.list)))
 
-pub returns-clause-lists : goal.returns-clause-lists
-returns-clause-lists c = omega (arith, c.in_ok-found.ensures.left.running.sizes, c.in_ok-found.ensures.left.values, c.requires.standing.rooted.values, c.requires.standing.widths)
-
 pub returns-clause-kept : goal.returns-clause-kept
 returns-clause-kept c = vacant-kept (all_of c.args.store.now c.args.clauses.now) c.args.store.now.variables c.args.conflict.now c.requires.vacant
 
 pub returns-clause-updated : goal.returns-clause-updated
 returns-clause-updated c = λ none.
-    let me = c.args.self.now in
     let reported = c.in_ok-found.ensures in
-    let count_is : c.len-count.result ≡ length me.run.assignment.list.items = omega (arith, c.len-count.ensures, me.run.assignment.list.ok.0) in
     let pays = rw c.as_slice.ensures.value at (reported.settled c.if-found.false).pays in
     let done = c.propagate.new.run in
     let whole_is : c.len-whole.result ≡ length done.assignment.list.items = omega (arith, c.len-whole.ensures, done.assignment.list.ok.0, ap (λ (a : Assignment). length a.list.items) c.save.ensures.assignment, c.save.new.run.assignment.list.ok.0) in
@@ -135,9 +108,7 @@ returns-clause-updated c = λ none.
     }
 
 pub returns-in_err-finish-clause-costs : goal.returns-in_err-finish-clause-costs
-returns-in_err-finish-clause-costs c =
-    let spends = rw c.as_slice.ensures.value at c.propagate.ensures.costs in
-    record { ended = c.propagate.new.run; spends = spends; visits = c.save.ensures.visits }
+returns-in_err-finish-clause-costs c = record { ended = c.propagate.new.run; spends = rw c.as_slice.ensures.value at c.propagate.ensures.costs; visits = c.save.ensures.visits }
 
 pub propagate-requires-clause-ready : goal.propagate-requires-clause-ready
 propagate-requires-clause-ready c =

@@ -1,19 +1,17 @@
 use Rattle.pb_propagate.proofs.Common.{◌-◌, ap, arith, length, length-take-le}
-use Rattle.pb_propagate.proofs.lemmas.root.Released.{due-some, some-shortened, some-sized, shortened-same, shortened-then}
+use Rattle.pb_propagate.proofs.lemmas.root.Released.{due-some, some-sized, shortened-same, shortened-then}
 use Rattle.pb_propagate.proofs.engine.root.Root.withdraw.Goals as goal
 
 pub literals-init : goal.literals-init
 literals-init c = shortened-same c.args.store.now c.args.self.now (some-sized c.args.store.now c.args.self.now c.requires.rooted)
 
-pub is_due-requires : goal.is_due-requires
-is_due-requires c = omega (arith, c.requires.inside, c.literals.invariant.sized.values)
-
 pub retract-requires : goal.retract-requires
 retract-requires c =
     let due = c.is_due.ensures.yes c.literals-test.true in
+    let r = c.requires.rooted in
     record {
       sound = c.requires.sound;
-      rooted = some-shortened c.requires.rooted c.literals.invariant;
+      rooted = (r.0, r.1, r.2, c.literals.invariant.rooted r.0 r.2 r.3);
       some = due-some c.literals.self.run.assignment.list.items c.args.literal due.0;
     }
 
