@@ -1,4 +1,4 @@
-use Rattle.pb_propagate.proofs.Common.{ℕ, ◌+◌, ◌<◌, ◌∙◌, ◌≤◌, ap, arith, drop, get_or, Global, inl, inr, length, length-append, List, refl, subst, Vec}
+use Rattle.pb_propagate.proofs.Common.{ℕ, ◌+◌, ◌<◌, ◌∙◌, ◌≤◌, ap, arith, drop, get_or, Global, inl, inr, length, List, refl, subst, Vec}
 use Rattle.pb_propagate.proofs.Common.{sum, drop_all, get_or_default, length-map, take_rest, NumberedLiteral}
 use Rattle.pb_propagate.proofs.Common.{passed_of, all_of, clauses_of, joined, heads_at, IsAhead, spent, entries_of}
 use Rattle.pb_propagate.proofs.Common.{shapes_of, stored_shape, Conflicts, IsSettled, database, progress, RunReasons}
