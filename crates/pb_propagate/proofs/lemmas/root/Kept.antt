@@ -95,9 +95,6 @@ met-kept forms variables conflict values met h = record {
   holds = λ again. h;
 }
 
-pub kept-vacant : (forms : List Shape) (variables : ℕ) (conflict : Conflict) → conflict.met ≡ false → IsKeptConflict forms variables conflict → IsVacant variables conflict
-kept-vacant forms variables conflict unmet k = record { unmet = unmet; values = k.values; list = k.none unmet }
-
 -- the literals of a list are put on another one, in their order
 reasons-fresh : {forms : List Shape} {reasons : List ℕ} {list : List NumberedLiteral} (i : ℕ) (d : NumberedLiteral) → HaveReasons forms reasons [] list → i < length list → (has (take i list) (get_or list i d) ≡ false) × (has (take i list) (negation (get_or list i d)) ≡ false)
 reasons-fresh i d from_given inside = absurd (omega (arith, inside))

@@ -20,21 +20,6 @@ use Rattle.pb_propagate.proofs.lemmas.engine.Puts.{entries-at, form-within, plac
 use Rattle.pb_propagate.proofs.lemmas.root.Rooted.{term-entry}
 use Rattle.pb_propagate.proofs.lemmas.store.Weights.{index-within}
 
--- forms are refreshed one after another
-pub refreshed-none : (store : Store) (r : Root) → IsSized store r → AreRefreshed store r r
-refreshed-none store r sized = record {
-  each = λ s. inl (record { opened = refl; passed = refl; absent = λ off. off });
-  sized = sized;
-  assignment = refl;
-  work = refl;
-  trail = refl;
-  next = refl;
-  walked = refl;
-  opens = λ e. e;
-  starts = λ e. e;
-  live = λ i s at. inr (i, at);
-}
-
 pub refreshed-stays : (store : Store) (b c : Root) (s : ℕ) → AreRefreshed store b c → IsRefreshed store b s → IsRefreshed store c s
 refreshed-stays store b c s next r = elim (next.each s) [
   | inl u ↦ record {
