@@ -18,9 +18,3 @@ pub record TakesPrefix {M E : Type 0} {g : Ghosts M E} (old : Feeder M E g) (pie
   pub running : halt_of new ≡ None
   pub unfinished : fed.event ≡ None → is_complete new ≡ false
   pub state : IsState g.automaton (state_of new)
-
--- It took a prefix of the piece, and counts the bytes that were skipped before it.
-pub record TakesAfter {M E : Type 0} {g : Ghosts M E} (old : Feeder M E g) (skipped : ℕ) (piece : List ℕ) (fed : Fed E) (new : Feeder M E g) : Type 0 where
-  pub used : ℕ
-  pub count : fed.used ≡ skipped + used
-  pub takes : TakesPrefix old piece (record { used = used; event = fed.event }) new

@@ -1,6 +1,6 @@
 //! Takes a statement of a piece at once.
 
-ghost use Rattle.std.specs.Prelude.{false, ◌≡◌, ℕ, Some, None, ◌+◌, ◌<◌, ◌^◌, ◌≤◌, List, ◌++◌, take, length};
+ghost use Rattle.std.specs.Prelude.{false, ◌≡◌, ℕ, Some, None, ◌+◌, ◌<◌, ◌≤◌, List, ◌++◌, take, length};
 
 use crate::feeder::{Fed, Feeder, end_at};
 use crate::machine::Machine;
@@ -10,7 +10,7 @@ impl<M: Machine> Feeder<M> {
     ghost use Rattle.pb_text.specs.declared.place.Spanned.{Spanned};
     ghost use Rattle.pb_text.specs.contract.Automaton.{IsState};
     ghost use Rattle.pb_text.specs.contract.Feeding.{StandsAt, spans_in, state_of, place_of, halt_of, is_complete};
-    ghost use Rattle.pb_text.specs.engine.Prefixes.{TakesPrefix, TakesAfter};
+    ghost use Rattle.pb_text.specs.engine.Prefixes.{TakesPrefix};
 
     /// Takes a prefix of a piece that is fast to take, at most through the end of a statement.
     pub(crate) fn feed_statement(&mut self, piece: &[u8]) -> Fed<M::Event>
@@ -31,7 +31,9 @@ impl<M: Machine> Feeder<M> {
         ensures state { IsState M.automaton (state_of self.new) }
     {
         let skipped = self.skip_line_feed(piece);
-        self.feed_rest(skipped, &piece[skipped..])
+        let mut fed = self.feed_rest(&piece[skipped..]);
+        fed.used = skipped + fed.used;
+        fed
     }
 
     /// Takes a line feed before a statement, if there is one. It returns how many bytes it took.
@@ -48,48 +50,43 @@ impl<M: Machine> Feeder<M> {
         if self.try_continue(b'\n') { 1 } else { 0 }
     }
 
-    /// Takes a whole statement, or otherwise what is fast to take of one. The result counts the
-    /// bytes that were skipped before the piece.
+    /// Takes a whole statement, or otherwise what is fast to take of one.
     #[inline(always)]
-    fn feed_rest(&mut self, skipped: usize, piece: &[u8]) -> Fed<M::Event>
-        requires room { skipped + length piece.now < 2 ^ 64 }
+    fn feed_rest(&mut self, piece: &[u8]) -> Fed<M::Event>
         requires unfinished { is_complete self.old ≡ false }
         requires running { halt_of self.old ≡ None }
         requires state { IsState M.automaton (state_of self.old) }
-        ensures { TakesAfter self.old skipped piece.now result self.new }
+        ensures { TakesPrefix self.old piece.now result self.new }
     {
         if self.first.is_some() {
-            return self.feed_part(skipped, piece);
+            return self.feed_part(piece);
         }
         let first = self.place;
         let room = (end_at(self.longest, Some(first)) - first.offset) as usize;
         let prefix = &piece[..piece.len().min(room)];
         let Some((last, event)) = self.machine.take_statement(prefix) else {
-            return self.feed_part(skipped, piece);
+            return self.feed_part(piece);
         };
         let past = first.past(&prefix[..last]).after(prefix[last]);
         self.place = past;
         Fed {
-            used: skipped + last + 1,
+            used: last + 1,
             event: Some(Spanned { event, first, past }),
         }
     }
 
-    /// Takes a prefix of a piece in parts, at most through the end of a statement. The result
-    /// counts the bytes that were skipped before the piece.
-    fn feed_part(&mut self, skipped: usize, piece: &[u8]) -> Fed<M::Event>
-        requires room { skipped + length piece.now < 2 ^ 64 }
+    /// Takes a prefix of a piece in parts, at most through the end of a statement.
+    fn feed_part(&mut self, piece: &[u8]) -> Fed<M::Event>
         requires unfinished { is_complete self.old ≡ false }
         requires running { halt_of self.old ≡ None }
         requires state { IsState M.automaton (state_of self.old) }
-        ensures { TakesAfter self.old skipped piece.now result self.new }
+        ensures { TakesPrefix self.old piece.now result self.new }
     {
-        let taken = self.feed_fast(piece);
-        let used = skipped + taken;
-        if taken == piece.len() {
+        let used = self.feed_fast(piece);
+        if used == piece.len() {
             return Fed { used, event: None };
         }
-        match self.try_finish(piece[taken]) {
+        match self.try_finish(piece[used]) {
             Some(event) => Fed::with_event(used + 1, event),
             None => Fed { used, event: None },
         }

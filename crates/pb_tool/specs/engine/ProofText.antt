@@ -1,5 +1,5 @@
 -- The text of a proof, built as its statements come.
-use Rattle.std.specs.Prelude.{◌≡◌, ℕ, Bool, true, false, List, ◌++◌}
+use Rattle.std.specs.Prelude.{◌≡◌, ℕ, List, ◌++◌}
 use Rattle.pb_proof.specs.meaning.Canonical.{statement_bytes}
 use Rattle.pb_proof.specs.meaning.Proofs.{IsProofOf}
 use Rattle.pb_proof.specs.declared.proof.Proof.{Proof}
@@ -12,15 +12,6 @@ use Rattle.pb_tool.specs.declared.commands.tidy.proof_text.ProofText.{ProofText}
 -- the line of a statement
 abbrev pub line : Statement → List ℕ
 line = line_of statement_bytes
-
--- whether a statement is stored as text, in its order
-abbrev pub is_step : Statement → Bool
-is_step Header = false
-is_step (F count) = false
-is_step Output = false
-is_step (Conclude conclusion) = false
-is_step End = false
-is_step step = true
 
 -- The statements with one more. Steps are stored as text, and the count of `f` and the conclusion as they are.
 abbrev pub with : ProofText → Statement → ProofText

@@ -2,7 +2,7 @@
 
 ghost use Rattle.std.specs.Prelude.{◌≡◌, ◌++◌, OnErr, OnOk};
 ghost use Rattle.pb_text.specs.meaning.Writing.{Writes};
-ghost use Rattle.pb_tool.specs.engine.ProofText.{after_steps, before_steps, is_step, line, text_of};
+ghost use Rattle.pb_tool.specs.engine.ProofText.{after_steps, before_steps, line, text_of};
 
 use crate::canonical::{Canonical, write_line};
 use crate::commands::tidy::page::Page;
@@ -97,10 +97,8 @@ impl Gather for ProofText {
     ghost asks = { λ t s. asks s };
 
     fn add(&mut self, statement: Statement) -> Result<(), AllocError> {
-        if is_step(&statement) {
-            return self.push(&statement);
-        }
         match statement {
+            Statement::Header | Statement::Output | Statement::End => Ok(()),
             Statement::F(count) => {
                 self.count = count;
                 Ok(())
@@ -109,18 +107,7 @@ impl Gather for ProofText {
                 self.conclusion = statement;
                 Ok(())
             }
-            _ => Ok(()),
+            step => self.push(&step),
         }
-    }
-}
-
-/// Whether the statement is stored as text, in its order.
-fn is_step(statement: &Statement) -> bool
-    ensures { result ≡ is_step statement.now }
-{
-    match statement {
-        Statement::Header | Statement::F(_) | Statement::Output => false,
-        Statement::Conclude(_) | Statement::End => false,
-        _ => true,
     }
 }

@@ -94,46 +94,37 @@ returns g c =
     let next : c.after-past.result ≡ place_next (place_past f.place text) b = c.after-past.ensures ∙ ap (λ (p : Place). place_next p b) c.past.ensures in
     let q = place_fits f.place c.after-past.result (text ++ b ∷ []) (last + 1) f.end (next ∙ sym (past_more f.place text b)) (omega (arith, length-append text (b ∷ []), long)) (omega (arith, w.3, e)) f.offset_in_range f.line_in_range f.column_in_range in
     record {
-      used = last + 1;
-      count = omega arith;
-      takes = record {
-        bound = w.0;
-        stands = λ longest start input spans h.
-            let at_first : Stands g.M.Machine.automaton longest start input spans f.machine f.place None None =
-            subst (λ (o : Option Place). Stands g.M.Machine.automaton longest start input spans f.machine f.place o None) none
-            (subst (λ (o : Option Stop). Stands g.M.Machine.automaton longest start input spans f.machine f.place f.first o) c.requires.running h.1) in
-            let starts : begins g.M.Machine.automaton f.machine (get_or (text ++ b ∷ []) 0 0) ≡ true = ap (λ (x : ℕ). begins g.M.Machine.automaton f.machine x) (first_through xs last s.0) ∙ s.1 in
-            let fits : f.place.offset + length text < end_of longest (Some f.place) = omega (arith, long, w.2, ap (λ (l : ℕ). end_of l (Some f.place)) h.0) in
-            let k = stands_whole g.M.Machine.automaton longest start spans f.machine c.take_statement.new.self input f.place at_first c.requires.unfinished text s.2 b c.in-Some.event starts fits s.3 s.4 c.in-Some.ensures.state in (
-              h.0,
-              rw (c.requires.running, none, next) (subst (λ (x : List ℕ). Stands g.M.Machine.automaton longest start (input ++ x) (spans ++ span c.in-Some.event f.place (place_next (place_past f.place text) b) ∷ []) c.take_statement.new.self (place_next (place_past f.place text) b) None None)
-                  (through piece c.min.result last w.1 s.0) k),
-            );
-        offset = q.3;
-        some = λ event h. omega arith;
-        past = λ event h. past_of _ event h;
-        running = c.requires.running;
-        unfinished = λ h. cc h;
-        state = c.in-Some.ensures.state;
-      };
+      bound = w.0;
+      stands = λ longest start input spans h.
+          let at_first : Stands g.M.Machine.automaton longest start input spans f.machine f.place None None =
+          subst (λ (o : Option Place). Stands g.M.Machine.automaton longest start input spans f.machine f.place o None) none
+          (subst (λ (o : Option Stop). Stands g.M.Machine.automaton longest start input spans f.machine f.place f.first o) c.requires.running h.1) in
+          let starts : begins g.M.Machine.automaton f.machine (get_or (text ++ b ∷ []) 0 0) ≡ true = ap (λ (x : ℕ). begins g.M.Machine.automaton f.machine x) (first_through xs last s.0) ∙ s.1 in
+          let fits : f.place.offset + length text < end_of longest (Some f.place) = omega (arith, long, w.2, ap (λ (l : ℕ). end_of l (Some f.place)) h.0) in
+          let k = stands_whole g.M.Machine.automaton longest start spans f.machine c.take_statement.new.self input f.place at_first c.requires.unfinished text s.2 b c.in-Some.event starts fits s.3 s.4 c.in-Some.ensures.state in (
+            h.0,
+            rw (c.requires.running, none, next) (subst (λ (x : List ℕ). Stands g.M.Machine.automaton longest start (input ++ x) (spans ++ span c.in-Some.event f.place (place_next (place_past f.place text) b) ∷ []) c.take_statement.new.self (place_next (place_past f.place text) b) None None)
+                (through piece c.min.result last w.1 s.0) k),
+          );
+      offset = q.3;
+      some = λ event h. omega arith;
+      past = λ event h. past_of _ event h;
+      running = c.requires.running;
+      unfinished = λ h. cc h;
+      state = c.in-Some.ensures.state;
     }
 
 pub returns-in_default : goal.returns-in_default
 returns-in_default g c =
     let same : c.take_statement.new.self ≡ c.args.self.now.machine = c.in_default.ensures.statement in
-    let after = rw same at c.feed_part-in_default.ensures in
-    let part = after.takes in
+    let part = rw same at c.feed_part-in_default.ensures in
     record {
-      used = after.used;
-      count = after.count;
-      takes = record {
-        bound = part.bound;
-        stands = part.stands;
-        offset = part.offset;
-        some = part.some;
-        past = part.past;
-        running = part.running;
-        unfinished = part.unfinished;
-        state = part.state;
-      };
+      bound = part.bound;
+      stands = part.stands;
+      offset = part.offset;
+      some = part.some;
+      past = part.past;
+      running = part.running;
+      unfinished = part.unfinished;
+      state = part.state;
     }
