@@ -5,5 +5,6 @@ pub mod Cutting
 pub mod FeederParts
 pub mod Follows
 pub mod Steps
+pub mod Passing
 pub mod Reported
 pub mod Whole

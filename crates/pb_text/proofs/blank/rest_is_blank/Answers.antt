@@ -63,13 +63,7 @@ returns-then-not-passes-clause-given g c =
     (i.0, b ∷ [], p.4 ∙ i.6, (i.0, b ∷ [], (refl, refl), i.2, i.3, ([], refl, sym (at_comment i.0 b c.loop-byte.in_comment c.passes.result i.5 c.passes.ensures) ∙ c.if-not-passes.true, omega (arith, i.4, c.loop-byte.invariant.within, c.if-at-eq-BYTE_LIMIT.false))))
 
 pub returns-in-Ok-None-clause-given : goal.returns-in-Ok-None-clause-given
-returns-in-Ok-None-clause-given g c =
-    let i = c.loop-byte.invariant.blank in
-    let p = rw (c.in-Ok-None.is, c.in-Ok-None.field-0-is) at c.peek.ensures in
-    (i.0, [], p.3 ∙ i.6, (i.0, (refl, refl), i.2, omega (arith, i.4, c.loop-byte.invariant.within)))
+returns-in-Ok-None-clause-given g c = grind (arith, c.loop-byte.invariant.blank, c.in-Ok-None.is, c.peek.ensures, c.loop-byte.invariant.within)
 
 pub returns-in-Err-clause-given : goal.returns-in-Err-clause-given
-returns-in-Err-clause-given g c =
-    let i = c.loop-byte.invariant.blank in
-    let p = rw c.in-Err.is at c.peek.ensures in
-    (i.0, [], p.2 ∙ i.6, (i.0, [], (refl, refl), i.2, i.3, tt))
+returns-in-Err-clause-given g c = grind (arith, c.loop-byte.invariant.blank, c.in-Err.is, c.peek.ensures)

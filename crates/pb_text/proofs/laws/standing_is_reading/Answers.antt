@@ -4,4 +4,4 @@ use Rattle.pb_text.proofs.laws.standing_is_reading.Goals as goal
 
 pub returns : goal.returns
 returns g c longest start input spans f s =
-    (bytes s.1.letters, stands_reads g.M.Machine.automaton longest start input spans f.machine f.place f.first f.stop s.1 (is_complete f) refl)
+    (bytes s.1.letters, stands_reads s.1 (is_complete f) refl)

@@ -1,16 +1,16 @@
 -- A state with `Stands` for its text gives what a read of the text must give.
 use Rattle.pb_text.proofs.Common.{ℕ, ◌++◌, ◌+◌, ◌-◌, ◌<◌, ◌∙◌, ◌∷◌, ◌≡◌, ◌≢◌, ◌≤◌, ◌⊎◌, [], ap, append-nil, append_assoc, arith, Bool, cond}
-use Rattle.pb_text.proofs.Common.{eq-or-lt_of_le, inl, inr, IsTrue, le-leb, length, length-append, List, min, nat_le, None, Option, refl, Some, subst}
+use Rattle.pb_text.proofs.Common.{eq-or-lt_of_le, inl, inr, IsTrue, le-leb, length, length-append, List, nat_le, None, Option, refl, Some, subst}
 use Rattle.pb_text.proofs.Common.{sym, take, take-append_seam, lt-leb, append_cancel_left, nil_from_length, EndBy, Follows, Place, Spanned, end_of}
-use Rattle.pb_text.proofs.Common.{AreSeen, AreShort, byte_limit, ended_within, EndsInNumber, HasNoSpelling, HasOpen, IsFull, IsPrefix, IsShort}
+use Rattle.pb_text.proofs.Common.{AreSeen, AreShort, ended_within, EndsInNumber, HasNoSpelling, HasOpen, IsFull, IsPrefix, IsShort}
 use Rattle.pb_text.proofs.Common.{IsUnderWay, last_numeral, open_bytes, Overruns, Viable, bytes, bytes_of, Item, Letter, letters_of, place_after}
 use Rattle.pb_text.proofs.Common.{place_or, spans_since}
 use Rattle.std.proofs.lemmas.List.Elements.{filter-append}
 use Rattle.pb_text.proofs.lemmas.machine.Residual.{IsResidual, Refuses}
-use Rattle.pb_text.proofs.lemmas.text.Short.{place_after-offset, AreShort-append, since_short, Overruns-append, Overruns-split, since_fits, begun_bytes, open-ended}
+use Rattle.pb_text.proofs.lemmas.text.Short.{end_limit, place_after-offset, AreShort-append, since_short, Overruns-append, Overruns-split, since_fits, begun_bytes, open-ended}
 use Rattle.pb_text.proofs.lemmas.text.Languages.{bytes-append}
 use Rattle.pb_text.proofs.lemmas.text.Lists.{length-bytes}
-use Rattle.pb_text.proofs.lemmas.feeder.Follows.{no_letters}
+use Rattle.pb_text.proofs.lemmas.feeder.Follows.{spelled_is_done}
 
 -- spans that have ended remain
 ended_stay : {E : Type 0} (n : ℕ) (spans : List (Spanned E)) → EndBy n spans → ended_within n spans ≡ spans
@@ -64,17 +64,10 @@ module _ {E : Type 0} (format rest : List (Item E) → Type 0) (letters : List L
       ap (ended_within n) o.2.spans_are ∙ (filter-append (λ (m : Spanned E). nat_le m.past.offset n) spans (spans_since first (bytes letters) o.0)
       ∙ (ap (λ (x : List (Spanned E)). ended_within n spans ++ x) (not_ended rest state.texts first (bytes letters) o.0 o.1) ∙ (append-nil (ended_within n spans) ∙ ended_stay n spans here)))
 
-  spelled_is_done : (items : List (Item E)) → format items → bytes_of items ≡ bytes letters → rest []
-  spelled_is_done items f e =
-      let o = follows.onto items f ([], e ∙ sym (append-nil (bytes letters))) in
-      let n : length (letters_of items) ≡ length letters = sym (length-bytes (letters_of items)) ∙ (ap length e ∙ length-bytes letters) in
-      let m : length (letters_of o.0) ≡ 0 = omega (arith, n, ap length o.2.letters_are, length-append letters (letters_of o.0)) in
-      subst rest (no_letters rest state o.0 o.1 m) o.1
-
   sooner : (items : List (Item E)) → format items → (t : List ℕ) → bytes letters ≡ bytes_of items ++ t → (length (bytes_of items) ≡ length letters) ⊎ (length (bytes_of items) < length letters) → rest []
   sooner items f t e (inl n) =
       let none : length t ≡ 0 = omega (arith, ap length e, length-append (bytes_of items) t, length-bytes letters) in
-      spelled_is_done items f (sym (e ∙ (ap (λ (x : List ℕ). bytes_of items ++ x) (nil_from_length t none) ∙ append-nil (bytes_of items))))
+      spelled_is_done format rest letters spans first follows state items f (sym (e ∙ (ap (λ (x : List ℕ). bytes_of items ++ x) (nil_from_length t none) ∙ append-nil (bytes_of items))))
   sooner items f t e (inr n) =
       absurd (follows.alone (length (bytes_of items)) n items f (sym (ap (take (length (bytes_of items))) e ∙ take-append_seam (bytes_of items) t)))
 
@@ -110,11 +103,7 @@ module _ {E : Type 0} (format rest : List (Item E) → Type 0) (letters : List L
         (subst (λ (k : ℕ). AreShort longest k spans) (sym n) h) (since_short longest first (bytes letters) o.0 le'))
 
     pub has_room : 0 < longest → length letters < end_of longest first → IsFull format longest (bytes letters) → ⊥
-    has_room some lt (inl e) = room_all first lt
-      where
-        room_all : (q : Option Place) → length letters < end_of longest q → ⊥
-        room_all None h = omega (arith, e, length-bytes letters)
-        room_all (Some p) h = omega (arith, e, length-bytes letters)
+    has_room some lt (inl e) = omega (arith, e, length-bytes letters, end_limit longest first)
     has_room some lt (inr full) =
         let v = is_viable in
         let o = follows.onto v.0 v.1 v.2 in
@@ -133,7 +122,7 @@ module _ {E : Type 0} (format rest : List (Item E) → Type 0) (letters : List L
     is_full_at : (q : Option Place) → q ≡ first → length (bytes letters) ≡ end_of longest q → (rest [] → ⊥) → IsFull format longest (bytes letters)
     is_full_at None same e never = inl e
     is_full_at (Some p) same e never =
-        elim (eq-or-lt_of_le (at_most (length (bytes letters)) (p.offset + longest) e)) [
+        elim (eq-or-lt_of_le (omega (arith, e, end_limit longest (Some p)))) [
           | inl all ↦ inl all
           | inr less ↦ inr (λ items f prefix.
               let o = follows.onto items f prefix in
@@ -142,23 +131,16 @@ module _ {E : Type 0} (format rest : List (Item E) → Type 0) (letters : List L
               (subst (λ (x : Option Place). Overruns longest (length (bytes letters)) (spans_since x (bytes letters) o.0)) same
               (runs_on p (omega (arith, less, e)) o.0 o.1 never))))
         ]
-      where
-        at_most : (n k : ℕ) → n ≡ min byte_limit k → n ≤ byte_limit
-        at_most n k h = omega arith
 
     pub is_full : length letters ≡ end_of longest first → (rest [] → ⊥) → IsFull format longest (bytes letters)
     is_full e never = is_full_at first refl (length-bytes letters ∙ e) never
-
-    below_limit : (q : Option Place) → length letters ≤ end_of longest q → length letters ≤ byte_limit
-    below_limit None h = h
-    below_limit (Some p) h = omega arith
 
     pub is_under_way : AreShort longest (length letters) spans → length letters ≤ end_of longest first → (rest [] → ⊥) → IsUnderWay format longest (bytes letters) spans
     is_under_way h le never = record {
       viable = is_viable;
       seen = are_seen;
       unfinished = is_unfinished never;
-      within = omega (arith, length-bytes letters, below_limit first le);
+      within = omega (arith, length-bytes letters, end_limit longest first);
       short = is_short h le;
     }
 

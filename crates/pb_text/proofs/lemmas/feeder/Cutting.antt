@@ -34,7 +34,7 @@ module _ {M E : Type 0} {g : Ghosts M E} (longest : ℕ) (start : M) (after : Fe
       let k = feeds_stand feeds before [] [] s counts h in
       let none : bytes s.1.letters ≡ [] = nothing_fed (bytes s.1.letters) s.1.left (sym s.1.input_is) in (
         bytes k.1.letters,
-        stands_reads g.automaton longest start (input_fed feeds) (spans_answered feeds) after.machine after.place after.first after.stop k.1 (is_complete after) refl,
+        stands_reads k.1 (is_complete after) refl,
         λ all.
             let further = feeds_further feeds before h all in
             let begins : before.place.offset ≡ 0 = ap (λ (p : Place). p.offset) s.1.place_is ∙ (place_after-offset (bytes s.1.letters) ∙ ap (λ (x : List ℕ). length x) none) in

@@ -20,6 +20,15 @@ no_letters rest state (i ∷ items) r e =
     no_text [] r g e = refl
     no_text (x ∷ t) r g e = absurd (omega (arith, length-append g (x ∷ (t ++ r))))
 
+module _ {E : Type 0} (format rest : List (Item E) → Type 0) (letters : List Letter) (spans : List (Spanned E)) (first : Option Place) (follows : Follows format rest letters spans first) (state : IsResidual rest) where
+  -- if these bytes are a text of the format, nothing must follow them
+  pub spelled_is_done : (items : List (Item E)) → format items → bytes_of items ≡ bytes letters → rest []
+  spelled_is_done items f e =
+      let o = follows.onto items f ([], e ∙ sym (append-nil (bytes letters))) in
+      let n : length (letters_of items) ≡ length letters = sym (length-bytes (letters_of items)) ∙ (ap length e ∙ length-bytes letters) in
+      let m : length (letters_of o.0) ≡ 0 = omega (arith, n, ap length o.2.letters_are, length-append letters (letters_of o.0)) in
+      subst rest (no_letters rest state o.0 o.1 m) o.1
+
 module _ {E : Type 0} (format old new : List (Item E) → Type 0) (put : List (Item E) → List (Item E) → Type 0) (letters : List Letter) (spans : List (Spanned E)) (first : Option Place) (l : Letter) (more : List (Spanned E)) (first' : Option Place)
     (follows : Follows format old letters spans first) (takes : Takes old put l.byte new) (moves : Advances put l (bytes letters) first more first') (state : IsResidual old) (next : IsResidual new) where
   bytes_snoc : bytes (letters ++ l ∷ []) ≡ bytes letters ++ l.byte ∷ []
@@ -39,16 +48,8 @@ module _ {E : Type 0} (format old new : List (Item E) → Type 0) (put : List (I
       let e : l ∷ letters_of next.live.0 ≡ [] = sym (moves.letters_are next.live.0 back.0 back.1) ∙ ap letters_of empty in
       cc
 
-  -- these bytes are not a text of the format
-  not_spelled : (items : List (Item E)) → format items → bytes_of items ≡ bytes letters → ⊥
-  not_spelled items f e =
-      let o = follows.onto items f ([], e ∙ sym (append-nil (bytes letters))) in
-      let n : length (letters_of items) ≡ length letters = sym (length-bytes (letters_of items)) ∙ (ap length e ∙ length-bytes letters) in
-      let m : length (letters_of o.0) ≡ 0 = omega (arith, n, ap length o.2.letters_are, length-append letters (letters_of o.0)) in
-      open_before (subst old (no_letters old state o.0 o.1 m) o.1)
-
   ends_sooner : (n : ℕ) → (n ≡ length letters) ⊎ (n < length letters) → (items : List (Item E)) → format items → bytes_of items ≡ take n (bytes letters) → ⊥
-  ends_sooner n (inl e) items f b = not_spelled items f (b ∙ (ap (λ (k : ℕ). take k (bytes letters)) (e ∙ sym (length-bytes letters)) ∙ take-length (bytes letters)))
+  ends_sooner n (inl e) items f b = open_before (spelled_is_done format old letters spans first follows state items f (b ∙ (ap (λ (k : ℕ). take k (bytes letters)) (e ∙ sym (length-bytes letters)) ∙ take-length (bytes letters))))
   ends_sooner n (inr h) items f b = follows.alone n h items f b
 
   pub step : EndBy (length (letters ++ l ∷ [])) more → Follows format new (letters ++ l ∷ []) (spans ++ more) first'

@@ -1,27 +1,17 @@
 -- What a state with `Stands` for its text says is what a read of the text must give.
-use Rattle.pb_text.proofs.Common.{ℕ, ◌&&◌, ◌++◌, ◌∙◌, ◌∷◌, ◌≡◌, ◌≤◌, [], ap, append-nil, append_assoc, arith, Bool, false, inl, inr, IsTrue, length}
+use Rattle.pb_text.proofs.Common.{ℕ, ◌++◌, ◌∙◌, ◌∷◌, ◌≡◌, ◌≤◌, [], ap, append-nil, append_assoc, arith, Bool, false, inl, inr, IsTrue, length}
 use Rattle.pb_text.proofs.Common.{List, None, Option, refl, Some, subst, sym, true, false≢true, AcceptsItems, Admits, Automaton, Halts, Stands, Waits}
 use Rattle.pb_text.proofs.Common.{Place, Spanned, Stop, Why, Byte, Ended, Memory, Read, TooLarge, TooLong, end_of, SpentSince, is_digit, Answers}
-use Rattle.pb_text.proofs.Common.{AreShort, byte_limit, Explains, HasOpen, IsUnderWay, Reads, Viable, bytes}
+use Rattle.pb_text.proofs.Common.{AreShort, Explains, HasOpen, IsUnderWay, Reads, Viable, bytes}
 use Rattle.std.proofs.Common.{is_some}
+use Rattle.std.specs.Cmp.Derive.{both_true}
+use Rattle.pb_text.proofs.lemmas.text.Booleans.{of_both}
 use Rattle.pb_text.proofs.lemmas.text.Lists.{length-bytes}
 use Rattle.pb_text.proofs.lemmas.machine.Residual.{IsResidual, residual, refuses}
-use Rattle.pb_text.proofs.lemmas.text.Short.{begun_bytes}
+use Rattle.pb_text.proofs.lemmas.text.Short.{begun_bytes, end_limit}
 use Rattle.pb_text.proofs.lemmas.feeder.Answer.{bytes_joined, is_under_way, is_refused, is_full, has_room, has_open, ends_in_number, in_number_ends}
 
-both : (a b : Bool) → IsTrue a → IsTrue b → (a && b) ≡ true
-both true b p q = q
-both false b p q = absurd (false≢true p)
-
-first_of_both : (a b : Bool) → (a && b) ≡ true → IsTrue a
-first_of_both true b h = refl
-first_of_both false b h = absurd (false≢true h)
-
-second_of_both : (a b : Bool) → (a && b) ≡ true → IsTrue b
-second_of_both true b h = h
-second_of_both false b h = absurd (false≢true h)
-
-module _ {S E : Type 0} (m : Automaton S E) (longest : ℕ) (start : S) (input : List ℕ) (spans : List (Spanned E)) (state : S) (place : Place) (first : Option Place) (stop : Option Stop)
+module _ {S E : Type 0} {m : Automaton S E} {longest : ℕ} {start : S} {input : List ℕ} {spans : List (Spanned E)} {state : S} {place : Place} {first : Option Place} {stop : Option Stop}
     (s : Stands m longest start input spans state place first stop) where
   rest : IsResidual (AcceptsItems m state)
   rest = residual m state s.is_state
@@ -54,7 +44,7 @@ module _ {S E : Type 0} (m : Automaton S E) (longest : ℕ) (start : S) (input :
       refused = is_refused (AcceptsItems m start) (AcceptsItems m state) s.letters spans first s.follows rest b (refuses m state state b h.2);
       room = has_room (AcceptsItems m start) (AcceptsItems m state) s.letters spans first s.follows rest longest s.some h.4;
     },
-    λ digit numeral. false≢true (sym h.3 ∙ both (m.in_number state) (is_digit b) (subst IsTrue (sym s.number_is) (in_number_ends (AcceptsItems m start) (AcceptsItems m state) s.letters spans first s.follows rest numeral)) digit),
+    λ digit numeral. false≢true (sym h.3 ∙ both_true (subst IsTrue (sym s.number_is) (in_number_ends (AcceptsItems m start) (AcceptsItems m state) s.letters spans first s.follows rest numeral)) digit),
   )
   explains owed left TooLarge h = (
     h.0,
@@ -64,8 +54,8 @@ module _ {S E : Type 0} (m : Automaton S E) (longest : ℕ) (start : S) (input :
       refused = is_refused (AcceptsItems m start) (AcceptsItems m state) s.letters spans first s.follows rest h.0 (refuses m state state h.0 h.3);
       room = has_room (AcceptsItems m start) (AcceptsItems m state) s.letters spans first s.follows rest longest s.some h.5;
     },
-    second_of_both (m.in_number state) (is_digit h.0) h.4,
-    ends_in_number (AcceptsItems m start) (AcceptsItems m state) s.letters spans first s.follows rest (subst IsTrue s.number_is (first_of_both (m.in_number state) (is_digit h.0) h.4)),
+    (of_both (m.in_number state) (is_digit h.0) h.4).1,
+    ends_in_number (AcceptsItems m start) (AcceptsItems m state) s.letters spans first s.follows rest (subst IsTrue s.number_is (of_both (m.in_number state) (is_digit h.0) h.4).0),
   )
   explains owed left TooLong h =
       (h.0, is_full (AcceptsItems m start) (AcceptsItems m state) s.letters spans first s.follows rest longest h.1 (unfinished owed))
@@ -82,15 +72,11 @@ module _ {S E : Type 0} (m : Automaton S E) (longest : ℕ) (start : S) (input :
           spelled = past.1;
           used_are = bytes_joined (AcceptsItems m start) (AcceptsItems m state) s.letters spans first s.follows rest [] past.0 past.2.letters_are ∙ append-nil (bytes s.letters);
           spans_are = sym (past.2.spans_are ∙ append-nil spans);
-          within = omega (arith, length-bytes s.letters, under_limit first s.within);
+          within = omega (arith, length-bytes s.letters, s.within, end_limit longest first);
           short = subst (λ (n : ℕ). AreShort longest n spans) (sym (length-bytes s.letters)) s.short;
         },
         refl,
       )
-    where
-      under_limit : (q : Option Place) → length s.letters ≤ end_of longest q → length s.letters ≤ byte_limit
-      under_limit None h = h
-      under_limit (Some p) h = omega arith
   done_answer d (Some h) w = absurd (false≢true (sym w.0 ∙ d))
 
   open_answer : m.done state ≡ false → (halt : Option Stop) → Waits m state (end_of longest first) s.letters s.left place halt → Answers (AcceptsItems m start) longest (bytes s.letters) s.left spans place false halt

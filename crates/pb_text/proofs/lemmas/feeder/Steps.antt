@@ -1,14 +1,16 @@
 -- A byte that is given to the machine preserves `Stands`, for the input extended by it.
-use Rattle.pb_text.proofs.Common.{ℕ, ◌++◌, ◌+◌, ◌<◌, ◌∙◌, ◌∷◌, ◌≡◌, ◌≢◌, ◌≤◌, [], ap, append-nil, ap₂, arith, Bool, false, inl, inr, IsTrue, length}
+use Rattle.pb_text.proofs.Common.{ℕ, ◌++◌, ◌+◌, ◌<◌, ◌∙◌, ◌∷◌, ◌≡◌, ◌≤◌, [], ap, append-nil, ap₂, arith, Bool, false, inr, IsTrue, length}
 use Rattle.pb_text.proofs.Common.{length-append, List, None, Option, refl, Some, subst, sym, true, false≢true, AcceptsItems, Admits, Automaton}
 use Rattle.pb_text.proofs.Common.{begins, begins_with, End, Go, is_large, IsState, Leads, Refuse, state_after, EndBy, Follows, Halts, opened, Stands}
-use Rattle.pb_text.proofs.Common.{Waits, Place, Spanned, Stop, Byte, Memory, TooLarge, TooLong, end_of, SpentSince, AreShort, byte_limit}
+use Rattle.pb_text.proofs.Common.{Place, Spanned, Stop, Byte, Memory, TooLarge, TooLong, end_of, SpentSince, AreShort}
 use Rattle.pb_text.proofs.Common.{last_numeral, bytes, Letter, place_after, place_next, place_or}
 use Rattle.std.proofs.Common.{is_some}
-use Rattle.pb_text.proofs.lemmas.machine.Residual.{Put, PutLast, residual, takes_between, takes_within, takes_last}
+use Rattle.pb_text.proofs.lemmas.machine.Residual.{Put, PutLast, residual, takes_go, takes_last}
 use Rattle.pb_text.proofs.lemmas.text.Languages.{bytes-append}
-use Rattle.pb_text.proofs.lemmas.text.Lists.{length-bytes, gap_advances, letter_advances, last_advances}
+use Rattle.pb_text.proofs.lemmas.text.Lists.{length-bytes, put_advances, last_advances}
+use Rattle.pb_text.proofs.lemmas.feeder.Begin.{with_rest, input_taken}
 use Rattle.pb_text.proofs.lemmas.feeder.Follows.{step}
+use Rattle.pb_text.proofs.lemmas.text.Booleans.{never}
 use Rattle.pb_text.proofs.lemmas.text.Places.{place_after-snoc}
 use Rattle.pb_text.proofs.lemmas.text.Short.{end_limit, place_after-offset, AreShort-append, AreShort-grown}
 
@@ -17,10 +19,6 @@ last_numeral-snoc [] l = refl
 last_numeral-snoc (m ∷ []) l = refl
 last_numeral-snoc (m ∷ n ∷ ls) l = last_numeral-snoc (n ∷ ls) l
 
--- the position of the next byte is one where a byte may be taken
-pub before_end : (longest longest' end offset : ℕ) (first : Option Place) → longest ≡ longest' → end ≡ end_of longest first → offset ≤ end → offset ≢ end → offset < end_of longest' first
-before_end longest longest' end offset first e is le ne = omega (arith, is ∙ ap (λ (l : ℕ). end_of l first) e)
-
 module _ {S E : Type 0} (m : Automaton S E) where
   -- one more byte
   leads_more : (start : S) (text : List ℕ) (old : S) (b : ℕ) (new : S) → Leads m start text old → state_after m (m.step old b) ≡ Some new → Leads m start (text ++ b ∷ []) new
@@ -28,16 +26,8 @@ module _ {S E : Type 0} (m : Automaton S E) where
       (new, subst (λ (x : S). state_after m (m.step x b) ≡ Some new) same taken, refl)
   leads_more start (c ∷ text) old b new (mid, first, rest) taken = (mid, first, leads_more mid text old b new rest taken)
 
-module _ {S E : Type 0} (m : Automaton S E) (longest : ℕ) (start old new : S) (input : List ℕ) (spans : List (Spanned E)) (place : Place) (first : Option Place)
+module _ {S E : Type 0} {m : Automaton S E} {longest : ℕ} {start old : S} {input : List ℕ} {spans : List (Spanned E)} {place : Place} {first : Option Place} (new : S)
     (s : Stands m longest start input spans old place first None) (unfinished : m.done old ≡ false) (b : ℕ) where
-  -- all the input was taken
-  all_taken : Waits m old (end_of longest first) s.letters s.left place None → s.left ≡ []
-  all_taken (inl d) = absurd (false≢true (sym unfinished ∙ d))
-  all_taken (inr e) = e
-
-  input_taken : input ≡ bytes s.letters
-  input_taken = s.input_is ∙ (ap (λ (x : List ℕ). bytes s.letters ++ x) (all_taken s.waits) ∙ append-nil (bytes s.letters))
-
   next_place : place_next place b ≡ place_after (bytes s.letters ++ b ∷ [])
   next_place = ap (λ (p : Place). place_next p b) s.place_is ∙ sym (place_after-snoc (bytes s.letters) b)
 
@@ -62,7 +52,7 @@ module _ {S E : Type 0} (m : Automaton S E) (longest : ℕ) (start old new : S) 
       record {
         letters = s.letters ++ letter ∷ [];
         left = [];
-        input_is = ap (λ (x : List ℕ). x ++ b ∷ []) input_taken ∙ (sym text ∙ sym (append-nil (bytes (s.letters ++ letter ∷ []))));
+        input_is = ap (λ (x : List ℕ). x ++ b ∷ []) (input_taken s unfinished) ∙ (sym text ∙ sym (append-nil (bytes (s.letters ++ letter ∷ []))));
         follows = follows;
         leads = subst (λ (x : List ℕ). Leads m start x new) (sym text) (leads_more m start (bytes s.letters) old b new s.leads taken);
         is_state = state;
@@ -78,67 +68,26 @@ module _ {S E : Type 0} (m : Automaton S E) (longest : ℕ) (start old new : S) 
       }
 
   module _ (continues : m.step old b ≡ Go new) (state : IsState m new) (lt : place.offset < end_of longest first) where
-    taken : state_after m (m.step old b) ≡ Some new
-    taken = ap (state_after m) continues
+    -- the position where the statement of the next byte began is within the limits
+    starts : (q : Option Place) → is_some q ≡ m.begun old → place.offset < end_of longest q → SpentSince (length s.letters) q (m.spent old) → (here : Bool) → m.begun new ≡ here
+        → (is_some (opened q here place) ≡ here) × (length s.letters + 1 ≤ end_of longest (opened q here place)) × SpentSince (length s.letters + 1) (opened q here place) (m.spent new)
+    starts (Some p) begun less spent true inside = (refl, omega (arith, less, offset_is), omega (arith, spent, s.is_state.grows b new continues))
+    starts (Some p) begun less spent false out = never (m.begun new) (s.is_state.stays (sym begun) b new continues) out
+    starts None between less spent true inside = (refl, omega (arith, less, offset_is, s.some), omega (arith, offset_is, spent, s.is_state.grows b new continues))
+    starts None between less spent false out = (refl, omega (arith, less, offset_is), state.empties out)
 
-    owes : m.done new ≡ false
-    owes = s.is_state.owes b new continues
-
-    spends : m.spent new ≤ m.spent old + 1
-    spends = s.is_state.grows b new continues
-
-    begins_is : begins m old b ≡ begins_with m (m.begun old) (Go new)
-    begins_is = ap (begins_with m (m.begun old)) continues
-
-    after : Option Place → Bool → Option Place
-    after q starts = opened q starts (place_after (bytes s.letters))
-
-    from_started : (p : Place) → Some p ≡ first → (starts : Bool) → Stands m longest start (input ++ b ∷ []) (spans ++ []) new (place_next place b) (opened (Some p) starts place) None
-    from_started p same starts =
-        let begun : m.begun old ≡ true = sym s.begun_is ∙ ap is_some (sym same) in
-        let inside : m.begun new ≡ true = s.is_state.stays begun b new continues in
-        let follows : Follows (AcceptsItems m start) (AcceptsItems m old) s.letters spans (Some p) = subst (λ (q : Option Place). Follows (AcceptsItems m start) (AcceptsItems m old) s.letters spans q) (sym same) s.follows in
-        let spent : SpentSince (length s.letters) (Some p) (m.spent old) = subst (λ (q : Option Place). SpentSince (length s.letters) q (m.spent old)) (sym same) s.spent in
-        let less : place.offset < end_of longest (Some p) = subst (λ (q : Option Place). place.offset < end_of longest q) (sym same) lt in
-        moved taken [] (Some p)
-        (step (AcceptsItems m start) (AcceptsItems m old) (AcceptsItems m new) (Put true letter) s.letters spans (Some p) letter [] (Some p) follows (takes_within m old new b continues inside owes state) (letter_advances letter (bytes s.letters) (Some p)) (residual m old s.is_state) (residual m new state) tt)
-        state (sym inside) (λ e. owes) (omega (arith, less, offset_is)) tt (omega (arith, spent, spends))
-
-    spent_nothing : m.begun old ≡ false → m.spent old ≡ 0
-    spent_nothing e = s.is_state.empties e
-
-    from_begun : None ≡ first → m.begun old ≡ false → m.begun new ≡ true → Stands m longest start (input ++ b ∷ []) (spans ++ []) new (place_next place b) (Some place) None
-    from_begun same out inside =
-        let follows : Follows (AcceptsItems m start) (AcceptsItems m old) s.letters spans None = subst (λ (q : Option Place). Follows (AcceptsItems m start) (AcceptsItems m old) s.letters spans q) (sym same) s.follows in
-        let less : place.offset < byte_limit = subst (λ (q : Option Place). place.offset < end_of longest q) (sym same) lt in
-        let k = step (AcceptsItems m start) (AcceptsItems m old) (AcceptsItems m new) (Put true letter) s.letters spans None letter [] (Some (place_after (bytes s.letters))) follows (takes_within m old new b continues inside owes state) (letter_advances letter (bytes s.letters) None) (residual m old s.is_state) (residual m new state) tt in
-        moved taken [] (Some place) (subst (λ (p : Place). Follows (AcceptsItems m start) (AcceptsItems m new) (s.letters ++ letter ∷ []) (spans ++ []) (Some p)) (sym s.place_is) k)
-        state (sym inside) (λ e. owes) (omega (arith, less, offset_is, s.some)) tt (omega (arith, offset_is, spends, spent_nothing out))
-
-    from_between : None ≡ first → m.begun old ≡ false → m.begun new ≡ false → Stands m longest start (input ++ b ∷ []) (spans ++ []) new (place_next place b) None None
-    from_between same before out =
-        let follows : Follows (AcceptsItems m start) (AcceptsItems m old) s.letters spans None = subst (λ (q : Option Place). Follows (AcceptsItems m start) (AcceptsItems m old) s.letters spans q) (sym same) s.follows in
-        let less : place.offset < byte_limit = subst (λ (q : Option Place). place.offset < end_of longest q) (sym same) lt in
-        moved taken [] None
-        (step (AcceptsItems m start) (AcceptsItems m old) (AcceptsItems m new) (Put false letter) s.letters spans None letter [] None follows (takes_between m old new b continues out owes state) (gap_advances letter (bytes s.letters) None) (residual m old s.is_state) (residual m new state) tt)
-        state (sym out) (λ e. absurd (false≢true e)) (omega (arith, less, offset_is)) tt (state.empties out)
-
-    from_nothing : None ≡ first → m.begun old ≡ false → (here : Bool) → m.begun new ≡ here → Stands m longest start (input ++ b ∷ []) (spans ++ []) new (place_next place b) (opened None here place) None
-    from_nothing same out true inside = from_begun same out inside
-    from_nothing same out false between = from_between same out between
-
-    none_begun : None ≡ first → m.begun old ≡ false
-    none_begun same = sym s.begun_is ∙ ap is_some (sym same)
-
-    begins_here : m.begun old ≡ false → m.begun new ≡ begins m old b
-    begins_here out = sym (begins_is ∙ ap (λ (t : Bool). begins_with m t (Go new)) out)
-
-    by_first : (q : Option Place) → q ≡ first → Stands m longest start (input ++ b ∷ []) (spans ++ []) new (place_next place b) (opened q (begins m old b) place) None
-    by_first (Some p) same = from_started p same (begins m old b)
-    by_first None same = from_nothing same (none_begun same) (begins m old b) (begins_here (none_begun same))
+    begins_is : (q : Option Place) → is_some q ≡ m.begun old → opened q (m.begun new) place ≡ opened q (begins m old b) place
+    begins_is (Some p) e = refl
+    begins_is None e = ap (λ (t : Bool). opened None t place) (sym (ap₂ (begins_with m) (sym e) continues))
 
     pub stands_go : Stands m longest start (input ++ b ∷ []) (spans ++ []) new (place_next place b) (opened first (begins m old b) place) None
-    stands_go = by_first first refl
+    stands_go =
+        let owes : m.done new ≡ false = s.is_state.owes b new continues in
+        let at = starts first s.begun_is lt s.spent (m.begun new) refl in
+        let k = step (AcceptsItems m start) (AcceptsItems m old) (AcceptsItems m new) (Put (m.begun new) letter) s.letters spans first letter [] (opened first (m.begun new) (place_after (bytes s.letters))) s.follows (takes_go m old new b continues owes state) (put_advances (m.begun new) letter (bytes s.letters) first state.plain) (residual m old s.is_state) (residual m new state) tt in
+        let follows = subst (λ (p : Place). Follows (AcceptsItems m start) (AcceptsItems m new) (s.letters ++ letter ∷ []) (spans ++ []) (opened first (m.begun new) p)) (sym s.place_is) k in
+        subst (λ (q : Option Place). Stands m longest start (input ++ b ∷ []) (spans ++ []) new (place_next place b) q None) (begins_is first s.begun_is)
+        (moved (ap (state_after m) continues) [] (opened first (m.begun new) place) follows state at.0 (λ e. owes) at.1 tt at.2)
 
   span_fits : (q : Option Place) (e : E) (past : Place) → past.offset ≡ length s.letters + 1 → place.offset < end_of longest q → (let n : Spanned E = record { event = e; first = place_or q place; past = past } in AreShort longest (length s.letters + 1) (n ∷ []))
   span_fits None e past at lt = (omega (arith, offset_is, s.some), tt)
@@ -163,23 +112,7 @@ module _ {S E : Type 0} (m : Automaton S E) (longest : ℕ) (start old new : S) 
   stopped : (stop : Stop) → stop.place ≡ place → Halts m old (end_of longest first) s.letters (b ∷ []) stop.why → new ≡ old
       → Stands m longest start (input ++ b ∷ []) (spans ++ []) new place first (Some stop)
   stopped stop at halts same =
-      let k : Stands m longest start (input ++ b ∷ []) (spans ++ []) old place first (Some stop) = record {
-        letters = s.letters;
-        left = b ∷ [];
-        input_is = ap (λ (x : List ℕ). x ++ b ∷ []) input_taken;
-        follows = subst (λ (x : List (Spanned E)). Follows (AcceptsItems m start) (AcceptsItems m old) s.letters x first) (sym (append-nil spans)) s.follows;
-        leads = s.leads;
-        is_state = s.is_state;
-        place_is = s.place_is;
-        begun_is = s.begun_is;
-        owed = s.owed;
-        number_is = s.number_is;
-        some = s.some;
-        within = s.within;
-        short = subst (λ (x : List (Spanned E)). AreShort longest (length s.letters) x) (sym (append-nil spans)) s.short;
-        spent = s.spent;
-        waits = (unfinished, at, halts);
-      } in subst (λ (x : S). Stands m longest start (input ++ b ∷ []) (spans ++ []) x place first (Some stop)) (sym same) k
+      rw (same, append-nil) (with_rest s (input ++ b ∷ []) (b ∷ []) (Some stop) (ap (λ (x : List ℕ). x ++ b ∷ []) (input_taken s unfinished)) (unfinished, at, halts))
 
   shorter : place.offset < end_of longest first → length s.letters < end_of longest first
   shorter lt = omega (arith, offset_is)

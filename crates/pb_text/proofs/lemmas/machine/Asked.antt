@@ -1,8 +1,9 @@
 -- If an automaton may allocate, the next byte of any text is in a statement, at a position that may allocate. Offered to
 -- other crates.
-use Rattle.pb_text.proofs.Common.{ℕ, ◌++◌, ◌∙◌, ◌∷◌, ◌≡◌, ◌⊎◌, [], ap, append-nil, append_assoc, ap₂, false, inl, inr, IsTrue, List, refl, Some}
-use Rattle.pb_text.proofs.Common.{subst, sym, true, false≢true, AcceptsItems, Automaton, End, Go, Leads, Next, ReadsStatement, SkipsGap, state_after}
-use Rattle.pb_text.proofs.Common.{bytes, bytes_of, Item, Letter, letters_of, plain}
+use Rattle.pb_text.proofs.Common.{ℕ, ◌++◌, ◌∙◌, ◌∷◌, ◌≡◌, ◌⊎◌, [], ap, append-nil, append_assoc, false, inl, inr, IsTrue, List, refl, arith}
+use Rattle.pb_text.proofs.Common.{subst, sym, true, false≢true, AcceptsItems, Automaton, Go, Leads, ReadsStatement, SkipsGap, state_after}
+use Rattle.pb_text.proofs.Common.{bytes, bytes_of, Item, Letter}
+use Rattle.std.proofs.lemmas.Option.{same_Some}
 use Rattle.pb_text.specs.meaning.Asking.{AsksWithin}
 use Rattle.pb_text.proofs.lemmas.text.FirstBytes.{head, tail}
 use Rattle.pb_text.proofs.lemmas.text.Languages.{bytes-append, bytes-plain}
@@ -16,18 +17,9 @@ put : (b c : ℕ) (bs cs : List ℕ) → b ≡ c → bs ≡ cs → b ∷ bs ≡ 
 put b c bs cs e f = rw (e, f) refl
 
 item_bytes : {E : Type 0} (i : Item E) (rest : List (Item E)) → bytes_of (i ∷ rest) ≡ i.gap ++ (bytes i.text ++ bytes_of rest)
-item_bytes i rest =
-    bytes-append (plain i.gap) (i.text ++ letters_of rest)
-    ∙ ap₂ (λ (x y : List ℕ). x ++ y) (bytes-plain i.gap) (bytes-append i.text (letters_of rest))
+item_bytes i rest = grind (arith, bytes-append, i.gap, i.text, bytes-plain)
 
 module _ {S E : Type 0} (m : Automaton S E) where
-  taken : (x : Next S E) (mid new : S) → state_after m x ≡ Some mid → x ≡ Go new → mid ≡ new
-  taken x mid new e f =
-      let k : state_after m (Go new) ≡ Some mid = subst (λ (y : Next S E). state_after m y ≡ Some mid) f e in cc
-
-  ended : (x : Next S E) (e : E) (mid new : S) → state_after m x ≡ Some mid → x ≡ End e new → mid ≡ new
-  ended x e mid new h f = let k : state_after m (End e new) ≡ Some mid = subst (λ (y : Next S E). state_after m y ≡ Some mid) f h in cc
-
   -- What must be known of the automaton: of the states between statements, and of those within one.
   module _ (Idle : S → Type 0) (Asks : E → List ℕ → ℕ → Type 0) where
     pub record IsAsked : Type 0 where
@@ -46,7 +38,7 @@ module _ {S E : Type 0} (m : Automaton S E) where
           absurd (false≢true (sym no ∙ yes))
       in_gap (c ∷ gap) s at after_it (d ∷ used) i (mid, g, o, k) (next, f, l) e =
           let same : d ≡ c = sym (head c d (gap ++ after_it) (used ++ b ∷ more) e) in
-          let one : next ≡ mid = taken (m.step s d) next mid f (ap (m.step s) same ∙ g) in
+          let one : next ≡ mid = same_Some next mid (sym f ∙ ap (state_after m) (ap (m.step s) same ∙ g)) in
           let r = in_gap gap mid at after_it used (known.gaps s mid c i g o).0 k (subst (λ (x : S). Leads m x used state) one l) (tail c d (gap ++ after_it) (used ++ b ∷ more) e) in
           (r.0, put d c used (gap ++ r.0) same r.1, r.2, r.3, r.4)
 
@@ -78,14 +70,14 @@ module _ {S E : Type 0} (m : Automaton S E) where
           inl ([], ap (λ (x : ℕ). x ∷ []) byte, here at cur after prefix [] l e i w r lead byte)
       in_text (l ∷ []) prefix at cur after e after_it (d ∷ used) i w (g, n) (next, f, lead) q =
           let same : d ≡ l.byte = sym (head l.byte d after_it (used ++ b ∷ more) q) in
-          let one : next ≡ after = ended (m.step cur d) e next after f (ap (m.step cur) same ∙ g) in
+          let one : next ≡ after = same_Some next after (sym f ∙ ap (state_after m) (ap (m.step cur) same ∙ g)) in
           inr (used, put d l.byte used used same refl, subst (λ (x : S). Leads m x used state) one lead, tail l.byte d after_it (used ++ b ∷ more) q)
       in_text (l ∷ k ∷ t) prefix at cur after e after_it [] i w r lead q =
           let byte : l.byte ≡ b = head l.byte b (bytes (k ∷ t) ++ after_it) more q in
           inl (bytes (k ∷ t), put l.byte b (bytes (k ∷ t)) (bytes (k ∷ t)) byte refl, here at cur after prefix (k ∷ t) l e i w r lead byte)
       in_text (l ∷ k ∷ t) prefix at cur after e after_it (d ∷ used) i w (mid, g, o, n, r) (next, f, lead) q =
           let same : d ≡ l.byte = sym (head l.byte d (bytes (k ∷ t) ++ after_it) (used ++ b ∷ more) q) in
-          let one : next ≡ mid = taken (m.step cur d) next mid f (ap (m.step cur) same ∙ g) in
+          let one : next ≡ mid = same_Some next mid (sym f ∙ ap (state_after m) (ap (m.step cur) same ∙ g)) in
           moved (k ∷ t) prefix l d used e after after_it same
           (in_text (k ∷ t) (prefix ++ l ∷ []) at mid after e after_it used i (walks_more m prefix l at cur mid w g o n) r (subst (λ (x : S). Leads m x used state) one lead)
           (tail l.byte d (bytes (k ∷ t) ++ after_it) (used ++ b ∷ more) q))

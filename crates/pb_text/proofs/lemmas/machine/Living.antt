@@ -1,11 +1,9 @@
 -- States from which a text can be completed. Offered to other crates.
-use Rattle.pb_text.proofs.Common.{ℕ, ◌∙◌, ◌∷◌, ◌≡◌, [], ap, false, List, refl, subst, sym, true, AcceptsItems, Admits, Automaton, End, Go, IsState}
-use Rattle.pb_text.proofs.Common.{ReadsStatement, SkipsGap, bytes_of, Item, Letter}
-use Rattle.pb_text.proofs.lemmas.machine.Residual.{First, Nothing, InGap, InText, AtLast, first_of}
+use Rattle.pb_text.proofs.Common.{ℕ, ◌∷◌, ◌≡◌, [], false, List, refl, subst, true, AcceptsItems, Admits, Automaton, End, Go, IsState}
+use Rattle.pb_text.proofs.Common.{ReadsStatement, SkipsGap, Item, Letter}
+use Rattle.pb_text.proofs.lemmas.machine.Residual.{Put, letter, after_go}
 use Rattle.pb_text.proofs.lemmas.machine.Walking.{longer}
 use Rattle.pb_text.proofs.lemmas.text.Booleans.{never}
-use Rattle.pb_text.proofs.lemmas.text.FirstBytes.{head}
-use Rattle.pb_text.proofs.lemmas.machine.Outcomes.{one_state, go_or_end}
 
 module _ {S E : Type 0} (m : Automaton S E) where
   abbrev pub ReadsOn : S → Type 0
@@ -83,15 +81,9 @@ module _ {S E : Type 0} (m : Automaton S E) where
 
   -- What is admitted can be continued to an event.
   pub admitted_on : BeginsAtOnce → (s next : S) (b : ℕ) → m.step s b ≡ Go next → Admits m s b → ReadsOn next
-  admitted_on begins s next b g (items, a, more, e) = by_first items (first_of m s items a) e
+  admitted_on begins s next b g (items, a, more, e) = let (later, p, k, f) = after_go m s next b items more a e g in by_items later p k
     where
-      by_first : (items : List (Item E)) → First m s items → bytes_of items ≡ b ∷ more → ReadsOn next
-      by_first _ (Nothing d) e = cc
-      by_first _ (InGap c gap text x rest mid h o k) e = never (m.begun mid) (begins s mid c h) o
-      by_first _ (InText l k text x rest mid h i n (at, after, f, r, z)) e =
-          let byte : l.byte ≡ b = head l.byte b _ more e in
-          let same : mid ≡ next = one_state mid next (sym h ∙ (ap (m.step s) byte ∙ g)) in
-          (k ∷ text, x, after, subst (λ y. ReadsStatement m y (k ∷ text) x after) (f ∙ same) r)
-      by_first _ (AtLast l x rest last h n k) e =
-          let byte : l.byte ≡ b = head l.byte b _ more e in
-          go_or_end next x last (sym g ∙ (ap (m.step s) (sym byte) ∙ h))
+      by_items : (later : List (Item E)) → Put (m.begun next) (letter m b next) later items → AcceptsItems m next later → ReadsOn next
+      by_items [] p k = absurd p
+      by_items (i ∷ rest) p (at, after, h, r, z) =
+          (i.text, i.event, after, subst (λ x. ReadsStatement m x i.text i.event after) (gapless begins next at i.gap h) r)

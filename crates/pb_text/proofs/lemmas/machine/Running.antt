@@ -1,6 +1,6 @@
 -- Consecutive bytes of a statement. Offered to other crates.
-use Rattle.pb_text.proofs.Common.{ℕ, ◌++◌, ◌+◌, ◌-◌, ◌<◌, ◌==◌, ◌∙◌, ◌∷◌, ◌≡◌, ◌≢◌, ◌≤◌, [], ap, append-nil, append_assoc, ap₂, arith, Bool, cond}
-use Rattle.pb_text.proofs.Common.{eqb-true, false, get_or, length, List, None, Option, refl, Some, subst, suc, sym, take, true, take_more, is_some}
+use Rattle.pb_text.proofs.Common.{ℕ, ◌++◌, ◌+◌, ◌-◌, ◌<◌, ◌==◌, ◌∙◌, ◌∷◌, ◌≡◌, ◌≢◌, ◌≤◌, [], ap, append-nil, append_assoc, ap₂, arith, Bool}
+use Rattle.pb_text.proofs.Common.{false, get_or, length, List, None, Option, refl, Some, subst, suc, sym, take, true, take_more, is_some, nat_tests}
 use Rattle.pb_text.proofs.Common.{Automaton, begins, Go, IsState, Runs, opened, Stands, Place, Spanned, end_of, Each, place_next, place_past}
 use Rattle.pb_text.proofs.lemmas.feeder.Steps.{stands_go}
 
@@ -15,66 +15,34 @@ module _ {S E : Type 0} (m : Automaton S E) where
   runs_on old piece i mid new h runs continues state =
       subst (λ (x : List ℕ). Runs m old x new) (sym (take_more piece i 0 h)) (runs_more old (take i piece) mid (get_or piece i 0) new runs continues state)
 
-by_feed : (feed : Bool) (p : Place) → (cond feed (let q : Place = record { line = p.line + 1; column = 1; offset = p.offset + 1 } in q) (record { line = p.line; column = p.column + 1; offset = p.offset + 1 })).offset ≡ p.offset + 1
-by_feed true p = refl
-by_feed false p = refl
+-- how far one byte moves a position
+pub next_bounds : (p : Place) (b : ℕ) → ((place_next p b).offset ≡ p.offset + 1) × ((place_next p b).line ≤ p.line + 1) × ((place_next p b).column ≤ p.column + 1)
+next_bounds p b = grind (arith, p.line, p.offset, p.column)
 
-next_offset : (p : Place) (b : ℕ) → (place_next p b).offset ≡ p.offset + 1
-next_offset p b = by_feed (b == 10) p
-
--- the offset grows by the number of bytes
-pub past_offset : (p : Place) (text : List ℕ) → (place_past p text).offset ≡ p.offset + length text
-past_offset p [] = omega arith
-past_offset p (b ∷ text) = past_offset (place_next p b) text ∙ omega (arith, next_offset p b)
-
-by_feed_line : (feed : Bool) (p : Place) → (cond feed (let q : Place = record { line = p.line + 1; column = 1; offset = p.offset + 1 } in q) (record { line = p.line; column = p.column + 1; offset = p.offset + 1 })).line ≤ p.line + 1
-by_feed_line true p = omega arith
-by_feed_line false p = omega arith
-
-by_feed_column : (feed : Bool) (p : Place) → (cond feed (let q : Place = record { line = p.line + 1; column = 1; offset = p.offset + 1 } in q) (record { line = p.line; column = p.column + 1; offset = p.offset + 1 })).column ≤ p.column + 1
-by_feed_column true p = omega arith
-by_feed_column false p = omega arith
-
--- the line and the column each grow by at most the number of bytes
-pub past_line : (p : Place) (text : List ℕ) → (place_past p text).line ≤ p.line + length text
-past_line p [] = omega arith
-past_line p (b ∷ text) = omega (arith, past_line (place_next p b) text, by_feed_line (b == 10) p)
-
-pub past_column : (p : Place) (text : List ℕ) → (place_past p text).column ≤ p.column + length text
-past_column p [] = omega arith
-past_column p (b ∷ text) = omega (arith, past_column (place_next p b) text, by_feed_column (b == 10) p)
+-- The offset grows by the number of bytes, and the line and the column each by at most that.
+pub past_bounds : (p : Place) (text : List ℕ) → ((place_past p text).offset ≡ p.offset + length text) × ((place_past p text).line ≤ p.line + length text) × ((place_past p text).column ≤ p.column + length text)
+past_bounds p [] = (omega arith, omega arith, omega arith)
+past_bounds p (b ∷ text) =
+    let n = next_bounds p b in
+    let r = past_bounds (place_next p b) text in
+    (omega (arith, n.0, r.0), omega (arith, n.1, r.1), omega (arith, n.2, r.2))
 
 -- The position after n bytes is within the same bounds.
 pub place_fits : (p q : Place) (text : List ℕ) (n end : ℕ) → q ≡ place_past p text → length text ≡ n → n ≤ end - p.offset → p.offset ≤ end → p.line ≤ p.offset + 1 → p.column ≤ p.offset + 1
     → (q.offset ≤ end) × (q.line ≤ q.offset + 1) × (q.column ≤ q.offset + 1) × (q.offset ≡ p.offset + n)
-place_fits p q text n end is long room le line column =
-    let o : q.offset ≡ p.offset + n = omega (arith, ap (λ (x : Place). x.offset) is, past_offset p text, long) in (
-      omega (arith, o),
-      omega (arith, o, ap (λ (x : Place). x.line) is, past_line p text, long),
-      omega (arith, o, ap (λ (x : Place). x.column) is, past_column p text, long),
-      o,
-    )
+place_fits p q text n end is long room le line column = grind (arith, past_bounds, q.offset, p.offset)
 
-by_no_feed : (feed : Bool) (p : Place) → feed ≡ false
-    → cond feed (let q : Place = record { line = p.line + 1; column = 1; offset = p.offset + 1 } in q) (record { line = p.line; column = p.column + 1; offset = p.offset + 1 }) ≡ record { line = p.line; column = p.column + 1; offset = p.offset + 1 }
-by_no_feed true p h = cc
-by_no_feed false p h = refl
+next_on_line : (p : Place) (b : ℕ) → b ≢ 10 → place_next p b ≡ record { line = p.line; column = p.column + 1; offset = p.offset + 1 }
+next_on_line p b h = let plain : (b == 10) ≡ false = grind (arith, nat_tests) in rw plain refl
 
 further : (p : Place) (n : ℕ) → (let q : Place = record { line = p.line; column = (p.column + 1) + n; offset = (p.offset + 1) + n } in q) ≡ record { line = p.line; column = p.column + suc n; offset = p.offset + suc n }
 further p n = ap₂ (λ (x y : ℕ). let q : Place = record { line = p.line; column = x; offset = y } in q) (omega arith) (omega arith)
-
-by_feed_or_not : (b : ℕ) → b ≢ 10 → (feed : Bool) → (b == 10) ≡ feed → (b == 10) ≡ false
-by_feed_or_not b h true e = absurd (h (eqb-true b 10 e))
-by_feed_or_not b h false e = e
-
-not_feed : (b : ℕ) → b ≢ 10 → (b == 10) ≡ false
-not_feed b h = by_feed_or_not b h (b == 10) refl
 
 -- the position after bytes of one line
 pub past_on_line : (p : Place) (text : List ℕ) → Each (λ b. b ≢ 10) text → place_past p text ≡ record { line = p.line; column = p.column + length text; offset = p.offset + length text }
 past_on_line p [] h = ap₂ (λ (x y : ℕ). let q : Place = record { line = p.line; column = x; offset = y } in q) (omega arith) (omega arith)
 past_on_line p (b ∷ text) h =
-    ap (λ (q : Place). place_past q text) (by_no_feed (b == 10) p (not_feed b h.0)) ∙ (past_on_line (record { line = p.line; column = p.column + 1; offset = p.offset + 1 }) text h.1 ∙ further p (length text))
+    ap (λ (q : Place). place_past q text) (next_on_line p b h.0) ∙ (past_on_line (record { line = p.line; column = p.column + 1; offset = p.offset + 1 }) text h.1 ∙ further p (length text))
 
 -- the position after the bytes of a piece and one more byte
 pub past_more : (p : Place) (text : List ℕ) (b : ℕ) → place_past p (text ++ b ∷ []) ≡ place_next (place_past p text) b
@@ -87,12 +55,12 @@ module _ {S E : Type 0} (m : Automaton S E) where
   runs_unfinished old [] new state unfinished same = subst (λ (x : S). m.done x ≡ false) (sym same) unfinished
   runs_unfinished old (b ∷ text) new state unfinished (mid, continues, is, rest) = runs_unfinished mid text new is (state.owes b mid continues) rest
 
-module _ {S E : Type 0} (m : Automaton S E) (longest : ℕ) (start : S) (spans : List (Spanned E)) where
-  -- a statement that was open stays open, with the same beginning
-  pub stays_open : (first : Option Place) (starts : Bool) (place : Place) → is_some first ≡ true → opened first starts place ≡ first
-  stays_open (Some p) starts place e = refl
-  stays_open None starts place e = cc e
+-- a statement that was open stays open, with the same beginning
+stays_open : (first : Option Place) (starts : Bool) (place : Place) → is_some first ≡ true → opened first starts place ≡ first
+stays_open (Some p) starts place e = refl
+stays_open None starts place e = cc e
 
+module _ {S E : Type 0} {m : Automaton S E} {longest : ℕ} {start : S} {spans : List (Spanned E)} where
   -- bytes of the statement that has begun preserve `Stands`, for the input extended by them
   pub stands_run : (old : S) (text : List ℕ) (new : S) (input : List ℕ) (place : Place) (first : Option Place) → Stands m longest start input spans old place first None
       → m.done old ≡ false → is_some first ≡ true → place.offset + length text ≤ end_of longest first → Runs m old text new
@@ -103,8 +71,8 @@ module _ {S E : Type 0} (m : Automaton S E) (longest : ℕ) (start : S) (spans :
   )
   stands_run old (b ∷ text) new input place first s unfinished begun fits (mid, continues, state, rest) =
       let lt : place.offset < end_of longest first = omega (arith, fits) in
-      let k = stands_go m longest start old mid input spans place first s unfinished b continues state lt in
+      let k = stands_go mid s unfinished b continues state lt in
       let k' : Stands m longest start (input ++ b ∷ []) spans mid (place_next place b) first None = rw (append-nil, stays_open first (begins m old b) place begun) at k in
-      let fits' : (place_next place b).offset + length text ≤ end_of longest first = omega (arith, next_offset place b, fits) in
+      let fits' : (place_next place b).offset + length text ≤ end_of longest first = omega (arith, (next_bounds place b).0, fits) in
       let r = stands_run mid text new (input ++ b ∷ []) (place_next place b) first k' (s.is_state.owes b mid continues) begun fits' rest in
       (subst (λ (x : List ℕ). Stands m longest start x spans new (place_past place (b ∷ text)) first None) (append_assoc input (b ∷ []) text) r.0, r.1)

@@ -4,25 +4,12 @@ use Rattle.pb_text.proofs.Common.{is_some, HaveEnded, Peeks, StartWith, Spanned,
 use Rattle.pb_text.specs.declared.over.Over.{Over}
 use Rattle.pb_text.specs.contract.Over.{reported, LetsOne, Shows}
 
-reported_begins : (rest : Option (List ℕ)) (limit shown : Option ℕ) (b : ℕ) → StartWith rest b → StartWith (reported rest limit shown) b
-reported_begins rest limit None b h = h
-reported_begins rest None (Some c) b h = h
-reported_begins rest (Some zero) (Some c) b h = tt
-reported_begins rest (Some (suc n)) (Some c) b h = h
-
-reported_ended : (rest : Option (List ℕ)) (limit shown : Option ℕ) → HaveEnded rest
-    → HaveEnded (reported rest limit shown)
-reported_ended rest limit None h = h
-reported_ended rest None (Some c) h = h
-reported_ended rest (Some zero) (Some c) h = tt
-reported_ended rest (Some (suc n)) (Some c) h = h
-
-reported_kept : (rest now : Option (List ℕ)) (limit shown : Option ℕ) → Keeps rest now
-    → Keeps (reported rest limit shown) now
-reported_kept rest now limit None h = h
-reported_kept rest now None (Some c) h = h
-reported_kept rest now (Some zero) (Some c) h = tt
-reported_kept rest now (Some (suc n)) (Some c) h = h
+-- what holds if no byte is known, and of the bytes that are left, holds of those that are reported
+of_reported : (P : Option (List ℕ) → Type 0) → P None → (rest : Option (List ℕ)) (limit shown : Option ℕ) → P rest → P (reported rest limit shown)
+of_reported P none rest limit None h = h
+of_reported P none rest None (Some c) h = h
+of_reported P none rest (Some zero) (Some c) h = none
+of_reported P none rest (Some (suc n)) (Some c) h = h
 
 -- a byte that is shown and may be taken does not change what is reported
 shown_kept : (rest now : Option (List ℕ)) (limit : Option ℕ) (b : ℕ) → Keeps rest now → LetsOne rest limit → Keeps rest (reported now limit (Some b))
@@ -33,11 +20,11 @@ shown_kept (Some x) now (Some (suc n)) b k l = k
 
 shows_begins : (rest now : Option (List ℕ)) (limit limit' shown : Option ℕ) (b : ℕ) → Shows rest (Ok (Some b)) now limit'
     → StartWith (reported rest limit shown) b × Keeps (reported rest limit shown) (reported now limit' (Some b))
-shows_begins rest now limit limit' shown b h = (reported_begins rest limit shown b h.0, reported_kept rest (reported now limit' (Some b)) limit shown (shown_kept rest now limit' b h.1 h.2))
+shows_begins rest now limit limit' shown b h = (of_reported (λ x. StartWith x b) tt rest limit shown h.0, of_reported (λ x. Keeps x (reported now limit' (Some b))) tt rest limit shown (shown_kept rest now limit' b h.1 h.2))
 
 shows_end : (rest now : Option (List ℕ)) (limit limit' shown : Option ℕ) → Shows rest (Ok None) now limit'
     → HaveEnded (reported rest limit shown) × Keeps (reported rest limit shown) now
-shows_end rest now limit limit' shown h = (reported_ended rest limit shown h.0, reported_kept rest now limit shown h.1)
+shows_end rest now limit limit' shown h = (of_reported HaveEnded tt rest limit shown h.0, of_reported (λ x. Keeps x now) tt rest limit shown h.1)
 
 none_is : (shown : Option ℕ) (none : Bool) → is_some shown ≡ not none → none ≡ is_none shown
 none_is None true e = refl

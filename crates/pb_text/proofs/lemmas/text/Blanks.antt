@@ -1,10 +1,12 @@
 -- White space and comments, byte by byte. Offered to other crates.
-use Rattle.pb_text.proofs.Common.{ℕ, ◌&&◌, ◌++◌, ◌+◌, ◌<◌, ◌==◌, ◌^◌, ◌||◌, ◌∙◌, ◌∷◌, ◌≡◌, ◌≢◌, ◌≤◌, ◌⊎◌, [], ap, append-nil, append_assoc, ap₂}
-use Rattle.pb_text.proofs.Common.{arith, below_more, Bool, cond, eqb-true, false, get_or, inl, inr, IsTrue, length, length-append, List, nat_eq, not}
+use Rattle.pb_text.proofs.Common.{ℕ, ◌&&◌, ◌++◌, ◌+◌, ◌<◌, ◌^◌, ◌||◌, ◌∙◌, ◌∷◌, ◌≡◌, ◌≢◌, ◌≤◌, ◌⊎◌, [], ap, append-nil, append_assoc, ap₂}
+use Rattle.pb_text.proofs.Common.{arith, below_more, Bool, eqb-true, false, get_or, inl, inr, IsTrue, length, length-append, List, nat_eq, not}
 use Rattle.pb_text.proofs.Common.{refl, subst, sym, take, true, slice_index, get_or-append_seam, take-append_seam, get_or_append_left, reverse-append}
 use Rattle.pb_text.proofs.Common.{take-append-le, Place, Comment, has_star, in_comment, IsBlank, IsInLine, Nothing, OpenComment, passes, White}
 use Rattle.pb_text.proofs.Common.{is_white, place_next}
 use Rattle.std.proofs.Math.Bool.{or-true}
+use Rattle.pb_text.proofs.lemmas.machine.Running.{next_bounds}
+use Rattle.pb_text.proofs.lemmas.text.Booleans.{never}
 use Rattle.pb_text.proofs.lemmas.text.ByteTests.{white_each}
 
 -- whether a text ends in a comment, with one more byte
@@ -100,12 +102,7 @@ module _ (b : ℕ) (rest : List ℕ) (following : IsEither rest) (before : List 
           let is : b ≡ 42 = eqb-true b 42 e in
           let starred : in_comment (before ++ b ∷ []) ≡ true = subst (λ (x : ℕ). in_comment (before ++ x ∷ []) ≡ true) (sym is) (in_comment-snoc before 42) in
           commented (following.1 (before ++ b ∷ []) starred h) is
-      by_star w false e = absurd (not_passed (is_white b) (nat_eq b 42) (in_comment before) w e c p)
-        where
-          not_passed : (x y z : Bool) → x ≡ false → y ≡ false → z ≡ false → ((x || y) || z) ≡ true → ⊥
-          not_passed true y z u v w k = cc
-          not_passed false true z u v w k = cc
-          not_passed false false z u v w k = cc
+      by_star w false e = never (passes before b) p (ap₂ (λ (x y : Bool). (x || y) || in_comment before) w e ∙ c)
 
       by_white : (x : Bool) → is_white b ≡ x → IsBlank (b ∷ rest)
       by_white true w = White b rest w (following.0 (before ++ b ∷ []) (after_white w) h)
@@ -142,9 +139,4 @@ IsBlank-snoc text b blank h = passes_blank (text ++ b ∷ []) (PassesAll-snoc te
 -- the next position stays within the bounds
 pub next_within : (p : Place) (b : ℕ) (q : Place) → q ≡ place_next p b → p.offset ≤ 2 ^ 40 → p.offset ≢ 2 ^ 40 → p.line ≤ p.offset + (2 ^ 40 + 1) → p.column ≤ p.offset + (2 ^ 40 + 1)
     → (q.offset ≤ 2 ^ 40) × (q.line ≤ q.offset + (2 ^ 40 + 1)) × (q.column ≤ q.offset + (2 ^ 40 + 1)) × (q.offset ≡ p.offset + 1)
-next_within p b q e le ne line column = at_byte (b == 10) e
-  where
-    at_byte : (feed : Bool) → q ≡ cond feed (record { line = p.line + 1; column = 1; offset = p.offset + 1 }) (record { line = p.line; column = p.column + 1; offset = p.offset + 1 })
-        → (q.offset ≤ 2 ^ 40) × (q.line ≤ q.offset + (2 ^ 40 + 1)) × (q.column ≤ q.offset + (2 ^ 40 + 1)) × (q.offset ≡ p.offset + 1)
-    at_byte true e = (omega (arith, ap (λ (x : Place). x.offset) e), omega (arith, ap (λ (x : Place). x.offset) e, ap (λ (x : Place). x.line) e), omega (arith, ap (λ (x : Place). x.offset) e, ap (λ (x : Place). x.column) e), ap (λ (x : Place). x.offset) e)
-    at_byte false e = (omega (arith, ap (λ (x : Place). x.offset) e), omega (arith, ap (λ (x : Place). x.offset) e, ap (λ (x : Place). x.line) e), omega (arith, ap (λ (x : Place). x.offset) e, ap (λ (x : Place). x.column) e), ap (λ (x : Place). x.offset) e)
+next_within p b q e le ne line column = grind (arith, next_bounds, q.offset, p.offset)

@@ -1,16 +1,11 @@
 -- Tests of bytes: blanks and white space byte by byte, and the bytes of digits and names. Offered to other crates.
-use Rattle.pb_text.proofs.Common.{ℕ, ◌+◌, ◌-◌, ◌<◌, ◌||◌, ◌≡◌, ◌≤◌, arith, eqb-true, false, IsTrue, nat_eq, refl, subst, sym, true, nat_tests}
+use Rattle.pb_text.proofs.Common.{ℕ, ◌+◌, ◌-◌, ◌<◌, ◌≡◌, ◌≤◌, arith, eqb-true, false, IsTrue, nat_eq, refl, subst, sym, true, nat_tests}
 use Rattle.pb_text.proofs.Common.{is_blank, is_digit, is_letter, is_name_byte, is_white}
 use Rattle.pb_text.proofs.lemmas.text.Booleans.{by_or}
 
 -- one of three bytes
 pub blank_each : (P : ℕ → Type 0) → P 32 → P 9 → P 13 → (b : ℕ) → is_blank b ≡ true → P b
-blank_each P space tab return b h =
-    by_or (nat_eq b 32 || nat_eq b 9) (nat_eq b 13) h
-    (λ k. by_or (nat_eq b 32) (nat_eq b 9) k
-    (λ e. subst P (sym (eqb-true b 32 e)) space)
-    (λ e. subst P (sym (eqb-true b 9 e)) tab))
-    (λ e. subst P (sym (eqb-true b 13 e)) return)
+blank_each P space tab return b h = grind (arith, by_or, eqb-true)
 
 -- one of four bytes
 pub white_each : (P : ℕ → Type 0) → P 32 → P 9 → P 13 → P 10 → (b : ℕ) → is_white b ≡ true → P b

@@ -12,9 +12,7 @@ pub as_digit : (l : Letter) (d : ℕ) → l.byte ≡ 48 + d → l.numeral ≡ tr
 as_digit l d e m = rw (sym e, sym m) refl
 
 pub some_digit : (l : Letter) → l.numeral ≡ true → is_digit l.byte ≡ true → (l ≡ digit (l.byte - 48)) × (l.byte - 48 < 10)
-some_digit l m h =
-    let f : (l.byte ≡ 48 + (l.byte - 48)) × (l.byte - 48 < 10) = digit_of l.byte h in
-    (as_digit l (l.byte - 48) f.0 m, f.1)
+some_digit l m h = grind (arith, l.byte, digit_of, as_digit)
 
 -- bytes, and one more
 pub bytes_one_more : (bs : List ℕ) (b : ℕ) (l : Letter) → l ≡ unmarked b → (q : List Letter) → Bytes bs q → Bytes (bs ++ b ∷ []) (q ++ l ∷ [])

@@ -1,8 +1,8 @@
 -- Lists, letters and spans. Offered to other crates.
-use Rattle.pb_text.proofs.Common.{ℕ, ◌++◌, ◌+◌, ◌<◌, ◌∙◌, ◌∷◌, ◌≡◌, [], ap, append-nil, append_assoc, Bool, drop, false, get_or, length, List, None}
-use Rattle.pb_text.proofs.Common.{Option, refl, Some, sym, take, true, drop_more, length-map, take_more, Place, Spanned, bytes, Item, Letter}
+use Rattle.pb_text.proofs.Common.{ℕ, ◌++◌, ◌+◌, ◌<◌, ◌∙◌, ◌∷◌, ◌≡◌, [], ap, append-nil, append_assoc, Bool, drop, false, get_or, length, List, None, arith}
+use Rattle.pb_text.proofs.Common.{Option, refl, Some, sym, take, true, drop_more, length-map, take_more, opened, Place, Spanned, bytes, Item, Letter}
 use Rattle.pb_text.proofs.Common.{letters_of, place_after, place_or, plain, spans_since}
-use Rattle.pb_text.proofs.lemmas.machine.Residual.{Put, PutGap, PutLetter, PutLast}
+use Rattle.pb_text.proofs.lemmas.machine.Residual.{Put, PutLast}
 
 pub length-bytes : (ls : List Letter) → length (bytes ls) ≡ length ls
 length-bytes ls = length-map ls (λ (l : Letter). l.byte)
@@ -20,44 +20,27 @@ pub record Advances {E : Type 0} (put : List (Item E) → List (Item E) → Type
   pub letters_are : (later items : List (Item E)) → put later items → letters_of items ≡ l ∷ letters_of later
   pub spans_are : (later items : List (Item E)) → put later items → spans_since first before items ≡ new ++ spans_since first' (before ++ l.byte ∷ []) later
 
-put_gap_letters : {E : Type 0} (l : Letter) → l.numeral ≡ false → (later items : List (Item E)) → PutGap l.byte later items → letters_of items ≡ l ∷ letters_of later
-put_gap_letters l e [] items h = absurd h
-put_gap_letters l e (i ∷ rest) items h =
-    ap letters_of h ∙ ap (λ (n : Bool). (let m : Letter = record { byte = l.byte; numeral = n } in m) ∷ letters_of (i ∷ rest)) (sym e)
-
-put_gap_spans : {E : Type 0} (b : ℕ) (before : List ℕ) (first : Option Place) (later items : List (Item E)) → PutGap b later items → spans_since first before items ≡ spans_since first (before ++ b ∷ []) later
-put_gap_spans b before first [] items h = absurd h
-put_gap_spans b before first (i ∷ rest) items h =
-    ap (spans_since first before) h ∙ simp append_assoc refl
-
-pub gap_advances : {E : Type 0} (l : Letter) (before : List ℕ) (first : Option Place) → Advances {E = E} (Put false l) l before first [] first
-gap_advances l before first = record {
-  letters_are = λ later items h. put_gap_letters l h.0 later items h.1;
-  spans_are = λ later items h. put_gap_spans l.byte before first later items h.1;
-}
-
-put_letter_letters : {E : Type 0} (l : Letter) (later items : List (Item E)) → PutLetter l later items → letters_of items ≡ l ∷ letters_of later
-put_letter_letters l [] items h = absurd h
-put_letter_letters l (i ∷ rest) items h =
+put_letters : {E : Type 0} (inside : Bool) (l : Letter) → (inside ≡ false → l.numeral ≡ false) → (later items : List (Item E)) → Put inside l later items → letters_of items ≡ l ∷ letters_of later
+put_letters inside l out [] items h = absurd h
+put_letters true l out (i ∷ rest) items h =
     ap letters_of h.1 ∙ ap (λ (g : List ℕ). l ∷ (plain g ++ (i.text ++ letters_of rest))) (sym h.0)
+put_letters false l out (i ∷ rest) items h =
+    ap letters_of h ∙ ap (λ (n : Bool). (let m : Letter = record { byte = l.byte; numeral = n } in m) ∷ letters_of (i ∷ rest)) (sym (out refl))
 
-put_letter_spans : {E : Type 0} (l : Letter) (before : List ℕ) (first : Option Place) (later items : List (Item E)) → PutLetter l later items → spans_since first before items ≡ spans_since (Some (place_or first (place_after before))) (before ++ l.byte ∷ []) later
-put_letter_spans l before first [] items h = absurd h
-put_letter_spans l before first (i ∷ rest) items h =
-    ap (spans_since first before) h.1 ∙ simp (h.0, append_assoc, append-nil) refl
+pub put_spans : {E : Type 0} (inside : Bool) (l : Letter) (before : List ℕ) (first : Option Place) (later items : List (Item E)) → Put inside l later items
+    → spans_since first before items ≡ spans_since (opened first inside (place_after before)) (before ++ l.byte ∷ []) later
+put_spans inside l before first [] items h = absurd h
+put_spans true l before (Some p) (i ∷ rest) items h = ap (spans_since (Some p) before) h.1 ∙ simp (h.0, append_assoc) refl
+put_spans true l before None (i ∷ rest) items h = ap (spans_since None before) h.1 ∙ simp (h.0, append_assoc, append-nil) refl
+put_spans false l before (Some p) (i ∷ rest) items h = ap (spans_since (Some p) before) h ∙ simp append_assoc refl
+put_spans false l before None (i ∷ rest) items h = ap (spans_since None before) h ∙ simp append_assoc refl
 
-pub letter_advances : {E : Type 0} (l : Letter) (before : List ℕ) (first : Option Place) → Advances {E = E} (Put true l) l before first [] (Some (place_or first (place_after before)))
-letter_advances l before first = record {
-  letters_are = λ later items h. put_letter_letters l later items h;
-  spans_are = λ later items h. put_letter_spans l before first later items h;
-}
+pub put_advances : {E : Type 0} (inside : Bool) (l : Letter) (before : List ℕ) (first : Option Place) → (inside ≡ false → l.numeral ≡ false) → Advances {E = E} (Put inside l) l before first [] (opened first inside (place_after before))
+put_advances inside l before first out = grind (arith, put_letters, put_spans)
 
 -- the span of a statement that ends with this letter
 abbrev pub span : {E : Type 0} → Option Place → List ℕ → ℕ → E → Spanned E
 span first before b e = record { event = e; first = place_or first (place_after before); past = place_after (before ++ b ∷ []) }
 
 pub last_advances : {E : Type 0} (l : Letter) (e : E) (before : List ℕ) (first : Option Place) → Advances {E = E} (PutLast l e) l before first (span first before l.byte e ∷ []) None
-last_advances l e before first = record {
-  letters_are = λ later items h. ap letters_of h;
-  spans_are = λ later items h. ap (spans_since first before) h ∙ simp append-nil refl;
-}
+last_advances l e before first = grind (arith, append-nil)

@@ -1,11 +1,10 @@
-use Rattle.pb_text.proofs.Common.{ℕ, ◌++◌, ◌∙◌, ◌∷◌, [], ap, append-nil, append_assoc, arith, List, None, Option, subst, sym, Stands, Place, Stop}
-use Rattle.pb_text.proofs.lemmas.feeder.Begin.{stands_more, stands_ended, stands_failed}
+use Rattle.pb_text.proofs.Common.{ℕ, ◌++◌, ◌∙◌, ◌∷◌, [], ap, append-nil, append_assoc, arith, List, subst, sym, Stands, Place}
+use Rattle.pb_text.proofs.lemmas.feeder.Begin.{running, stands_more, stands_ended, stands_failed}
 use Rattle.pb_text.proofs.lemmas.source.Pulled.{lost_nothing, lost_byte, seen_byte, seen_end, seen_rest, seen_after}
 use Rattle.pb_text.proofs.next_event.take_next.Goals as goal
 
 pub returns-in-Ok-None-clause-draws : goal.returns-in-Ok-None-clause-draws
 returns-in-Ok-None-clause-draws g c =
-    let f = c.args.feeder.now in
     let before = g.S.Source.left c.args.source.now in
     let p = rw (c.in-Ok-None.is, c.in-Ok-None.field-0-is) at c.peek.ensures in
     record {
@@ -15,14 +14,12 @@ returns-in-Ok-None-clause-draws g c =
       given_are = p.3 ∙ sym (append-nil (g.S.Source.history c.args.source.now));
       offset_is = ap (λ (q : Place). q.offset) c.halt.ensures.place ∙ omega arith;
       stands = λ longest start input spans s.
-          let k : Stands g.M.Machine.automaton longest start input spans f.machine f.place f.first None = subst (λ (o : Option Stop). Stands g.M.Machine.automaton longest start input spans f.machine f.place f.first o) c.requires.running s.1 in
-          let e = stands_ended g.M.Machine.automaton longest start f.machine input spans f.place f.first c.requires.unfinished k in
+          let e = stands_ended (running c.args.feeder.now s c.requires.running) c.requires.unfinished in
           (c.halt.ensures.longest ∙ s.0, rw (append-nil, append-nil, c.halt.ensures.stop, c.halt.ensures.result, c.halt.ensures.machine, c.halt.ensures.place, c.halt.ensures.first) e);
     }
 
 pub returns-in-Err-clause-draws : goal.returns-in-Err-clause-draws
 returns-in-Err-clause-draws g c =
-    let f = c.args.feeder.now in
     let before = g.S.Source.left c.args.source.now in
     let p = rw c.in-Err.is at c.peek.ensures in
     let seen = seen_rest before [] before (g.S.Source.left c.peek.new.self) (lost_nothing before) p.0 in
@@ -33,8 +30,7 @@ returns-in-Err-clause-draws g c =
       given_are = p.2 ∙ sym (append-nil (g.S.Source.history c.args.source.now));
       offset_is = ap (λ (q : Place). q.offset) c.halt-in-Err.ensures.place ∙ omega arith;
       stands = λ longest start input spans s.
-          let k : Stands g.M.Machine.automaton longest start input spans f.machine f.place f.first None = subst (λ (o : Option Stop). Stands g.M.Machine.automaton longest start input spans f.machine f.place f.first o) c.requires.running s.1 in
-          let e = stands_failed g.M.Machine.automaton longest start f.machine input spans f.place f.first seen.0 c.requires.unfinished k in
+          let e = stands_failed (running c.args.feeder.now s c.requires.running) c.requires.unfinished seen.0 in
           (c.halt-in-Err.ensures.longest ∙ s.0, rw (append-nil, c.halt-in-Err.ensures.stop, c.halt-in-Err.ensures.result, c.halt-in-Err.ensures.machine, c.halt-in-Err.ensures.place, c.halt-in-Err.ensures.first) e);
     }
 
@@ -54,7 +50,7 @@ returns-in-Err-take-clause-draws g c =
       offset_is = t.still ∙ omega arith;
       stands = λ longest start input spans s.
           let k = t.stands longest start input spans s in
-          let m = stands_more g.M.Machine.automaton longest start n.machine (input ++ b ∷ []) (spans ++ []) n.place n.first seen.0 n.stop t.counted (λ e. cc t.stop) k.1 in
+          let m = stands_more k.1 seen.0 t.counted (λ e. cc t.stop) in
           (k.0, subst (λ (x : List ℕ). Stands g.M.Machine.automaton longest start x (spans ++ []) n.machine n.place n.first n.stop) (append_assoc input (b ∷ []) seen.0) m);
     }
 

@@ -1,6 +1,5 @@
-use Rattle.pb_text.proofs.Common.{ℕ, ◌++◌, ◌∷◌, ◌≡◌, ◌≤◌, [], arith, drop, length, length-drop, length-take, List, subst, suc, sym, take, zero, Each}
+use Rattle.pb_text.proofs.Common.{ℕ, ◌++◌, ◌∷◌, ◌≡◌, ◌≤◌, [], arith, drop, length-drop, length-take, List, subst, suc, take, zero, Each}
 use Rattle.pb_text.proofs.Common.{take-append-drop, take-take}
-use Rattle.std.specs.Prelude.{◌-◌, ◌≢◌}
 use Rattle.pb_text.proofs.lemmas.text.Spans.{prefix_parts}
 use Rattle.pb_text.proofs.place.has_line_feed.Goals as goal
 
@@ -10,15 +9,7 @@ each_joined P [] ys first second = second
 each_joined P (x ∷ xs) ys first second = (first.0, each_joined P xs ys first.1 second)
 
 pub loop-chunk-preserved : goal.loop-chunk-preserved
-loop-chunk-preserved c =
-    let text = c.args.text.now in
-    let i = c.loop-chunk.searched in
-    let rest = take (length text - i) (drop i text) in
-    let chunk = subst (λ (x : List ℕ). Each (λ b. b ≢ 10) x) c.in-Some.ensures.cases.same (c.has_line_feed_in.ensures c.if-has_line_feed_in.false) in
-    record {
-      bound = omega (arith, c.in-Some.ensures.cases.enough, length-take (length text - i) (drop i text), length-drop i text, c.loop-chunk.invariant.bound);
-      none = subst (λ (x : List ℕ). Each (λ b. b ≢ 10) x) (sym (prefix_parts text i 16)) (each_joined (λ b. b ≢ 10) (take i text) (take 16 rest) c.loop-chunk.invariant.none chunk);
-    }
+loop-chunk-preserved c = grind (arith, c.in-Some.ensures.cases.same, c.has_line_feed_in.ensures, c.if-has_line_feed_in.false, c.in-Some.ensures.cases.enough, length-take, length-drop, c.loop-chunk.invariant.bound, prefix_parts, each_joined, c.loop-chunk.invariant.none)
 
 -- a prefix of a text without a line feed
 each_prefix : (P : ℕ → Type 0) (n : ℕ) (xs : List ℕ) → Each P xs → Each P (take n xs)
@@ -33,10 +24,4 @@ meet P text chunk i n below same first second =
     subst (λ (x : List ℕ). Each P x) (take-append-drop n text) (each_joined P (take n text) (drop n text) start (subst (λ (x : List ℕ). Each P x) same second))
 
 pub returns-in-Some-last_chunk : goal.returns-in-Some-last_chunk
-returns-in-Some-last_chunk c none =
-    let text = c.args.text.now in
-    let i = c.loop-chunk.searched in
-    let n = length text - 16 in
-    let last = c.in-Some-last_chunk.ensures.cases in
-    let short = c.in_default.ensures.cases in
-    meet (λ b. b ≢ 10) text c.in-Some-last_chunk.chunk.now i n (omega (arith, short, length-take (length text - i) (drop i text), length-drop i text, c.loop-chunk.invariant.bound)) last.1.same c.loop-chunk.invariant.none (c.has_line_feed_in-in-Some-last_chunk.ensures none)
+returns-in-Some-last_chunk c none = grind (arith, c.in-Some-last_chunk.ensures.cases, c.in_default.ensures.cases, meet, length-take, length-drop, c.loop-chunk.invariant.bound, c.loop-chunk.invariant.none, c.has_line_feed_in-in-Some-last_chunk.ensures)

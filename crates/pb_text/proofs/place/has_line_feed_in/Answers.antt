@@ -1,4 +1,4 @@
-use Rattle.pb_text.proofs.Common.{ℕ, ◌+◌, ◌<◌, ◌∙◌, ◌≡◌, ◌≢◌, ap, arith, get_or, length, List, subst, sym, take, true≢false, take-length, take_more}
+use Rattle.pb_text.proofs.Common.{ℕ, ◌+◌, ◌<◌, ◌∙◌, ◌≡◌, ◌≢◌, ap, arith, get_or, length, List, subst, sym, take, take-length, take_more}
 use Rattle.pb_text.proofs.Common.{Each}
 use Rattle.pb_text.proofs.lemmas.text.Languages.{each-append}
 use Rattle.pb_text.proofs.place.has_line_feed_in.Goals.{then-byte-eq10, else-byte-eq10}
@@ -12,10 +12,7 @@ one_more : (text : List ℕ) (i : ℕ) → i < length text → Each (λ b. b ≢
 one_more text i h each none = subst (λ (x : List ℕ). Each (λ b. b ≢ 10) x) (sym (take_more text i 0 h)) (each-append (λ b. b ≢ 10) (take i text) (get_or text i 0) each none)
 
 pub loop-byte-preserved : goal.loop-byte-preserved
-loop-byte-preserved c h = elim c.if-byte-eq10.branch [
-  | then-byte-eq10 w ↦ absurd (true≢false (sym w.found-is ∙ h))
-  | else-byte-eq10 w ↦ one_more c.args.text.now c.loop-byte.byte-index c.loop-byte-test.true (c.loop-byte.invariant (sym w.found-is ∙ h)) w.if-byte-eq10.false
-]
+loop-byte-preserved c h = grind (arith, c.if-byte-eq10.branch, one_more, c.loop-byte-test.true, c.loop-byte.invariant)
 
 pub returns : goal.returns
 returns c h =

@@ -1,14 +1,12 @@
-use Rattle.pb_text.proofs.Common.{ℕ, ◌++◌, ◌+◌, ◌-◌, ◌^◌, ◌≡◌, length, List, map, None, StandsAt, Lost, Spanned, gathered}
+use Rattle.pb_text.proofs.Common.{◌+◌, ◌-◌, ◌^◌, ◌≡◌}
+use Rattle.pb_text.proofs.lemmas.source.Wholes.{SoFar}
 use Rattle.pb_text.proofs.whole.read_whole.Given as goal
 
 -- the value is that of the events so far
 abbrev pub invariant-loop-spanned : goal.invariant-loop-spanned
 invariant-loop-spanned g l = record {
-  running : l.feeder.stop ≡ None;
   faults : g.S.Source.faults l.source ≡ g.S.Source.faults l.fn.source;
-  stands : (taken : List ℕ) × (spans : List (Spanned _)) × Lost (g.S.Source.left l.fn.source) taken (g.S.Source.left l.source) × (l.feeder.place.offset ≡ length taken)
-      × (l.value ≡ gathered g.G.Gather.with l.fn.empty (map (λ m. m.event) spans)) × StandsAt l.fn.longest l.fn.machine taken spans l.feeder
-      × (g.S.Source.history l.source ≡ g.S.Source.history l.fn.source ++ taken);
+  so_far : SoFar {g = g.M.Machine} l.fn.longest l.fn.machine g.G.Gather.with l.fn.empty (g.S.Source.left l.fn.source) (g.S.Source.left l.source) (g.S.Source.history l.fn.source) (g.S.Source.history l.source) l.feeder l.value;
 }
 
 abbrev pub decreases-loop-spanned : goal.decreases-loop-spanned

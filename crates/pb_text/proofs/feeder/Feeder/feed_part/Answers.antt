@@ -1,5 +1,5 @@
-use Rattle.pb_text.proofs.Common.{ℕ, ◌++◌, ◌∷◌, [], append-nil, arith, List, subst, take, StandsAt}
-use Rattle.pb_text.proofs.lemmas.text.Spans.{one_further}
+use Rattle.pb_text.proofs.Common.{◌∷◌, [], append-nil, arith}
+use Rattle.pb_text.proofs.lemmas.feeder.Passing.{with_byte}
 use Rattle.pb_text.proofs.feeder.Feeder.feed_part.Goals as goal
 
 pub returns-then-used-piece : goal.returns-then-used-piece
@@ -16,33 +16,26 @@ returns-then-used-piece g c = record {
 
 pub returns-in-Some : goal.returns-in-Some
 returns-in-Some g c =
-    let piece = c.args.piece.now in
-    let i = c.feed_fast-used.result in
+    let fast = c.feed_fast-used.ensures in
     rw c.with_event.ensures (record {
-      bound = omega (arith, c.feed_fast-used.ensures.bound, c.if-used-piece.false);
-      stands = λ longest start input spans s.
-          let k = c.in-Some.ensures.stands longest start (input ++ take i piece) spans (c.feed_fast-used.ensures.stands longest start input spans s) in
-          subst (λ (x : List ℕ). StandsAt longest start x (spans ++ c.in-Some.event ∷ []) c.try_finish.new.self) (one_further input piece i (omega (arith, c.feed_fast-used.ensures.bound, c.if-used-piece.false))) k;
-      offset = omega (arith, c.in-Some.ensures.offset, c.feed_fast-used.ensures.offset);
+      bound = omega (arith, fast.bound, c.if-used-piece.false);
+      stands = with_byte c.args.self.now c.feed_fast-used.new.self c.try_finish.new.self c.args.piece.now c.feed_fast-used.result (c.in-Some.event ∷ []) fast.stands (omega (arith, fast.bound, c.if-used-piece.false)) c.in-Some.ensures.stands;
+      offset = omega (arith, c.in-Some.ensures.offset, fast.offset);
       some = λ event h. omega arith;
-      past = λ event h. c.in-Some.ensures.past event h;
+      past = c.in-Some.ensures.past;
       running = c.in-Some.ensures.running;
       unfinished = λ h. cc h;
       state = c.in-Some.ensures.state;
     })
 
 pub returns-in-None : goal.returns-in-None
-returns-in-None g c =
-    let i = c.feed_fast-used.result in
-    record {
-      bound = c.feed_fast-used.ensures.bound;
-      stands = λ longest start input spans s.
-          let k = c.in-None.ensures.stands longest start (input ++ take i c.args.piece.now) spans (c.feed_fast-used.ensures.stands longest start input spans s) in
-          subst (λ (x : List ℕ). StandsAt longest start x (spans ++ []) c.try_finish.new.self) (append-nil (input ++ take i c.args.piece.now)) k;
-      offset = omega (arith, c.in-None.ensures.offset, c.feed_fast-used.ensures.offset);
-      some = λ event h. cc h;
-      past = λ event h. cc h;
-      running = c.in-None.ensures.running;
-      unfinished = λ h. c.in-None.ensures.unfinished h;
-      state = c.in-None.ensures.state;
-    }
+returns-in-None g c = record {
+  bound = c.feed_fast-used.ensures.bound;
+  stands = λ longest start input spans s. rw append-nil at (c.in-None.ensures.stands longest start _ spans (c.feed_fast-used.ensures.stands longest start input spans s));
+  offset = omega (arith, c.in-None.ensures.offset, c.feed_fast-used.ensures.offset);
+  some = λ event h. cc h;
+  past = λ event h. cc h;
+  running = c.in-None.ensures.running;
+  unfinished = c.in-None.ensures.unfinished;
+  state = c.in-None.ensures.state;
+}

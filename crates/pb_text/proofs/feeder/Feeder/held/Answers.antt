@@ -11,6 +11,6 @@ returns-clause-few g c longest start input spans s =
       begun_bytes (length t.letters) f.first,
       (t.left, t.input_is),
       t.place_is,
-      stands_open g.M.Machine.automaton longest start input spans f.machine f.place f.first f.stop t,
-      omega (arith, c.held.ensures, kept_within g.M.Machine.automaton longest start input spans f.machine f.place f.first f.stop t),
+      stands_open t,
+      omega (arith, c.held.ensures, kept_within t),
     )

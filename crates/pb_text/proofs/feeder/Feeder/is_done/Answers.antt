@@ -4,5 +4,4 @@ use Rattle.pb_text.proofs.feeder.Feeder.is_done.Goals as goal
 
 pub returns-clause-reads : goal.returns-clause-reads
 returns-clause-reads g c longest start input spans s =
-    let f = c.args.self.now in
-    (bytes s.1.letters, stands_reads g.M.Machine.automaton longest start input spans f.machine f.place f.first f.stop s.1 c.is_done.result c.is_done.ensures.done)
+    (bytes s.1.letters, stands_reads s.1 c.is_done.result c.is_done.ensures.done)

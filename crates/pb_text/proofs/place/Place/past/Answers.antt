@@ -1,6 +1,6 @@
 use Rattle.pb_text.proofs.Common.{ℕ, ◌∙◌, ◌≡◌, ap, arith, get_or, length, length-take-le, List, refl, sym, take, take-length, take_more, Place}
 use Rattle.pb_text.proofs.Common.{place_next, place_past}
-use Rattle.pb_text.proofs.lemmas.machine.Running.{past_offset, past_line, past_column, past_more, past_on_line}
+use Rattle.pb_text.proofs.lemmas.machine.Running.{past_bounds, past_more, past_on_line}
 use Rattle.pb_text.proofs.place.Place.past.Goals as goal
 
 pub returns-then-not-has_line_feed : goal.returns-then-not-has_line_feed
@@ -9,23 +9,8 @@ returns-then-not-has_line_feed c = sym (past_on_line c.args.self c.args.text.now
 pub loop-byte-init : goal.loop-byte-init
 loop-byte-init c = refl
 
-pub after-place-requires-clause-line : goal.after-place-requires-clause-line
-after-place-requires-clause-line c =
-    let k = c.loop-byte.byte-index in
-    let text = c.args.text.now in
-    omega (arith, c.requires.line, ap (λ (p : Place). p.line) c.loop-byte.invariant, past_line c.args.self (take k text), length-take-le k text (omega arith))
-
-pub after-place-requires-clause-column : goal.after-place-requires-clause-column
-after-place-requires-clause-column c =
-    let k = c.loop-byte.byte-index in
-    let text = c.args.text.now in
-    omega (arith, c.requires.column, ap (λ (p : Place). p.column) c.loop-byte.invariant, past_column c.args.self (take k text), length-take-le k text (omega arith))
-
-pub after-place-requires-clause-offset : goal.after-place-requires-clause-offset
-after-place-requires-clause-offset c =
-    let k = c.loop-byte.byte-index in
-    let text = c.args.text.now in
-    omega (arith, c.requires.offset, ap (λ (p : Place). p.offset) c.loop-byte.invariant, past_offset c.args.self (take k text), length-take-le k text (omega arith))
+pub after-place-requires : goal.after-place-requires
+after-place-requires c = grind (arith, length-take-le, past_bounds, c.requires.line, c.loop-byte.invariant, c.requires.column, c.requires.offset)
 
 pub loop-byte-preserved : goal.loop-byte-preserved
 loop-byte-preserved c =
