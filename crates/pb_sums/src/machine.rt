@@ -7,6 +7,7 @@ ghost use Rattle.pb_text.specs.meaning.Spelling.{Item};
 ghost use Rattle.pb_text.specs.meaning.Classes.{is_digit};
 ghost use Rattle.pb_sums.specs.engine.Machine.{flushed, is_more, is_in_number};
 
+mod actions;
 mod end;
 mod fast;
 
@@ -152,6 +153,46 @@ impl SumMachine {
     }
 }
 
+impl SumMachine {
+    ghost use Rattle.pb_text.specs.contract.Automaton.{Continues, Pushes};
+    ghost use Rattle.pb_sums.specs.engine.State.{sums};
+
+    /// Takes a byte that ends no text, if no allocation is refused.
+    #[inline(always)]
+    fn go_on(&mut self, byte: u8) -> bool
+        ensures { Continues sums self.old byte result self.new }
+    {
+        if is_more(self.phase) && is_name_byte(byte) {
+            return self.name.push(byte).is_ok();
+        }
+        let kind = kind(self.spaces, is_numeric(self.phase), byte);
+        let action = transition(self.part, self.limit, self.phase, kind);
+        self.advance(action)
+    }
+
+    /// Takes a byte.
+    fn take(&mut self, byte: u8) -> Push<SumEvent>
+        ensures { Pushes sums self.old byte result self.new }
+    {
+        let kind = kind(self.spaces, is_numeric(self.phase), byte);
+        let action = transition(self.part, self.limit, self.phase, kind);
+        match action {
+            Action::Stop => refusal(self.phase, byte),
+            Action::EndSum | Action::EndLinear(_, _) => match self.end_by(action) {
+                Some(event) => Push::Event(event),
+                None => Push::Memory,
+            },
+            Action::To(_) | Action::Begin(_, _) | Action::Add(_, _) => {
+                if self.advance(action) {
+                    Push::Go
+                } else {
+                    Push::Memory
+                }
+            }
+        }
+    }
+}
+
 impl Machine for SumMachine {
     ghost use Rattle.pb_sums.specs.engine.State.{sums};
 
@@ -161,39 +202,9 @@ impl Machine for SumMachine {
 
     #[inline(always)]
     fn try_continue(&mut self, byte: u8) -> bool {
-        if is_more(self.phase) && is_name_byte(byte) {
-            if self.name.push(byte).is_err() {
-                return false;
-            }
-            return true;
-        }
-        let kind = kind(self.spaces, is_numeric(self.phase), byte);
-        match transition(self.part, self.limit, self.phase, kind) {
-            Action::Begin(phase, first) => {
-                let mut name = Name::new(self.alloc);
-                if name.push(first).is_err() {
-                    return false;
-                }
-                self.name = name;
-                self.phase = phase;
-                true
-            }
-            Action::Add(phase, next) => {
-                if self.name.push(next).is_err() {
-                    return false;
-                }
-                self.phase = phase;
-                true
-            }
-            Action::To(phase) => {
-                if flush(self.alloc, &mut self.terms, &mut self.name, self.phase).is_err() {
-                    return false;
-                }
-                self.phase = phase;
-                true
-            }
-            _ => false,
-        }
+        let went = self.go_on(byte);
+        let _ = self.is_done();
+        went
     }
 
     #[inline(always)]
@@ -211,51 +222,9 @@ impl Machine for SumMachine {
     }
 
     fn push(&mut self, byte: u8) -> Push<SumEvent> {
-        let kind = kind(self.spaces, is_numeric(self.phase), byte);
-        match transition(self.part, self.limit, self.phase, kind) {
-            Action::Stop => refusal(self.phase, byte),
-            Action::Begin(phase, first) => {
-                let mut name = Name::new(self.alloc);
-                if name.push(first).is_err() {
-                    return Push::Memory;
-                }
-                self.name = name;
-                self.phase = phase;
-                Push::Go
-            }
-            Action::Add(phase, next) => {
-                if self.name.push(next).is_err() {
-                    return Push::Memory;
-                }
-                self.phase = phase;
-                Push::Go
-            }
-            Action::To(phase) => {
-                if flush(self.alloc, &mut self.terms, &mut self.name, self.phase).is_err() {
-                    return Push::Memory;
-                }
-                self.phase = phase;
-                Push::Go
-            }
-            Action::EndSum => {
-                let Ok(terms) = finish(self.alloc, &mut self.terms, &mut self.name, &mut self.phase)
-                else {
-                    return Push::Memory;
-                };
-                Push::Event(SumEvent::Sum(terms))
-            }
-            Action::EndLinear(relation, degree) => {
-                let Ok(terms) = finish(self.alloc, &mut self.terms, &mut self.name, &mut self.phase)
-                else {
-                    return Push::Memory;
-                };
-                Push::Event(SumEvent::Linear(Linear {
-                    terms,
-                    relation,
-                    degree,
-                }))
-            }
-        }
+        let answer = self.take(byte);
+        let _ = self.is_done();
+        answer
     }
 
     fn is_done(&self) -> bool {

@@ -1,13 +1,15 @@
 -- The states of a machine of sums, and its automaton.
-use Rattle.std.specs.Prelude.{◌≡◌, ℕ, ◌+◌, ◌-◌, ◌^◌, min, Bool, false, ◌||◌, List, [], ◌∷◌, length}
+use Rattle.std.specs.Prelude.{◌≡◌, ℕ, ◌+◌, ◌-◌, ◌^◌, min, Bool, true, false, ◌||◌, ◌⊎◌, IsTrue, Option, None, Some, List, [], ◌∷◌, length}
 use Rattle.pb_text.specs.contract.Automaton.{Automaton, Next, Go, End, Refuse}
-use Rattle.pb_sums.specs.engine.Machine.{Work, Outcome, fresh, finished, step, transition, kind, letter_at, is_numeric, is_in_number, is_midway, is_done, adds, is_more, PhaseFits}
+use Rattle.pb_sums.specs.engine.Machine.{Work, Outcome, fresh, finished, step, transition, kind, letter_at, is_numeric, is_in_number, is_midway, is_done, act, adds, flushed, is_more, PhaseFits}
 use Rattle.pb_sums.specs.declared.linear.Term.{Term}
 use Rattle.pb_sums.specs.declared.linear.SumEvent.{SumEvent}
 use Rattle.pb_sums.specs.declared.sum_kind.Spaces.{Spaces}
 use Rattle.pb_sums.specs.declared.sum_kind.Part.{Part}
 use Rattle.pb_sums.specs.declared.phase.Phase.{Phase}
 use Rattle.pb_sums.specs.declared.phase.Phase as phase
+use Rattle.pb_sums.specs.declared.phase.Action.{Action}
+use Rattle.pb_sums.specs.declared.phase.Action.TheVariants.{EndSum, EndLinear, Stop}
 
 -- what a machine reads, the largest magnitude of its numbers, and what it stores
 pub record SumState : Type 0 where
@@ -70,3 +72,24 @@ sums = record {
 -- The invariant of a machine: a number being read is within the limit, and nothing is stored before a text and after it.
 abbrev pub IsInOrder : ℕ → Work → Type 0
 IsInOrder limit w = PhaseFits limit w.phase × (is_midway w.phase ≡ false → (w.terms ≡ []) × (w.name ≡ []))
+
+-- what an action leads to
+abbrev pub outcome : SumState → Action → Next SumState SumEvent
+outcome s m = over s (act (flushed s.work.phase s.work.terms s.work.name) s.work.terms s.work.name m)
+
+-- an action that ends the text, or stops
+abbrev pub ends : Action → Bool
+ends EndSum = true
+ends (EndLinear r z) = true
+ends Stop = true
+ends _ = false
+
+-- The machine continues as an action says. Or nothing changes: an action that continues is left only if that may allocate.
+abbrev pub ContinuesBy : SumState → Action → Bool → SumState → Type 0
+ContinuesBy old m true new = outcome old m ≡ Go new
+ContinuesBy old m false new = (ends m ≡ false → IsTrue (adds m || is_more old.work.phase)) × (new ≡ old)
+
+-- The machine ends the text as an action says. Or nothing changes: that may allocate, or it ends nothing.
+abbrev pub EndsBy : SumState → Action → Option SumEvent → SumState → Type 0
+EndsBy old m (Some e) new = outcome old m ≡ End e new
+EndsBy old m None new = (IsTrue (is_more old.work.phase) ⊎ ((e : SumEvent) (next : SumState) → outcome old m ≡ End e next → ⊥)) × (new ≡ old)

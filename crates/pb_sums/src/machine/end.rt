@@ -5,9 +5,9 @@ ghost use Rattle.pb_text.specs.contract.Automaton.{Finishes, IsState};
 ghost use Rattle.pb_text.specs.contract.Staying.{MayStay};
 ghost use Rattle.pb_sums.specs.engine.State.{sums};
 
-use crate::linear::{Linear, SumEvent};
-use crate::machine::{SumMachine, finish};
-use crate::phase::{Action, Kind};
+use crate::linear::SumEvent;
+use crate::machine::SumMachine;
+use crate::phase::Kind;
 use crate::transition::transition;
 use pb_text::Machine;
 
@@ -20,27 +20,9 @@ impl SumMachine {
         // It leaves the byte only if that may allocate or ends nothing.
         ensures leaves { result ≡ None → MayStay sums self.old 59 }
     {
+        let action = transition(self.part, self.limit, self.phase, Kind::Semicolon);
+        let event = self.end_by(action);
         let _ = self.is_done();
-        match transition(self.part, self.limit, self.phase, Kind::Semicolon) {
-            Action::EndSum => {
-                let Ok(terms) = finish(self.alloc, &mut self.terms, &mut self.name, &mut self.phase)
-                else {
-                    return None;
-                };
-                Some(SumEvent::Sum(terms))
-            }
-            Action::EndLinear(relation, degree) => {
-                let Ok(terms) = finish(self.alloc, &mut self.terms, &mut self.name, &mut self.phase)
-                else {
-                    return None;
-                };
-                Some(SumEvent::Linear(Linear {
-                    terms,
-                    relation,
-                    degree,
-                }))
-            }
-            Action::To(_) | Action::Begin(_, _) | Action::Add(_, _) | Action::Stop => None,
-        }
+        event
     }
 }

@@ -1,8 +1,8 @@
 -- If a machine of sums may allocate, the next byte is in a name, or ends a literal. Offered to other crates.
-use Rattle.pb_sums.proofs.Common.{ℕ, ◌*◌, ◌++◌, ◌+◌, ◌||◌, ◌∙◌, ◌∷◌, ◌≡◌, ◌⊎◌, [], ap, append-nil, append_assoc, Bool, false, inl, inr, List, None}
-use Rattle.pb_sums.proofs.Common.{Option, refl, Some, subst, sym, true, IsTrue, nat_eq, nat_le, cond_both, false≢true, never, letter_name}
+use Rattle.pb_sums.proofs.Common.{ℕ, ◌*◌, ◌++◌, ◌+◌, ◌||◌, ◌∙◌, ◌∷◌, ◌≡◌, ◌⊎◌, [], ap, append-nil, append_assoc, Bool, false, inl, inr, List, None, arith}
+use Rattle.pb_sums.proofs.Common.{Option, refl, Some, subst, sym, true, IsTrue, nat_le, cond_both, false≢true, never, letter_name}
 use Rattle.pb_sums.proofs.Common.{each-append, End, Go, MayAsk, Next, ReadsStatement, Refuse, is_digit, is_letter, is_name_byte, bytes, Letter}
-use Rattle.pb_sums.proofs.Common.{Relation, AtLeast, Equal, SumEvent, Action, Add, Begin, EndLinear, EndSum, Stop, To, Kind, Digit, Equals, Greater}
+use Rattle.pb_sums.proofs.Common.{Relation, AtLeast, Equal, SumEvent, Action, Add, Begin, To, Kind, Digit, Equals, Greater}
 use Rattle.pb_sums.proofs.Common.{Inner, Minus, Plus, Semicolon, Space, Start, Tilde, Phase, Part, Spaces, act, adds, digits, flushed, is_more}
 use Rattle.pb_sums.proofs.Common.{is_numeric, kind, letter_at, next_action, number, symbol, transition, asks, first, over, sums, SumState, allows}
 use Rattle.pb_sums.proofs.Common.{is_space, IsName, IsOneText, reads_sums}
@@ -10,7 +10,6 @@ use Rattle.pb_text.specs.meaning.Asking.{AsksOnly}
 use Rattle.pb_text.proofs.lemmas.machine.Asked as asked
 use Rattle.pb_text.proofs.lemmas.machine.Walking.{Walks, reads_after}
 use Rattle.pb_sums.specs.meaning.Asking.{EndsIn, IsNameStart, InName, AsksLiteral}
-use Rattle.pb_sums.specs.declared.phase.Phase as phase
 use Rattle.pb_sums.proofs.lemmas.machine.LiteralPrefixes.{IsFirst, name-append, first-append}
 use Rattle.pb_sums.proofs.lemmas.machine.States.{accepts_one, ended-last, continues-midway, nothing-after}
 
@@ -60,14 +59,7 @@ Means (Inner c) b = (c ≡ b) × IsTrue (is_name_byte c)
 Means _ b = Unit {0}
 
 symbol_means : (b : ℕ) → Means (symbol b) b
-symbol_means b =
-    let P : Kind → Type 0 = λ k. Means k b in
-    cond_both (nat_eq b 126) _ _ P (λ _. tt) (λ _.
-    cond_both (nat_eq b 43) _ _ P (λ _. tt) (λ _.
-    cond_both (nat_eq b 45) _ _ P (λ _. tt) (λ _.
-    cond_both (nat_eq b 62) _ _ P (λ _. tt) (λ _.
-    cond_both (nat_eq b 61) _ _ P (λ _. tt) (λ _.
-    cond_both (nat_eq b 59) _ _ P (λ _. tt) (λ _. tt))))))
+symbol_means b = grind (arith)
 
 means : (spaces : Spaces) (l : Letter) → Means (kind spaces l) l.byte
 means spaces l =
@@ -80,16 +72,16 @@ means spaces l =
 
 -- a name is being read
 abbrev is_naming : Phase → Bool
-is_naming (phase.TheVariants.First z negated) = true
-is_naming (phase.TheVariants.More z negated) = true
+is_naming (Phase.First z negated) = true
+is_naming (Phase.More z negated) = true
 is_naming _ = false
 
 -- A name begins with a letter and continues with name bytes. It is being read only then.
 abbrev Fits : Phase → ℕ → Action → Type 0
 Fits p b (To q) = is_naming q ≡ false
-Fits p b (Begin (phase.TheVariants.First z negated) c) = (c ≡ b) × IsTrue (is_letter c)
+Fits p b (Begin (Phase.First z negated) c) = (c ≡ b) × IsTrue (is_letter c)
 Fits p b (Begin q c) = ⊥
-Fits p b (Add (phase.TheVariants.More z negated) c) = (c ≡ b) × IsTrue (is_name_byte c) × (is_naming p ≡ true)
+Fits p b (Add (Phase.More z negated) c) = (c ≡ b) × IsTrue (is_name_byte c) × (is_naming p ≡ true)
 Fits p b (Add q c) = ⊥
 Fits p b _ = Unit {0}
 
@@ -110,58 +102,58 @@ module _ (want : Part) (limit b : ℕ) where
   after_fits p _ = tt
 
   transition_fits : (p : Phase) (k : Kind) → Means k b → Fits p b (transition want limit p k)
-  transition_fits phase.TheVariants.Start Space m = cond_both (reads_sums want) _ _ (Fits phase.TheVariants.Start b) (λ _. refl) (λ _. tt)
-  transition_fits phase.TheVariants.Start Plus m = refl
-  transition_fits phase.TheVariants.Start Minus m = refl
-  transition_fits phase.TheVariants.Start (Digit d) m = digits_fit phase.TheVariants.Start None false 0 d
-  transition_fits phase.TheVariants.Start k m = after_fits phase.TheVariants.Start k
-  transition_fits (phase.TheVariants.Signed role negative) (Digit d) m = digits_fit (phase.TheVariants.Signed role negative) role negative 0 d
-  transition_fits (phase.TheVariants.Digits role negative n) (Digit d) m = digits_fit (phase.TheVariants.Digits role negative n) role negative n d
-  transition_fits (phase.TheVariants.Digits None negative n) Space m = refl
-  transition_fits (phase.TheVariants.Digits None negative n) k m = tt
-  transition_fits (phase.TheVariants.Digits (Some r) negative n) Space m = refl
-  transition_fits (phase.TheVariants.Digits (Some r) negative n) k m = tt
-  transition_fits (phase.TheVariants.Gap z) Space m = refl
-  transition_fits (phase.TheVariants.Gap z) Tilde m = refl
-  transition_fits (phase.TheVariants.Gap z) (Start c) m = m
-  transition_fits (phase.TheVariants.Tilde z) (Start c) m = m
-  transition_fits (phase.TheVariants.First z negated) (Start c) m = (m.0, letter_name c m.1, refl)
-  transition_fits (phase.TheVariants.First z negated) (Inner c) m = (m.0, m.1, refl)
-  transition_fits (phase.TheVariants.More z negated) (Start c) m = (m.0, letter_name c m.1, refl)
-  transition_fits (phase.TheVariants.More z negated) (Inner c) m = (m.0, m.1, refl)
-  transition_fits (phase.TheVariants.More z negated) Space m = refl
-  transition_fits (phase.TheVariants.More z negated) k m = after_fits (phase.TheVariants.More z negated) k
-  transition_fits phase.TheVariants.Between Space m = refl
-  transition_fits phase.TheVariants.Between Plus m = refl
-  transition_fits phase.TheVariants.Between Minus m = refl
-  transition_fits phase.TheVariants.Between (Digit d) m = digits_fit phase.TheVariants.Between None false 0 d
-  transition_fits phase.TheVariants.Between k m = after_fits phase.TheVariants.Between k
-  transition_fits phase.TheVariants.Greater Equals m = refl
-  transition_fits (phase.TheVariants.Relation r) Space m = refl
-  transition_fits (phase.TheVariants.Relation r) k m = number_fits (phase.TheVariants.Relation r) (Some r) k
-  transition_fits (phase.TheVariants.Tail r z) Space m = refl
-  transition_fits phase.TheVariants.Empty Space m = refl
+  transition_fits Phase.Start Space m = cond_both (reads_sums want) _ _ (Fits Phase.Start b) (λ _. refl) (λ _. tt)
+  transition_fits Phase.Start Plus m = refl
+  transition_fits Phase.Start Minus m = refl
+  transition_fits Phase.Start (Digit d) m = digits_fit Phase.Start None false 0 d
+  transition_fits Phase.Start k m = after_fits Phase.Start k
+  transition_fits (Phase.Signed role negative) (Digit d) m = digits_fit (Phase.Signed role negative) role negative 0 d
+  transition_fits (Phase.Digits role negative n) (Digit d) m = digits_fit (Phase.Digits role negative n) role negative n d
+  transition_fits (Phase.Digits None negative n) Space m = refl
+  transition_fits (Phase.Digits None negative n) k m = tt
+  transition_fits (Phase.Digits (Some r) negative n) Space m = refl
+  transition_fits (Phase.Digits (Some r) negative n) k m = tt
+  transition_fits (Phase.Gap z) Space m = refl
+  transition_fits (Phase.Gap z) Tilde m = refl
+  transition_fits (Phase.Gap z) (Start c) m = m
+  transition_fits (Phase.Tilde z) (Start c) m = m
+  transition_fits (Phase.First z negated) (Start c) m = (m.0, letter_name c m.1, refl)
+  transition_fits (Phase.First z negated) (Inner c) m = (m.0, m.1, refl)
+  transition_fits (Phase.More z negated) (Start c) m = (m.0, letter_name c m.1, refl)
+  transition_fits (Phase.More z negated) (Inner c) m = (m.0, m.1, refl)
+  transition_fits (Phase.More z negated) Space m = refl
+  transition_fits (Phase.More z negated) k m = after_fits (Phase.More z negated) k
+  transition_fits Phase.Between Space m = refl
+  transition_fits Phase.Between Plus m = refl
+  transition_fits Phase.Between Minus m = refl
+  transition_fits Phase.Between (Digit d) m = digits_fit Phase.Between None false 0 d
+  transition_fits Phase.Between k m = after_fits Phase.Between k
+  transition_fits Phase.Greater Equals m = refl
+  transition_fits (Phase.Relation r) Space m = refl
+  transition_fits (Phase.Relation r) k m = number_fits (Phase.Relation r) (Some r) k
+  transition_fits (Phase.Tail r z) Space m = refl
+  transition_fits Phase.Empty Space m = refl
   transition_fits _ _ m = tt
 
 -- the text ends in the name being read
 abbrev Holds : Phase → List ℕ → List ℕ → Type 0
-Holds (phase.TheVariants.First z negated) name text = EndsIn text name × IsFirst name
-Holds (phase.TheVariants.More z negated) name text = EndsIn text name × IsName name
+Holds (Phase.First z negated) name text = EndsIn text name × IsFirst name
+Holds (Phase.More z negated) name text = EndsIn text name × IsName name
 Holds _ name text = Unit {0}
 
 held_no_name : (q : Phase) (name text : List ℕ) → is_naming q ≡ false → Holds q name text
-held_no_name (phase.TheVariants.First z negated) name text h = absurd (false≢true (sym h))
-held_no_name (phase.TheVariants.More z negated) name text h = absurd (false≢true (sym h))
+held_no_name (Phase.First z negated) name text h = absurd (false≢true (sym h))
+held_no_name (Phase.More z negated) name text h = absurd (false≢true (sym h))
 held_no_name _ name text h = tt
 
 name_grown : (p : Phase) (name text : List ℕ) (b : ℕ) → is_naming p ≡ true → Holds p name text → IsTrue (is_name_byte b) → EndsIn (text ++ b ∷ []) (name ++ b ∷ []) × IsName (name ++ b ∷ [])
-name_grown (phase.TheVariants.First z negated) name text b h (e, f) k = (ends_more text name b e, first-append name b f k)
-name_grown (phase.TheVariants.More z negated) name text b h (e, f) k = (ends_more text name b e, name-append name b f k)
+name_grown (Phase.First z negated) name text b h (e, f) k = (ends_more text name b e, first-append name b f k)
+name_grown (Phase.More z negated) name text b h (e, f) k = (ends_more text name b e, name-append name b f k)
 name_grown _ name text b h k l = absurd (false≢true h)
 
 begun_name : (p : Phase) (name text : List ℕ) (b : ℕ) → is_naming p ≡ true → Holds p name text → IsTrue (is_name_byte b) → InName text b
-begun_name (phase.TheVariants.First z negated) name text b h (e, f) k = (name, e, first_further name b f k)
-begun_name (phase.TheVariants.More z negated) name text b h (e, f) k = (name, e, name_further name b f k)
+begun_name (Phase.First z negated) name text b h (e, f) k = (name, e, first_further name b f k)
+begun_name (Phase.More z negated) name text b h (e, f) k = (name, e, name_further name b f k)
 begun_name _ name text b h k l = absurd (false≢true h)
 
 abbrev Known : SumState → List ℕ → Type 0
@@ -174,15 +166,13 @@ Stays Refuse text = Unit {0}
 
 acts : (s : SumState) (text : List ℕ) (b : ℕ) (m : Action) → Fits s.work.phase b m → Known s text → Stays (over s (act (flushed s.work.phase s.work.terms s.work.name) s.work.terms s.work.name m)) (text ++ b ∷ [])
 acts s text b (To q) h k = held_no_name q [] (text ++ b ∷ []) h
-acts s text b (Begin (phase.TheVariants.First z negated) c) h k = subst (λ (x : ℕ). EndsIn (text ++ b ∷ []) (x ∷ []) × IsTrue (is_letter x)) (sym h.0) (ends_one text b, subst (λ (x : ℕ). IsTrue (is_letter x)) h.0 h.1)
+acts s text b (Begin (Phase.First z negated) c) h k = subst (λ (x : ℕ). EndsIn (text ++ b ∷ []) (x ∷ []) × IsTrue (is_letter x)) (sym h.0) (ends_one text b, subst (λ (x : ℕ). IsTrue (is_letter x)) h.0 h.1)
 acts s text b (Begin q c) h k = absurd h
-acts s text b (Add (phase.TheVariants.More z negated) c) h k =
+acts s text b (Add (Phase.More z negated) c) h k =
     subst (λ (x : ℕ). EndsIn (text ++ b ∷ []) (s.work.name ++ x ∷ []) × IsName (s.work.name ++ x ∷ [])) (sym h.0)
     (name_grown s.work.phase s.work.name text b h.2 k (subst (λ (x : ℕ). IsTrue (is_name_byte x)) h.0 h.1))
 acts s text b (Add q c) h k = absurd h
-acts s text b EndSum h k = tt
-acts s text b (EndLinear r z) h k = tt
-acts s text b Stop h k = tt
+acts s text b _ h k = tt
 
 fits : (s : SumState) (b : ℕ) → Fits s.work.phase b (transition s.part s.limit s.work.phase (kind s.spaces (letter_at (is_numeric s.work.phase) b)))
 fits s b = transition_fits s.part s.limit b s.work.phase (kind s.spaces (letter_at (is_numeric s.work.phase) b)) (means s.spaces (letter_at (is_numeric s.work.phase) b))
@@ -198,21 +188,18 @@ walked (l ∷ t) s next text k (mid, g, o, n, w) =
     subst (λ (x : List ℕ). Known next x) (append_assoc text (l.byte ∷ []) (bytes t)) (walked t mid next (text ++ l.byte ∷ []) (stepped s mid l.byte text k g) w)
 
 by_action : (p : Phase) (name text : List ℕ) (b : ℕ) (m : Action) → Fits p b m → adds m ≡ true → Holds p name text → InName text b
-by_action p name text b (Begin (phase.TheVariants.First z negated) c) h e k = ([], ends_nothing text, (subst (λ (x : ℕ). IsTrue (is_letter x)) h.0 h.1, tt))
+by_action p name text b (Begin (Phase.First z negated) c) h e k = ([], ends_nothing text, (subst (λ (x : ℕ). IsTrue (is_letter x)) h.0 h.1, tt))
 by_action p name text b (Begin q c) h e k = absurd h
-by_action p name text b (Add (phase.TheVariants.More z negated) c) h e k = begun_name p name text b h.2 k (subst (λ (x : ℕ). IsTrue (is_name_byte x)) h.0 h.1)
+by_action p name text b (Add (Phase.More z negated) c) h e k = begun_name p name text b h.2 k (subst (λ (x : ℕ). IsTrue (is_name_byte x)) h.0 h.1)
 by_action p name text b (Add q c) h e k = absurd h
-by_action p name text b (To q) h e k = absurd (false≢true e)
-by_action p name text b EndSum h e k = absurd (false≢true e)
-by_action p name text b (EndLinear r z) h e k = absurd (false≢true e)
-by_action p name text b Stop h e k = absurd (false≢true e)
+by_action p name text b _ h e k = absurd (false≢true e)
 
 -- the machine adds to a name, or a whole name has been read
 by_either : (p : Phase) (name text : List ℕ) (b : ℕ) (m : Action) → Fits p b m → (adds m || is_more p) ≡ true → Holds p name text → AsksLiteral text b
 by_either p name text b m f h k = by_adds (adds m) refl h
   where
     more : (q : Phase) → is_more q ≡ true → Holds q name text → AsksLiteral text b
-    more (phase.TheVariants.More z negated) e (x, y) = at_name text name b x y
+    more (Phase.More z negated) e (x, y) = at_name text name b x y
     more _ e x = absurd (false≢true e)
 
     by_adds : (x : Bool) → adds m ≡ x → (x || is_more p) ≡ true → AsksLiteral text b
@@ -220,10 +207,8 @@ by_either p name text b m f h k = by_adds (adds m) refl h
     by_adds false e g = more p g k
 
 -- Before a text, it does not allocate.
-begins_plain : (want : Part) (limit : ℕ) (k : Kind) → adds (transition want limit phase.TheVariants.Start k) ≡ false
+begins_plain : (want : Part) (limit : ℕ) (k : Kind) → adds (transition want limit Phase.Start k) ≡ false
 begins_plain want limit Space = cond_both (reads_sums want) _ _ (λ m. adds m ≡ false) (λ _. refl) (λ _. refl)
-begins_plain want limit Plus = refl
-begins_plain want limit Minus = refl
 begins_plain want limit (Digit d) = cond_both (nat_le (10 * 0 + d) limit) _ _ (λ m. adds m ≡ false) (λ _. refl) (λ _. refl)
 begins_plain want limit Greater = cond_both (allows want AtLeast) _ _ (λ m. adds m ≡ false) (λ _. refl) (λ _. refl)
 begins_plain want limit Equals = cond_both (allows want Equal) _ _ (λ m. adds m ≡ false) (λ _. refl) (λ _. refl)

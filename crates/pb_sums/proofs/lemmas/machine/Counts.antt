@@ -1,9 +1,7 @@
 -- What is stored grows by at most one unit per byte. Offered to other crates.
 use Rattle.pb_sums.proofs.Common.{ℕ, ◌++◌, ◌+◌, ◌-◌, ◌<◌, ◌^◌, ◌∙◌, ◌∷◌, ◌≡◌, ◌≤◌, [], ap, arith, get_or, length, length-append, List, min, subst}
 use Rattle.pb_sums.proofs.Common.{sym, take, take_more, end_or_go, one_state, refuse_or_go, Go, Term, Action, Add, Begin, EndLinear, EndSum, Stop, To}
-use Rattle.pb_sums.proofs.Common.{Kind, Phase, Part, Spaces, act, finished, flushed, term, transition, Work, all_units, in_hand, ready, units}
-use Rattle.pb_sums.specs.declared.linear.SumEvent as event
-use Rattle.pb_sums.specs.declared.phase.Phase as phase
+use Rattle.pb_sums.proofs.Common.{Kind, Phase, Part, Spaces, act, finished, flushed, term, transition, Work, all_units, in_hand, ready, units, SumEvent}
 use Rattle.pb_sums.proofs.lemmas.machine.Flags.{IsSane, transition-sane}
 
 pub units-append : (xs : List Term) (x : Term) → units (xs ++ x ∷ []) ≡ units xs + (1 + length x.literal.name)
@@ -17,34 +15,12 @@ abbrev count : List Term → List ℕ → Phase → ℕ
 count xs name ph = units xs + in_hand ph + length name + ready ph
 
 pub flushed-units : (ph : Phase) (xs : List Term) (name : List ℕ) → units (flushed ph xs name) ≤ units xs + in_hand ph + length name
-flushed-units (phase.TheVariants.More z negated) xs name = omega (arith, units-append xs (term z negated name))
-flushed-units phase.TheVariants.Start xs name = omega arith
-flushed-units (phase.TheVariants.Signed role negative) xs name = omega arith
-flushed-units (phase.TheVariants.Digits role negative n) xs name = omega arith
-flushed-units (phase.TheVariants.Gap z) xs name = omega arith
-flushed-units (phase.TheVariants.Tilde z) xs name = omega arith
-flushed-units (phase.TheVariants.First z negated) xs name = omega arith
-flushed-units phase.TheVariants.Between xs name = omega arith
-flushed-units phase.TheVariants.Greater xs name = omega arith
-flushed-units (phase.TheVariants.Relation r) xs name = omega arith
-flushed-units (phase.TheVariants.Tail r z) xs name = omega arith
-flushed-units phase.TheVariants.Empty xs name = omega arith
-flushed-units phase.TheVariants.Done xs name = omega arith
+flushed-units (Phase.More z negated) xs name = omega (arith, units-append xs (term z negated name))
+flushed-units _ xs name = omega arith
 
 ready-one : (ph : Phase) → ready ph ≤ 1
-ready-one phase.TheVariants.Start = omega arith
-ready-one (phase.TheVariants.Signed role negative) = omega arith
-ready-one (phase.TheVariants.Digits role negative n) = omega arith
-ready-one (phase.TheVariants.Gap z) = omega arith
-ready-one (phase.TheVariants.Tilde z) = omega arith
-ready-one (phase.TheVariants.First z negated) = omega arith
-ready-one (phase.TheVariants.More z negated) = omega arith
-ready-one phase.TheVariants.Between = omega arith
-ready-one phase.TheVariants.Greater = omega arith
-ready-one (phase.TheVariants.Relation r) = omega arith
-ready-one (phase.TheVariants.Tail r z) = omega arith
-ready-one phase.TheVariants.Empty = omega arith
-ready-one phase.TheVariants.Done = omega arith
+ready-one Phase.Start = omega arith
+ready-one _ = omega arith
 
 pub to-grows : (u x h l r ih ir : ℕ) → u ≤ x + h + l → ih ≡ 0 → ir ≤ 1 → u + ih + 0 + ir ≤ x + h + l + r + 1
 to-grows u x h l r ih ir a b c = omega arith
@@ -66,8 +42,8 @@ act-grows ph k xs name (Begin q b) w h e =
 act-grows ph k xs name (Add q b) w h e =
     subst (λ v. potential v ≤ count xs name ph + 1) (one_state (record { terms = xs; name = name ++ b ∷ []; phase = q }) w e)
     (add-grows (units xs) (in_hand ph) (length name) (ready ph) (in_hand q) (ready q) (length (name ++ b ∷ [])) h.1 h.2 (length-append name (b ∷ [])))
-act-grows ph k xs name EndSum w h e = end_or_go (event.TheVariants.Sum (flushed ph xs name)) finished w e
-act-grows ph k xs name (EndLinear r z) w h e = end_or_go (event.TheVariants.Linear (record { terms = flushed ph xs name; relation = r; degree = z })) finished w e
+act-grows ph k xs name EndSum w h e = end_or_go (SumEvent.Sum (flushed ph xs name)) finished w e
+act-grows ph k xs name (EndLinear r z) w h e = end_or_go (SumEvent.Linear (record { terms = flushed ph xs name; relation = r; degree = z })) finished w e
 act-grows ph k xs name Stop w h e = refuse_or_go w e
 
 pub letter-grows : (spaces : Spaces) (want : Part) (limit : ℕ) (w v : Work) (k : Kind) → act (flushed w.phase w.terms w.name) w.terms w.name (transition want limit w.phase k) ≡ Go v

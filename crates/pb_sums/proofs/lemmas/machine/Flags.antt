@@ -8,8 +8,6 @@ use Rattle.pb_sums.proofs.Common.{Semicolon, Space, Start, Tilde, Phase, Part, S
 use Rattle.pb_sums.proofs.Common.{is_numeric, kind, kind_of_numeral, kind_of_plain, letter_at, next_action, number, transition, Work, in_hand, ready}
 use Rattle.pb_sums.proofs.Common.{allows, is_space, reads_sums}
 use Rattle.std.proofs.Math.Bool.{and-false}
-use Rattle.pb_sums.specs.declared.linear.SumEvent as event
-use Rattle.pb_sums.specs.declared.phase.Phase as phase
 
 -- What the transition of a phase at a kind says about the next state. The byte was a digit of a number if and only if
 -- the state is in a number. The text has begun. If a name has begun, a literal is being read. Only `;` ends a text.
@@ -35,7 +33,7 @@ sane_test ph k false m h = tt
 module _ (want : Part) (limit : ℕ) where
   digits-sane : (ph : Phase) (role : Option Relation) (negative : Bool) (n d : ℕ) → IsSane ph (Digit d) (digits limit role negative n d)
   digits-sane ph role negative n d =
-      sane_test ph (Digit d) (nat_le (10 * n + d) limit) (To (phase.TheVariants.Digits role negative (10 * n + d))) ((refl, refl), refl)
+      sane_test ph (Digit d) (nat_le (10 * n + d) limit) (To (Phase.Digits role negative (10 * n + d))) ((refl, refl), refl)
 
   number-sane : (ph : Phase) (role : Option Relation) (k : Kind) → IsSane ph k (number limit role k)
   number-sane ph role Plus = ((refl, refl), refl)
@@ -44,90 +42,65 @@ module _ (want : Part) (limit : ℕ) where
   number-sane ph role _ = tt
 
   after-sane : (ph : Phase) (k : Kind) → IsSane ph k (next_action want k)
-  after-sane ph Greater = sane_test ph Greater (allows want AtLeast) (To phase.TheVariants.Greater) ((refl, refl), refl)
-  after-sane ph Equals = sane_test ph Equals (allows want Equal) (To (phase.TheVariants.Relation Equal)) ((refl, refl), refl)
+  after-sane ph Greater = sane_test ph Greater (allows want AtLeast) (To Phase.Greater) ((refl, refl), refl)
+  after-sane ph Equals = sane_test ph Equals (allows want Equal) (To (Phase.Relation Equal)) ((refl, refl), refl)
   after-sane ph Semicolon = sane_test ph Semicolon (reads_sums want) EndSum refl
   after-sane ph _ = tt
 
   pub transition-sane : (ph : Phase) (k : Kind) → IsSane ph k (transition want limit ph k)
-  transition-sane phase.TheVariants.Start Space = sane_test phase.TheVariants.Start Space (reads_sums want) (To phase.TheVariants.Empty) ((refl, refl), refl)
-  transition-sane phase.TheVariants.Start Plus = number-sane phase.TheVariants.Start None Plus
-  transition-sane phase.TheVariants.Start Minus = number-sane phase.TheVariants.Start None Minus
-  transition-sane phase.TheVariants.Start (Digit d) = number-sane phase.TheVariants.Start None (Digit d)
-  transition-sane phase.TheVariants.Start k = after-sane phase.TheVariants.Start k
-  transition-sane (phase.TheVariants.Signed role negative) (Digit d) = digits-sane (phase.TheVariants.Signed role negative) role negative 0 d
-  transition-sane (phase.TheVariants.Digits role negative n) (Digit d) = digits-sane (phase.TheVariants.Digits role negative n) role negative n d
-  transition-sane (phase.TheVariants.Digits None negative n) Space = ((refl, refl), refl)
-  transition-sane (phase.TheVariants.Digits (Some r) negative n) Space = ((refl, refl), refl)
-  transition-sane (phase.TheVariants.Digits (Some r) negative n) Semicolon = refl
-  transition-sane (phase.TheVariants.Gap z) Space = ((refl, refl), refl)
-  transition-sane (phase.TheVariants.Gap z) Tilde = ((refl, refl), refl)
-  transition-sane (phase.TheVariants.Gap z) (Start b) = ((refl, refl), refl, refl)
-  transition-sane (phase.TheVariants.Tilde z) (Start b) = ((refl, refl), refl, refl)
-  transition-sane (phase.TheVariants.First z negated) (Start b) = ((refl, refl), refl, refl)
-  transition-sane (phase.TheVariants.First z negated) (Inner b) = ((refl, refl), refl, refl)
-  transition-sane (phase.TheVariants.More z negated) (Start b) = ((refl, refl), refl, refl)
-  transition-sane (phase.TheVariants.More z negated) (Inner b) = ((refl, refl), refl, refl)
-  transition-sane (phase.TheVariants.More z negated) Space = ((refl, refl), refl)
-  transition-sane (phase.TheVariants.More z negated) k = after-sane (phase.TheVariants.More z negated) k
-  transition-sane phase.TheVariants.Between Space = ((refl, refl), refl)
-  transition-sane phase.TheVariants.Between Plus = number-sane phase.TheVariants.Between None Plus
-  transition-sane phase.TheVariants.Between Minus = number-sane phase.TheVariants.Between None Minus
-  transition-sane phase.TheVariants.Between (Digit d) = number-sane phase.TheVariants.Between None (Digit d)
-  transition-sane phase.TheVariants.Between k = after-sane phase.TheVariants.Between k
-  transition-sane phase.TheVariants.Greater Equals = ((refl, refl), refl)
-  transition-sane (phase.TheVariants.Relation r) Space = ((refl, refl), refl)
-  transition-sane (phase.TheVariants.Relation r) k = number-sane (phase.TheVariants.Relation r) (Some r) k
-  transition-sane (phase.TheVariants.Tail r z) Space = ((refl, refl), refl)
-  transition-sane (phase.TheVariants.Tail r z) Semicolon = refl
-  transition-sane phase.TheVariants.Empty Space = ((refl, refl), refl)
-  transition-sane phase.TheVariants.Empty Semicolon = refl
+  transition-sane Phase.Start Space = sane_test Phase.Start Space (reads_sums want) (To Phase.Empty) ((refl, refl), refl)
+  transition-sane Phase.Start Plus = number-sane Phase.Start None Plus
+  transition-sane Phase.Start Minus = number-sane Phase.Start None Minus
+  transition-sane Phase.Start (Digit d) = number-sane Phase.Start None (Digit d)
+  transition-sane Phase.Start k = after-sane Phase.Start k
+  transition-sane (Phase.Signed role negative) (Digit d) = digits-sane (Phase.Signed role negative) role negative 0 d
+  transition-sane (Phase.Digits role negative n) (Digit d) = digits-sane (Phase.Digits role negative n) role negative n d
+  transition-sane (Phase.Digits None negative n) Space = ((refl, refl), refl)
+  transition-sane (Phase.Digits (Some r) negative n) Space = ((refl, refl), refl)
+  transition-sane (Phase.Digits (Some r) negative n) Semicolon = refl
+  transition-sane (Phase.Gap z) Space = ((refl, refl), refl)
+  transition-sane (Phase.Gap z) Tilde = ((refl, refl), refl)
+  transition-sane (Phase.Gap z) (Start b) = ((refl, refl), refl, refl)
+  transition-sane (Phase.Tilde z) (Start b) = ((refl, refl), refl, refl)
+  transition-sane (Phase.First z negated) (Start b) = ((refl, refl), refl, refl)
+  transition-sane (Phase.First z negated) (Inner b) = ((refl, refl), refl, refl)
+  transition-sane (Phase.More z negated) (Start b) = ((refl, refl), refl, refl)
+  transition-sane (Phase.More z negated) (Inner b) = ((refl, refl), refl, refl)
+  transition-sane (Phase.More z negated) Space = ((refl, refl), refl)
+  transition-sane (Phase.More z negated) k = after-sane (Phase.More z negated) k
+  transition-sane Phase.Between Space = ((refl, refl), refl)
+  transition-sane Phase.Between Plus = number-sane Phase.Between None Plus
+  transition-sane Phase.Between Minus = number-sane Phase.Between None Minus
+  transition-sane Phase.Between (Digit d) = number-sane Phase.Between None (Digit d)
+  transition-sane Phase.Between k = after-sane Phase.Between k
+  transition-sane Phase.Greater Equals = ((refl, refl), refl)
+  transition-sane (Phase.Relation r) Space = ((refl, refl), refl)
+  transition-sane (Phase.Relation r) k = number-sane (Phase.Relation r) (Some r) k
+  transition-sane (Phase.Tail r z) Space = ((refl, refl), refl)
+  transition-sane (Phase.Tail r z) Semicolon = refl
+  transition-sane Phase.Empty Space = ((refl, refl), refl)
+  transition-sane Phase.Empty Semicolon = refl
   transition-sane _ _ = tt
 
   digit-needs : (ph : Phase) (d : ℕ) → (is_numeric ph ≡ true) ⊎ (transition want limit ph (Digit d) ≡ Stop)
-  digit-needs phase.TheVariants.Start d = inl refl
-  digit-needs (phase.TheVariants.Signed role negative) d = inl refl
-  digit-needs (phase.TheVariants.Digits role negative n) d = inl refl
-  digit-needs (phase.TheVariants.Gap z) d = inr refl
-  digit-needs (phase.TheVariants.Tilde z) d = inr refl
-  digit-needs (phase.TheVariants.First z negated) d = inr refl
-  digit-needs (phase.TheVariants.More z negated) d = inr refl
-  digit-needs phase.TheVariants.Between d = inl refl
-  digit-needs phase.TheVariants.Greater d = inr refl
-  digit-needs (phase.TheVariants.Relation r) d = inl refl
-  digit-needs (phase.TheVariants.Tail r z) d = inr refl
-  digit-needs phase.TheVariants.Empty d = inr refl
-  digit-needs phase.TheVariants.Done d = inr refl
+  digit-needs Phase.Start d = inl refl
+  digit-needs (Phase.Signed role negative) d = inl refl
+  digit-needs (Phase.Digits role negative n) d = inl refl
+  digit-needs Phase.Between d = inl refl
+  digit-needs (Phase.Relation r) d = inl refl
+  digit-needs _ d = inr refl
 
   inner-needs : (ph : Phase) (b : ℕ) → (is_numeric ph ≡ false) ⊎ (transition want limit ph (Inner b) ≡ Stop)
-  inner-needs phase.TheVariants.Start b = inr refl
-  inner-needs (phase.TheVariants.Signed role negative) b = inr refl
-  inner-needs (phase.TheVariants.Digits role negative n) b = inr refl
-  inner-needs (phase.TheVariants.Gap z) b = inl refl
-  inner-needs (phase.TheVariants.Tilde z) b = inl refl
-  inner-needs (phase.TheVariants.First z negated) b = inl refl
-  inner-needs (phase.TheVariants.More z negated) b = inl refl
-  inner-needs phase.TheVariants.Between b = inr refl
-  inner-needs phase.TheVariants.Greater b = inl refl
-  inner-needs (phase.TheVariants.Relation r) b = inr refl
-  inner-needs (phase.TheVariants.Tail r z) b = inl refl
-  inner-needs phase.TheVariants.Empty b = inl refl
-  inner-needs phase.TheVariants.Done b = inl refl
+  inner-needs Phase.Start b = inr refl
+  inner-needs (Phase.Signed role negative) b = inr refl
+  inner-needs (Phase.Digits role negative n) b = inr refl
+  inner-needs Phase.Between b = inr refl
+  inner-needs (Phase.Relation r) b = inr refl
+  inner-needs _ b = inl refl
 
   other-stops : (ph : Phase) → transition want limit ph Other ≡ Stop
-  other-stops phase.TheVariants.Start = refl
-  other-stops (phase.TheVariants.Signed role negative) = refl
-  other-stops (phase.TheVariants.Digits role negative n) = refl
-  other-stops (phase.TheVariants.Gap z) = refl
-  other-stops (phase.TheVariants.Tilde z) = refl
-  other-stops (phase.TheVariants.First z negated) = refl
-  other-stops (phase.TheVariants.More z negated) = refl
-  other-stops phase.TheVariants.Between = refl
-  other-stops phase.TheVariants.Greater = refl
-  other-stops (phase.TheVariants.Relation r) = refl
-  other-stops (phase.TheVariants.Tail r z) = refl
-  other-stops phase.TheVariants.Empty = refl
-  other-stops phase.TheVariants.Done = refl
+  other-stops Phase.Start = refl
+  other-stops _ = refl
 
   digit-inner : (s : Spaces) (b : ℕ) → is_digit b ≡ true → kind_of_plain s b ≡ Inner b
   digit-inner s b e =
@@ -160,8 +133,8 @@ module _ (want : Part) (limit : ℕ) where
   go-sane ph k ys xs name (To q) w h e = subst (Flags k) (ap (λ x. x.phase) (one_state (record { terms = ys; name = []; phase = q }) w e)) h.0
   go-sane ph k ys xs name (Begin q b) w h e = subst (Flags k) (ap (λ x. x.phase) (one_state (record { terms = xs; name = b ∷ []; phase = q }) w e)) h.0
   go-sane ph k ys xs name (Add q b) w h e = subst (Flags k) (ap (λ x. x.phase) (one_state (record { terms = xs; name = name ++ b ∷ []; phase = q }) w e)) h.0
-  go-sane ph k ys xs name EndSum w h e = end_or_go (event.TheVariants.Sum ys) finished w e
-  go-sane ph k ys xs name (EndLinear r z) w h e = end_or_go (event.TheVariants.Linear (record { terms = ys; relation = r; degree = z })) finished w e
+  go-sane ph k ys xs name EndSum w h e = end_or_go (SumEvent.Sum ys) finished w e
+  go-sane ph k ys xs name (EndLinear r z) w h e = end_or_go (SumEvent.Linear (record { terms = ys; relation = r; degree = z })) finished w e
   go-sane ph k ys xs name Stop w h e = refuse_or_go w e
 
   numeral-of : (s : Spaces) (c : Letter) (k : Kind) → Means s k c → (c.numeral ≡ is_digit_kind k) ⊎ (k ≡ Other)
@@ -183,8 +156,8 @@ module _ (want : Part) (limit : ℕ) where
       ]
 
   end-sane : (ph : Phase) (k : Kind) (ys xs : List Term) (name : List ℕ) (m : Action) (v : SumEvent) (w : Work) → IsSane ph k m → act ys xs name m ≡ End v w → (k ≡ Semicolon) × (w ≡ finished)
-  end-sane ph k ys xs name EndSum v w h e = (h, sym (one_end (event.TheVariants.Sum ys) v finished w e).1)
-  end-sane ph k ys xs name (EndLinear r z) v w h e = (h, sym (one_end (event.TheVariants.Linear (record { terms = ys; relation = r; degree = z })) v finished w e).1)
+  end-sane ph k ys xs name EndSum v w h e = (h, sym (one_end (SumEvent.Sum ys) v finished w e).1)
+  end-sane ph k ys xs name (EndLinear r z) v w h e = (h, sym (one_end (SumEvent.Linear (record { terms = ys; relation = r; degree = z })) v finished w e).1)
   end-sane ph k ys xs name (To q) v w h e = go_or_end (record { terms = ys; name = []; phase = q }) v w e
   end-sane ph k ys xs name (Begin q b) v w h e = go_or_end (record { terms = xs; name = b ∷ []; phase = q }) v w e
   end-sane ph k ys xs name (Add q b) v w h e = go_or_end (record { terms = xs; name = name ++ b ∷ []; phase = q }) v w e

@@ -1,5 +1,5 @@
 -- What the kind of a letter says about the letter, and conversely.
-use Rattle.pb_sums.proofs.Common.{ℕ, ◌+◌, ◌-◌, ◌<◌, ◌≡◌, ◌≤◌, ◌⊎◌, ap, arith, Bool, cond, false, inl, inr, refl, true, IsTrue, nat_eq, cond_both}
+use Rattle.pb_sums.proofs.Common.{ℕ, ◌+◌, ◌-◌, ◌<◌, ◌≡◌, ◌≤◌, ◌⊎◌, ap, arith, Bool, cond, false, inl, inr, refl, true, IsTrue, cond_both}
 use Rattle.pb_sums.proofs.Common.{eqb-true, nat_tests, digit_of, letter_name, name_high, is_digit, is_letter, is_name_byte, digit, unmarked, Letter}
 use Rattle.pb_sums.proofs.Common.{Kind, Digit, Equals, Greater, Inner, Minus, Other, Plus, Semicolon, Space, Start, Tilde, Part, Spaces, action, kind}
 use Rattle.pb_sums.proofs.Common.{kind_of_numeral, kind_of_plain, Outcome, symbol, Work, is_space}
@@ -20,15 +20,7 @@ Means s Semicolon c = c ≡ unmarked 59
 Means s Other c = Unit {0}
 
 symbol-means : (s : Spaces) (b : ℕ) → Means s (symbol b) (unmarked b)
-symbol-means s b =
-    let P : Kind → Type 0 = λ k. Means s k (unmarked b) in
-    let at = λ (n : ℕ) (e : nat_eq b n ≡ true). ap unmarked (eqb-true b n e) in
-    cond_both (nat_eq b 126) _ _ P (at 126) (λ _.
-    cond_both (nat_eq b 43) _ _ P (at 43) (λ _.
-    cond_both (nat_eq b 45) _ _ P (at 45) (λ _.
-    cond_both (nat_eq b 62) _ _ P (at 62) (λ _.
-    cond_both (nat_eq b 61) _ _ P (at 61) (λ _.
-    cond_both (nat_eq b 59) _ _ P (at 59) (λ _. tt))))))
+symbol-means s b = grind (arith, eqb-true)
 
 pub kind-means : (s : Spaces) (c : Letter) → Means s (kind s c) c
 kind-means s c = go c.byte c.numeral
@@ -45,10 +37,7 @@ kind-means s c = go c.byte c.numeral
 
 -- The kinds of the letters of the grammar.
 pub kind-digit : (s : Spaces) (d : ℕ) → d < 10 → kind s (digit d) ≡ Digit d
-kind-digit s d h =
-    let e : is_digit (48 + d) ≡ true = grind (arith, nat_tests) in
-    let f : (48 + d) - 48 ≡ d = omega arith in
-    rw e (ap Digit f)
+kind-digit s d h = grind (arith, nat_tests)
 
 pub kind-space : (s : Spaces) (b : ℕ) → IsTrue (is_space s b) → kind s (unmarked b) ≡ Space
 kind-space s b e = rw e refl

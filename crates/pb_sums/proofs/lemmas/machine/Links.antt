@@ -3,25 +3,13 @@ use Rattle.pb_sums.proofs.Common.{ℕ, ◌↔◌, ◌∙◌, ◌∷◌, ◌≡�
 use Rattle.pb_sums.proofs.Common.{go_or_end, go_or_refuse, one_end, one_state, refuse_or_end, refuse_or_go, run, run-refuse, End, Go, ReadsStatement}
 use Rattle.pb_sums.proofs.Common.{Refuse, Letter, SumEvent, Phase, Part, Spaces, act, finished, flushed, fresh, is_done, is_in_number, is_midway}
 use Rattle.pb_sums.proofs.Common.{is_numeric, letter_at, Outcome, step, Work, first, last, over, sums, SumState, Spells}
-use Rattle.pb_sums.specs.declared.phase.Phase as phase
 use Rattle.pb_sums.proofs.lemmas.machine.LetterKinds.{on_letter}
 use Rattle.pb_sums.proofs.lemmas.machine.Flags.{flag, gone, ended}
 use Rattle.pb_sums.proofs.lemmas.machine.Theorems.{exact, alive}
 
 pub midway-not-done : (ph : Phase) → is_midway ph ≡ true → is_done ph ≡ false
-midway-not-done phase.TheVariants.Start h = refl
-midway-not-done (phase.TheVariants.Signed role negative) h = refl
-midway-not-done (phase.TheVariants.Digits role negative n) h = refl
-midway-not-done (phase.TheVariants.Gap z) h = refl
-midway-not-done (phase.TheVariants.Tilde z) h = refl
-midway-not-done (phase.TheVariants.First z negated) h = refl
-midway-not-done (phase.TheVariants.More z negated) h = refl
-midway-not-done phase.TheVariants.Between h = refl
-midway-not-done phase.TheVariants.Greater h = refl
-midway-not-done (phase.TheVariants.Relation r) h = refl
-midway-not-done (phase.TheVariants.Tail r z) h = refl
-midway-not-done phase.TheVariants.Empty h = refl
-midway-not-done phase.TheVariants.Done h = sym h
+midway-not-done Phase.Done h = sym h
+midway-not-done _ h = refl
 
 module _ (spaces : Spaces) (want : Part) (limit : ℕ) where
   abbrev state : Work → SumState

@@ -1,12 +1,9 @@
 -- A push does what the transition says.
-use Rattle.pb_sums.proofs.Common.{ℕ, ℤ, ◌&&◌, ◌++◌, ◌||◌, ◌∙◌, ◌∷◌, ◌≡◌, [], ap, Bool, false, List, refl, subst, sym, true, if◌then◌else◌, IsTrue}
-use Rattle.pb_sums.proofs.Common.{end_or_refuse, go_or_refuse, Admits, End, Go, IsState, Pushes, Refuse, is_digit, Relation, SumEvent, Term, Action}
-use Rattle.pb_sums.proofs.Common.{Add, Begin, EndLinear, EndSum, Stop, To, Kind, Phase, Part, Spaces, act, adds, at_name, flushed, is_in_number}
-use Rattle.pb_sums.proofs.Common.{is_more, is_numeric, kind, letter_at, to, transition, asks, IsInOrder, over, sums, SumState, standing}
+use Rattle.pb_sums.proofs.Common.{ℕ, ◌&&◌, ◌||◌, ◌∙◌, ◌≡◌, [], ap, Bool, false, List, refl, subst, sym, true, if◌then◌else◌, IsTrue, arith}
+use Rattle.pb_sums.proofs.Common.{end_or_refuse, go_or_refuse, Admits, Go, IsState, Pushes, Refuse, is_digit, SumEvent, Term, Action}
+use Rattle.pb_sums.proofs.Common.{EndLinear, EndSum, Stop, To, Kind, Phase, Part, Spaces, act, adds, flushed, is_in_number}
+use Rattle.pb_sums.proofs.Common.{is_more, is_numeric, kind, letter_at, transition, asks, IsInOrder, over, sums, SumState, standing}
 use Rattle.pb_text.specs.declared.machine.Push.{Push}
-use Rattle.pb_text.specs.declared.machine.Push.TheVariants as push
-use Rattle.pb_sums.specs.declared.linear.SumEvent as event
-use Rattle.pb_sums.specs.declared.phase.Phase as phase
 use Rattle.pb_sums.proofs.lemmas.machine.States.{admits, is_state}
 
 abbrev pub IsTaken : Action → Type 0
@@ -14,12 +11,10 @@ IsTaken Stop = ⊥
 IsTaken _ = Unit {0}
 
 taken-acts : (s : SumState) (ys xs : List Term) (name : List ℕ) (m : Action) → IsTaken m → over s (act ys xs name m) ≡ Refuse → ⊥
-taken-acts s ys xs name (To q) h e = go_or_refuse _ e
-taken-acts s ys xs name (Begin q b) h e = go_or_refuse _ e
-taken-acts s ys xs name (Add q b) h e = go_or_refuse _ e
 taken-acts s ys xs name EndSum h e = end_or_refuse _ _ e
 taken-acts s ys xs name (EndLinear r z) h e = end_or_refuse _ _ e
 taken-acts s ys xs name Stop h e = h
+taken-acts s ys xs name _ h e = go_or_refuse _ e
 
 module _ (s : Spaces) (w : Part) (limit : ℕ) (xs : List Term) (name : List ℕ) (p : Phase) (b : ℕ) (n : Bool) (k : Kind) (m : Action) where
   abbrev state : SumState
@@ -42,49 +37,25 @@ module _ (s : Spaces) (w : Part) (limit : ℕ) (xs : List Term) (name : List ℕ
   )
 
   -- what the transition does not allow is rejected
-  refuses-by : (d : Bool) → d ≡ (is_in_number p && is_digit b) → (answer : Push SumEvent) → answer ≡ (if d then push.Large else push.No)
+  refuses-by : (d : Bool) → d ≡ (is_in_number p && is_digit b) → (answer : Push SumEvent) → answer ≡ (if d then Push.Large else Push.No)
       → n ≡ is_numeric p → k ≡ kind s (letter_at n b) → Stop ≡ transition w limit p k → Pushes sums state b answer state
   refuses-by true h answer a e f g = subst (λ (x : Push SumEvent). Pushes sums state b x state) (sym a) (ap (λ x. over state (act (flushed p xs name) xs name x)) (planned-stop e f g), sym h, refl)
   refuses-by false h answer a e f g = subst (λ (x : Push SumEvent). Pushes sums state b x state) (sym a) (ap (λ x. over state (act (flushed p xs name) xs name x)) (planned-stop e f g), sym h, refl)
 
-  pub refuses : (answer : Push SumEvent) → answer ≡ (if is_in_number p && is_digit b then push.Large else push.No)
+  pub refuses : (answer : Push SumEvent) → answer ≡ (if is_in_number p && is_digit b then Push.Large else Push.No)
       → n ≡ is_numeric p → k ≡ kind s (letter_at n b) → Stop ≡ transition w limit p k → Pushes sums state b answer state
   refuses = refuses-by (is_in_number p && is_digit b) refl
 
 pub goes_to : (s : Spaces) (w : Part) (limit : ℕ) (xs ys : List Term) (name : List ℕ) (p q : Phase) (b : ℕ) (n : Bool) (k : Kind) (new : List ℕ) → new ≡ [] →
     n ≡ is_numeric p → k ≡ kind s (letter_at n b) → To q ≡ transition w limit p k → ys ≡ flushed p xs name →
     sums.step (state s w limit xs name p b n k (To q)) b ≡ Go (record { spaces = s; part = w; limit = limit; work = record { terms = ys; name = new; phase = q } })
-goes_to s w limit xs ys name p q b n k new z e f g i =
-    moved s w limit xs name p b n k (To q) e f g
-    ∙ (ap (λ x. over (state s w limit xs name p b n k (To q)) (to x q)) (sym i) ∙ ap (λ x. over (state s w limit xs name p b n k (To q)) (at_name ys q x)) (sym z))
-
-pub begins_to : (s : Spaces) (w : Part) (limit : ℕ) (xs : List Term) (name : List ℕ) (p q : Phase) (b : ℕ) (n : Bool) (k : Kind) (c : ℕ) (new : List ℕ) → new ≡ c ∷ [] →
-    n ≡ is_numeric p → k ≡ kind s (letter_at n b) → Begin q c ≡ transition w limit p k →
-    sums.step (state s w limit xs name p b n k (Begin q c)) b ≡ Go (record { spaces = s; part = w; limit = limit; work = record { terms = xs; name = new; phase = q } })
-begins_to s w limit xs name p q b n k c new z e f g =
-    moved s w limit xs name p b n k (Begin q c) e f g ∙ ap (λ x. over (state s w limit xs name p b n k (Begin q c)) (at_name xs q x)) (sym z)
-
-pub adds_to : (s : Spaces) (w : Part) (limit : ℕ) (xs : List Term) (name : List ℕ) (p q : Phase) (b : ℕ) (n : Bool) (k : Kind) (c : ℕ) (new : List ℕ) → new ≡ name ++ c ∷ [] →
-    n ≡ is_numeric p → k ≡ kind s (letter_at n b) → Add q c ≡ transition w limit p k →
-    sums.step (state s w limit xs name p b n k (Add q c)) b ≡ Go (record { spaces = s; part = w; limit = limit; work = record { terms = xs; name = new; phase = q } })
-adds_to s w limit xs name p q b n k c new z e f g =
-    moved s w limit xs name p b n k (Add q c) e f g ∙ ap (λ x. over (state s w limit xs name p b n k (Add q c)) (at_name xs q x)) (sym z)
-
-pub ends_sum : (s : Spaces) (w : Part) (limit : ℕ) (xs ys zs : List Term) (name new : List ℕ) (p q : Phase) (b : ℕ) (n : Bool) (k : Kind) →
-    n ≡ is_numeric p → k ≡ kind s (letter_at n b) → EndSum ≡ transition w limit p k → ys ≡ flushed p xs name → zs ≡ [] → new ≡ [] → q ≡ phase.TheVariants.Done →
-    sums.step (state s w limit xs name p b n k EndSum) b ≡ End (event.TheVariants.Sum ys) (standing s w limit zs new q)
-ends_sum s w limit xs ys zs name new p q b n k e f g i j l m = rw (i, j, l, m) (moved s w limit xs name p b n k EndSum e f g)
-
-pub ends_linear : (s : Spaces) (w : Part) (limit : ℕ) (xs ys zs : List Term) (name new : List ℕ) (p q : Phase) (b : ℕ) (n : Bool) (k : Kind) (r : Relation) (z : ℤ) →
-    n ≡ is_numeric p → k ≡ kind s (letter_at n b) → EndLinear r z ≡ transition w limit p k → ys ≡ flushed p xs name → zs ≡ [] → new ≡ [] → q ≡ phase.TheVariants.Done →
-    sums.step (state s w limit xs name p b n k (EndLinear r z)) b ≡ End (event.TheVariants.Linear (record { terms = ys; relation = r; degree = z })) (standing s w limit zs new q)
-ends_linear s w limit xs ys zs name new p q b n k r z e f g i j l m = rw (i, j, l, m) (moved s w limit xs name p b n k (EndLinear r z) e f g)
+goes_to s w limit xs ys name p q b n k new z e f g i = grind (arith)
 
 -- it satisfies `IsInOrder`, and is a state
-pub ended_order : (limit : ℕ) (xs : List Term) (name : List ℕ) (p : Phase) → xs ≡ [] → name ≡ [] → p ≡ phase.TheVariants.Done → IsInOrder limit (record { terms = xs; name = name; phase = p })
+pub ended_order : (limit : ℕ) (xs : List Term) (name : List ℕ) (p : Phase) → xs ≡ [] → name ≡ [] → p ≡ Phase.Done → IsInOrder limit (record { terms = xs; name = name; phase = p })
 ended_order limit xs name p e f g = rw g (tt, λ h. (e, f))
 
-pub ended_state : (s : Spaces) (w : Part) (limit : ℕ) (xs : List Term) (name : List ℕ) (p : Phase) → xs ≡ [] → name ≡ [] → p ≡ phase.TheVariants.Done → IsState sums (standing s w limit xs name p)
+pub ended_state : (s : Spaces) (w : Part) (limit : ℕ) (xs : List Term) (name : List ℕ) (p : Phase) → xs ≡ [] → name ≡ [] → p ≡ Phase.Done → IsState sums (standing s w limit xs name p)
 ended_state s w limit xs name p e f g = is_state (standing s w limit xs name p) (ended_order limit xs name p e f g)
 
 pub same_state : (s : Spaces) (w : Part) (limit : ℕ) (xs ys : List Term) (m n : List ℕ) (p q : Phase) → xs ≡ ys → m ≡ n → p ≡ q →

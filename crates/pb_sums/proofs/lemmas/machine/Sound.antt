@@ -10,7 +10,6 @@ use Rattle.pb_sums.proofs.Common.{Action, EndSum, Stop, To, Kind, Digit, Equals,
 use Rattle.pb_sums.proofs.Common.{Part, Spaces, act, action, digits, finished, fresh, kind, next_action, number, term, Work, allows, Head, is_space}
 use Rattle.pb_sums.proofs.Common.{reads_sums, Spaces0, Spaces1, Spells, SpellsRelation, SpellsSum}
 use Rattle.pb_text.proofs.lemmas.text.Languages.{grown}
-use Rattle.pb_sums.specs.declared.phase.Phase as phase
 
 module _ (spaces : Spaces) (want : Part) (limit : ℕ) where
   abbrev S0 : Language
@@ -33,19 +32,19 @@ module _ (spaces : Spaces) (want : Part) (limit : ℕ) where
 
   -- what the machine has read
   abbrev prefix : Phase → List Term → List ℕ → Language
-  prefix phase.TheVariants.Start xs name = λ t. (xs ≡ []) × Empty t
-  prefix (phase.TheVariants.Signed role negative) xs name = λ t. Permits role × (Lead role xs ⋅ Sign negative) t
-  prefix (phase.TheVariants.Digits role negative n) xs name = λ t. Permits role × (n ≤ limit) × (Lead role xs ⋅ Sign negative ⋅ Digits n) t
-  prefix (phase.TheVariants.Gap z) xs name = Weighted z xs
-  prefix (phase.TheVariants.Tilde z) xs name = Weighted z xs ⋅ Byte 126
-  prefix (phase.TheVariants.First z negated) xs name = Weighted z xs ⋅ FirstOf negated name
-  prefix (phase.TheVariants.More z negated) xs name = Weighted z xs ⋅ LiteralOf negated name
-  prefix phase.TheVariants.Between xs name = λ t. IsCons xs × (SpellsSum spaces limit xs ⋅ S1) t
-  prefix phase.TheVariants.Greater xs name = λ t. IsTrue (allows want AtLeast) × (Head spaces limit xs ⋅ Byte 62) t
-  prefix (phase.TheVariants.Relation r) xs name = λ t. IsTrue (allows want r) × (Head spaces limit xs ⋅ SpellsRelation spaces limit r ⋅ S0) t
-  prefix (phase.TheVariants.Tail r z) xs name = λ t. IsTrue (allows want r) × (Head spaces limit xs ⋅ SpellsRelation spaces limit r ⋅ S0 ⋅ Number limit z ⋅ S0) t
-  prefix phase.TheVariants.Empty xs name = λ t. (xs ≡ []) × IsTrue (reads_sums want) × S0 t
-  prefix phase.TheVariants.Done xs name = λ t. ⊥
+  prefix Phase.Start xs name = λ t. (xs ≡ []) × Empty t
+  prefix (Phase.Signed role negative) xs name = λ t. Permits role × (Lead role xs ⋅ Sign negative) t
+  prefix (Phase.Digits role negative n) xs name = λ t. Permits role × (n ≤ limit) × (Lead role xs ⋅ Sign negative ⋅ Digits n) t
+  prefix (Phase.Gap z) xs name = Weighted z xs
+  prefix (Phase.Tilde z) xs name = Weighted z xs ⋅ Byte 126
+  prefix (Phase.First z negated) xs name = Weighted z xs ⋅ FirstOf negated name
+  prefix (Phase.More z negated) xs name = Weighted z xs ⋅ LiteralOf negated name
+  prefix Phase.Between xs name = λ t. IsCons xs × (SpellsSum spaces limit xs ⋅ S1) t
+  prefix Phase.Greater xs name = λ t. IsTrue (allows want AtLeast) × (Head spaces limit xs ⋅ Byte 62) t
+  prefix (Phase.Relation r) xs name = λ t. IsTrue (allows want r) × (Head spaces limit xs ⋅ SpellsRelation spaces limit r ⋅ S0) t
+  prefix (Phase.Tail r z) xs name = λ t. IsTrue (allows want r) × (Head spaces limit xs ⋅ SpellsRelation spaces limit r ⋅ S0 ⋅ Number limit z ⋅ S0) t
+  prefix Phase.Empty xs name = λ t. (xs ≡ []) × IsTrue (reads_sums want) × S0 t
+  prefix Phase.Done xs name = λ t. ⊥
 
   abbrev Prefix : Work → Language
   Prefix w = prefix w.phase w.terms w.name
@@ -60,7 +59,7 @@ module _ (spaces : Spaces) (want : Part) (limit : ℕ) where
   digits-sound : (role : Option Relation) (negative : Bool) (ys xs : List Term) (name : List ℕ) (n d : ℕ) (c : Letter) (p : List Letter) → Permits role →
       (Lead role ys ⋅ Sign negative ⋅ Digits (10 * n + d)) (p ++ c ∷ []) → On (act ys xs name (digits limit role negative n d)) (p ++ c ∷ [])
   digits-sound role negative ys xs name n d c p ok h =
-      on_test ys xs name (nat_le (10 * n + d) limit) (To (phase.TheVariants.Digits role negative (10 * n + d))) (p ++ c ∷ [])
+      on_test ys xs name (nat_le (10 * n + d) limit) (To (Phase.Digits role negative (10 * n + d))) (p ++ c ∷ [])
       (λ e. (ok, leb-true (10 * n + d) limit e, h))
 
   number-sound : (role : Option Relation) (ys xs : List Term) (name : List ℕ) (k : Kind) (c : Letter) (p : List Letter) → Means spaces k c → Permits role → Lead role ys p →
@@ -75,10 +74,10 @@ module _ (spaces : Spaces) (want : Part) (limit : ℕ) where
   after-sound : (ys xs : List Term) (name : List ℕ) (k : Kind) (c : Letter) (p : List Letter) → Means spaces k c → Head spaces limit ys p → (SpellsSum spaces limit ys ⋅ S0) p →
       On (act ys xs name (next_action want k)) (p ++ c ∷ [])
   after-sound ys xs name Greater c p m h i =
-      on_test ys xs name (allows want AtLeast) (To phase.TheVariants.Greater) (p ++ c ∷ [])
+      on_test ys xs name (allows want AtLeast) (To Phase.Greater) (p ++ c ∷ [])
       (λ e. (e, next (Head spaces limit ys) (Byte 62) p c h (ap (λ x. x ∷ []) m)))
   after-sound ys xs name Equals c p m h i =
-      on_test ys xs name (allows want Equal) (To (phase.TheVariants.Relation Equal)) (p ++ c ∷ [])
+      on_test ys xs name (allows want Equal) (To (Phase.Relation Equal)) (p ++ c ∷ [])
       (λ e. (
         e,
         none_yet (Head spaces limit ys ⋅ SpellsRelation spaces limit Equal) S0 (p ++ c ∷ []) ([], tt, refl)
@@ -128,13 +127,13 @@ module _ (spaces : Spaces) (want : Part) (limit : ℕ) where
   abbrev IsSpace : ℕ → Type 0
   IsSpace = λ b. IsTrue (is_space spaces b)
 
-  start-before : (xs : List Term) (p : List Letter) → prefix phase.TheVariants.Start xs [] p → Before spaces limit xs p
+  start-before : (xs : List Term) (p : List Letter) → prefix Phase.Start xs [] p → Before spaces limit xs p
   start-before xs p h = subst (λ y. Before spaces limit y p) (sym h.0) h.1
 
-  start-head : (xs : List Term) (p : List Letter) → prefix phase.TheVariants.Start xs [] p → Head spaces limit xs p
+  start-head : (xs : List Term) (p : List Letter) → prefix Phase.Start xs [] p → Head spaces limit xs p
   start-head xs p h = subst (λ y. Head spaces limit y p) (sym h.0) h.1
 
-  start-sum : (xs : List Term) (p : List Letter) → prefix phase.TheVariants.Start xs [] p → (SpellsSum spaces limit xs ⋅ S0) p
+  start-sum : (xs : List Term) (p : List Letter) → prefix Phase.Start xs [] p → (SpellsSum spaces limit xs ⋅ S0) p
   start-sum xs p h = subst (λ y. (SpellsSum spaces limit y ⋅ S0) p) (sym h.0) (none_yet Empty S0 p ([], tt, refl) h.1)
 
   between-sum : (xs : List Term) (p : List Letter) → (SpellsSum spaces limit xs ⋅ S1) p → (SpellsSum spaces limit xs ⋅ S0) p
@@ -158,59 +157,59 @@ module _ (spaces : Spaces) (want : Part) (limit : ℕ) where
 
   sound : (ph : Phase) (xs : List Term) (name : List ℕ) (k : Kind) (c : Letter) (p : List Letter) → Means spaces k c → prefix ph xs name p →
       On (action want limit xs name ph k) (p ++ c ∷ [])
-  sound phase.TheVariants.Start xs name Space c p m h =
-      on_test xs xs name (reads_sums want) (To phase.TheVariants.Empty) (p ++ c ∷ [])
+  sound Phase.Start xs name Space c p m h =
+      on_test xs xs name (reads_sums want) (To Phase.Empty) (p ++ c ∷ [])
       (λ e. (h.0, e, many-grown IsSpace c.byte c m.0 m.1 p ([], tt, h.1)))
-  sound phase.TheVariants.Start xs name Plus c p m h = number-sound None xs xs name Plus c p m tt (start-before xs p h)
-  sound phase.TheVariants.Start xs name Minus c p m h = number-sound None xs xs name Minus c p m tt (start-before xs p h)
-  sound phase.TheVariants.Start xs name (Digit d) c p m h = number-sound None xs xs name (Digit d) c p m tt (start-before xs p h)
-  sound phase.TheVariants.Start xs name k c p m h = after-sound xs xs name k c p m (start-head xs p h) (start-sum xs p h)
-  sound (phase.TheVariants.Signed role negative) xs name (Digit d) c p m h =
+  sound Phase.Start xs name Plus c p m h = number-sound None xs xs name Plus c p m tt (start-before xs p h)
+  sound Phase.Start xs name Minus c p m h = number-sound None xs xs name Minus c p m tt (start-before xs p h)
+  sound Phase.Start xs name (Digit d) c p m h = number-sound None xs xs name (Digit d) c p m tt (start-before xs p h)
+  sound Phase.Start xs name k c p m h = after-sound xs xs name k c p m (start-head xs p h) (start-sum xs p h)
+  sound (Phase.Signed role negative) xs name (Digit d) c p m h =
       digits-sound role negative xs xs name 0 d c p h.0 (next (Lead role xs ⋅ Sign negative) (Digits (10 * 0 + d)) p c h.1 (digits-one d c m.0 m.1))
-  sound (phase.TheVariants.Digits role negative n) xs name (Digit d) c p m h =
+  sound (Phase.Digits role negative n) xs name (Digit d) c p m h =
       digits-sound role negative xs xs name n d c p h.0
       (grown (Lead role xs ⋅ Sign negative) (Digits n) (Digits (10 * n + d)) p c (digits-grown n d c m.0 m.1) h.2)
-  sound (phase.TheVariants.Digits None negative n) xs name Space c p m h =
+  sound (Phase.Digits None negative n) xs name Space c p m h =
       s1-next (Lead None xs ⋅ Number limit (signed negative n)) c p m (number-of None negative n xs p h.1 h.2)
-  sound (phase.TheVariants.Digits (Some r) negative n) xs name Space c p m h =
+  sound (Phase.Digits (Some r) negative n) xs name Space c p m h =
       (h.0, s0-next (Lead (Some r) xs ⋅ Number limit (signed negative n)) c p m (number-of (Some r) negative n xs p h.1 h.2))
-  sound (phase.TheVariants.Digits (Some r) negative n) xs name Semicolon c p m h =
+  sound (Phase.Digits (Some r) negative n) xs name Semicolon c p m h =
       let N : Language = Lead (Some r) xs ⋅ Number limit (signed negative n) in
       (h.0, next (N ⋅ S0) (Byte 59) p c (s0-none N p (number-of (Some r) negative n xs p h.1 h.2)) (ap (λ x. x ∷ []) m))
-  sound (phase.TheVariants.Gap z) xs name Space c p m h = s1-grown (Before spaces limit xs ⋅ Number limit z) c p m h
-  sound (phase.TheVariants.Gap z) xs name Tilde c p m h = next (Weighted z xs) (Byte 126) p c h (ap (λ x. x ∷ []) m)
-  sound (phase.TheVariants.Gap z) xs name (Start b) c p m h = next (Weighted z xs) (FirstOf false (b ∷ [])) p c h (m.1, ap (λ x. x ∷ []) m.0)
-  sound (phase.TheVariants.Tilde z) xs name (Start b) c p m h =
+  sound (Phase.Gap z) xs name Space c p m h = s1-grown (Before spaces limit xs ⋅ Number limit z) c p m h
+  sound (Phase.Gap z) xs name Tilde c p m h = next (Weighted z xs) (Byte 126) p c h (ap (λ x. x ∷ []) m)
+  sound (Phase.Gap z) xs name (Start b) c p m h = next (Weighted z xs) (FirstOf false (b ∷ [])) p c h (m.1, ap (λ x. x ∷ []) m.0)
+  sound (Phase.Tilde z) xs name (Start b) c p m h =
       grown (Weighted z xs) (Byte 126) (FirstOf true (b ∷ [])) p c (λ q r. (m.1, ap (λ x. x ++ c ∷ []) r ∙ ap (λ y. unmarked 126 ∷ y ∷ []) m.0)) h
-  sound (phase.TheVariants.First z negated) xs name (Start b) c p m h = first-grown z negated xs name b c p m.0 (letter_name b m.1) h
-  sound (phase.TheVariants.First z negated) xs name (Inner b) c p m h = first-grown z negated xs name b c p m.0 m.1 h
-  sound (phase.TheVariants.More z negated) xs name (Start b) c p m h = more-grown z negated xs name b c p m.0 (letter_name b m.1) h
-  sound (phase.TheVariants.More z negated) xs name (Inner b) c p m h = more-grown z negated xs name b c p m.0 m.1 h
-  sound (phase.TheVariants.More z negated) xs name Space c p m h =
+  sound (Phase.First z negated) xs name (Start b) c p m h = first-grown z negated xs name b c p m.0 (letter_name b m.1) h
+  sound (Phase.First z negated) xs name (Inner b) c p m h = first-grown z negated xs name b c p m.0 m.1 h
+  sound (Phase.More z negated) xs name (Start b) c p m h = more-grown z negated xs name b c p m.0 (letter_name b m.1) h
+  sound (Phase.More z negated) xs name (Inner b) c p m h = more-grown z negated xs name b c p m.0 m.1 h
+  sound (Phase.More z negated) xs name Space c p m h =
       let ys : List Term = xs ++ term z negated name ∷ [] in
       (cons-append xs (term z negated name), s1-next (SpellsSum spaces limit ys) c p m (term-ends z negated name xs p h))
-  sound (phase.TheVariants.More z negated) xs name k c p m h =
+  sound (Phase.More z negated) xs name k c p m h =
       let ys : List Term = xs ++ term z negated name ∷ [] in
       let i : (SpellsSum spaces limit ys ⋅ S0) p = s0-none (SpellsSum spaces limit ys) p (term-ends z negated name xs p h) in
       after-sound ys xs name k c p m (head-of ys p (cons-append xs (term z negated name)) i) i
-  sound phase.TheVariants.Between xs name Space c p m h = (h.0, s1-grown (SpellsSum spaces limit xs) c p m h.1)
-  sound phase.TheVariants.Between xs name Plus c p m h = number-sound None xs xs name Plus c p m tt (before-of xs p h.0 h.1)
-  sound phase.TheVariants.Between xs name Minus c p m h = number-sound None xs xs name Minus c p m tt (before-of xs p h.0 h.1)
-  sound phase.TheVariants.Between xs name (Digit d) c p m h = number-sound None xs xs name (Digit d) c p m tt (before-of xs p h.0 h.1)
-  sound phase.TheVariants.Between xs name k c p m h =
+  sound Phase.Between xs name Space c p m h = (h.0, s1-grown (SpellsSum spaces limit xs) c p m h.1)
+  sound Phase.Between xs name Plus c p m h = number-sound None xs xs name Plus c p m tt (before-of xs p h.0 h.1)
+  sound Phase.Between xs name Minus c p m h = number-sound None xs xs name Minus c p m tt (before-of xs p h.0 h.1)
+  sound Phase.Between xs name (Digit d) c p m h = number-sound None xs xs name (Digit d) c p m tt (before-of xs p h.0 h.1)
+  sound Phase.Between xs name k c p m h =
       after-sound xs xs name k c p m (head-of xs p h.0 (between-sum xs p h.1)) (between-sum xs p h.1)
-  sound phase.TheVariants.Greater xs name Equals c p m h = (
+  sound Phase.Greater xs name Equals c p m h = (
     h.0,
     s0-none (Head spaces limit xs ⋅ SpellsRelation spaces limit AtLeast) (p ++ c ∷ [])
         (grown (Head spaces limit xs) (Byte 62) (SpellsRelation spaces limit AtLeast) p c (λ q r. ap (λ x. x ++ c ∷ []) r ∙ ap (λ y. unmarked 62 ∷ y ∷ []) m) h.1),
   )
-  sound (phase.TheVariants.Relation r) xs name Space c p m h = (h.0, s0-grown (Head spaces limit xs ⋅ SpellsRelation spaces limit r) c p m h.1)
-  sound (phase.TheVariants.Relation r) xs name k c p m h = number-sound (Some r) xs xs name k c p m h.0 h.1
-  sound (phase.TheVariants.Tail r z) xs name Space c p m h = (h.0, s0-grown (Lead (Some r) xs ⋅ Number limit z) c p m h.1)
-  sound (phase.TheVariants.Tail r z) xs name Semicolon c p m h =
+  sound (Phase.Relation r) xs name Space c p m h = (h.0, s0-grown (Head spaces limit xs ⋅ SpellsRelation spaces limit r) c p m h.1)
+  sound (Phase.Relation r) xs name k c p m h = number-sound (Some r) xs xs name k c p m h.0 h.1
+  sound (Phase.Tail r z) xs name Space c p m h = (h.0, s0-grown (Lead (Some r) xs ⋅ Number limit z) c p m h.1)
+  sound (Phase.Tail r z) xs name Semicolon c p m h =
       (h.0, next (Lead (Some r) xs ⋅ Number limit z ⋅ S0) (Byte 59) p c h.1 (ap (λ x. x ∷ []) m))
-  sound phase.TheVariants.Empty xs name Space c p m h = (h.0, h.1, many-grown IsSpace c.byte c m.0 m.1 p h.2)
-  sound phase.TheVariants.Empty xs name Semicolon c p m h =
+  sound Phase.Empty xs name Space c p m h = (h.0, h.1, many-grown IsSpace c.byte c m.0 m.1 p h.2)
+  sound Phase.Empty xs name Semicolon c p m h =
       let i : (SpellsSum spaces limit xs ⋅ S0) p = subst (λ y. (SpellsSum spaces limit y ⋅ S0) p) (sym h.0) ([], p, refl, refl, h.2) in
       (h.1, next (SpellsSum spaces limit xs ⋅ S0) (Byte 59) p c i (ap (λ x. x ∷ []) m))
   sound _ xs name k c p m h = tt

@@ -2,10 +2,9 @@
 use Rattle.pb_sums.proofs.Common.{ℕ, ◌+◌, ◌-◌, ◌^◌, ◌↔◌, ◌∙◌, ◌∷◌, ◌≡◌, ◌≤◌, [], ap, arith, false, length, List, min, refl, subst, sym, true}
 use Rattle.pb_sums.proofs.Common.{min-le_left, end_or_go, go_or_end, one_end, one_state, refuse_or_end, refuse_or_go, never, AcceptsItems, Admits}
 use Rattle.pb_sums.proofs.Common.{End, Go, IsState, Next, ReadsStatement, Refuse, SkipsGap, Item, Letter, SumEvent, Term, Stop, Kind, Phase, Part}
-use Rattle.pb_sums.proofs.Common.{Spaces, act, finished, flushed, is_done, is_in_number, is_midway, is_more, is_numeric, kind, letter_at, Outcome}
+use Rattle.pb_sums.proofs.Common.{Spaces, finished, is_done, is_in_number, is_midway, is_more, is_numeric, kind, letter_at, Outcome}
 use Rattle.pb_sums.proofs.Common.{PhaseFits, step, transition, Work, all_units, first, in_hand, IsInOrder, last, over, ready, sums, SumState, units}
 use Rattle.pb_sums.proofs.Common.{with_work, IsOneText}
-use Rattle.pb_sums.specs.declared.phase.Phase as phase
 use Rattle.pb_text.proofs.lemmas.machine.OneText.{IsOfOne, is_state as of_one_state, admits as of_one_admits}
 use Rattle.pb_sums.proofs.lemmas.machine.Flags.{gone, ended}
 use Rattle.pb_sums.proofs.lemmas.machine.Links.{midway-not-done, reads_grammar, reads_something}
@@ -36,48 +35,24 @@ continues-midway s next b h =
     ap (λ x. is_midway x.work.phase) f.1 ∙ (gone s.part s.limit s.spaces s.work f.0 (letter_at (is_numeric s.work.phase) b) f.2).1
 
 done-stops : (want : Part) (limit : ℕ) (ph : Phase) (k : Kind) → is_done ph ≡ true → transition want limit ph k ≡ Stop
-done-stops want limit phase.TheVariants.Start k h = cc
-done-stops want limit (phase.TheVariants.Signed role negative) k h = cc
-done-stops want limit (phase.TheVariants.Digits role negative n) k h = cc
-done-stops want limit (phase.TheVariants.Gap z) k h = cc
-done-stops want limit (phase.TheVariants.Tilde z) k h = cc
-done-stops want limit (phase.TheVariants.First z negated) k h = cc
-done-stops want limit (phase.TheVariants.More z negated) k h = cc
-done-stops want limit phase.TheVariants.Between k h = cc
-done-stops want limit phase.TheVariants.Greater k h = cc
-done-stops want limit (phase.TheVariants.Relation r) k h = cc
-done-stops want limit (phase.TheVariants.Tail r z) k h = cc
-done-stops want limit phase.TheVariants.Empty k h = cc
-done-stops want limit phase.TheVariants.Done k h = refl
+done-stops want limit Phase.Done k h = refl
+done-stops want limit _ k h = cc
 
 numbers-midway : (ph : Phase) → is_midway ph ≡ false → is_in_number ph ≡ false
-numbers-midway phase.TheVariants.Start h = refl
-numbers-midway (phase.TheVariants.Signed role negative) h = refl
-numbers-midway (phase.TheVariants.Digits role negative n) h = h
-numbers-midway (phase.TheVariants.Gap z) h = refl
-numbers-midway (phase.TheVariants.Tilde z) h = refl
-numbers-midway (phase.TheVariants.First z negated) h = refl
-numbers-midway (phase.TheVariants.More z negated) h = refl
-numbers-midway phase.TheVariants.Between h = refl
-numbers-midway phase.TheVariants.Greater h = refl
-numbers-midway (phase.TheVariants.Relation r) h = refl
-numbers-midway (phase.TheVariants.Tail r z) h = refl
-numbers-midway phase.TheVariants.Empty h = refl
-numbers-midway phase.TheVariants.Done h = refl
+numbers-midway (Phase.Digits role negative n) h = h
+numbers-midway _ h = refl
 
 nothing-kept : (ph : Phase) → is_midway ph ≡ false → 0 + in_hand ph + 0 + ready ph ≡ 0
-nothing-kept phase.TheVariants.Start h = refl
-nothing-kept phase.TheVariants.Done h = refl
-nothing-kept (phase.TheVariants.Gap z) h = cc
-nothing-kept (phase.TheVariants.Tilde z) h = cc
-nothing-kept (phase.TheVariants.First z negated) h = cc
-nothing-kept (phase.TheVariants.More z negated) h = cc
+nothing-kept Phase.Start h = refl
+nothing-kept Phase.Done h = refl
+nothing-kept (Phase.Gap z) h = cc
+nothing-kept (Phase.Tilde z) h = cc
+nothing-kept (Phase.First z negated) h = cc
+nothing-kept (Phase.More z negated) h = cc
 nothing-kept _ h = refl
 
 pub stopped : (s : SumState) → sums.done s ≡ true → (b : ℕ) → sums.step s b ≡ Refuse
-stopped s h b =
-    ap (λ m. over s (act (flushed s.work.phase s.work.terms s.work.name) s.work.terms s.work.name m))
-    (done-stops s.part s.limit s.work.phase (kind s.spaces (letter_at (is_numeric s.work.phase) b)) h)
+stopped s h b = grind (arith, s.work.phase, s.work.terms, s.work.name, done-stops, s.part, s.limit, s.spaces)
 
 -- a machine of sums is a machine of one text
 abbrev ended_state : SumState → SumState
@@ -174,7 +149,7 @@ midway_state spaces part limit xs name q h i =
     is_state (record { spaces = spaces; part = part; limit = limit; work = record { terms = xs; name = name; phase = q } }) (midway_order limit xs name q h i)
 
 pub more_midway : (p : Phase) → is_more p ≡ true → is_midway p ≡ true
-more_midway (phase.TheVariants.More z negated) e = refl
+more_midway (Phase.More z negated) e = refl
 more_midway _ e = cc
 
 -- a state within a name

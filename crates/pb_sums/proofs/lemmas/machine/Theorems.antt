@@ -6,9 +6,6 @@ use Rattle.pb_sums.proofs.Common.{ℕ, ℤ, ◌++◌, ◌↔◌, ◌∙◌, ◌�
 use Rattle.pb_sums.proofs.Common.{run, run-append, End, Go, Next, Refuse, digit, Language, unmarked, signed, Letter, Relation, AtLeast, SumEvent}
 use Rattle.pb_sums.proofs.Common.{Term, Stop, To, Greater, Semicolon, Phase, Part, Spaces, act, at_name, digits, finished, fresh, is_done}
 use Rattle.pb_sums.proofs.Common.{next_action, term, to, Work, Spells}
-use Rattle.pb_sums.specs.declared.sum_kind.Part as part
-use Rattle.pb_sums.specs.declared.linear.SumEvent as event
-use Rattle.pb_sums.specs.declared.phase.Phase as phase
 
 end-same : {S V : Type 0} (v w : V) (s u : S) → ◌≡◌ {A = Next S V} (End v s) (End w u) → v ≡ w
 end-same v w s u h = cc
@@ -47,59 +44,59 @@ module _ (spaces : Spaces) (want : Part) (limit : ℕ) where
   before : (n m : N) (a : List Letter) → go n a ≡ m → Alive m → Alive n
   before n m a h (t, e, i) = (a ++ t, e, run-append (on_letter spaces want limit) n a t ∙ (ap (λ x. go x t) h ∙ i))
 
-  zero_fits : (xs : List Term) (name : List ℕ) (role : Option Relation) (negative : Bool) → act xs xs name (digits limit role negative 0 0) ≡ to xs (phase.TheVariants.Digits role negative 0)
-  zero_fits xs name role negative = ap (λ b. act xs xs name (cond b (To (phase.TheVariants.Digits role negative 0)) Stop)) (le-leb 0 limit (omega arith))
+  zero_fits : (xs : List Term) (name : List ℕ) (role : Option Relation) (negative : Bool) → act xs xs name (digits limit role negative 0 0) ≡ to xs (Phase.Digits role negative 0)
+  zero_fits xs name role negative = ap (λ b. act xs xs name (cond b (To (Phase.Digits role negative 0)) Stop)) (le-leb 0 limit (omega arith))
 
-  alive-degree : (xs : List Term) (r : Relation) (negative : Bool) (n : ℕ) → Alive (to xs (phase.TheVariants.Digits (Some r) negative n))
-  alive-degree xs r negative n = (unmarked 59 ∷ [], event.TheVariants.Linear (record { terms = xs; relation = r; degree = signed negative n }), refl)
+  alive-degree : (xs : List Term) (r : Relation) (negative : Bool) (n : ℕ) → Alive (to xs (Phase.Digits (Some r) negative n))
+  alive-degree xs r negative n = (unmarked 59 ∷ [], SumEvent.Linear (record { terms = xs; relation = r; degree = signed negative n }), refl)
 
-  alive-relation : (xs : List Term) (r : Relation) → Alive (to xs (phase.TheVariants.Relation r))
+  alive-relation : (xs : List Term) (r : Relation) → Alive (to xs (Phase.Relation r))
   alive-relation xs r =
-      before (to xs (phase.TheVariants.Relation r)) (to xs (phase.TheVariants.Digits (Some r) false 0)) (digit 0 ∷ [])
+      before (to xs (Phase.Relation r)) (to xs (Phase.Digits (Some r) false 0)) (digit 0 ∷ [])
       (zero_fits xs [] (Some r) false) (alive-degree xs r false 0)
 
-  alive-greater : (xs : List Term) → Alive (to xs phase.TheVariants.Greater)
-  alive-greater xs = before (to xs phase.TheVariants.Greater) (to xs (phase.TheVariants.Relation AtLeast)) (unmarked 61 ∷ []) refl (alive-relation xs AtLeast)
+  alive-greater : (xs : List Term) → Alive (to xs Phase.Greater)
+  alive-greater xs = before (to xs Phase.Greater) (to xs (Phase.Relation AtLeast)) (unmarked 61 ∷ []) refl (alive-relation xs AtLeast)
 
   -- what may follow terms can be completed
   alive-after : (xs : List Term) (n : N) (w : Part) (zs : List Term) (name : List ℕ) → go n (unmarked 59 ∷ []) ≡ act xs zs name (next_action w Semicolon) → go n (unmarked 62 ∷ []) ≡ act xs zs name (next_action w Greater) → Alive n
-  alive-after xs n part.TheVariants.Sum zs name h i = (unmarked 59 ∷ [], event.TheVariants.Sum xs, h)
-  alive-after xs n part.TheVariants.Linear zs name h i = before n (to xs phase.TheVariants.Greater) (unmarked 62 ∷ []) i (alive-greater xs)
-  alive-after xs n part.TheVariants.AtLeast zs name h i = before n (to xs phase.TheVariants.Greater) (unmarked 62 ∷ []) i (alive-greater xs)
+  alive-after xs n Part.Sum zs name h i = (unmarked 59 ∷ [], SumEvent.Sum xs, h)
+  alive-after xs n Part.Linear zs name h i = before n (to xs Phase.Greater) (unmarked 62 ∷ []) i (alive-greater xs)
+  alive-after xs n Part.AtLeast zs name h i = before n (to xs Phase.Greater) (unmarked 62 ∷ []) i (alive-greater xs)
 
-  alive-more : (xs : List Term) (name : List ℕ) (z : ℤ) (negated : Bool) → Alive (at_name xs (phase.TheVariants.More z negated) name)
+  alive-more : (xs : List Term) (name : List ℕ) (z : ℤ) (negated : Bool) → Alive (at_name xs (Phase.More z negated) name)
   alive-more xs name z negated =
-      alive-after (xs ++ term z negated name ∷ []) (at_name xs (phase.TheVariants.More z negated) name) want xs name refl refl
+      alive-after (xs ++ term z negated name ∷ []) (at_name xs (Phase.More z negated) name) want xs name refl refl
 
-  alive-gap : (xs : List Term) (name : List ℕ) (z : ℤ) → Alive (at_name xs (phase.TheVariants.Gap z) name)
-  alive-gap xs name z = before (at_name xs (phase.TheVariants.Gap z) name) (at_name xs (phase.TheVariants.More z false) (97 ∷ 97 ∷ [])) (unmarked 97 ∷ unmarked 97 ∷ []) refl (alive-more xs (97 ∷ 97 ∷ []) z false)
+  alive-gap : (xs : List Term) (name : List ℕ) (z : ℤ) → Alive (at_name xs (Phase.Gap z) name)
+  alive-gap xs name z = before (at_name xs (Phase.Gap z) name) (at_name xs (Phase.More z false) (97 ∷ 97 ∷ [])) (unmarked 97 ∷ unmarked 97 ∷ []) refl (alive-more xs (97 ∷ 97 ∷ []) z false)
 
-  alive-digits : (role : Option Relation) (xs : List Term) (name : List ℕ) (negative : Bool) (n : ℕ) → Alive (at_name xs (phase.TheVariants.Digits role negative n) name)
+  alive-digits : (role : Option Relation) (xs : List Term) (name : List ℕ) (negative : Bool) (n : ℕ) → Alive (at_name xs (Phase.Digits role negative n) name)
   alive-digits None xs name negative n =
-      before (at_name xs (phase.TheVariants.Digits None negative n) name) (to xs (phase.TheVariants.Gap (signed negative n))) (unmarked 32 ∷ []) refl (alive-gap xs [] (signed negative n))
-  alive-digits (Some r) xs name negative n = (unmarked 59 ∷ [], event.TheVariants.Linear (record { terms = xs; relation = r; degree = signed negative n }), refl)
+      before (at_name xs (Phase.Digits None negative n) name) (to xs (Phase.Gap (signed negative n))) (unmarked 32 ∷ []) refl (alive-gap xs [] (signed negative n))
+  alive-digits (Some r) xs name negative n = (unmarked 59 ∷ [], SumEvent.Linear (record { terms = xs; relation = r; degree = signed negative n }), refl)
 
   pub alive : (ph : Phase) (xs : List Term) (name : List ℕ) → is_done ph ≡ false → Alive (at_name xs ph name)
-  alive phase.TheVariants.Start xs name h = alive-after xs (at_name xs phase.TheVariants.Start name) want xs name refl refl
-  alive (phase.TheVariants.Signed role negative) xs name h =
-      before (at_name xs (phase.TheVariants.Signed role negative) name) (to xs (phase.TheVariants.Digits role negative 0)) (digit 0 ∷ [])
+  alive Phase.Start xs name h = alive-after xs (at_name xs Phase.Start name) want xs name refl refl
+  alive (Phase.Signed role negative) xs name h =
+      before (at_name xs (Phase.Signed role negative) name) (to xs (Phase.Digits role negative 0)) (digit 0 ∷ [])
       (zero_fits xs name role negative) (alive-digits role xs [] negative 0)
-  alive (phase.TheVariants.Digits role negative n) xs name h = alive-digits role xs name negative n
-  alive (phase.TheVariants.Gap z) xs name h = alive-gap xs name z
-  alive (phase.TheVariants.Tilde z) xs name h =
-      before (at_name xs (phase.TheVariants.Tilde z) name) (at_name xs (phase.TheVariants.More z true) (97 ∷ 97 ∷ [])) (unmarked 97 ∷ unmarked 97 ∷ []) refl (alive-more xs (97 ∷ 97 ∷ []) z true)
-  alive (phase.TheVariants.First z negated) xs name h =
-      before (at_name xs (phase.TheVariants.First z negated) name) (at_name xs (phase.TheVariants.More z negated) (name ++ 97 ∷ [])) (unmarked 97 ∷ []) refl (alive-more xs (name ++ 97 ∷ []) z negated)
-  alive (phase.TheVariants.More z negated) xs name h = alive-more xs name z negated
-  alive phase.TheVariants.Between xs name h = alive-after xs (at_name xs phase.TheVariants.Between name) want xs name refl refl
-  alive phase.TheVariants.Greater xs name h =
-      before (at_name xs phase.TheVariants.Greater name) (to xs (phase.TheVariants.Relation AtLeast)) (unmarked 61 ∷ []) refl (alive-relation xs AtLeast)
-  alive (phase.TheVariants.Relation r) xs name h =
-      before (at_name xs (phase.TheVariants.Relation r) name) (to xs (phase.TheVariants.Digits (Some r) false 0)) (digit 0 ∷ [])
+  alive (Phase.Digits role negative n) xs name h = alive-digits role xs name negative n
+  alive (Phase.Gap z) xs name h = alive-gap xs name z
+  alive (Phase.Tilde z) xs name h =
+      before (at_name xs (Phase.Tilde z) name) (at_name xs (Phase.More z true) (97 ∷ 97 ∷ [])) (unmarked 97 ∷ unmarked 97 ∷ []) refl (alive-more xs (97 ∷ 97 ∷ []) z true)
+  alive (Phase.First z negated) xs name h =
+      before (at_name xs (Phase.First z negated) name) (at_name xs (Phase.More z negated) (name ++ 97 ∷ [])) (unmarked 97 ∷ []) refl (alive-more xs (name ++ 97 ∷ []) z negated)
+  alive (Phase.More z negated) xs name h = alive-more xs name z negated
+  alive Phase.Between xs name h = alive-after xs (at_name xs Phase.Between name) want xs name refl refl
+  alive Phase.Greater xs name h =
+      before (at_name xs Phase.Greater name) (to xs (Phase.Relation AtLeast)) (unmarked 61 ∷ []) refl (alive-relation xs AtLeast)
+  alive (Phase.Relation r) xs name h =
+      before (at_name xs (Phase.Relation r) name) (to xs (Phase.Digits (Some r) false 0)) (digit 0 ∷ [])
       (zero_fits xs name (Some r) false) (alive-degree xs r false 0)
-  alive (phase.TheVariants.Tail r z) xs name h = (unmarked 59 ∷ [], event.TheVariants.Linear (record { terms = xs; relation = r; degree = z }), refl)
-  alive phase.TheVariants.Empty xs name h = (unmarked 59 ∷ [], event.TheVariants.Sum xs, refl)
-  alive phase.TheVariants.Done xs name h = absurd (not_done h)
+  alive (Phase.Tail r z) xs name h = (unmarked 59 ∷ [], SumEvent.Linear (record { terms = xs; relation = r; degree = z }), refl)
+  alive Phase.Empty xs name h = (unmarked 59 ∷ [], SumEvent.Sum xs, refl)
+  alive Phase.Done xs name h = absurd (not_done h)
     where
       not_done : true ≡ false → ⊥
       not_done e = cc

@@ -1,22 +1,20 @@
 -- A linear text that is read at once. Offered to other crates.
 use Rattle.pb_sums.proofs.Common.{ℕ, ◌<◌, ◌≡◌, [], ap, arith, List, refl, suc, sym, take, zero, false≢true, End, IsState, Linear, Part, Spaces, last}
-use Rattle.pb_sums.proofs.Common.{sums, SumState, LeadsToLinear, standing}
-use Rattle.pb_sums.specs.declared.linear.SumEvent as event
-use Rattle.pb_sums.specs.declared.phase.Phase as phase
+use Rattle.pb_sums.proofs.Common.{sums, SumState, LeadsToLinear, standing, SumEvent, Phase}
 use Rattle.pb_sums.proofs.lemmas.machine.States.{is_state}
 
 -- the state before the `;`
 abbrev pub before_semicolon : Spaces → Part → ℕ → Linear → SumState
-before_semicolon spaces part limit c = standing spaces part limit c.terms [] (phase.TheVariants.Tail c.relation c.degree)
+before_semicolon spaces part limit c = standing spaces part limit c.terms [] (Phase.Tail c.relation c.degree)
 
 -- and its step
-pub linear_ends : (spaces : Spaces) (part : Part) (limit : ℕ) (c : Linear) → sums.step (before_semicolon spaces part limit c) 59 ≡ End (event.TheVariants.Linear c) (last spaces part limit)
+pub linear_ends : (spaces : Spaces) (part : Part) (limit : ℕ) (c : Linear) → sums.step (before_semicolon spaces part limit c) 59 ≡ End (SumEvent.Linear c) (last spaces part limit)
 linear_ends spaces part limit c = refl
 
 pub last_is_state : (spaces : Spaces) (part : Part) (limit : ℕ) → IsState sums (last spaces part limit)
 last_is_state spaces part limit = is_state (last spaces part limit) (tt, λ e. (refl, refl))
 
-differs : (spaces : Spaces) (part : Part) (limit : ℕ) (c : Linear) → before_semicolon spaces part limit c ≡ standing spaces part limit [] [] phase.TheVariants.Start → ⊥
+differs : (spaces : Spaces) (part : Part) (limit : ℕ) (c : Linear) → before_semicolon spaces part limit c ≡ standing spaces part limit [] [] Phase.Start → ⊥
 differs spaces part limit c e = false≢true (sym (ap (λ (s : SumState). sums.begun s) e))
 
 -- it has a byte

@@ -4,7 +4,6 @@ use Rattle.pb_sums.proofs.Common.{subst, sym, take, true, IsTrue, eqb-true, le-l
 use Rattle.pb_sums.proofs.Common.{Relation, Term, To, Kind, Digit, Minus, Plus, Phase, Part, Spaces, digits, flushed, is_numeric, kind, letter_at}
 use Rattle.pb_sums.proofs.Common.{transition, begins_number, HasSign, IsSign, role, sign_read, sums, SumState}
 use Rattle.pb_text.proofs.lemmas.numbers.DigitValues.{AreDigits, value-grows}
-use Rattle.pb_sums.specs.declared.phase.Phase as phase
 use Rattle.pb_sums.proofs.lemmas.machine.Pushes.{goes_to}
 use Rattle.pb_sums.proofs.lemmas.machine.States.{midway_state}
 
@@ -23,94 +22,94 @@ module _ (spaces : Spaces) (part : Part) (limit : ℕ) (xs : List Term) where
     pub on_digit : (d : ℕ) → transition part limit p (Digit d) ≡ digits limit r negative n d
 
   digit-on : (p : Phase) (r : Option Relation) (negative : Bool) (n b : ℕ) → Begins p r negative n → IsTrue (is_digit b) → 10 * n + (b - 48) ≤ limit
-      → sums.step (at p) b ≡ Go (at (phase.TheVariants.Digits r negative (10 * n + (b - 48))))
+      → sums.step (at p) b ≡ Go (at (Phase.Digits r negative (10 * n + (b - 48))))
   digit-on p r negative n b s e h =
       let k : kind spaces (letter_at true b) ≡ Digit (b - 48) = rw e refl in
-      let f : digits limit r negative n (b - 48) ≡ To (phase.TheVariants.Digits r negative (10 * n + (b - 48))) = rw (le-leb (10 * n + (b - 48)) limit h) refl in
-      goes_to spaces part limit xs xs [] p (phase.TheVariants.Digits r negative (10 * n + (b - 48))) b true (Digit (b - 48)) [] refl (sym s.numeric) (sym k)
+      let f : digits limit r negative n (b - 48) ≡ To (Phase.Digits r negative (10 * n + (b - 48))) = rw (le-leb (10 * n + (b - 48)) limit h) refl in
+      goes_to spaces part limit xs xs [] p (Phase.Digits r negative (10 * n + (b - 48))) b true (Digit (b - 48)) [] refl (sym s.numeric) (sym k)
       (sym (s.on_digit (b - 48) ∙ f)) (sym s.same)
 
   -- digits, from a state that takes the first
   digits-run : (p : Phase) (r : Option Relation) (negative : Bool) (n b : ℕ) (text : List ℕ) → Begins p r negative n → AreDigits (b ∷ text) → value_from n (b ∷ text) ≤ limit
-      → Runs sums (at p) (b ∷ text) (at (phase.TheVariants.Digits r negative (value_from n (b ∷ text))))
+      → Runs sums (at p) (b ∷ text) (at (Phase.Digits r negative (value_from n (b ∷ text))))
   digits-run p r negative n b [] s h l = (
-    at (phase.TheVariants.Digits r negative (10 * n + (b - 48))),
+    at (Phase.Digits r negative (10 * n + (b - 48))),
     digit-on p r negative n b s h.0 l,
-    midway_state spaces part limit xs [] (phase.TheVariants.Digits r negative (10 * n + (b - 48))) l refl,
+    midway_state spaces part limit xs [] (Phase.Digits r negative (10 * n + (b - 48))) l refl,
     refl,
   )
   digits-run p r negative n b (c ∷ text) s h l =
       let fits : 10 * n + (b - 48) ≤ limit = omega (arith, value-grows (10 * n + (b - 48)) (c ∷ text)) in (
-        at (phase.TheVariants.Digits r negative (10 * n + (b - 48))),
+        at (Phase.Digits r negative (10 * n + (b - 48))),
         digit-on p r negative n b s h.0 fits,
-        midway_state spaces part limit xs [] (phase.TheVariants.Digits r negative (10 * n + (b - 48))) fits refl,
-        digits-run (phase.TheVariants.Digits r negative (10 * n + (b - 48))) r negative (10 * n + (b - 48)) c text
+        midway_state spaces part limit xs [] (Phase.Digits r negative (10 * n + (b - 48))) fits refl,
+        digits-run (Phase.Digits r negative (10 * n + (b - 48))) r negative (10 * n + (b - 48)) c text
             (record { numeric = refl; same = refl; on_digit = λ d. refl }) h.1 l,
       )
 
   number-run : (p : Phase) (r : Option Relation) (negative : Bool) (text : List ℕ) → Begins p r negative 0 → AreDigits text → 0 < length text → value_from 0 text ≤ limit
-      → Runs sums (at p) text (at (phase.TheVariants.Digits r negative (value_from 0 text)))
+      → Runs sums (at p) text (at (Phase.Digits r negative (value_from 0 text)))
   number-run p r negative [] s h i l = absurd (omega arith)
   number-run p r negative (b ∷ text) s h i l = digits-run p r negative 0 b text s h l
 
   -- the states in which a sign may appear
   abbrev begins_unread : Phase → Bool
-  begins_unread phase.TheVariants.Start = true
-  begins_unread phase.TheVariants.Between = true
-  begins_unread (phase.TheVariants.Relation r) = true
+  begins_unread Phase.Start = true
+  begins_unread Phase.Between = true
+  begins_unread (Phase.Relation r) = true
   begins_unread _ = false
 
   begins : (p : Phase) → begins_unread p ≡ true → Begins p (role p) false 0
-  begins phase.TheVariants.Start e = record { numeric = refl; same = refl; on_digit = λ d. refl }
-  begins phase.TheVariants.Between e = record { numeric = refl; same = refl; on_digit = λ d. refl }
-  begins (phase.TheVariants.Relation r) e = record { numeric = refl; same = refl; on_digit = λ d. refl }
+  begins Phase.Start e = record { numeric = refl; same = refl; on_digit = λ d. refl }
+  begins Phase.Between e = record { numeric = refl; same = refl; on_digit = λ d. refl }
+  begins (Phase.Relation r) e = record { numeric = refl; same = refl; on_digit = λ d. refl }
   begins _ e = cc e
 
-  on-plus : (p : Phase) → begins_unread p ≡ true → transition part limit p Plus ≡ To (phase.TheVariants.Signed (role p) false)
-  on-plus phase.TheVariants.Start e = refl
-  on-plus phase.TheVariants.Between e = refl
-  on-plus (phase.TheVariants.Relation r) e = refl
+  on-plus : (p : Phase) → begins_unread p ≡ true → transition part limit p Plus ≡ To (Phase.Signed (role p) false)
+  on-plus Phase.Start e = refl
+  on-plus Phase.Between e = refl
+  on-plus (Phase.Relation r) e = refl
   on-plus _ e = cc e
 
-  on-minus : (p : Phase) → begins_unread p ≡ true → transition part limit p Minus ≡ To (phase.TheVariants.Signed (role p) true)
-  on-minus phase.TheVariants.Start e = refl
-  on-minus phase.TheVariants.Between e = refl
-  on-minus (phase.TheVariants.Relation r) e = refl
+  on-minus : (p : Phase) → begins_unread p ≡ true → transition part limit p Minus ≡ To (Phase.Signed (role p) true)
+  on-minus Phase.Start e = refl
+  on-minus Phase.Between e = refl
+  on-minus (Phase.Relation r) e = refl
   on-minus _ e = cc e
 
-  sign-on : (p : Phase) (negative : Bool) (b : ℕ) (k : Kind) → begins_unread p ≡ true → k ≡ kind spaces (letter_at true b) → transition part limit p k ≡ To (phase.TheVariants.Signed (role p) negative)
-      → sums.step (at p) b ≡ Go (at (phase.TheVariants.Signed (role p) negative))
+  sign-on : (p : Phase) (negative : Bool) (b : ℕ) (k : Kind) → begins_unread p ≡ true → k ≡ kind spaces (letter_at true b) → transition part limit p k ≡ To (Phase.Signed (role p) negative)
+      → sums.step (at p) b ≡ Go (at (Phase.Signed (role p) negative))
   sign-on p negative b k e f g =
       let s : Begins p (role p) false 0 = begins p e in
-      goes_to spaces part limit xs xs [] p (phase.TheVariants.Signed (role p) negative) b true k [] refl (sym s.numeric) f (sym g) (sym s.same)
+      goes_to spaces part limit xs xs [] p (Phase.Signed (role p) negative) b true k [] refl (sym s.numeric) f (sym g) (sym s.same)
 
   signed-run : (p : Phase) (negative : Bool) (sign text : List ℕ) → begins_unread p ≡ true → IsSign negative sign → AreDigits text → 0 < length text → value_from 0 text ≤ limit
-      → Runs sums (at p) (sign ++ text) (at (phase.TheVariants.Digits (role p) negative (value_from 0 text)))
+      → Runs sums (at p) (sign ++ text) (at (Phase.Digits (role p) negative (value_from 0 text)))
   signed-run p negative [] text e s h i l =
-      subst (λ (x : Bool). Runs sums (at p) text (at (phase.TheVariants.Digits (role p) x (value_from 0 text)))) (sym s) (number-run p (role p) false text (begins p e) h i l)
+      subst (λ (x : Bool). Runs sums (at p) text (at (Phase.Digits (role p) x (value_from 0 text)))) (sym s) (number-run p (role p) false text (begins p e) h i l)
   signed-run p false (b ∷ []) text e s h i l = (
-    at (phase.TheVariants.Signed (role p) false),
+    at (Phase.Signed (role p) false),
     sign-on p false b Plus e (sym (ap (λ (x : ℕ). kind spaces (letter_at true x)) s)) (on-plus p e),
-    midway_state spaces part limit xs [] (phase.TheVariants.Signed (role p) false) tt refl,
-    number-run (phase.TheVariants.Signed (role p) false) (role p) false text (record { numeric = refl; same = refl; on_digit = λ d. refl }) h i l,
+    midway_state spaces part limit xs [] (Phase.Signed (role p) false) tt refl,
+    number-run (Phase.Signed (role p) false) (role p) false text (record { numeric = refl; same = refl; on_digit = λ d. refl }) h i l,
   )
   signed-run p true (b ∷ []) text e s h i l = (
-    at (phase.TheVariants.Signed (role p) true),
+    at (Phase.Signed (role p) true),
     sign-on p true b Minus e (sym (ap (λ (x : ℕ). kind spaces (letter_at true x)) s)) (on-minus p e),
-    midway_state spaces part limit xs [] (phase.TheVariants.Signed (role p) true) tt refl,
-    number-run (phase.TheVariants.Signed (role p) true) (role p) true text (record { numeric = refl; same = refl; on_digit = λ d. refl }) h i l,
+    midway_state spaces part limit xs [] (Phase.Signed (role p) true) tt refl,
+    number-run (Phase.Signed (role p) true) (role p) true text (record { numeric = refl; same = refl; on_digit = λ d. refl }) h i l,
   )
   signed-run p negative (b ∷ c ∷ sign) text e s h i l = absurd s
 
   -- the same, or the digits after a sign that was read
   digits-after : (p : Phase) (negative : Bool) (text : List ℕ) (i : ℕ) (digits : List ℕ) → begins_number p ≡ true → HasSign (sign_read p) text i negative → AreDigits digits
       → 0 < length digits → value_from 0 digits ≤ limit
-      → Runs sums (at p) (take i text ++ digits) (at (phase.TheVariants.Digits (role p) negative (value_from 0 digits)))
-  digits-after (phase.TheVariants.Signed r read) negative text i digits e s h k l =
-      rw (s.0, s.1) (number-run (phase.TheVariants.Signed r read) r read digits (record { numeric = refl; same = refl; on_digit = λ d. refl }) h k l)
-  digits-after phase.TheVariants.Start negative text i digits e s h k l = signed-run phase.TheVariants.Start negative (take i text) digits refl s.0 h k l
-  digits-after phase.TheVariants.Between negative text i digits e s h k l = signed-run phase.TheVariants.Between negative (take i text) digits refl s.0 h k l
-  digits-after (phase.TheVariants.Relation r) negative text i digits e s h k l = signed-run (phase.TheVariants.Relation r) negative (take i text) digits refl s.0 h k l
+      → Runs sums (at p) (take i text ++ digits) (at (Phase.Digits (role p) negative (value_from 0 digits)))
+  digits-after (Phase.Signed r read) negative text i digits e s h k l =
+      rw (s.0, s.1) (number-run (Phase.Signed r read) r read digits (record { numeric = refl; same = refl; on_digit = λ d. refl }) h k l)
+  digits-after Phase.Start negative text i digits e s h k l = signed-run Phase.Start negative (take i text) digits refl s.0 h k l
+  digits-after Phase.Between negative text i digits e s h k l = signed-run Phase.Between negative (take i text) digits refl s.0 h k l
+  digits-after (Phase.Relation r) negative text i digits e s h k l = signed-run (Phase.Relation r) negative (take i text) digits refl s.0 h k l
   digits-after _ negative text i digits e s h k l = cc e
 
 -- a number, if one may begin, or its digits
@@ -118,7 +117,7 @@ pub number_runs : (spaces : Spaces) (part : Part) (limit : ℕ) (xs : List Term)
     → begins_number p ≡ true → name ≡ [] → r ≡ role p → HasSign (sign_read p) text i negative → AreDigits (take j (take (length text - i) (drop i text)))
     → v ≡ value_from 0 (take j (take (length text - i) (drop i text))) → j ≤ length (take (length text - i) (drop i text)) → (j ≡ 0 → ⊥) → v ≤ limit
     → Runs sums (record { spaces = spaces; part = part; limit = limit; work = record { terms = xs; name = name; phase = p } }) (take (i + j) text)
-    (record { spaces = spaces; part = part; limit = limit; work = record { terms = xs; name = name; phase = phase.TheVariants.Digits r negative v } })
+    (record { spaces = spaces; part = part; limit = limit; work = record { terms = xs; name = name; phase = Phase.Digits r negative v } })
 number_runs spaces part limit xs name p r negative text i j v b e f s h g l n m =
     let some : 0 < length (take j (take (length text - i) (drop i text))) = rw (length-take-le j (take (length text - i) (drop i text)) l) (omega arith) in
     let fits : value_from 0 (take j (take (length text - i) (drop i text))) ≤ limit = subst (λ (x : ℕ). x ≤ limit) g m in

@@ -6,7 +6,6 @@ use Rattle.pb_sums.proofs.Common.{Spaces, after_name, after_number, begins_numbe
 use Rattle.pb_sums.proofs.Common.{SumState, begins_term, IsLiteral, IsSpacedLiteral, IsSpacedNumber, IsTilde, standing, allows}
 use Rattle.pb_text.proofs.lemmas.machine.Running.{runs_on}
 use Rattle.pb_sums.specs.declared.linear.Literal.{Literal}
-use Rattle.pb_sums.specs.declared.phase.Phase as phase
 use Rattle.pb_sums.proofs.lemmas.prefixes.Digits.{number_runs}
 use Rattle.pb_sums.proofs.lemmas.prefixes.Names.{name_runs}
 use Rattle.pb_sums.proofs.lemmas.machine.States.{midway_state}
@@ -16,25 +15,25 @@ grown (Ok x) new more old h e = h
 grown (Err x) new more old h e = cc
 
 no-role : (p : Phase) → begins_term p ≡ true → role p ≡ None
-no-role phase.TheVariants.Start e = refl
-no-role (phase.TheVariants.Signed None negative) e = refl
-no-role phase.TheVariants.Between e = refl
+no-role Phase.Start e = refl
+no-role (Phase.Signed None negative) e = refl
+no-role Phase.Between e = refl
 no-role _ e = cc
 
 space-on : (spaces : Spaces) (part : Part) (limit : ℕ) (xs : List Term) (r : Option Relation) (negative : Bool) (v : ℕ)
-    → sums.step (standing spaces part limit xs [] (phase.TheVariants.Digits r negative v)) 32 ≡ Go (standing spaces part limit xs [] (after_number r (signed negative v)))
+    → sums.step (standing spaces part limit xs [] (Phase.Digits r negative v)) 32 ≡ Go (standing spaces part limit xs [] (after_number r (signed negative v)))
 space-on spaces part limit xs None negative v = refl
 space-on spaces part limit xs (Some r) negative v = refl
 
 pub number_state : (spaces : Spaces) (part : Part) (limit : ℕ) (xs : List Term) (r : Option Relation) (z : ℤ) → IsState sums (standing spaces part limit xs [] (after_number r z))
-number_state spaces part limit xs None z = midway_state spaces part limit xs [] (phase.TheVariants.Gap z) tt refl
-number_state spaces part limit xs (Some r) z = midway_state spaces part limit xs [] (phase.TheVariants.Tail r z) tt refl
+number_state spaces part limit xs None z = midway_state spaces part limit xs [] (Phase.Gap z) tt refl
+number_state spaces part limit xs (Some r) z = midway_state spaces part limit xs [] (Phase.Tail r z) tt refl
 
 pub spaced_number_runs : (limit : ℕ) (p : Phase) (text : List ℕ) (i j v : ℕ) (negative : Bool) → begins_number p ≡ true → HasSign (sign_read p) text i negative
     → Each (λ b. IsTrue (is_digit b)) (take j (text_after i text)) → v ≡ value_from 0 (take j (text_after i text)) → j ≤ length (text_after i text) → (j ≡ 0 → ⊥) → v ≤ limit
     → i + j < length text → get_or text (i + j) 0 ≡ 32 → IsSpacedNumber limit p (take (i + j + 1) text) (signed negative v)
 spaced_number_runs limit p text i j v negative b s h g l n m within e spaces part xs =
-    let digits : SumState = standing spaces part limit xs [] (phase.TheVariants.Digits (role p) negative v) in
+    let digits : SumState = standing spaces part limit xs [] (Phase.Digits (role p) negative v) in
     let next : SumState = standing spaces part limit xs [] (after_number (role p) (signed negative v)) in
     runs_on sums (standing spaces part limit xs [] p) text (i + j) digits next within
     (number_runs spaces part limit xs [] p (role p) negative text i j v b refl refl s h g l n m)
@@ -42,22 +41,22 @@ spaced_number_runs limit p text i j v negative b s h g l n m within e spaces par
     (number_state spaces part limit xs (role p) (signed negative v))
 
 abbrev after-tilde : Bool → ℤ → Phase
-after-tilde false z = phase.TheVariants.Gap z
-after-tilde true z = phase.TheVariants.Tilde z
+after-tilde false z = Phase.Gap z
+after-tilde true z = Phase.Tilde z
 
 tilde-runs : (spaces : Spaces) (part : Part) (limit : ℕ) (xs : List Term) (z : ℤ) (negated : Bool) (text : List ℕ) → IsTilde negated text
-    → Runs sums (standing spaces part limit xs [] (phase.TheVariants.Gap z)) text (standing spaces part limit xs [] (after-tilde negated z))
+    → Runs sums (standing spaces part limit xs [] (Phase.Gap z)) text (standing spaces part limit xs [] (after-tilde negated z))
 tilde-runs spaces part limit xs z false text e =
-    subst (λ (t : List ℕ). Runs sums (standing spaces part limit xs [] (phase.TheVariants.Gap z)) t (standing spaces part limit xs [] (phase.TheVariants.Gap z))) (sym e) refl
+    subst (λ (t : List ℕ). Runs sums (standing spaces part limit xs [] (Phase.Gap z)) t (standing spaces part limit xs [] (Phase.Gap z))) (sym e) refl
 tilde-runs spaces part limit xs z true text e =
-    subst (λ (t : List ℕ). Runs sums (standing spaces part limit xs [] (phase.TheVariants.Gap z)) t (standing spaces part limit xs [] (phase.TheVariants.Tilde z))) (sym e) (
-      standing spaces part limit xs [] (phase.TheVariants.Tilde z),
+    subst (λ (t : List ℕ). Runs sums (standing spaces part limit xs [] (Phase.Gap z)) t (standing spaces part limit xs [] (Phase.Tilde z))) (sym e) (
+      standing spaces part limit xs [] (Phase.Tilde z),
       refl,
-      midway_state spaces part limit xs [] (phase.TheVariants.Tilde z) tt refl,
+      midway_state spaces part limit xs [] (Phase.Tilde z) tt refl,
       refl,
     )
 
-after-both : (negated : Bool) (z : ℤ) → Some (phase.TheVariants.More z negated) ≡ after_name (after-tilde negated z)
+after-both : (negated : Bool) (z : ℤ) → Some (Phase.More z negated) ≡ after_name (after-tilde negated z)
 after-both false z = refl
 after-both true z = refl
 
@@ -65,31 +64,31 @@ literal_runs : (text : List ℕ) (i j : ℕ) (negated : Bool) (name : List ℕ) 
     → IsTrue (is_letter (get_or (take j (text_after i text)) 0 0)) → Each (λ b. IsTrue (is_name_byte b)) (take j (text_after i text)) → name ≡ take j (text_after i text)
     → IsLiteral (take (i + j) text) (record { name = name; negated = negated })
 literal_runs text i j negated name s l h g e spaces part limit xs z =
-    runs_further sums (standing spaces part limit xs [] (phase.TheVariants.Gap z)) text i j (standing spaces part limit xs [] (after-tilde negated z))
-    (standing spaces part limit xs name (phase.TheVariants.More z negated)) (tilde-runs spaces part limit xs z negated (take i text) s)
-    (name_runs spaces part limit xs [] name (after-tilde negated z) (phase.TheVariants.More z negated) (take j (text_after i text)) (after-both negated z) l h g e)
+    runs_further sums (standing spaces part limit xs [] (Phase.Gap z)) text i j (standing spaces part limit xs [] (after-tilde negated z))
+    (standing spaces part limit xs name (Phase.More z negated)) (tilde-runs spaces part limit xs z negated (take i text) s)
+    (name_runs spaces part limit xs [] name (after-tilde negated z) (Phase.More z negated) (take j (text_after i text)) (after-both negated z) l h g e)
 
 -- a literal and a space
 pub spaced_literal_runs : (text : List ℕ) (i j : ℕ) (negated : Bool) (name : List ℕ) → IsTilde negated (take i text) → 2 ≤ length (take j (text_after i text))
     → IsTrue (is_letter (get_or (take j (text_after i text)) 0 0)) → Each (λ b. IsTrue (is_name_byte b)) (take j (text_after i text)) → name ≡ take j (text_after i text)
     → i + j < length text → get_or text (i + j) 0 ≡ 32 → IsSpacedLiteral (take (i + j + 1) text) (record { name = name; negated = negated })
 spaced_literal_runs text i j negated name s l h g e within f spaces part limit xs z =
-    let gap : SumState = standing spaces part limit xs [] (phase.TheVariants.Gap z) in
-    let more : SumState = standing spaces part limit xs name (phase.TheVariants.More z negated) in
+    let gap : SumState = standing spaces part limit xs [] (Phase.Gap z) in
+    let more : SumState = standing spaces part limit xs name (Phase.More z negated) in
     let terms : List Term = xs ++ (record { coefficient = z; literal = record { name = name; negated = negated } }) ∷ [] in
-    let last : SumState = standing spaces part limit terms [] phase.TheVariants.Between in
+    let last : SumState = standing spaces part limit terms [] Phase.Between in
     runs_on sums gap text (i + j) more last within (literal_runs text i j negated name s l h g e spaces part limit xs z)
     (subst (λ (x : ℕ). sums.step more x ≡ Go last) (sym f) refl)
-    (midway_state spaces part limit terms [] phase.TheVariants.Between tt refl)
+    (midway_state spaces part limit terms [] Phase.Between tt refl)
 
 -- a coefficient, a space, a literal and a space
 pub term_runs : (spaces : Spaces) (part : Part) (limit : ℕ) (xs ys : List Term) (old new : List ℕ) (p : Phase) (text : List ℕ) (i j : ℕ) (z : ℤ) (l : Literal)
     → begins_term p ≡ true → old ≡ [] → new ≡ [] → IsSpacedNumber limit p (take i text) z → IsSpacedLiteral (take j (text_after i text)) l
     → ys ≡ xs ++ (record { coefficient = z; literal = l }) ∷ []
-    → Runs sums (standing spaces part limit xs old p) (take (i + j) text) (standing spaces part limit ys new phase.TheVariants.Between)
+    → Runs sums (standing spaces part limit xs old p) (take (i + j) text) (standing spaces part limit ys new Phase.Between)
 term_runs spaces part limit xs ys old new p text i j z l b e f prefix literal h =
-    let gap : SumState = standing spaces part limit xs [] (phase.TheVariants.Gap z) in
-    let last : SumState = standing spaces part limit (xs ++ (record { coefficient = z; literal = l }) ∷ []) [] phase.TheVariants.Between in
+    let gap : SumState = standing spaces part limit xs [] (Phase.Gap z) in
+    let last : SumState = standing spaces part limit (xs ++ (record { coefficient = z; literal = l }) ∷ []) [] Phase.Between in
     let first : Runs sums (standing spaces part limit xs [] p) (take i text) gap =
     subst (λ (r : Option Relation). Runs sums (standing spaces part limit xs [] p) (take i text) (standing spaces part limit xs [] (after_number r z))) (no-role p b) (prefix spaces part xs) in
     rw (e, f, h) (runs_further sums (standing spaces part limit xs [] p) text i j gap last first (literal spaces part limit xs z))
@@ -97,22 +96,22 @@ term_runs spaces part limit xs ys old new p text i j z l b e f prefix literal h 
 -- a relation
 pub relation_runs : (spaces : Spaces) (part : Part) (limit : ℕ) (xs : List Term) (name : List ℕ) (p : Phase) (text : List ℕ) (r : Relation)
     → begins_relation p ≡ true → name ≡ [] → allows part r ≡ true → text ≡ relation_bytes r
-    → Runs sums (standing spaces part limit xs name p) text (standing spaces part limit xs name (phase.TheVariants.Relation r))
-relation_runs spaces part limit xs name phase.TheVariants.Between text AtLeast b n h e = rw (n, e) (
-  standing spaces part limit xs [] phase.TheVariants.Greater,
+    → Runs sums (standing spaces part limit xs name p) text (standing spaces part limit xs name (Phase.Relation r))
+relation_runs spaces part limit xs name Phase.Between text AtLeast b n h e = rw (n, e) (
+  standing spaces part limit xs [] Phase.Greater,
   rw h refl,
-  midway_state spaces part limit xs [] phase.TheVariants.Greater tt refl,
+  midway_state spaces part limit xs [] Phase.Greater tt refl,
   (
-    standing spaces part limit xs [] (phase.TheVariants.Relation AtLeast),
+    standing spaces part limit xs [] (Phase.Relation AtLeast),
     refl,
-    midway_state spaces part limit xs [] (phase.TheVariants.Relation AtLeast) tt refl,
+    midway_state spaces part limit xs [] (Phase.Relation AtLeast) tt refl,
     refl,
   ),
 )
-relation_runs spaces part limit xs name phase.TheVariants.Between text Equal b n h e = rw (n, e) (
-  standing spaces part limit xs [] (phase.TheVariants.Relation Equal),
+relation_runs spaces part limit xs name Phase.Between text Equal b n h e = rw (n, e) (
+  standing spaces part limit xs [] (Phase.Relation Equal),
   rw h refl,
-  midway_state spaces part limit xs [] (phase.TheVariants.Relation Equal) tt refl,
+  midway_state spaces part limit xs [] (Phase.Relation Equal) tt refl,
   refl,
 )
 relation_runs spaces part limit xs name _ text r b n h e = cc b
@@ -120,8 +119,8 @@ relation_runs spaces part limit xs name _ text r b n h e = cc b
 -- a relation and a space
 pub spaced_relation_runs : (spaces : Spaces) (part : Part) (limit : ℕ) (xs : List Term) (name : List ℕ) (p : Phase) (text : List ℕ) (i : ℕ) (r : Relation)
     → begins_relation p ≡ true → name ≡ [] → allows part r ≡ true → take i text ≡ relation_bytes r → i < length text → get_or text i 0 ≡ 32
-    → Runs sums (standing spaces part limit xs name p) (take (i + 1) text) (standing spaces part limit xs name (phase.TheVariants.Relation r))
+    → Runs sums (standing spaces part limit xs name p) (take (i + 1) text) (standing spaces part limit xs name (Phase.Relation r))
 spaced_relation_runs spaces part limit xs name p text i r b n h e l s =
-    let next : SumState = standing spaces part limit xs name (phase.TheVariants.Relation r) in
+    let next : SumState = standing spaces part limit xs name (Phase.Relation r) in
     runs_on sums (standing spaces part limit xs name p) text i next next l (relation_runs spaces part limit xs name p (take i text) r b n h e)
-    (rw (n, s) refl) (midway_state spaces part limit xs name (phase.TheVariants.Relation r) tt refl)
+    (rw (n, s) refl) (midway_state spaces part limit xs name (Phase.Relation r) tt refl)

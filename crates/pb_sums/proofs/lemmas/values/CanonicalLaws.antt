@@ -2,8 +2,8 @@
 use Rattle.pb_sums.proofs.Common.{ℕ, ℤ, ◌++◌, ◌<◌, ◌^◌, ◌∙◌, ◌∷◌, ◌≡◌, ◌≤◌, [], ap, append_assoc, arith, decimal, false, inl, inr, List, refl, suc}
 use Rattle.pb_sums.proofs.Common.{true, nat_abs, negsuc, pos, decimal-digits, bytes-append, bytes-digits, bytes-plain, unmarked, Number, bytes}
 use Rattle.pb_sums.proofs.Common.{digits_of, Letter, AreTerms, degree_text, further_text, head_bytes, head_text, IsLinear, IsTerm, linear_bytes}
-use Rattle.pb_sums.proofs.Common.{linear_text, literal_text, relation_bytes, relation_text, space, sum_bytes, sum_text, term_bytes, term_text}
-use Rattle.pb_sums.proofs.Common.{weight_bytes, weight_text, Linear, Relation, AtLeast, Equal, Term, Spaces, Head, literal_bytes, Spaces0, Spaces1}
+use Rattle.pb_sums.proofs.Common.{linear_text, literal_text, relation_text, space, sum_bytes, sum_text, term_bytes, term_text}
+use Rattle.pb_sums.proofs.Common.{weight_bytes, weight_text, Linear, Relation, AtLeast, Equal, Term, Spaces, Head, Spaces0, Spaces1}
 use Rattle.pb_sums.proofs.Common.{SpellsFurther, SpellsLinear, SpellsRelation, SpellsSum, SpellsTerm}
 use Rattle.std.specs.Fmt.{signed_decimal}
 use Rattle.pb_sums.specs.contract.Canonical.{further_bytes}
@@ -79,13 +79,7 @@ bytes-weight (pos n) = ap (λ x. 43 ∷ x) (bytes-digits (decimal n))
 bytes-weight (negsuc n) = ap (λ x. 45 ∷ x) (bytes-digits (decimal (suc n)))
 
 bytes-term : (x : Term) → bytes (term_text x) ≡ term_bytes x
-bytes-term x =
-    let W : List Letter = weight_text x.coefficient in
-    let L : List Letter = literal_text x.literal in
-    ap bytes (append_assoc W space L)
-    ∙ (bytes-append W (unmarked 32 ∷ L)
-    ∙ (ap (λ y. y ++ (32 ∷ bytes L)) (bytes-weight x.coefficient)
-    ∙ ap (λ y. weight_bytes x.coefficient ++ (32 ∷ y)) (bytes-plain (literal_bytes x.literal.negated x.literal.name))))
+bytes-term x = grind (arith, append_assoc, bytes-append, bytes-weight, bytes-plain, x.literal.negated, x.literal.name)
 
 bytes-further : (xs : List Term) → bytes (further_text xs) ≡ further_bytes xs
 unfolding further_bytes
@@ -108,15 +102,4 @@ regrouped : (h o s d u e : List Letter) → h ++ o ++ s ++ d ++ u ++ e ≡ h ++ 
 regrouped h o s d u e = simp append_assoc
 
 pub bytes-linear : (c : Linear) → bytes (linear_text c) ≡ linear_bytes c
-bytes-linear c =
-    let H : List Letter = head_text c.terms in
-    let O : List Letter = relation_text c.relation in
-    let D : List Letter = degree_text c.degree in
-    let E : List Letter = unmarked 32 ∷ unmarked 59 ∷ [] in
-    ap bytes (regrouped H O space D space (unmarked 59 ∷ []))
-    ∙ (bytes-append H (O ++ (unmarked 32 ∷ (D ++ E)))
-    ∙ (ap (λ y. y ++ bytes (O ++ (unmarked 32 ∷ (D ++ E)))) (bytes-head c.terms)
-    ∙ ap (λ y. head_bytes c.terms ++ y)
-    (bytes-append O (unmarked 32 ∷ (D ++ E))
-    ∙ (ap (λ y. y ++ (32 ∷ bytes (D ++ E))) (bytes-plain (relation_bytes c.relation))
-    ∙ ap (λ y. relation_bytes c.relation ++ (32 ∷ y)) (bytes-append D E ∙ ap (λ y. y ++ (32 ∷ 59 ∷ [])) (bytes-degree c.degree))))))
+bytes-linear c = grind (arith, regrouped, bytes-append, bytes-head, bytes-plain, bytes-degree)

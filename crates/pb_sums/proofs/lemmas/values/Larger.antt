@@ -2,7 +2,6 @@
 use Rattle.pb_sums.proofs.Common.{ℕ, ◌∷◌, ◌≤◌, [], List, number-within, each_side, ◌⋅◌, Byte, Language, Number, Letter, Linear, SumEvent, Term, Part}
 use Rattle.pb_sums.proofs.Common.{Spaces, Head, Spaces0, Spaces1, Spells, SpellsFurther, SpellsLinear, SpellsLiteral, SpellsRelation, SpellsSum}
 use Rattle.pb_sums.proofs.Common.{SpellsTerm}
-use Rattle.pb_sums.specs.declared.linear.SumEvent as event
 
 module _ (spaces : Spaces) (small large : ℕ) (h : small ≤ large) where
   abbrev Grows : (ℕ → Language) → Type 0
@@ -54,9 +53,9 @@ module _ (spaces : Spaces) (small large : ℕ) (h : small ≤ large) where
       (number-within small large c.degree h)) S0) (same (Byte 59))
 
   pub spells_larger : (part : Part) (t : List Letter) (e : SumEvent) → Spells spaces small part e t → Spells spaces large part e t
-  spells_larger part t (event.TheVariants.Sum xs) k = (
+  spells_larger part t (SumEvent.Sum xs) k = (
     k.0,
     grows_then (λ n. SpellsSum spaces n xs ⋅ Spaces0 spaces n) (λ n. Byte 59)
         (grows_then (λ n. SpellsSum spaces n xs) (λ n. Spaces0 spaces n) (sum-grows xs) S0) (same (Byte 59)) t k.1,
   )
-  spells_larger part t (event.TheVariants.Linear c) k = (k.0, linear-grows c t k.1)
+  spells_larger part t (SumEvent.Linear c) k = (k.0, linear-grows c t k.1)

@@ -1,6 +1,6 @@
 -- What is written, in parts.
 use Rattle.pb_sums.proofs.Common.{ℕ, ◌++◌, ◌+◌, ◌-◌, ◌<◌, ◌∙◌, ◌∷◌, ◌≡◌, ◌≤◌, [], ap, append-nil, append_assoc, arith, drop, get_or, length, List}
-use Rattle.pb_sums.proofs.Common.{refl, suc, sym, take, take-append-drop, drop_all, take_more, head_bytes, sum_bytes, term_bytes, Term}
+use Rattle.pb_sums.proofs.Common.{refl, suc, sym, take, take-append-drop, drop_all, take_more, sum_bytes, term_bytes, Term}
 use Rattle.std.proofs.Math.Seq.{drop-cons}
 use Rattle.pb_sums.specs.contract.Canonical.{further_bytes}
 
@@ -52,16 +52,3 @@ further_from xs i x some within e =
 pub sum_parts : (xs : List Term) (d : Term) → 0 < length xs → sum_bytes xs ≡ term_bytes (get_or xs 0 d) ++ further_bytes (drop 1 xs)
 sum_parts [] d h = absurd (omega arith)
 sum_parts (x ∷ xs) d h = refl
-
--- what follows a sum
-pub head_prefix : (xs : List Term) (t : List ℕ) → (y : List ℕ) × (head_bytes xs ++ t ≡ sum_bytes xs ++ y)
-head_prefix [] t = (t, refl)
-head_prefix (x ∷ xs) t = (32 ∷ t, append_assoc (sum_bytes (x ∷ xs)) (32 ∷ []) t)
-
-pub head_none : (xs : List Term) (t : List ℕ) → length xs ≡ 0 → head_bytes xs ++ t ≡ sum_bytes xs ++ t
-head_none [] t h = refl
-head_none (x ∷ xs) t h = absurd (omega arith)
-
-pub head_some : (xs : List Term) (t : List ℕ) → 0 < length xs → head_bytes xs ++ t ≡ sum_bytes xs ++ (32 ∷ t)
-head_some [] t h = absurd (omega arith)
-head_some (x ∷ xs) t h = append_assoc (sum_bytes (x ∷ xs)) (32 ∷ []) t

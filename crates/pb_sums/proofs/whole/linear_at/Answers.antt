@@ -1,6 +1,5 @@
-use Rattle.pb_sums.proofs.Common.{[], arith, ints, to_z-of_z, w128, runs_further, first, sums, standing}
+use Rattle.pb_sums.proofs.Common.{[], arith, ints, to_z-of_z, w128, runs_further, first, sums, standing, Phase}
 use mir.Val.{SFits}
-use Rattle.pb_sums.specs.declared.phase.Phase as phase
 use Rattle.pb_sums.proofs.whole.linear_at.Goals as goal
 
 pub returns-clause-runs : goal.returns-clause-runs
@@ -11,5 +10,5 @@ returns-clause-runs c spaces =
     let fits : SFits w128 c.in-Some-degree_at.degree = record { sfits = omega (arith, ints) } in
     rw (to_z-of_z w128 c.in-Some-degree_at.degree fits, ← c.largest-limit.ensures.value) (
     runs_further sums (first spaces part limit) c.args.text.now c.in-Some.head c.in-Some-degree_at.tail
-    (standing spaces part limit xs [] phase.TheVariants.Between) (standing spaces part limit xs [] (phase.TheVariants.Tail c.in-Some-degree_at.relation c.in-Some-degree_at.degree))
+    (standing spaces part limit xs [] Phase.Between) (standing spaces part limit xs [] (Phase.Tail c.in-Some-degree_at.relation c.in-Some-degree_at.degree))
     (c.in-Some.ensures.runs spaces part) (c.in-Some-degree_at.ensures.runs spaces xs))

@@ -1,5 +1,4 @@
-use Rattle.pb_sums.proofs.Common.{◌++◌, ◌-◌, ◌∷◌, [], arith, drop, length, length-drop, refl, sym, length-take, runs_further, sums, standing}
-use Rattle.pb_sums.specs.declared.phase.Phase as phase
+use Rattle.pb_sums.proofs.Common.{◌++◌, ◌-◌, ◌∷◌, [], arith, drop, length, length-drop, refl, sym, length-take, runs_further, sums, standing, Phase}
 use Rattle.pb_sums.proofs.lemmas.prefixes.TermParts.{grown}
 use Rattle.pb_sums.proofs.whole.terms_at.Goals as goal
 
@@ -14,6 +13,6 @@ loop-length-preserved c =
       bound = omega (arith, b.1, c.loop-length.invariant.bound, length-take (length text - i) (drop i text), length-drop i text);
       begins = refl;
       runs = λ spaces part. rw more (
-          runs_further sums (standing spaces part c.args.limit [] [] phase.TheVariants.Start) text i c.in-Some-term_at.length (standing spaces part c.args.limit xs [] c.loop-length.phase)
-          (standing spaces part c.args.limit (xs ++ c.in-Some-term_at.term ∷ []) [] phase.TheVariants.Between) (c.loop-length.invariant.runs spaces part) (c.in-Some-term_at.ensures.runs spaces part xs));
+          runs_further sums (standing spaces part c.args.limit [] [] Phase.Start) text i c.in-Some-term_at.length (standing spaces part c.args.limit xs [] c.loop-length.phase)
+          (standing spaces part c.args.limit (xs ++ c.in-Some-term_at.term ∷ []) [] Phase.Between) (c.loop-length.invariant.runs spaces part) (c.in-Some-term_at.ensures.runs spaces part xs));
     }

@@ -1,16 +1,10 @@
-use Rattle.pb_sums.proofs.Common.{◌==◌, ◌∙◌, ap, arith, length, sym, ints, to_z-of_z, w128}
-use mir.Val.{SFits}
+use Rattle.pb_sums.proofs.Common.{◌==◌, ◌∙◌, ap, arith, length, sym, to_z-of_z}
 use Rattle.pb_sums.proofs.lemmas.prefixes.Digits.{none_there}
 use Rattle.pb_sums.proofs.lemmas.prefixes.TermParts.{number_state}
 use Rattle.pb_sums.proofs.machine.SumMachine.take_spaced_number.Goals as goal
 
 pub returns-clause-runs : goal.returns-clause-runs
-returns-clause-runs c = rw (← c.self.view_is) (
-    let none = none_there c.self.inside.name (ap (λ x. length x == 0) (sym c.as_bytes.ensures) ∙ (sym c.is_empty.ensures ∙ c.if-not-is_empty.false)) in
-    let fits : SFits w128 c.in-Some.value = record { sfits = omega (arith, ints) } in
-    rw (none, c.after_number-self-inside.ensures, c.role.ensures, to_z-of_z w128 c.in-Some.value fits)
-    (c.in-Some.ensures.runs c.self.inside.spaces c.self.inside.part c.self.inside.terms)
-    )
+returns-clause-runs c = grind (arith, c.self.view_is, none_there, c.as_bytes.ensures, c.is_empty.ensures, c.if-not-is_empty.false, c.after_number-self-inside.ensures, c.role.ensures, to_z-of_z, c.in-Some.ensures.runs)
 
 pub returns-clause-state : goal.returns-clause-state
 returns-clause-state c =
