@@ -5,7 +5,6 @@ pub mod Counted
 pub mod Gathered
 pub mod Kept
 pub mod Larger
-pub mod Meets
 pub mod OneValue
 pub mod Spelled
 pub mod Texts

@@ -1,8 +1,9 @@
 -- What is written for an instance reads back as that instance.
 use Rattle.pb_opb.proofs.Common.{ℕ, ◌++◌, ◌+◌, ◌<◌, ◌^◌, ◌∙◌, ◌∷◌, ◌≡◌, ◌≤◌, [], ap, append_assoc, arith, false, length, List, None, Option, refl}
-use Rattle.pb_opb.proofs.Common.{Some, suc, sym, true, Linear, Term, bytes_of, Item, events_of, body_events, constraint_events, header_bytes}
+use Rattle.pb_opb.proofs.Common.{Some, true, Linear, Term, bytes_of, Item, body_events, constraint_events, header_bytes}
 use Rattle.pb_opb.proofs.Common.{in_order, instance_bytes, lines, objective_events, CanonicalInstance, OpbEvent, Header, Instance, AreComments}
 use Rattle.pb_opb.proofs.Common.{AreLinears, is_one, IsObjective, IsValueOf, statements}
+use Rattle.std.proofs.lemmas.List.{length-map}
 use Rattle.pb_opb.specs.declared.instance.Comment.{Comment}
 use Rattle.pb_opb.proofs.lemmas.instances.Counted.{IsCounted, body_of}
 use Rattle.pb_opb.proofs.lemmas.instances.Spelled.{AreMain, AreInLines, spelled, header_text, header-spelled, header-bytes, item-bytes, body-bytes, constraints-body, objective-body}
@@ -13,16 +14,10 @@ constraints_main [] = tt
 constraints_main (l ∷ ls) = (tt, constraints_main ls)
 
 all_main : (o : Option (List Term)) (ls : List Linear) → AreMain (objective_events o ++ constraint_events ls)
-all_main None ls = constraints_main ls
-all_main (Some t) ls = (tt, constraints_main ls)
-
-count_constraints : (ls : List Linear) → length (constraint_events ls) ≡ length ls
-count_constraints [] = refl
-count_constraints (l ∷ ls) = ap suc (count_constraints ls)
+all_main o ls = grind (arith, constraints_main)
 
 count_all : (o : Option (List Term)) (ls : List Linear) → length ls + is_one o ≤ 0 + length (objective_events o ++ constraint_events ls)
-count_all None ls = omega (arith, count_constraints ls)
-count_all (Some t) ls = omega (arith, count_constraints ls)
+count_all o ls = grind (arith, length-map)
 
 abbrev first_item : Instance → Item OpbEvent
 first_item v = record { gap = []; text = header_text v.variables (length v.constraints) v.tail; event = Header v.variables (length v.constraints) v.tail }
@@ -44,16 +39,7 @@ instance-bytes v =
     ∙ append_assoc (header_bytes v.variables (length v.constraints) v.tail) (10 ∷ []) (lines (body_events v))))
 
 instance-reported : (v : Instance) → AreComments 0 (statements v) v.comments → IsValueOf (Header v.variables (length v.constraints) v.tail ∷ body_events v) v
-instance-reported v h = record {
-  variables = sym (order_variables v.comments v.objective v.constraints v.variables);
-  tail = sym (order_tail v.comments v.objective v.constraints v.tail);
-  objective = sym (order_objective v.comments v.objective v.constraints);
-  comments = sym (order_comments (objective_events v.objective ++ constraint_events v.constraints) (all_main v.objective v.constraints) 0 (statements v) v.comments (count_all v.objective v.constraints) h);
-  constraints = sym (order_constraints v.comments v.objective v.constraints);
-}
-
-instance-value : (v : Instance) (events : List OpbEvent) → events ≡ body_events v → AreComments 0 (statements v) v.comments → IsValueOf (Header v.variables (length v.constraints) v.tail ∷ events) v
-instance-value v events e h = rw e (instance-reported v h)
+instance-reported v h = grind (arith, order_variables, v.comments, v.objective, v.constraints, v.variables, order_tail, v.tail, order_objective, order_comments, all_main, count_all, order_constraints)
 
 pub canonical_instance : CanonicalInstance
 canonical_instance limit top v l t h = (
@@ -65,5 +51,5 @@ canonical_instance limit top v l t h = (
     body_of limit (length v.constraints) (spelled false (body_events v)) (instance-body limit l v.objective v.constraints v.comments h.objective h.constraints (in_lines 0 (statements v) v.comments h.comments)),
   ),
   instance-bytes v,
-  instance-value v (events_of (spelled false (body_events v))) (spelled-events false (body_events v)) h.comments,
+  rw (spelled-events false (body_events v)) (instance-reported v h.comments),
 )

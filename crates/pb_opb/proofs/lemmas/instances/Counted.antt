@@ -28,42 +28,14 @@ abbrev MayHave : Bool → List OpbEvent → Type 0
 MayHave true events = HasObjectiveFirst events
 MayHave false events = HasNoObjective events
 
-no_more : (objective_allowed : Bool) → MayHave objective_allowed []
-no_more true = tt
-no_more false = tt
-
-comment_then : (objective_allowed : Bool) (bytes : List ℕ) (events : List OpbEvent) → MayHave objective_allowed events → MayHave objective_allowed (Comment bytes ∷ events)
-comment_then true bytes events h = h
-comment_then false bytes events h = h
-
-after_comment : (objective_allowed : Bool) (bytes : List ℕ) (events : List OpbEvent) → MayHave objective_allowed (Comment bytes ∷ events) → MayHave objective_allowed events
-after_comment true bytes events h = h
-after_comment false bytes events h = h
-
-ends_more : (e : OpbEvent) (events : List OpbEvent) (n : ℕ) → constraint_count events ≡ suc n → EndsInConstraint events → EndsInConstraint (e ∷ events)
-ends_more e [] n c h = absurd (omega (arith, c))
-ends_more (Header variables constraints tail) (f ∷ events) n c h = h
-ends_more (Comment bytes) (f ∷ events) n c h = h
-ends_more (Objective terms) (f ∷ events) n c h = h
-ends_more (Constraint linear) (f ∷ events) n c h = h
-
-ends_after : (e : OpbEvent) (events : List OpbEvent) → EndsInConstraint (e ∷ events) → EndsInConstraint events
-ends_after e [] h = tt
-ends_after (Header variables constraints tail) (f ∷ events) h = h
-ends_after (Comment bytes) (f ∷ events) h = h
-ends_after (Objective terms) (f ∷ events) h = h
-ends_after (Constraint linear) (f ∷ events) h = h
-
 -- a list that ends in a constraint has one
 ends_some : (events : List OpbEvent) (e : OpbEvent) → EndsInConstraint (e ∷ events) → constraint_count (e ∷ events) ≡ 0 → ⊥
-ends_some [] (Header variables constraints tail) h c = h
-ends_some [] (Comment bytes) h c = h
-ends_some [] (Objective terms) h c = h
-ends_some [] (Constraint linear) h c = omega (arith, c)
-ends_some (f ∷ events) (Header variables constraints tail) h c = ends_some events f h c
-ends_some (f ∷ events) (Comment bytes) h c = ends_some events f h c
-ends_some (f ∷ events) (Objective terms) h c = ends_some events f h c
-ends_some (f ∷ events) (Constraint linear) h c = omega (arith, c)
+ends_some [] e h c = grind arith
+ends_some (f ∷ events) e h c = grind (arith, ends_some events f)
+
+-- a statement with the white space before it
+abbrev item : List ℕ → List Letter → OpbEvent → Item OpbEvent
+item gap text e = record { gap = gap; text = text; event = e }
 
 module _ (limit : ℕ) where
   record Parts (objective_allowed : Bool) (n : ℕ) (items : List (Item OpbEvent)) : Type 0 where
@@ -72,41 +44,24 @@ module _ (limit : ℕ) where
     pub objective : MayHave objective_allowed (events_of items)
     pub last : EndsInConstraint (events_of items)
 
-  -- the same for a first statement and the rest
-  record PartsOf (objective_allowed : Bool) (n : ℕ) (gap : List ℕ) (text : List Letter) (e : OpbEvent) (rest : List (Item OpbEvent)) : Type 0 where
-    pub spelled : Each (λ b. IsTrue (is_white b)) gap × SpellsEntry limit e text × AreSpelled limit rest
-    pub count : constraint_count (e ∷ events_of rest) ≡ n
-    pub objective : MayHave objective_allowed (e ∷ events_of rest)
-    pub last : EndsInConstraint (e ∷ events_of rest)
-
   entry_parts : (objective_allowed : Bool) (n : ℕ) (gap : List ℕ) (text : List Letter) (rest : List (Item OpbEvent)) → Each (λ b. IsTrue (is_white b)) gap → ((m : Bool) (k : ℕ) → IsCounted limit m k rest → Parts m k rest) → (e : OpbEvent)
-      → IsEntry limit objective_allowed n text (λ m k. IsCounted limit m k rest) e → PartsOf objective_allowed (suc n) gap text e rest
+      → IsEntry limit objective_allowed n text (λ m k. IsCounted limit m k rest) e → Parts objective_allowed (suc n) (item gap text e ∷ rest)
   entry_parts objective_allowed n gap text rest g f (Header variables constraints tail) h = absurd h
   entry_parts objective_allowed n gap text rest g f (Comment bytes) h =
       let p = f objective_allowed (suc n) h.2 in
-      record { spelled = (g, (h.0, h.1), p.spelled); count = p.count; objective = comment_then objective_allowed bytes (events_of rest) p.objective; last = ends_more (Comment bytes) (events_of rest) n p.count p.last }
+      record { spelled = (g, (h.0, h.1), p.spelled); count = p.count; objective = grind (arith, p.objective); last = grind (arith, p.count, p.last) }
   entry_parts objective_allowed n gap text rest g f (Objective terms) h =
       let p = f false (suc n) h.2 in
-      record { spelled = (g, h.1, p.spelled); count = p.count; objective = subst (λ (m : Bool). MayHave m (Objective terms ∷ events_of rest)) (sym h.0) p.objective; last = ends_more (Objective terms) (events_of rest) n p.count p.last }
+      record { spelled = (g, h.1, p.spelled); count = p.count; objective = subst (λ (m : Bool). MayHave m (Objective terms ∷ events_of rest)) (sym h.0) p.objective; last = grind (arith, p.count, p.last) }
   entry_parts objective_allowed n gap text rest g f (Constraint linear) h =
       let p = f false n h.1 in
-      record { spelled = (g, h.0, p.spelled); count = ap suc p.count; objective = following objective_allowed (events_of rest) p.objective; last = at_end (events_of rest) p.last }
-    where
-      following : (m : Bool) (events : List OpbEvent) → HasNoObjective events → MayHave m (Constraint linear ∷ events)
-      following true events k = k
-      following false events k = k
-
-      at_end : (events : List OpbEvent) → EndsInConstraint events → EndsInConstraint (Constraint linear ∷ events)
-      at_end [] k = tt
-      at_end (e ∷ events) k = k
+      record { spelled = (g, h.0, p.spelled); count = ap suc p.count; objective = grind (arith, p.objective); last = grind (arith, p.last) }
 
   parts : (items : List (Item OpbEvent)) (objective_allowed : Bool) (n : ℕ) → IsCounted limit objective_allowed n items → Parts objective_allowed n items
-  parts [] objective_allowed zero h = record { spelled = tt; count = refl; objective = no_more objective_allowed; last = tt }
+  parts [] objective_allowed zero h = record { spelled = tt; count = refl; objective = grind arith; last = tt }
   parts [] objective_allowed (suc n) h = absurd h
   parts (i ∷ rest) objective_allowed zero h = absurd h
-  parts (i ∷ rest) objective_allowed (suc n) h =
-      let p = entry_parts objective_allowed n i.gap i.text rest h.0 (λ m k. parts rest m k) i.event h.1 in
-      record { spelled = p.spelled; count = p.count; objective = p.objective; last = p.last }
+  parts (i ∷ rest) objective_allowed (suc n) h = entry_parts objective_allowed n i.gap i.text rest h.0 (λ m k. parts rest m k) i.event h.1
 
   -- and the converse
   entry_counted : (objective_allowed : Bool) (n : ℕ) (text : List Letter) (rest : List (Item OpbEvent)) → AreSpelled limit rest
@@ -115,15 +70,11 @@ module _ (limit : ℕ) where
       → IsEntry limit objective_allowed n text (λ m k. IsCounted limit m k rest) e
   entry_counted objective_allowed n text rest r f (Header variables constraints tail) s c o l = absurd s
   entry_counted objective_allowed n text rest r f (Comment bytes) s c o l =
-      (s.0, s.1, f objective_allowed (suc n) c (after_comment objective_allowed bytes (events_of rest) o) (ends_after (Comment bytes) (events_of rest) l))
-  entry_counted true n text rest r f (Objective terms) s c o l = (refl, s, f false (suc n) c o (ends_after (Objective terms) (events_of rest) l))
+      (s.0, s.1, f objective_allowed (suc n) c (grind (arith, o)) (grind (arith, l)))
+  entry_counted true n text rest r f (Objective terms) s c o l = (refl, s, f false (suc n) c o (grind (arith, l)))
   entry_counted false n text rest r f (Objective terms) s c o l = absurd o
   entry_counted objective_allowed n text rest r f (Constraint linear) s c o l =
-      (s, f false n (omega (arith, c)) (none objective_allowed o) (ends_after (Constraint linear) (events_of rest) l))
-    where
-      none : (m : Bool) → MayHave m (Constraint linear ∷ events_of rest) → HasNoObjective (events_of rest)
-      none true k = k
-      none false k = k
+      (s, f false n (omega (arith, c)) (grind (arith, o)) (grind (arith, l)))
 
   counted_by : (items : List (Item OpbEvent)) → AreSpelled limit items → (objective_allowed : Bool) (n : ℕ) → constraint_count (events_of items) ≡ n → MayHave objective_allowed (events_of items) → EndsInConstraint (events_of items) → IsCounted limit objective_allowed n items
   counted_by [] s objective_allowed zero c o l = tt

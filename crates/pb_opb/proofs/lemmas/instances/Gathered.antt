@@ -1,6 +1,6 @@
 -- Statements that are gathered one by one have the value that they state.
-use Rattle.pb_opb.proofs.Common.{ℕ, ◌++◌, ◌+◌, ◌∙◌, ◌∷◌, ◌≡◌, [], ap, append-nil, append_assoc, arith, IsTrue, List, refl, subst, sym, Spanned, Item}
-use Rattle.pb_opb.proofs.Common.{events_of, gathered, IsRead, IsWhole, MayHold, StopsIn, OpbEvent, Comment, Constraint, Header, Objective, Instance}
+use Rattle.pb_opb.proofs.Common.{ℕ, ◌++◌, ◌+◌, ◌∙◌, ◌∷◌, ◌≡◌, [], append-nil, append_assoc, arith, IsTrue, List, refl, subst, sym, Spanned, Item}
+use Rattle.pb_opb.proofs.Common.{events_of, gathered, IsRead, IsWhole, MayHold, StopsIn, OpbEvent, Comment, Constraint, Instance}
 use Rattle.pb_opb.proofs.Common.{counted_statements, ended_with, MayKeep, nothing, with, comment_at, comments_in, constraints_in, IsValueOf, last_or}
 use Rattle.pb_opb.proofs.Common.{objectives_in, tails_in, variables_in}
 use Rattle.pb_text.proofs.lemmas.source.Unkept as stopped
@@ -21,38 +21,22 @@ pub record Adds (b : InstanceSoFar) (events : List OpbEvent) (v : Instance) : Ty
 
 pub adds : (events : List OpbEvent) (b : InstanceSoFar) → Adds b events (gathered one_more b events).instance
 adds [] b = record { variables = refl; tail = refl; objective = refl; comments = sym (append-nil b.instance.comments); constraints = sym (append-nil b.instance.constraints) }
-adds (Header variables constraints tail ∷ events) b =
-    let k = adds events (one_more b (Header variables constraints tail)) in
-    record { variables = k.variables; tail = k.tail; objective = k.objective; comments = k.comments; constraints = k.constraints }
 adds (Comment text ∷ events) b =
     let k = adds events (one_more b (Comment text)) in
     record { variables = k.variables; tail = k.tail; objective = k.objective; comments = k.comments ∙ append_assoc b.instance.comments (comment_at b.ended text ∷ []) (comments_in b.ended events); constraints = k.constraints }
-adds (Objective terms ∷ events) b =
-    let k = adds events (one_more b (Objective terms)) in
-    record { variables = k.variables; tail = k.tail; objective = k.objective; comments = k.comments; constraints = k.constraints }
 adds (Constraint linear ∷ events) b =
     let k = adds events (one_more b (Constraint linear)) in
     record { variables = k.variables; tail = k.tail; objective = k.objective; comments = k.comments; constraints = k.constraints ∙ append_assoc b.instance.constraints (linear ∷ []) (constraints_in events) }
+adds (e ∷ events) b =
+    let k = adds events (one_more b e) in
+    record { variables = k.variables; tail = k.tail; objective = k.objective; comments = k.comments; constraints = k.constraints }
 
 ended_after : (events : List OpbEvent) (b : InstanceSoFar) → (gathered one_more b events).ended ≡ b.ended + counted_statements events
 ended_after [] b = omega arith
-ended_after (Header variables constraints tail ∷ events) b = ended_after events (one_more b (Header variables constraints tail))
-ended_after (Comment text ∷ events) b = ended_after events (one_more b (Comment text))
-ended_after (Objective terms ∷ events) b = let k = ended_after events (one_more b (Objective terms)) in omega (arith, k)
-ended_after (Constraint linear ∷ events) b = let k = ended_after events (one_more b (Constraint linear)) in omega (arith, k)
+ended_after (e ∷ events) b = grind (arith, ended_after events (one_more b e))
 
 value_of : (events : List OpbEvent) (b v : InstanceSoFar) → b.instance ≡ nothing → b.ended ≡ 0 → v ≡ gathered one_more b events → IsValueOf events v.instance
-value_of events b v i n e =
-    let k = adds events (record { instance = nothing; ended = 0 }) in
-    let same : b ≡ record { instance = nothing; ended = 0 } = rw (i, n) refl in
-    let is : v.instance ≡ (gathered one_more (record { instance = nothing; ended = 0 }) events).instance = ap (λ (x : InstanceSoFar). x.instance) (e ∙ ap (λ (x : InstanceSoFar). gathered one_more x events) same) in
-    record {
-      variables = ap (λ (x : Instance). x.variables) is ∙ k.variables;
-      tail = ap (λ (x : Instance). x.tail) is ∙ k.tail;
-      objective = ap (λ (x : Instance). x.objective) is ∙ k.objective;
-      comments = ap (λ (x : Instance). x.comments) is ∙ k.comments;
-      constraints = ap (λ (x : Instance). x.constraints) is ∙ k.constraints;
-    }
+value_of events b v i n e = grind (arith, adds, v.instance)
 
 module _ (format : List (Item OpbEvent) → Type 0) (longest : ℕ) (b : InstanceSoFar) (i : b.instance ≡ nothing) (n : b.ended ≡ 0) (used : List ℕ) where
   pub is_read : (m : Spanned InstanceSoFar) → IsWhole format longest one_more b used m → (let r : Spanned Instance = record { event = m.event.instance; first = m.first; past = m.past } in IsRead format longest IsValueOf used r)

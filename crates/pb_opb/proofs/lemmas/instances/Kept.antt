@@ -16,9 +16,9 @@ objective-within limit terms t (p4, l4, e4, (p3, l3, e3, (p2, l2, e2, h, s), w),
 counts-within : (top n m : ℕ) (tail : List ℕ) (t : List Letter) → SpellsHeader top n m tail t → (n ≤ top) × (m ≤ top)
 counts-within top n m tail t (q1, r1, f1, (q2, r2, f2, (q3, r3, f3, (q4, r4, f4, (q5, r5, f5, (q6, r6, f6, (q7, r7, f7, (rest), v), x6), x5), x4), k), x2), x1) = (v.0, k.0)
 
-comments_fall : (low least all : ℕ) (cs : List comment.Comment) → low ≤ least → AreComments least all cs → AreComments low all cs
-comments_fall low least all [] h k = tt
-comments_fall low least all (c ∷ cs) h k = (omega (arith, k.0), k.1, k.2, k.3)
+comments_fall : (low least all all' : ℕ) (cs : List comment.Comment) → AreComments least all cs → low ≤ least → all ≡ all' → AreComments low all' cs
+comments_fall low least all all' [] k h e = tt
+comments_fall low least all all' (c ∷ cs) k h e = subst (λ (a : ℕ). AreComments low a (c ∷ cs)) e (omega (arith, k.0), k.1, k.2, k.3)
 
 module _ (limit : ℕ) where
   -- no objective, or one before this many constraints, if one may come
@@ -38,13 +38,7 @@ module _ (limit : ℕ) where
     comments : (k : ℕ) → AreComments k (k + (n + length (objectives_in events))) (comments_in k events)
 
   no_objective : (n : ℕ) (os : List (Option (List Term))) → Objectives false n os → os ≡ []
-  no_objective n [] h = refl
-  no_objective n (None ∷ rest) h = absurd h
-  no_objective n (Some t ∷ []) h = cc
-  no_objective n (Some t ∷ x ∷ rest) h = absurd h
-
-  objectives-more : (objective_allowed : Bool) (n : ℕ) (os : List (Option (List Term))) → Objectives false n os → Objectives objective_allowed (suc n) os
-  objectives-more objective_allowed n os h = subst (Objectives objective_allowed (suc n)) (sym (no_objective n os h)) tt
+  no_objective n os h = grind arith
 
   reported-entry : (objective_allowed : Bool) (n : ℕ) (text : List Letter) (e : OpbEvent) (rest : List (Item OpbEvent))
       → ((m : Bool) (k : ℕ) → IsCounted limit m k rest → WasReported m k (events_of rest))
@@ -69,10 +63,7 @@ module _ (limit : ℕ) where
         count = r.count;
         constraints = r.constraints;
         objectives = subst (λ (os : List (Option (List Term))). Objectives objective_allowed (suc n) (Some t ∷ os)) (sym none) (h.0, objective-within limit t text h.1, omega arith);
-        comments = λ k.
-            let e : k + 1 + (suc n + length (objectives_in (events_of rest))) ≡ k + (suc n + suc (length (objectives_in (events_of rest)))) = omega arith in
-            comments_fall k (k + 1) (k + (suc n + suc (length (objectives_in (events_of rest))))) (comments_in (k + 1) (events_of rest)) (omega arith)
-            (subst (λ (a : ℕ). AreComments (k + 1) a (comments_in (k + 1) (events_of rest))) e (r.comments (k + 1)));
+        comments = λ k. comments_fall k (k + 1) _ _ _ (r.comments (k + 1)) (omega arith) (omega arith);
       }
   reported-entry objective_allowed n text (Constraint l) rest ih h =
       let r : WasReported false n (events_of rest) = ih false n h.1 in
@@ -81,11 +72,8 @@ module _ (limit : ℕ) where
         tails = r.tails;
         count = ap suc r.count;
         constraints = (linear-within White limit l text h.0, r.constraints);
-        objectives = objectives-more objective_allowed n (objectives_in (events_of rest)) r.objectives;
-        comments = λ k.
-            let e : k + 1 + (n + length (objectives_in (events_of rest))) ≡ k + (suc n + length (objectives_in (events_of rest))) = omega arith in
-            comments_fall k (k + 1) (k + (suc n + length (objectives_in (events_of rest)))) (comments_in (k + 1) (events_of rest)) (omega arith)
-            (subst (λ (a : ℕ). AreComments (k + 1) a (comments_in (k + 1) (events_of rest))) e (r.comments (k + 1)));
+        objectives = subst (Objectives objective_allowed (suc n)) (sym (no_objective n (objectives_in (events_of rest)) r.objectives)) tt;
+        comments = λ k. comments_fall k (k + 1) _ _ _ (r.comments (k + 1)) (omega arith) (omega arith);
       }
 
   pub reported : (objective_allowed : Bool) (n : ℕ) (items : List (Item OpbEvent)) → IsCounted limit objective_allowed n items → WasReported objective_allowed n (events_of items)
@@ -95,22 +83,13 @@ module _ (limit : ℕ) where
   reported objective_allowed (suc n) (i ∷ rest) h = reported-entry objective_allowed n i.text i.event rest (λ m k b. reported m k rest b) h.1
 
   objective-value : (n : ℕ) (os : List (Option (List Term))) (cs : List Linear) → length cs ≡ n → Objectives true n os → IsObjective limit cs (last_or None os)
-  objective-value n [] cs e h = tt
-  objective-value n (None ∷ rest) cs e h = absurd h
-  objective-value n (Some t ∷ []) cs e h = (omega (arith, e, h.2), h.1)
-  objective-value n (Some t ∷ x ∷ rest) cs e h = absurd h
+  objective-value n os cs e h = grind arith
 
   objectives-count : (n : ℕ) (os : List (Option (List Term))) → Objectives true n os → (length os ≡ is_one (last_or None os)) × (length os ≤ 1)
-  objectives-count n [] h = (refl, omega arith)
-  objectives-count n (None ∷ rest) h = absurd h
-  objectives-count n (Some t ∷ []) h = (refl, omega arith)
-  objectives-count n (Some t ∷ x ∷ rest) h = absurd h
+  objectives-count n os h = grind arith
 
 begun : (limit top : ℕ) (i : Item OpbEvent) (rest : List (Item OpbEvent)) (e : OpbEvent) (v : Instance) → IsBegun limit top i rest e → IsValueOf (e ∷ events_of rest) v
     → IsInstanceValue limit top v × IsOneHeader (e ∷ events_of rest) v
-begun limit top i rest (Comment t) v h k = absurd h
-begun limit top i rest (Objective t) v h k = absurd h
-begun limit top i rest (Constraint l) v h k = absurd h
 begun limit top i rest (Header n m tail) v h k =
     let events : List OpbEvent = events_of rest in
     let r = reported limit true m rest (counted limit m rest h.3) in
@@ -137,6 +116,7 @@ begun limit top i rest (Header n m tail) v h k =
         one_objective = o.1;
       },
     )
+begun limit top i rest _ v h k = absurd h
 
 pub instance_values : InstanceValues
 instance_values limit top [] v h k = absurd h

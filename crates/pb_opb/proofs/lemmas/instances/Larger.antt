@@ -40,7 +40,7 @@ module _ (limit limit' : ℕ) (h : limit ≤ limit') where
       (after_it MinPrefix (Spells White limit part.TheVariants.Sum (sum.TheVariants.Sum xs)) (Spells White limit' part.TheVariants.Sum (sum.TheVariants.Sum xs)) t
       (λ q r. spells_larger White limit limit' h part.TheVariants.Sum q (sum.TheVariants.Sum xs) r) (objective_parts limit xs t k))
 
-  entry_grows : (objective_allowed : Bool) (n : ℕ) (text : List Letter) (P Q : Bool → ℕ → Type 0) → ((m : Bool) (k : ℕ) → P m k → Q m k) → (e : OpbEvent)
+  pub entry_grows : (objective_allowed : Bool) (n : ℕ) (text : List Letter) (P Q : Bool → ℕ → Type 0) → ((m : Bool) (k : ℕ) → P m k → Q m k) → (e : OpbEvent)
       → IsEntry limit objective_allowed n text P e → IsEntry limit' objective_allowed n text Q e
   entry_grows objective_allowed n text P Q f (Header variables constraints tail) k = absurd k
   entry_grows objective_allowed n text P Q f (Comment bytes) k = (k.0, k.1, f objective_allowed (suc n) k.2)

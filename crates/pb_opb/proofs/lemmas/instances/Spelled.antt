@@ -1,8 +1,8 @@
 -- The canonical text of an instance is one of its texts.
 use Rattle.pb_opb.proofs.Common.{ℕ, ◌++◌, ◌+◌, ◌<◌, ◌^◌, ◌∙◌, ◌∷◌, ◌≡◌, ◌≤◌, [], ap, append-nil, append_assoc, arith, Bool, drop, false, IsTrue}
 use Rattle.pb_opb.proofs.Common.{length, List, refl, suc, sym, take, true, zero, decimal, AreTerms, head_bytes, linear_bytes, linear_text, space}
-use Rattle.pb_opb.proofs.Common.{sum_text, Linear, Term, White, decimal-digits, bytes-append, bytes-digits, bytes-plain, IsInLine, is_white, Each}
-use Rattle.pb_opb.proofs.Common.{unmarked, bytes, bytes_of, digits_of, Item, Letter, letters_of, plain, comment_events, constraint_events, due}
+use Rattle.pb_opb.proofs.Common.{sum_text, Linear, Term, White, decimal-digits, bytes-append, bytes-digits, bytes-plain, IsInLine, is_white, Each, ◌⋅◌, Blanks0, Blanks1, Byte, Bytes, Language, Count, Whites0}
+use Rattle.pb_opb.proofs.Common.{unmarked, bytes, bytes_of, digits_of, Item, Letter, plain, comment_events, constraint_events, due}
 use Rattle.pb_opb.proofs.Common.{event_bytes, header_bytes, in_order, lines, objective_bytes, OpbEvent, Comment, Constraint, Header, Objective}
 use Rattle.pb_opb.proofs.Common.{led_lines, constraint_word, min_word, SpellsComment, SpellsHeader, SpellsObjective, variable_word, AreLinears}
 use Rattle.pb_sums.proofs.lemmas.values.CanonicalLaws.{linear-spelled, sum-spelled, bytes-linear, bytes-sum}
@@ -39,82 +39,36 @@ text_of (Objective terms) = objective_text terms
 text_of (Constraint linear) = linear_text linear
 
 -- They are texts of their statements.
+blanks : Blanks0 space
+blanks = (32 ∷ [], (refl, tt), refl)
+
+-- a word, and a count
+field-spelled : (top n : ℕ) (P : Language) (p : List Letter) (w : List ℕ) → top < 2 ^ 63 → n ≤ top → P p → (P ⋅ Bytes w ⋅ Blanks0 ⋅ Count top n) (p ++ plain w ++ space ++ digits_of (decimal n))
+field-spelled top n P p w t h k =
+    (p ++ plain w ++ space, digits_of (decimal n), refl, (p ++ plain w, space, refl, (p, plain w, refl, k, refl), blanks), (h, decimal-digits n (omega arith)))
+
 pub header-spelled : (top n m : ℕ) (tail : List ℕ) → top < 2 ^ 63 → n ≤ top → m ≤ top → SpellsHeader top n m tail (header_text n m tail)
 header-spelled top n m tail t h k =
-    let N : List Letter = digits_of (decimal n) in
-    let M : List Letter = digits_of (decimal m) in
-    let V : List Letter = plain variable_word in
-    let C : List Letter = plain constraint_word in (
-      star ++ space ++ V ++ space ++ N ++ space ++ C ++ space ++ M ++ plain tail,
-      feed,
-      refl,
-      (
-        star ++ space ++ V ++ space ++ N ++ space ++ C ++ space ++ M,
-        plain tail,
-        refl,
-        (
-          star ++ space ++ V ++ space ++ N ++ space ++ C ++ space,
-          M,
-          refl,
-          (
-            star ++ space ++ V ++ space ++ N ++ space ++ C,
-            space,
-            refl,
-            (
-              star ++ space ++ V ++ space ++ N ++ space,
-              C,
-              refl,
-              (
-                star ++ space ++ V ++ space ++ N,
-                space,
-                refl,
-                (
-                  star ++ space ++ V ++ space,
-                  N,
-                  refl,
-                  (star ++ space ++ V, space, refl, (star ++ space, V, refl, (star, space, refl, refl, (32 ∷ [], (refl, tt), refl)), refl), (32 ∷ [], (refl, tt), refl)),
-                  (h, decimal-digits n (omega arith)),
-                ),
-                (32, [], refl, tt, refl),
-              ),
-              refl,
-            ),
-            (32 ∷ [], (refl, tt), refl),
-          ),
-          (k, decimal-digits m (omega arith)),
-        ),
-        refl,
-      ),
-      refl,
-    )
+    let F : List Letter = star ++ space ++ plain variable_word ++ space ++ digits_of (decimal n) in
+    let S : List Letter = F ++ space ++ plain constraint_word ++ space ++ digits_of (decimal m) in
+    let f = field-spelled top n (Byte 42 ⋅ Blanks0) (star ++ space) variable_word t h (star, space, refl, refl, blanks) in
+    let s = field-spelled top m (Byte 42 ⋅ Blanks0 ⋅ Bytes variable_word ⋅ Blanks0 ⋅ Count top n ⋅ Blanks1) (F ++ space) constraint_word t k (F, space, refl, f, (32, [], refl, tt, refl)) in
+    (S ++ plain tail, feed, refl, (S, plain tail, refl, s, refl), refl)
 
 comment-spelled : (text : List ℕ) → SpellsComment text (comment_text text)
 comment-spelled text = (star ++ plain text, feed, refl, (star, plain text, refl, refl, refl), refl)
 
 objective-spelled : (limit : ℕ) (terms : List Term) → limit < 2 ^ 127 → AreTerms limit terms → SpellsObjective limit terms (objective_text terms)
-objective-spelled limit [] l h =
-    let W : List Letter = plain min_word in (
-      W ++ space ++ [] ++ [],
-      unmarked 59 ∷ [],
-      refl,
-      (W ++ space ++ [], [], refl, (W ++ space, [], refl, (W, space, refl, refl, (32 ∷ [], (refl, tt), refl)), refl), ([], tt, refl)),
-      refl,
-    )
-objective-spelled limit (x ∷ xs) l h =
+objective-spelled limit terms l h =
     let W : List Letter = plain min_word in
-    let S : List Letter = sum_text (x ∷ xs) in (
-      W ++ space ++ S ++ space,
-      unmarked 59 ∷ [],
-      refl,
-      (
-        W ++ space ++ S,
-        space,
-        refl,
-        (W ++ space, S, refl, (W, space, refl, refl, (32 ∷ [], (refl, tt), refl)), sum-spelled limit (omega arith) White (x ∷ xs) h),
-        (32 ∷ [], (refl, tt), refl),
-      ),
-      refl,
-    )
+    let S : List Letter = sum_text terms in
+    let lead : (Bytes min_word ⋅ Whites0) (W ++ space) = (W, space, refl, refl, (32 ∷ [], (refl, tt), refl)) in
+    let sum = sum-spelled limit (omega arith) White terms h in
+    (W ++ space ++ S ++ following terms, unmarked 59 ∷ [], refl, (W ++ space ++ S, following terms, refl, (W ++ space, S, refl, lead, sum), whites terms), refl)
+  where
+    whites : (xs : List Term) → Whites0 (following xs)
+    whites [] = ([], tt, refl)
+    whites (x ∷ xs) = (32 ∷ [], (refl, tt), refl)
 
 -- Their bytes.
 regrouped : (a b c d e f g h i j k : List Letter) → a ++ b ++ c ++ d ++ e ++ f ++ g ++ h ++ i ++ j ++ k ≡ a ++ (b ++ (c ++ (d ++ (e ++ (f ++ (g ++ (h ++ (i ++ (j ++ k)))))))))
@@ -150,10 +104,7 @@ head-bytes [] = refl
 head-bytes (x ∷ xs) = bytes-append (sum_text (x ∷ xs)) space ∙ ap (λ y. y ++ (32 ∷ [])) (bytes-sum (x ∷ xs))
 
 objective-bytes : (terms : List Term) → bytes (objective_text terms) ≡ objective_bytes terms
-objective-bytes terms =
-    let E : List Letter = unmarked 59 ∷ [] in
-    ap bytes (regrouped5 (plain min_word) space (sum_text terms) (following terms) E)
-    ∙ ap (λ y. min_word ++ (32 ∷ y)) (bytes-append (sum_text terms ++ following terms) E ∙ ap (λ y. y ++ (59 ∷ [])) (head-bytes terms))
+objective-bytes terms = grind (arith, regrouped5, bytes-append, head-bytes)
 
 -- Statements with white space before them: a line feed, unless the statement before ended with one.
 abbrev gap_of : Bool → List ℕ
@@ -189,9 +140,7 @@ AreMain [] = Unit {0}
 AreMain (e ∷ events) = IsMain e × AreMain events
 
 pub item-bytes : (i : Item OpbEvent) (rest : List (Item OpbEvent)) → bytes_of (i ∷ rest) ≡ i.gap ++ (bytes i.text ++ bytes_of rest)
-item-bytes i rest =
-    bytes-append (plain i.gap) (i.text ++ letters_of rest)
-    ∙ (ap (λ y. y ++ bytes (i.text ++ letters_of rest)) (bytes-plain i.gap) ∙ ap (λ y. i.gap ++ y) (bytes-append i.text (letters_of rest)))
+item-bytes i rest = grind (arith, bytes-append, i.gap, i.text, bytes-plain)
 
 lead-first : (remaining : Bool) (e : OpbEvent) (events : List OpbEvent) → gap_of remaining ++ (event_bytes e ++ led_lines events) ≡ lead remaining (e ∷ events)
 lead-first true e events = refl
@@ -222,13 +171,9 @@ comments-bytes (c ∷ cs) e events ih remaining =
     ∙ (ap (λ y. gap_of remaining ++ y) (append_assoc (42 ∷ c.text) (10 ∷ []) (lines rest))
     ∙ (ap (λ y. gap_of remaining ++ ((42 ∷ c.text) ++ y)) (led-between (comment_events cs) e events) ∙ lead-first remaining (Comment c.text) rest))))
 
-none-bytes : (remaining : Bool) → bytes_of (spelled remaining []) ≡ lead remaining []
-none-bytes true = refl
-none-bytes false = refl
-
 -- the bytes of statements in order are their lines
 pub body-bytes : (events : List OpbEvent) → AreMain events → (n : ℕ) (cs : List comment.Comment) (remaining : Bool) → bytes_of (spelled remaining (in_order n cs events)) ≡ lead remaining (in_order n cs events)
-body-bytes [] h n cs remaining = none-bytes remaining
+body-bytes [] h n cs remaining = grind arith
 body-bytes (e ∷ events) h n cs remaining =
     let later : List comment.Comment = drop (due n cs) cs in
     comments-bytes (take (due n cs) cs) e (in_order (n + 1) later events)

@@ -1,6 +1,6 @@
 -- What is written for an instance, in parts.
-use Rattle.pb_opb.proofs.Common.{ℕ, ◌++◌, ◌+◌, ◌<◌, ◌∙◌, ◌∷◌, ◌≡◌, ◌≤◌, [], ap, append-nil, append_assoc, ap₂, arith, drop, get_or, length, List}
-use Rattle.pb_opb.proofs.Common.{None, Option, refl, Some, suc, sym, take, zero, drop-cons, drop_all, take_more, linear_bytes, sum_bytes, Linear}
+use Rattle.pb_opb.proofs.Common.{ℕ, ◌++◌, ◌+◌, ◌<◌, ◌∙◌, ◌∷◌, ◌≡◌, [], ap, append-nil, append_assoc, arith, drop, get_or, length, List}
+use Rattle.pb_opb.proofs.Common.{None, Option, refl, Some, suc, sym, take, zero, drop-cons, take_more, linear_bytes, sum_bytes, Linear}
 use Rattle.pb_opb.proofs.Common.{Term, body_events, comment_events, constraint_events, due, event_bytes, in_order, lines, objective_bytes}
 use Rattle.pb_opb.proofs.Common.{objective_events, OpbEvent, Constraint, Objective, Instance, led_lines, min_word}
 use Rattle.pb_opb.specs.declared.instance.Comment.{Comment}
@@ -12,9 +12,7 @@ objective_parts (x ∷ xs) h = ap (λ (z : List ℕ). min_word ++ (32 ∷ z)) (a
 
 pub led-append : (xs ys : List OpbEvent) → led_lines (xs ++ ys) ≡ led_lines xs ++ led_lines ys
 led-append [] ys = refl
-led-append (x ∷ xs) ys =
-    ap (λ (z : List ℕ). 10 ∷ (event_bytes x ++ z)) (led-append xs ys)
-    ∙ ap (λ (z : List ℕ). 10 ∷ z) (sym (append_assoc (event_bytes x) (led_lines xs) (led_lines ys)))
+led-append (x ∷ xs) ys = simp (led-append xs ys, append_assoc)
 
 -- Lines with a line feed between two, and with one before each.
 pub led-lines : (e : OpbEvent) (events : List OpbEvent) → 10 ∷ lines (e ∷ events) ≡ led_lines (e ∷ events)
@@ -30,17 +28,15 @@ comments_more cs i d h =
   where
     comments-append : (xs : List Comment) (x : Comment) → led_lines (comment_events (xs ++ x ∷ [])) ≡ led_lines (comment_events xs) ++ (10 ∷ 42 ∷ x.text)
     comments-append [] x = ap (λ (z : List ℕ). 10 ∷ 42 ∷ z) (append-nil x.text)
-    comments-append (y ∷ xs) x =
-        ap (λ (z : List ℕ). 10 ∷ 42 ∷ (y.text ++ z)) (comments-append xs x)
-        ∙ ap (λ (z : List ℕ). 10 ∷ 42 ∷ z) (sym (append_assoc y.text (led_lines (comment_events xs)) (10 ∷ 42 ∷ x.text)))
+    comments-append (y ∷ xs) x = simp (comments-append xs x, append_assoc)
 
 pub comments_at : (cs : List Comment) (i : ℕ) (d : Comment) → i < length cs →
     led_lines (comment_events cs) ≡ led_lines (comment_events (take i cs)) ++ ((10 ∷ 42 ∷ (get_or cs i d).text) ++ led_lines (comment_events (drop (suc i) cs)))
 comments_at [] i d h = absurd (omega arith)
 comments_at (c ∷ cs) zero d h = refl
 comments_at (c ∷ cs) (suc i) d h =
-    ap (λ (z : List ℕ). 10 ∷ 42 ∷ (c.text ++ z)) (comments_at cs i d (omega arith))
-    ∙ ap (λ (z : List ℕ). 10 ∷ 42 ∷ z) (sym (append_assoc c.text (led_lines (comment_events (take i cs))) ((10 ∷ 42 ∷ (get_or cs i d).text) ++ led_lines (comment_events (drop (suc i) cs)))))
+    let rest = comments_at cs i d (omega arith) in
+    rw rest (simp append_assoc)
 
 -- A statement with the comments before it, and then the other statements.
 pub in_order_parts : (n : ℕ) (cs : List Comment) (e : OpbEvent) (events : List OpbEvent) →
@@ -54,40 +50,16 @@ pub constraint_turn : (whole prefix : List ℕ) (n i k : ℕ) (rest before later
     → whole ≡ prefix ++ led_lines (in_order (n + i) rest (constraint_events (drop i cs)))
     → whole ≡ prefix ++ (led_lines (comment_events before)
     ++ ((10 ∷ linear_bytes x) ++ led_lines (in_order (n + (i + 1)) later (constraint_events (drop (i + 1) cs)))))
-constraint_turn whole prefix n i k rest before later cs x h q b l f e =
-    let one : suc i ≡ i + 1 = omega arith in
-    let next : n + i + 1 ≡ n + (i + 1) = omega arith in
-    let now : take (due (n + i) rest) rest ≡ before = ap (λ (m : ℕ). take m rest) (sym q) ∙ sym b in
-    let then : drop (due (n + i) rest) rest ≡ later = ap (λ (m : ℕ). drop m rest) (sym q) ∙ sym l in
-    let T : List Comment → Linear → ℕ → List Comment → ℕ → List ℕ =
-    λ c y j r m. led_lines (comment_events c) ++ ((10 ∷ linear_bytes y) ++ led_lines (in_order j r (constraint_events (drop m cs)))) in
-    e
-    ∙ ap (λ (z : List ℕ). prefix ++ z)
-    (ap (λ (z : List Linear). led_lines (in_order (n + i) rest (constraint_events z))) (drop-cons cs i x h)
-    ∙ (in_order_parts (n + i) rest (Constraint (get_or cs i x)) (constraint_events (drop (suc i) cs))
-    ∙ (ap₂ (λ (c r : List Comment). T c (get_or cs i x) (n + i + 1) r (suc i)) now then
-    ∙ (ap (λ (y : Linear). T before y (n + i + 1) later (suc i)) (sym f)
-    ∙ ap₂ (λ (j m : ℕ). T before x j later m) next one))))
+constraint_turn whole prefix n i k rest before later cs x h q b l f e = grind (arith, drop-cons, led-append)
 
 -- the same, with all that was written before
 pub constraint_done : (whole prefix a b rest : List ℕ) → whole ≡ prefix ++ (a ++ (b ++ rest)) → whole ≡ (prefix ++ (a ++ b)) ++ rest
-constraint_done whole prefix a b rest e =
-    e ∙ (ap (λ (z : List ℕ). prefix ++ z) (sym (append_assoc a b rest)) ∙ sym (append_assoc prefix (a ++ b) rest))
-
--- no constraint is left
-pub constraints_end : (whole prefix : List ℕ) (n i : ℕ) (rest : List Comment) (cs : List Linear) → length cs ≤ i
-    → whole ≡ prefix ++ led_lines (in_order (n + i) rest (constraint_events (drop i cs))) → prefix ≡ whole
-constraints_end whole prefix n i rest cs h e =
-    sym (e ∙ (ap (λ (z : List Linear). prefix ++ led_lines (in_order (n + i) rest (constraint_events z))) (drop_all i cs h) ∙ append-nil prefix))
+constraint_done whole prefix a b rest e = e ∙ simp append_assoc
 
 -- the same for the objective
 pub objective_turn : (k : ℕ) (terms : List Term) (cs before later : List Comment) (events : List OpbEvent) → k ≡ due 0 cs → before ≡ take k cs → later ≡ drop k cs
     → led_lines (in_order 0 cs (Objective terms ∷ events)) ≡ led_lines (comment_events before) ++ ((10 ∷ []) ++ (objective_bytes terms ++ led_lines (in_order 1 later events)))
-objective_turn k terms cs before later events q b l =
-    let now : take (due 0 cs) cs ≡ before = ap (λ (m : ℕ). take m cs) (sym q) ∙ sym b in
-    let then : drop (due 0 cs) cs ≡ later = ap (λ (m : ℕ). drop m cs) (sym q) ∙ sym l in
-    in_order_parts 0 cs (Objective terms) events
-    ∙ ap₂ (λ (c r : List Comment). led_lines (comment_events c) ++ ((10 ∷ objective_bytes terms) ++ led_lines (in_order 1 r events))) now then
+objective_turn k terms cs before later events q b l = rw (b, l, q) (in_order_parts 0 cs (Objective terms) events)
 
 pub led-between : (xs : List OpbEvent) (e : OpbEvent) (ys : List OpbEvent) → 10 ∷ lines (xs ++ e ∷ ys) ≡ led_lines (xs ++ e ∷ ys)
 led-between [] e ys = led-lines e ys
@@ -102,6 +74,4 @@ body_without v e h = ap (λ (o : Option (List Term)). 10 ∷ lines (in_order 0 v
     some cs (l ∷ ls) h = led-between (comment_events (take (due 0 cs) cs)) (Constraint l) (in_order 1 (drop (due 0 cs) cs) (constraint_events ls))
 
 pub body_with : (v : Instance) (terms : List Term) → v.objective ≡ Some terms → 10 ∷ lines (body_events v) ≡ led_lines (in_order 0 v.comments (Objective terms ∷ constraint_events v.constraints))
-body_with v terms e =
-    ap (λ (o : Option (List Term)). 10 ∷ lines (in_order 0 v.comments (objective_events o ++ constraint_events v.constraints))) e
-    ∙ led-between (comment_events (take (due 0 v.comments) v.comments)) (Objective terms) (in_order 1 (drop (due 0 v.comments) v.comments) (constraint_events v.constraints))
+body_with v terms e = grind (arith, v.comments, v.constraints, led-between)

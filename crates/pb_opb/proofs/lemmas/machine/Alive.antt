@@ -1,5 +1,5 @@
 -- Each state that a machine of instances can be in accepts some text.
-use Rattle.pb_opb.proofs.Common.{ℕ, ◌+◌, ◌-◌, ◌<◌, ◌∙◌, ◌≡◌, [], ap, arith, Bool, cond, false, le-leb, length, List, nat_eq, refl, subst, suc, sym}
+use Rattle.pb_opb.proofs.Common.{ℕ, ◌+◌, ◌-◌, ◌<◌, ◌≡◌, [], ap, arith, Bool, cond, false, le-leb, length, List, nat_eq, refl, subst, suc, sym}
 use Rattle.pb_opb.proofs.Common.{true, zero, slice_index, eq-eqb, ne_eqb, reads_something, SumEvent, sums, SumState, accepted, before, final, IsAlive}
 use Rattle.pb_opb.proofs.Common.{AcceptsItems, ReadsStatement, Item, Letter, OpbEvent, Stop, To, Field, Constraints, Variables, Phase, count}
 use Rattle.pb_opb.proofs.Common.{transition, word_of, Holds, IsIdle, IsInOrder, PhaseFits, act, after, between, giving, is_done, objectives, opb}
@@ -16,9 +16,6 @@ use Rattle.pb_opb.proofs.lemmas.machine.Stands.{stands}
 sums_end : (inner : SumState) → sums.done inner ≡ false → (text : List Letter) × (event : SumEvent) × (last : SumState) × ReadsStatement sums inner text event last
 sums_end inner h = reads_something inner.spaces inner.part inner.limit inner.work h
 
-one_less : (n : ℕ) → suc n - 1 ≡ n
-one_less n = omega arith
-
 -- after any statement the constraints that are still to come can be read
 pub owed_read : (s : OpbState) (objective_allowed : Bool) (remaining : ℕ) → (items : List (Item OpbEvent)) × AcceptsItems opb (between s objective_allowed remaining) items
 owed_read s objective_allowed zero = ([], refl)
@@ -26,13 +23,14 @@ owed_read s objective_allowed (suc n) =
     let mid = giving (between s objective_allowed (suc n)) phase.TheVariants.Constraint (record { spaces = grammar.TheVariants.White; part = part.TheVariants.Linear; limit = s.limit; work = record { terms = []; name = []; phase = sum_phase.TheVariants.Greater } }) in
     let r = sums_end mid.sums refl in
     let more = owed_read s false n in
+    let less : suc n - 1 ≡ n = omega arith in
     accepted opb (between s objective_allowed (suc n)) (before opb (between s objective_allowed (suc n)) mid 62 refl refl (record {
       text = r.0;
       event = statement_of r.1;
       after = after (between s objective_allowed (suc n)) phase.TheVariants.Constraint;
       reads = within_reads (between s objective_allowed (suc n)) phase.TheVariants.Constraint gives_constraint r.0 mid.sums r.1 r.2 r.3;
       rest = more.0;
-      accepts = subst (λ (k : ℕ). AcceptsItems opb (between s false k) more.0) (sym (one_less n)) more.1;
+      accepts = subst (λ (k : ℕ). AcceptsItems opb (between s false k) more.0) (sym less) more.1;
     }))
 
 -- a state in which bytes are given to the machine of sums is alive
@@ -71,42 +69,43 @@ module _ (limit top : ℕ) where
         before opb s (at_phase (phase.TheVariants.Word f (k + 1))) b (ap (act s b) (spelled f k false (ne_eqb (k + 1) (length (word_of f)) (λ h. omega (arith, e, h))))) refl
         (word_further f whole left (k + 1) (omega (arith, e)))
 
+    -- before a word or a count, if what comes after it can be read
+    count_follows : (f : Field) → IsAlive opb (at_phase (phase.TheVariants.Count f 0)) → IsAlive opb (at_phase (phase.TheVariants.BeforeCount f))
+    count_follows f counted =
+        let s = at_phase (phase.TheVariants.BeforeCount f) in
+        before opb s (at_phase (phase.TheVariants.Count f 0)) 48 (ap (act s 48) (zero_counts f)) refl counted
+
+    word_begun : (f : Field) (k : ℕ) → IsAlive opb (at_phase (phase.TheVariants.BeforeCount f)) → k < length (word_of f) → IsAlive opb (at_phase (phase.TheVariants.Word f k))
+    word_begun f k whole h = word_further f whole (length (word_of f) - suc k) k (omega (arith, h))
+
+    word_follows : (f : Field) → IsAlive opb (at_phase (phase.TheVariants.BeforeCount f)) → IsAlive opb (at_phase (phase.TheVariants.BeforeWord f))
+    word_follows f whole =
+        before opb (at_phase (phase.TheVariants.BeforeWord f)) (at_phase (phase.TheVariants.Word f 1)) 35 refl refl (word_begun f 1 whole (grind arith))
+
     constraints_counted : (n : ℕ) → IsAlive opb (at_phase (phase.TheVariants.Count Constraints n))
     constraints_counted n =
         let s = at_phase (phase.TheVariants.Count Constraints n) in
         let more = owed_read s true n in
         final opb s (between s true n) 10 (event.TheVariants.Header variables n []) refl more.0 more.1
 
-    before_constraints : IsAlive opb (at_phase (phase.TheVariants.BeforeCount Constraints))
-    before_constraints =
-        let s = at_phase (phase.TheVariants.BeforeCount Constraints) in
-        before opb s (at_phase (phase.TheVariants.Count Constraints 0)) 48 (ap (act s 48) (zero_counts Constraints)) refl (constraints_counted 0)
-
-    before_constraint_word : IsAlive opb (at_phase (phase.TheVariants.BeforeWord Constraints))
-    before_constraint_word =
-        before opb (at_phase (phase.TheVariants.BeforeWord Constraints)) (at_phase (phase.TheVariants.Word Constraints 1)) 35 refl refl
-        (word_further Constraints before_constraints 10 1 refl)
-
   module _ (variables remaining : ℕ) where
     abbrev in_phase : Phase → OpbState
     in_phase p = idle variables remaining p
 
-    variables_counted : (n : ℕ) → IsAlive opb (in_phase (phase.TheVariants.Count Variables n))
-    variables_counted n =
-        before opb (in_phase (phase.TheVariants.Count Variables n)) (idle n remaining (phase.TheVariants.BeforeWord Constraints)) 32 refl refl (before_constraint_word n remaining)
+    counted : (f : Field) (n : ℕ) → IsAlive opb (in_phase (phase.TheVariants.Count f n))
+    counted Constraints n = constraints_counted variables remaining n
+    counted Variables n =
+        before opb (in_phase (phase.TheVariants.Count Variables n)) (idle n remaining (phase.TheVariants.BeforeWord Constraints)) 32 refl refl
+        (word_follows n remaining Constraints (count_follows n remaining Constraints (constraints_counted n remaining 0)))
 
-    before_variables : IsAlive opb (in_phase (phase.TheVariants.BeforeCount Variables))
-    before_variables =
-        let s = in_phase (phase.TheVariants.BeforeCount Variables) in
-        before opb s (in_phase (phase.TheVariants.Count Variables 0)) 48 (ap (act s 48) (zero_counts Variables)) refl (variables_counted 0)
+    count_owed : (f : Field) → IsAlive opb (in_phase (phase.TheVariants.BeforeCount f))
+    count_owed f = count_follows variables remaining f (counted f 0)
 
-    before_variable_word : IsAlive opb (in_phase (phase.TheVariants.BeforeWord Variables))
-    before_variable_word =
-        before opb (in_phase (phase.TheVariants.BeforeWord Variables)) (in_phase (phase.TheVariants.Word Variables 1)) 35 refl refl
-        (word_further variables remaining Variables before_variables 8 1 refl)
+    word_owed : (f : Field) → IsAlive opb (in_phase (phase.TheVariants.BeforeWord f))
+    word_owed f = word_follows variables remaining f (count_owed f)
 
     started : IsAlive opb (in_phase phase.TheVariants.Start)
-    started = before opb (in_phase phase.TheVariants.Start) (in_phase (phase.TheVariants.BeforeWord Variables)) 42 refl refl before_variable_word
+    started = before opb (in_phase phase.TheVariants.Start) (in_phase (phase.TheVariants.BeforeWord Variables)) 42 refl refl (word_owed Variables)
 
     -- an objective without terms
     objective_owed : (after_min : OpbState) → after_min ≡ giving (in_phase phase.TheVariants.AfterMin) phase.TheVariants.AfterMin (objectives limit) → IsAlive opb after_min
@@ -115,34 +114,17 @@ module _ (limit top : ℕ) where
         let more = owed_read t false remaining in
         subst (IsAlive opb) (sym e) (final opb t (between t false remaining) 59 (event.TheVariants.Objective []) refl more.0 more.1)
 
+    min_3 : IsAlive opb (in_phase (phase.TheVariants.Min 3))
+    min_3 = before opb (in_phase (phase.TheVariants.Min 3)) (giving (in_phase phase.TheVariants.AfterMin) phase.TheVariants.AfterMin (objectives limit)) 58 refl refl (objective_owed _ refl)
+
+    min_2 : IsAlive opb (in_phase (phase.TheVariants.Min 2))
+    min_2 = before opb (in_phase (phase.TheVariants.Min 2)) (in_phase (phase.TheVariants.Min 3)) 110 refl refl min_3
+
     min_begun : (k : ℕ) → 0 < k → k < 4 → IsAlive opb (in_phase (phase.TheVariants.Min k))
-    min_begun zero h i = absurd (omega arith)
-    min_begun (suc zero) h i = before opb (in_phase (phase.TheVariants.Min 1)) (in_phase (phase.TheVariants.Min 2)) 105 refl refl (min_begun_2)
-      where
-        min_begun_3 : IsAlive opb (in_phase (phase.TheVariants.Min 3))
-        min_begun_3 = before opb (in_phase (phase.TheVariants.Min 3)) (giving (in_phase phase.TheVariants.AfterMin) phase.TheVariants.AfterMin (objectives limit)) 58 refl refl (objective_owed _ refl)
-
-        min_begun_2 : IsAlive opb (in_phase (phase.TheVariants.Min 2))
-        min_begun_2 = before opb (in_phase (phase.TheVariants.Min 2)) (in_phase (phase.TheVariants.Min 3)) 110 refl refl min_begun_3
-    min_begun (suc (suc zero)) h i = before opb (in_phase (phase.TheVariants.Min 2)) (in_phase (phase.TheVariants.Min 3)) 110 refl refl
-        (before opb (in_phase (phase.TheVariants.Min 3)) (giving (in_phase phase.TheVariants.AfterMin) phase.TheVariants.AfterMin (objectives limit)) 58 refl refl (objective_owed _ refl))
-    min_begun (suc (suc (suc zero))) h i = before opb (in_phase (phase.TheVariants.Min 3)) (giving (in_phase phase.TheVariants.AfterMin) phase.TheVariants.AfterMin (objectives limit)) 58 refl refl (objective_owed _ refl)
-    min_begun (suc (suc (suc (suc k)))) h i = absurd (omega arith)
-
-    word_owed : (f : Field) → IsAlive opb (in_phase (phase.TheVariants.BeforeWord f))
-    word_owed Variables = before_variable_word
-    word_owed Constraints = before_constraint_word variables remaining
-
-    count_owed : (f : Field) → IsAlive opb (in_phase (phase.TheVariants.BeforeCount f))
-    count_owed Variables = before_variables
-    count_owed Constraints = before_constraints variables remaining
-
-    word_begun : (f : Field) (k : ℕ) → k < length (word_of f) → IsAlive opb (in_phase (phase.TheVariants.Word f k))
-    word_begun f k h = word_further variables remaining f (count_owed f) (length (word_of f) - suc k) k (omega (arith, h))
-
-    counted : (f : Field) (n : ℕ) → IsAlive opb (in_phase (phase.TheVariants.Count f n))
-    counted Variables n = variables_counted n
-    counted Constraints n = constraints_counted variables remaining n
+    min_begun (suc zero) h i = before opb (in_phase (phase.TheVariants.Min 1)) (in_phase (phase.TheVariants.Min 2)) 105 refl refl min_2
+    min_begun (suc (suc zero)) h i = min_2
+    min_begun (suc (suc (suc zero))) h i = min_3
+    min_begun _ h i = absurd (omega arith)
 
 -- the state, if no byte is stored and the machine of sums is at its start
 is_idle : (s : OpbState) (p : Phase) → s.phase ≡ p → IsIdle s → s ≡ idle s.limit s.top s.variables s.remaining p
@@ -154,24 +136,23 @@ idle_accepts s p e h alive = accepted opb s (subst (IsAlive opb) (sym (is_idle s
 gives_accepts : (s : OpbState) (p : Phase) → s.phase ≡ p → Gives p → sums.done s.sums ≡ false → (items : List (Item OpbEvent)) × AcceptsItems opb s items
 gives_accepts s p e g h = accepted opb s (subst (λ (q : Phase). IsAlive opb (giving s q s.sums)) (sym e) (giving_alive s p g s.sums h))
 
--- a positive count of constraints
-between_accepts : (s : OpbState) (objective_allowed : Bool) (remaining : ℕ) → s.remaining ≡ remaining → 0 < remaining → s.phase ≡ phase.TheVariants.Between objective_allowed → IsIdle s → (items : List (Item OpbEvent)) × AcceptsItems opb s items
-between_accepts s objective_allowed zero o h e i = absurd (omega arith)
-between_accepts s objective_allowed (suc n) o h e i =
-    let more = owed_read s objective_allowed (suc n) in
-    (more.0, subst (λ (t : OpbState). AcceptsItems opb t more.0) (sym (is_idle s (phase.TheVariants.Between objective_allowed) e i ∙ ap (λ (k : ℕ). idle s.limit s.top s.variables k (phase.TheVariants.Between objective_allowed)) o)) more.1)
+-- between two statements, with a positive count of constraints
+is_between : (s : OpbState) (objective_allowed : Bool) → s.phase ≡ phase.TheVariants.Between objective_allowed → 0 < s.remaining → IsIdle s → s ≡ between s objective_allowed s.remaining
+is_between s objective_allowed e o (t, i) = grind (arith, s.remaining)
 
 -- what a state accepts, by what it has read last
 by_phase : (s : OpbState) (p : Phase) → s.phase ≡ p → PhaseFits s.top p → Holds s p → (items : List (Item OpbEvent)) × AcceptsItems opb s items
 by_phase s phase.TheVariants.Start e fits h = idle_accepts s phase.TheVariants.Start e h (started s.limit s.top s.variables s.remaining)
 by_phase s (phase.TheVariants.BeforeWord f) e fits h = idle_accepts s (phase.TheVariants.BeforeWord f) e h (word_owed s.limit s.top s.variables s.remaining f)
-by_phase s (phase.TheVariants.Word f k) e fits h = idle_accepts s (phase.TheVariants.Word f k) e h (word_begun s.limit s.top s.variables s.remaining f k fits)
+by_phase s (phase.TheVariants.Word f k) e fits h = idle_accepts s (phase.TheVariants.Word f k) e h (word_begun s.limit s.top s.variables s.remaining f k (count_owed s.limit s.top s.variables s.remaining f) fits)
 by_phase s (phase.TheVariants.BeforeCount f) e fits h = idle_accepts s (phase.TheVariants.BeforeCount f) e h (count_owed s.limit s.top s.variables s.remaining f)
 by_phase s (phase.TheVariants.Count f n) e fits h = idle_accepts s (phase.TheVariants.Count f n) e h (counted s.limit s.top s.variables s.remaining f n)
 by_phase s phase.TheVariants.Tail e fits h =
     let more = owed_read s true s.remaining in
     accepted opb s (final opb s (between s true s.remaining) 10 (event.TheVariants.Header s.variables s.remaining s.text) (ap (λ (p : Phase). act s 10 (transition s.top p 10)) e) more.0 more.1)
-by_phase s (phase.TheVariants.Between objective_allowed) e fits h = between_accepts s objective_allowed s.remaining refl h.0 e h.1
+by_phase s (phase.TheVariants.Between objective_allowed) e fits h =
+    let more = owed_read s objective_allowed s.remaining in
+    (more.0, subst (λ (t : OpbState). AcceptsItems opb t more.0) (sym (is_between s objective_allowed e h.0 h.1)) more.1)
 by_phase s (phase.TheVariants.Comment objective_allowed) e fits h =
     let more = owed_read s objective_allowed s.remaining in
     accepted opb s (final opb s (between s objective_allowed s.remaining) 10 (event.TheVariants.Comment s.text) (ap (λ (p : Phase). act s 10 (transition s.top p 10)) e) more.0 more.1)

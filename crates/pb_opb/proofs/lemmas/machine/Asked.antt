@@ -1,12 +1,12 @@
 -- If a machine of instances may allocate at a byte, then that byte's position in its statement is one that may
 -- allocate.
-use Rattle.pb_opb.proofs.Common.{ℕ, ◌&&◌, ◌*◌, ◌++◌, ◌+◌, ◌-◌, ◌∙◌, ◌∷◌, ◌≡◌, ◌≤◌, ◌⊎◌, [], ap, append-nil, ap₂, Bool, cond, false, inl, inr, IsTrue}
-use Rattle.pb_opb.proofs.Common.{length, List, nat_eq, nat_le, refl, subst, suc, sym, true, zero, slice_index, cond_both, false≢true, reads_grammar}
+use Rattle.pb_opb.proofs.Common.{ℕ, ◌&&◌, ◌++◌, ◌∙◌, ◌∷◌, ◌≡◌, ◌≤◌, ◌⊎◌, [], ap, append-nil, ap₂, arith, Bool, false, inl, inr, IsTrue}
+use Rattle.pb_opb.proofs.Common.{List, nat_eq, refl, subst, suc, sym, true, zero, cond_both, reads_grammar}
 use Rattle.pb_opb.proofs.Common.{continues-midway, SumEvent, White, sums, SumState, Spells, prefixes_of, reads_after, Walks, never, bytes-append}
-use Rattle.pb_opb.proofs.Common.{bytes-plain, End, Go, MayAsk, Next, ReadsStatement, Refuse, IsInLine, is_blank, is_digit, is_white, ◌⋅◌, Blanks0}
-use Rattle.pb_opb.proofs.Common.{Byte, Bytes, Digits, bytes, Letter, OpbEvent, Comment, Constraint, Header, Objective, Action, EndComment, Keep}
-use Rattle.pb_opb.proofs.Common.{Field, Constraints, Variables, Phase, count, transition, word_of, act, asks, begin, giving, linears, objectives, opb}
-use Rattle.pb_opb.proofs.Common.{OpbState, over, statement_of, constraint_word, IsInstance, IsTail, min_word}
+use Rattle.pb_opb.proofs.Common.{bytes-plain, End, Go, MayAsk, Next, ReadsStatement, IsInLine, is_blank, is_white, ◌⋅◌, Blanks0}
+use Rattle.pb_opb.proofs.Common.{Byte, Bytes, Digits, bytes, Letter, OpbEvent, Comment, Constraint, Header, Objective, Action}
+use Rattle.pb_opb.proofs.Common.{Constraints, Variables, Phase, transition, act, asks, begin, giving, linears, objectives, opb}
+use Rattle.pb_opb.proofs.Common.{OpbState, over, statement_of, constraint_word, IsInstance, IsTail}
 use Rattle.pb_text.specs.meaning.Asking.{AsksOnly}
 use Rattle.pb_text.proofs.lemmas.machine.Asked as asked
 use Rattle.pb_sums.specs.declared.sum_kind.Part as part
@@ -20,10 +20,6 @@ use Rattle.pb_opb.proofs.lemmas.machine.Prefixes.{line_grown, tail_grown}
 use Rattle.pb_opb.proofs.lemmas.machine.HeaderPrefix as header
 use Rattle.pb_opb.proofs.lemmas.machine.GivenBytes.{Gives, gives_objective, gives_constraint, given_step}
 use Rattle.pb_opb.proofs.lemmas.machine.Stands.{idle}
-
--- no byte may allocate if its moves do not
-silent : {A : Type 0} (s : OpbState) (b : ℕ) (m : Action) → asks s b m ≡ false → asks s b m ≡ true → A
-silent s b m e h = absurd (false≢true (sym e ∙ h))
 
 module _ (limit top : ℕ) where
   -- between two statements, or before the first one
@@ -56,9 +52,7 @@ module _ (limit top : ℕ) where
   -- after a statement
   after_header : (e : OpbEvent) (next : OpbState) (t : List Letter) → header.IsHeader limit top e next t → Idle next
   after_header (Header v n tail) next t h = inr (v, true, n, h.2)
-  after_header (Comment line) next t h = absurd h
-  after_header (Objective terms) next t h = absurd h
-  after_header (Constraint linear) next t h = absurd h
+  after_header _ next t h = absurd h
 
   after_entry : (v n : ℕ) (objective_allowed : Bool) (e : OpbEvent) (next : OpbState) (t : List Letter) → entry.IsStatement limit top v n objective_allowed e next t → Idle next
   after_entry v n objective_allowed (Header w k tail) next t h = absurd h
@@ -83,61 +77,24 @@ module _ (limit top : ℕ) where
   tailed s p b h some line (a, c, e, k, is) =
       (s.variables, s.remaining, a, s.text, k, ap bytes e ∙ (bytes-append a c ∙ ap (λ (x : List ℕ). bytes a ++ x) (ap bytes is ∙ bytes-plain s.text)), tail_grown s.text b line some h)
 
-  module _ (s : OpbState) (p : List Letter) (b : ℕ) where
-    -- what follows if a move may allocate
-    abbrev Then : Type 0 → Action → Type 0
-    Then A m = asks s b m ≡ true → A
-
-    quiet : (A : Type 0) (m : Action) → asks s b m ≡ false → Then A m
-    quiet A m e = λ h. silent s b m e h
-
-    count_quiet : (A : Type 0) (f : Field) (n : ℕ) → Then A (count s.top f n b)
-    count_quiet A f n = cond_both (is_digit b && nat_le (10 * n + (b - 48)) s.top) _ _ (Then A) (λ _ h. absurd (false≢true h)) (λ _ h. absurd (false≢true h))
-
-    header_asks : (q : Phase) → header.prefix s q p → Then (AsksHeader s.top (bytes p) b) (transition s.top q b)
-    header_asks phase.TheVariants.Start h = cond_both (nat_eq b 42) _ _ (Then (AsksHeader s.top (bytes p) b)) (λ _ k. absurd (false≢true k)) (λ _ k. absurd (false≢true k))
-    header_asks (phase.TheVariants.BeforeWord f) h =
-        cond_both (is_blank b) _ _ (Then (AsksHeader s.top (bytes p) b)) (λ _ k. absurd (false≢true k))
-        (λ _. cond_both (nat_eq b 35) _ _ (Then (AsksHeader s.top (bytes p) b)) (λ _ k. absurd (false≢true k)) (λ _ k. absurd (false≢true k)))
-    header_asks (phase.TheVariants.Word f j) h =
-        cond_both (nat_eq b (slice_index (word_of f) j)) _ _ (Then (AsksHeader s.top (bytes p) b)) (λ _ k. absurd (false≢true k)) (λ _ k. absurd (false≢true k))
-    header_asks (phase.TheVariants.BeforeCount f) h =
-        cond_both (is_blank b) _ _ (Then (AsksHeader s.top (bytes p) b)) (λ _ k. absurd (false≢true k)) (λ _. count_quiet (AsksHeader s.top (bytes p) b) f 0)
-    header_asks (phase.TheVariants.Count Variables n) h =
-        cond_both (is_digit b) _ _ (Then (AsksHeader s.top (bytes p) b)) (λ _. count_quiet (AsksHeader s.top (bytes p) b) Variables n)
-        (λ _. cond_both (is_blank b) _ _ (Then (AsksHeader s.top (bytes p) b)) (λ _ k. absurd (false≢true k)) (λ _ k. absurd (false≢true k)))
-    header_asks (phase.TheVariants.Count Constraints n) h =
-        cond_both (is_digit b) _ _ (Then (AsksHeader s.top (bytes p) b)) (λ _. count_quiet (AsksHeader s.top (bytes p) b) Constraints n)
-        (λ _. cond_both (nat_eq b 10) _ _ (Then (AsksHeader s.top (bytes p) b)) (λ _ k. absurd (false≢true k))
-        (λ _. cond_both (is_blank b) _ _ (Then (AsksHeader s.top (bytes p) b)) (λ e k. counted s p n b h.0 h.1 e) (λ _ k. absurd (false≢true k))))
-    header_asks phase.TheVariants.Tail h =
-        cond_both (nat_eq b 10) _ _ (Then (AsksHeader s.top (bytes p) b)) (λ _ k. absurd (false≢true k)) (λ e k. tailed s p b h.0 h.1 e h.2)
-    header_asks (phase.TheVariants.Between objective_allowed) h = absurd h
-    header_asks (phase.TheVariants.Comment objective_allowed) h = absurd h
-    header_asks (phase.TheVariants.Min k) h = absurd h
-    header_asks phase.TheVariants.AfterMin h = absurd h
-    header_asks phase.TheVariants.Objective h = absurd h
-    header_asks phase.TheVariants.Constraint h = absurd h
-    header_asks phase.TheVariants.Done h = absurd h
+  header_asks : (s : OpbState) (p : List Letter) (b : ℕ) (q : Phase) → header.prefix s q p → asks s b (transition s.top q b) ≡ true → AsksHeader s.top (bytes p) b
+  header_asks s p b (phase.TheVariants.Count Variables n) h k = absurd (grind arith)
+  header_asks s p b (phase.TheVariants.Count Constraints n) h k = counted s p n b h.0 h.1 (grind arith)
+  header_asks s p b phase.TheVariants.Tail h k = tailed s p b h.0 h.1 (grind arith) h.2
+  header_asks s p b _ h k = absurd (grind arith)
 
   -- the position of a byte that may allocate, by phase
   at_header : (e : OpbEvent) (next : OpbState) (t : List Letter) (text : List ℕ) (b : ℕ) → header.IsHeader limit top e next t → AsksHeader top text b → Asks top e text b
   at_header (Header v n tail) next t text b h a = a
-  at_header (Comment line) next t text b h a = absurd h
-  at_header (Objective terms) next t text b h a = absurd h
-  at_header (Constraint linear) next t text b h a = absurd h
+  at_header _ next t text b h a = absurd h
 
   -- Within a sum, the text is read by the machine of sums.
   module _ (q : Phase) (g : Gives q) where
     went : (s next : OpbState) (x : Next SumState SumEvent) → ◌≡◌ {A = Next OpbState OpbEvent} (over s q x) (Go next) → (inner : SumState) × (x ≡ Go inner) × (next ≡ giving s q inner)
-    went s next (Go inner) e = (inner, refl, (let f : next ≡ giving s q inner = cc in f))
-    went s next (End e' new) e = absurd (let f : ⊥ = cc in f)
-    went s next Refuse e = absurd (let f : ⊥ = cc in f)
+    went s next x e = grind arith
 
     ended : (s next : OpbState) (e : OpbEvent) (x : Next SumState SumEvent) → ◌≡◌ {A = Next OpbState OpbEvent} (over s q x) (End e next) → (f : SumEvent) × (new : SumState) × (x ≡ End f new) × (e ≡ statement_of f)
-    ended s next e (Go inner) h = absurd (let f : ⊥ = cc in f)
-    ended s next e (End f new) h = (f, new, refl, (let k : e ≡ statement_of f = cc in k))
-    ended s next e Refuse h = absurd (let f : ⊥ = cc in f)
+    ended s next e x h = grind arith
 
     sum_reads : (t : List Letter) (s : OpbState) (e : OpbEvent) (next : OpbState) → s.phase ≡ q → ReadsStatement opb s t e next
         → (f : SumEvent) × (new : SumState) × ReadsStatement sums s.sums t f new × (e ≡ statement_of f)
@@ -152,25 +109,30 @@ module _ (limit top : ℕ) where
         (f, new, (inner, i, continues-midway s.sums inner l.byte i, n ∙ number, subst (λ (x : SumState). ReadsStatement sums x (k ∷ t) f new) (ap (λ x. x.sums) same) j), is)
 
   -- Within a comment, the text is a comment.
-  comment_step : (s : OpbState) (b : ℕ) (m : Bool) (x : Bool) → s.phase ≡ phase.TheVariants.Comment m → nat_eq b 10 ≡ x → opb.step s b ≡ act s b (cond x (EndComment m) (Keep b))
-  comment_step s b m x at e = ap (λ q. act s b (transition s.top q b)) at ∙ ap (λ y. act s b (cond y (EndComment m) (Keep b))) e
+  comment_ends : (top b : ℕ) (m : Bool) (s next : OpbState) (e : OpbEvent) → act s b (transition top (phase.TheVariants.Comment m) b) ≡ End e next → e ≡ Comment s.text
+  comment_ends top b m s next e h = grind arith
+
+  comment_goes : (top b : ℕ) (m : Bool) (s next : OpbState) → act s b (transition top (phase.TheVariants.Comment m) b) ≡ Go next → next.phase ≡ s.phase
+  comment_goes top b m s next h = grind arith
 
   comment_reads : (t : List Letter) (s : OpbState) (m : Bool) (e : OpbEvent) (next : OpbState) → s.phase ≡ phase.TheVariants.Comment m → ReadsStatement opb s t e next → (line : List ℕ) × (e ≡ Comment line)
   comment_reads [] s m e next at r = absurd r
-  comment_reads (l ∷ []) s m e next at (h, n) = by_test (nat_eq l.byte 10) refl
-    where
-      by_test : (x : Bool) → nat_eq l.byte 10 ≡ x → (line : List ℕ) × (e ≡ Comment line)
-      by_test true f = let k = sym (comment_step s l.byte m true at f) ∙ h in (s.text, (let j : e ≡ Comment s.text = cc in j))
-      by_test false f = let k = sym (comment_step s l.byte m false at f) ∙ h in absurd (let j : ⊥ = cc in j)
+  comment_reads (l ∷ []) s m e next at (h, n) = (s.text, comment_ends s.top l.byte m s next e (sym (ap (λ q. act s l.byte (transition s.top q l.byte)) at) ∙ h))
   comment_reads (l ∷ k ∷ t) s m e next at (mid, h, o, n, r) =
-      comment_reads (k ∷ t) mid m e next (by_test (nat_eq l.byte 10) refl) r
-    where
-      by_test : (x : Bool) → nat_eq l.byte 10 ≡ x → mid.phase ≡ phase.TheVariants.Comment m
-      by_test true f = let g = sym (comment_step s l.byte m true at f) ∙ h in absurd (let j : ⊥ = cc in j)
-      by_test false f =
-          let g = sym (comment_step s l.byte m false at f) ∙ h in
-          let j : mid ≡ record s { text = s.text ++ l.byte ∷ [] } = cc in
-          ap (λ x. x.phase) j ∙ at
+      comment_reads (k ∷ t) mid m e next (comment_goes s.top l.byte m s mid (sym (ap (λ q. act s l.byte (transition s.top q l.byte)) at) ∙ h) ∙ at) r
+
+  -- the phases in which no byte allocates, or not each
+  asks_min : (s : OpbState) (b j : ℕ) → asks s b (transition s.top (phase.TheVariants.Min j) b) ≡ true → ⊥
+  asks_min s b j h = grind arith
+
+  asks_after_min : (s : OpbState) (b : ℕ) → sums.asks s.sums b ≡ false → asks s b (transition s.top phase.TheVariants.AfterMin b) ≡ true → ⊥
+  asks_after_min s b e h = grind arith
+
+  asks_between : (s : OpbState) (b : ℕ) (m : Bool) → sums.asks s.sums b ≡ false → asks s b (transition s.top (phase.TheVariants.Between m) b) ≡ true → ⊥
+  asks_between s b m e h = grind arith
+
+  asks_comment : (s : OpbState) (b : ℕ) (m : Bool) → asks s b (transition s.top (phase.TheVariants.Comment m) b) ≡ true → nat_eq b 10 ≡ false
+  asks_comment s b m h = grind arith
 
   in_comment : (s : OpbState) (p : List Letter) (b : ℕ) → IsInLine s.text → nat_eq b 10 ≡ false → (Byte 42 ⋅ Bytes s.text) p → (line : List ℕ) → Asks top (Comment line) (bytes p) b
   in_comment s p b h e (a, c, is, star, kept) line =
@@ -196,36 +158,24 @@ module _ (limit top : ℕ) where
       by_event (sum.TheVariants.Linear d) k = sums_asked White part.TheVariants.Linear s.limit p s.sums l.byte w h
 
   module _ (v n : ℕ) (objective_allowed : Bool) (s next : OpbState) (p rest : List Letter) (l : Letter) (e : OpbEvent) where
-    entry_asks : (q : Phase) → s.phase ≡ q → entry.prefix limit top v n objective_allowed s q p → ReadsStatement opb s (l ∷ rest) e next → Then s p l.byte (Asks top e (bytes p) l.byte) (transition s.top q l.byte)
-    entry_asks (phase.TheVariants.Between m) at (same, none, kept, inner) r =
-        let T : Action → Type 0 = Then s p l.byte (Asks top e (bytes p) l.byte) in
-        cond_both (is_white l.byte) _ _ T (λ _ k. absurd (false≢true k))
-        (λ _. cond_both (nat_eq l.byte 42) _ _ T (λ _ k. absurd (false≢true k))
-        (λ _. cond_both (nat_eq l.byte 109 && m) _ _ T (λ _ k. absurd (false≢true k))
-        (λ _ k. absurd (false≢true (sym (ap (λ (x : SumState). sums.asks x l.byte) inner ∙ first_asks_nothing White part.TheVariants.Linear s.limit l.byte) ∙ k)))))
-    entry_asks (phase.TheVariants.Comment m) at (same, h, c) r =
-        cond_both (nat_eq l.byte 10) _ _ (Then s p l.byte (Asks top e (bytes p) l.byte)) (λ _ k. absurd (false≢true k))
-        (λ f k. let (line, is) = comment_reads (l ∷ rest) s m e next at r in subst (λ (x : OpbEvent). Asks top x (bytes p) l.byte) (sym is) (in_comment s p l.byte h f c line))
-    entry_asks (phase.TheVariants.Min j) at h r =
-        cond_both (nat_eq l.byte (slice_index min_word j)) _ _ (Then s p l.byte (Asks top e (bytes p) l.byte))
-        (λ _. cond_both (nat_eq (j + 1) (length min_word)) _ _ (Then s p l.byte (Asks top e (bytes p) l.byte)) (λ _ k. absurd (false≢true k)) (λ _ k. absurd (false≢true k)))
-        (λ _ k. absurd (false≢true k))
-    entry_asks phase.TheVariants.AfterMin at (m, inner, lead) r =
-        cond_both (is_white l.byte) _ _ (Then s p l.byte (Asks top e (bytes p) l.byte)) (λ _ k. absurd (false≢true k))
-        (λ _ k. absurd (false≢true (sym (ap (λ (x : SumState). sums.asks x l.byte) inner ∙ first_asks_nothing White part.TheVariants.Sum s.limit l.byte) ∙ k)))
-    entry_asks phase.TheVariants.Objective at (m, (a, c, is, lead, w)) r = λ k.
+    entry_asks : (q : Phase) → s.phase ≡ q → entry.prefix limit top v n objective_allowed s q p → ReadsStatement opb s (l ∷ rest) e next → asks s l.byte (transition s.top q l.byte) ≡ true → Asks top e (bytes p) l.byte
+    entry_asks (phase.TheVariants.Between m) at (same, none, kept, inner) r k =
+        let quiet : sums.asks s.sums l.byte ≡ false = ap (λ (x : SumState). sums.asks x l.byte) inner ∙ first_asks_nothing White part.TheVariants.Linear s.limit l.byte in
+        absurd (asks_between s l.byte m quiet k)
+    entry_asks (phase.TheVariants.Comment m) at (same, h, c) r k =
+        let (line, is) = comment_reads (l ∷ rest) s m e next at r in
+        subst (λ (x : OpbEvent). Asks top x (bytes p) l.byte) (sym is) (in_comment s p l.byte h (asks_comment s l.byte m k) c line)
+    entry_asks phase.TheVariants.AfterMin at (m, inner, lead) r k =
+        let quiet : sums.asks s.sums l.byte ≡ false = ap (λ (x : SumState). sums.asks x l.byte) inner ∙ first_asks_nothing White part.TheVariants.Sum s.limit l.byte in
+        absurd (asks_after_min s l.byte quiet k)
+    entry_asks phase.TheVariants.Objective at (m, (a, c, is, lead, w)) r k =
         let (f, inner, x, same) = sum_reads phase.TheVariants.Objective gives_objective (l ∷ rest) s e next at r in
         subst (λ (y : List Letter). Asks top e (bytes y) l.byte) (sym is) (subst (λ (y : OpbEvent). Asks top y (bytes (a ++ c)) l.byte) (sym same) (in_objective s s inner a c rest l f lead w x k))
-    entry_asks phase.TheVariants.Constraint at w r = λ k.
+    entry_asks phase.TheVariants.Constraint at w r k =
         let (f, inner, x, same) = sum_reads phase.TheVariants.Constraint gives_constraint (l ∷ rest) s e next at r in
         subst (λ (y : OpbEvent). Asks top y (bytes p) l.byte) (sym same) (in_constraint s inner p rest l f w x k)
-    entry_asks phase.TheVariants.Start at h r = absurd h
-    entry_asks (phase.TheVariants.BeforeWord f) at h r = absurd h
-    entry_asks (phase.TheVariants.Word f j) at h r = absurd h
-    entry_asks (phase.TheVariants.BeforeCount f) at h r = absurd h
-    entry_asks (phase.TheVariants.Count f k) at h r = absurd h
-    entry_asks phase.TheVariants.Tail at h r = absurd h
-    entry_asks phase.TheVariants.Done at h r = absurd h
+    entry_asks (phase.TheVariants.Min j) at h r k = absurd (asks_min s l.byte j k)
+    entry_asks _ at h r k = absurd h
 
   texts : (at s next : OpbState) (prefix rest : List Letter) (l : Letter) (e : OpbEvent) → Idle at → Walks opb at prefix s → ReadsStatement opb s (l ∷ rest) e next
       → IsTrue (opb.asks s l.byte) → Asks top e (bytes prefix) l.byte

@@ -1,10 +1,11 @@
 -- The machine accepts the statements of an instance, and no others.
-use Rattle.pb_opb.proofs.Common.{ℕ, ◌&&◌, ◌↔◌, ◌∙◌, ◌∷◌, ◌≡◌, [], ap, Bool, false, IsTrue, List, nat_eq, refl, subst, suc, sym, true, zero, cond_both}
+use Rattle.pb_opb.proofs.Common.{ℕ, ◌&&◌, ◌↔◌, ◌∙◌, ◌∷◌, ◌≡◌, [], ap, arith, Bool, false, IsTrue, List, nat_eq, refl, subst, suc, sym, true, zero, cond_both}
 use Rattle.pb_opb.proofs.Common.{SumEvent, sums, SumState, refuse_or_end, refuse_or_go, never, AcceptsItems, End, Go, Next, ReadsStatement, Refuse}
-use Rattle.pb_opb.proofs.Common.{SkipsGap, is_white, Each, Item, Letter, OpbEvent, Comment, Constraint, Header, Objective, Action, Phase, act, begin}
+use Rattle.pb_opb.proofs.Common.{SkipsGap, is_white, Each, Item, Letter, OpbEvent, Comment, Constraint, Header, Objective, Action, act, begin}
 use Rattle.pb_opb.proofs.Common.{linears, opb, OpbState, over, IsBegun, IsInstance}
 use Rattle.pb_opb.specs.declared.phase.Phase as phase
 use Rattle.pb_opb.proofs.lemmas.instances.Counted.{IsEntry, IsCounted, counted, body_of}
+use Rattle.pb_opb.proofs.lemmas.instances.Larger.{entry_grows}
 use Rattle.pb_opb.proofs.lemmas.machine.EntryPrefix.{entry_only}
 use Rattle.pb_opb.proofs.lemmas.machine.EntryWalk.{entry_reads}
 use Rattle.pb_opb.proofs.lemmas.machine.HeaderPrefix.{IsHeader, header_only}
@@ -25,16 +26,13 @@ gap_given P s (End e new) = tt
 gap_given P s Refuse = tt
 
 module _ (limit top : ℕ) where
+  no_gap : (b : ℕ) (mid : OpbState) → opb.step (begin limit top) b ≡ Go mid → opb.begun mid ≡ false → ⊥
+  no_gap b mid g o = grind arith
+
   -- no white space comes before a header
   start_gap : (gap : List ℕ) (at : OpbState) → SkipsGap opb (begin limit top) gap at → (gap ≡ []) × (at ≡ begin limit top)
   start_gap [] at h = (refl, h)
-  start_gap (b ∷ gap) at (mid, g, o, h) = absurd (on o)
-    where
-      P : Action → Type 0
-      P m = InGap (λ s. ⊥) (act (begin limit top) b m)
-
-      on : opb.begun mid ≡ false → ⊥
-      on = subst (λ x. InGap (λ s. ⊥) x) g (cond_both (nat_eq b 42) _ _ P (λ e o. never true refl o) (λ e. tt))
+  start_gap (b ∷ gap) at (mid, g, o, h) = absurd (no_gap b mid g o)
 
   module _ (v : ℕ) where
     abbrev at_idle : Bool → ℕ → OpbState
@@ -62,21 +60,11 @@ module _ (limit top : ℕ) where
         let r : Each (λ b. IsTrue (is_white b)) gap × (at ≡ at_idle objective_allowed (suc n)) = gap_only objective_allowed n gap at (subst (λ s. SkipsGap opb s gap at) f.1 h) in
         ((f.0, r.0), r.1)
 
-    white_stays : (objective_allowed : Bool) (n b : ℕ) → is_white b ≡ true → opb.step (at_idle objective_allowed (suc n)) b ≡ Go (at_idle objective_allowed (suc n))
-    white_stays objective_allowed n b h = rw h refl
-
     gap_each : (objective_allowed : Bool) (n : ℕ) (gap : List ℕ) → Each (λ b. IsTrue (is_white b)) gap → SkipsGap opb (at_idle objective_allowed (suc n)) gap (at_idle objective_allowed (suc n))
     gap_each objective_allowed n [] h = refl
-    gap_each objective_allowed n (b ∷ gap) h = (at_idle objective_allowed (suc n), white_stays objective_allowed n b h.0, refl, gap_each objective_allowed n gap h.1)
+    gap_each objective_allowed n (b ∷ gap) h = (at_idle objective_allowed (suc n), rw h.0 refl, refl, gap_each objective_allowed n gap h.1)
 
     -- what follows a statement
-    entry_map : (objective_allowed : Bool) (n : ℕ) (text : List Letter) (P Q : Bool → ℕ → Type 0) → ((m : Bool) (k : ℕ) → P m k → Q m k) → (e : OpbEvent)
-        → IsEntry limit objective_allowed n text P e → IsEntry limit objective_allowed n text Q e
-    entry_map objective_allowed n text P Q f (Header variables constraints tail) h = absurd h
-    entry_map objective_allowed n text P Q f (Comment bytes) h = (h.0, h.1, f objective_allowed (suc n) h.2)
-    entry_map objective_allowed n text P Q f (Objective xs) h = (h.0, h.1, f false (suc n) h.2)
-    entry_map objective_allowed n text P Q f (Constraint c) h = (h.0, f false n h.1)
-
     entry_after : (objective_allowed : Bool) (n : ℕ) (text : List Letter) (P : Bool → ℕ → Type 0) (e : OpbEvent) → IsEntry limit objective_allowed n text P e
         → (m : Bool) × (k : ℕ) × P m k × IsEntry limit objective_allowed n text (λ m' k'. at_idle m k ≡ at_idle m' k') e
     entry_after objective_allowed n text P (Header variables constraints tail) h = absurd h
@@ -99,7 +87,7 @@ module _ (limit top : ℕ) where
     body_only (i ∷ rest) objective_allowed (suc n) (at, after, g, r, a) =
         let f : Each (λ b. IsTrue (is_white b)) i.gap × (at ≡ at_idle objective_allowed (suc n)) = gap_only objective_allowed n i.gap at g in (
           f.0,
-          entry_map objective_allowed n i.text (λ m k. after ≡ at_idle m k) (λ m k. IsCounted limit m k rest) (λ m k e. body_only rest m k (subst (λ s. AcceptsItems opb s rest) e a)) i.event
+          entry_grows limit limit (omega arith) objective_allowed n i.text (λ m k. after ≡ at_idle m k) (λ m k. IsCounted limit m k rest) (λ m k e. body_only rest m k (subst (λ s. AcceptsItems opb s rest) e a)) i.event
               (entry_only limit top v n objective_allowed i.text i.event after (subst (λ s. ReadsStatement opb s i.text i.event after) f.1 r)),
         )
 

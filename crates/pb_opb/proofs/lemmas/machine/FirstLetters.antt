@@ -1,7 +1,7 @@
 -- The first letters of sums and of linear texts.
-use Rattle.pb_opb.proofs.Common.{ℕ, ◌++◌, ◌||◌, ◌∙◌, ◌∷◌, ◌≡◌, [], ap, false, inl, inr, IsTrue, List, map, nat_eq, refl, subst, sym, true, ℤ}
-use Rattle.pb_opb.proofs.Common.{eqb-true, false_from_ne_true, SumEvent, Term, White, sums, SumState, is_space, Spaces1, SpellsFurther, SpellsLiteral}
-use Rattle.pb_opb.proofs.Common.{SpellsSum, SpellsTerm, refuse_or_end, refuse_or_go, digit_dark, white_each, ReadsStatement, Refuse, is_blank}
+use Rattle.pb_opb.proofs.Common.{ℕ, ◌++◌, ◌||◌, ◌∙◌, ◌∷◌, ◌≡◌, [], ap, false, inl, inr, IsTrue, List, map, nat_eq, refl, sym, true, ℤ, arith}
+use Rattle.pb_opb.proofs.Common.{eqb-true, SumEvent, Term, White, sums, SumState, is_space, Spaces1, SpellsFurther, SpellsLiteral}
+use Rattle.pb_opb.proofs.Common.{SpellsSum, SpellsTerm, refuse_or_end, refuse_or_go, digit_dark, ReadsStatement, Refuse, is_blank}
 use Rattle.pb_opb.proofs.Common.{is_white, ◌⋅◌, digit, Each, Language, unmarked, Number, Letter, linears}
 use Rattle.std.proofs.Math.Bool.{and-true}
 
@@ -47,8 +47,4 @@ taken s l (d ∷ t) e after (mid, h, i, n, r) k = refuse_or_go mid (sym k ∙ h)
 -- a linear text does not begin with white space, a star or `m`
 pub linear_first : (limit : ℕ) (l : Letter) (t : List Letter) (e : SumEvent) (after : SumState) → ReadsStatement sums (linears limit) (l ∷ t) e after
     → (is_white l.byte ≡ false) × (nat_eq l.byte 42 ≡ false) × (nat_eq l.byte 109 ≡ false)
-linear_first limit l t e after r = (
-  false_from_ne_true (is_white l.byte) (λ h. taken (linears limit) l t e after r (white_each (λ b. sums.step (linears limit) b ≡ Refuse) refl refl refl refl l.byte h)),
-  false_from_ne_true (nat_eq l.byte 42) (λ h. taken (linears limit) l t e after r (subst (λ b. sums.step (linears limit) b ≡ Refuse) (sym (eqb-true l.byte 42 h)) refl)),
-  false_from_ne_true (nat_eq l.byte 109) (λ h. taken (linears limit) l t e after r (subst (λ b. sums.step (linears limit) b ≡ Refuse) (sym (eqb-true l.byte 109 h)) refl)),
-)
+linear_first limit l t e after r = grind (arith, l.byte, taken, eqb-true)

@@ -6,6 +6,7 @@ use Rattle.pb_opb.proofs.Common.{bytes_grown, further, some_digit, word_grown, w
 use Rattle.pb_opb.proofs.Common.{Byte, Bytes, digit, Language, unmarked, Count, Digits, Letter, plain, OpbEvent, Header, Action, To, Field}
 use Rattle.pb_opb.proofs.Common.{Constraints, Variables, Phase, after_count, transition, word_of, act, begin, is_in_number, opb, OpbState}
 use Rattle.pb_opb.proofs.Common.{constraint_word, IsTail, SpellsHeader, variable_word}
+use Rattle.std.proofs.lemmas.Grind.{common_steps}
 use Rattle.pb_opb.specs.declared.phase.Phase as phase
 use Rattle.pb_opb.proofs.lemmas.machine.Prefixes.{tail_grown}
 use Rattle.pb_opb.proofs.lemmas.machine.Stands.{idle}
@@ -41,10 +42,6 @@ hash : (f : Field) → plain (take 1 (word_of f)) ≡ unmarked 35 ∷ []
 hash Variables = refl
 hash Constraints = refl
 
-long : (f : Field) → 1 < length (word_of f)
-long Variables = omega arith
-long Constraints = omega arith
-
 counted : (top n : ℕ) (P : Language) (p : List Letter) → n ≤ top → (P ⋅ Digits n) p → (P ⋅ Count top n) p
 counted top n P p l h = after_it P (Digits n) (Count top n) p (λ q r. (l, r)) h
 
@@ -75,7 +72,7 @@ module _ (limit top : ℕ) where
         (λ _. cond_both (nat_eq l.byte 35) _ _ After
         (λ e w n. (
           k,
-          (long f, next (Before s.top s.variables f) (Bytes (take 1 (word_of f))) p l h (ap (λ x. x ∷ []) (as_unmarked l 35 n (eqb-true l.byte 35 e)) ∙ sym (hash f))),
+          (grind arith, next (Before s.top s.variables f) (Bytes (take 1 (word_of f))) p l h (ap (λ x. x ∷ []) (as_unmarked l 35 n (eqb-true l.byte 35 e)) ∙ sym (hash f))),
         ))
         (λ _. tt))
 
@@ -126,11 +123,8 @@ module _ (limit top : ℕ) where
           refl,
         ))
         (λ _. cond_both (is_blank l.byte) _ _ After
-        (λ e w m. (k, ((e, tt), some_byte, next C (Bytes (l.byte ∷ [])) p l c (ap (λ x. x ∷ []) (as_unmarked l l.byte m refl)))))
+        (λ e w m. (k, ((e, tt), (λ x. cc), next C (Bytes (l.byte ∷ [])) p l c (ap (λ x. x ∷ []) (as_unmarked l l.byte m refl)))))
         (λ _. tt))
-      where
-        some_byte : ◌≡◌ {A = List ℕ} (l.byte ∷ []) [] → ⊥
-        some_byte e = cc
 
     in_count : (f : Field) (n : ℕ) → n ≤ s.top → (Before s.top s.variables f ⋅ Bytes (word_of f) ⋅ Blanks0 ⋅ Digits n) p
         → After (transition s.top (phase.TheVariants.Count f n) l.byte)
@@ -157,7 +151,7 @@ module _ (limit top : ℕ) where
           k,
           subst (λ q. prefix new q (p ++ l ∷ [])) (sym at) (
             tail_grown s.text l.byte e some h,
-            more s.text,
+            (λ x. grind (arith, common_steps, ap length x)),
             grown C (Bytes s.text) (Bytes (s.text ++ l.byte ∷ [])) p l (bytes_grown s.text l.byte l (m ∙ ap (λ q. is_in_number new q) at) refl) c,
           ),
         ))
@@ -167,10 +161,6 @@ module _ (limit top : ℕ) where
 
         new : OpbState
         new = record s { text = s.text ++ l.byte ∷ [] }
-
-        more : (text : List ℕ) → text ++ l.byte ∷ [] ≡ [] → ⊥
-        more [] e = cc
-        more (b ∷ text) e = cc
 
     sound : (q : Phase) → s.phase ≡ q → prefix s q p → After (transition s.top q l.byte)
     sound phase.TheVariants.Start e h = at_start h

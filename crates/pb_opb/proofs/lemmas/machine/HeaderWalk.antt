@@ -1,33 +1,25 @@
 -- The machine reads each header: one lemma for each word of the grammar.
-use Rattle.pb_opb.proofs.Common.{ℕ, ◌*◌, ◌++◌, ◌+◌, ◌-◌, ◌<◌, ◌∙◌, ◌∷◌, ◌≡◌, ◌≤◌, [], ap, append_assoc, arith, Bool, cond, false, IsTrue, le-leb}
-use Rattle.pb_opb.proofs.Common.{length, length-append, List, nat_eq, refl, subst, sym, true, slice_index, get_or-append_seam, eq-eqb, Leads}
-use Rattle.pb_opb.proofs.Common.{leads_then, longer, reads_after, Walks, blank_each, digit_blank, digit_byte, Go, ReadsStatement, is_blank, ◌⋅◌}
+use Rattle.pb_opb.proofs.Common.{ℕ, ◌*◌, ◌++◌, ◌+◌, ◌<◌, ◌∙◌, ◌∷◌, ◌≡◌, ◌≤◌, [], ap, append_assoc, arith, Bool, cond, false, IsTrue}
+use Rattle.pb_opb.proofs.Common.{length, length-append, List, nat_eq, refl, subst, sym, true, get_or-append_seam, eq-eqb, Leads}
+use Rattle.pb_opb.proofs.Common.{leads_then, longer, reads_after, Walks, blank_each, Go, ReadsStatement, is_blank, ◌⋅◌}
 use Rattle.pb_opb.proofs.Common.{Blanks0, Blanks1, Byte, Bytes, Language, unmarked, Count, Letter, plain, Header, To, Field, Constraints, Variables}
-use Rattle.pb_opb.proofs.Common.{Phase, after_count, count, spell, transition, word_of, act, begin, opb, OpbState, constraint_word, IsTail}
+use Rattle.pb_opb.proofs.Common.{Phase, spell, transition, word_of, act, begin, opb, OpbState, constraint_word, IsTail}
 use Rattle.pb_opb.proofs.Common.{SpellsHeader, variable_word}
 use Rattle.std.proofs.lemmas.Bool.Decides.{nat_tests}
+use Rattle.std.proofs.lemmas.Grind.{common_steps}
 use Rattle.pb_text.proofs.lemmas.numbers.DigitWalks.{TakesDigits, digits_lead}
 use Rattle.pb_opb.specs.declared.phase.Phase as phase
 use Rattle.pb_opb.proofs.lemmas.machine.Stands.{stands, idle, stays_many, Keeps, line_reads}
 
 spell_next : (w prefix left : List ℕ) (b : ℕ) (more whole : Phase) (x : Bool) → w ≡ prefix ++ b ∷ left → nat_eq (length prefix + 1) (length w) ≡ x
     → spell w (length prefix) b more whole ≡ To (cond x whole more)
-spell_next w prefix left b more whole x e f =
-    let g : slice_index w (length prefix) ≡ b = ap (λ y. slice_index y (length prefix)) e ∙ get_or-append_seam prefix b left 0 in
-    rw (g, eq-eqb b b refl, f) refl
-
-count_next : (top : ℕ) (f : Field) (m d : ℕ) → d < 10 → 10 * m + d ≤ top → count top f m (48 + d) ≡ To (phase.TheVariants.Count f (10 * m + d))
-count_next top f m d h l =
-    let e : (48 + d) - 48 ≡ d = omega arith in
-    rw (digit_byte d h, e, le-leb (10 * m + d) top l) refl
+spell_next w prefix left b more whole x e f = grind (arith, common_steps, get_or-append_seam, eq-eqb)
 
 first_digit : (top : ℕ) (f : Field) (d : ℕ) → d < 10 → d ≤ top → transition top (phase.TheVariants.BeforeCount f) (48 + d) ≡ To (phase.TheVariants.Count f d)
-first_digit top f d h l =
-    let same : 10 * 0 + d ≡ d = omega arith in
-    rw (digit_blank d h) (count_next top f 0 d h (omega arith) ∙ ap (λ n. To (phase.TheVariants.Count f n)) same)
+first_digit top f d h l = grind (arith, nat_tests)
 
 next_digit : (top : ℕ) (f : Field) (m d : ℕ) → d < 10 → 10 * m + d ≤ top → transition top (phase.TheVariants.Count f m) (48 + d) ≡ To (phase.TheVariants.Count f (10 * m + d))
-next_digit top f m d h l = ap (λ x. cond x (count top f m (48 + d)) (after_count f m (48 + d))) (digit_byte d h) ∙ count_next top f m d h l
+next_digit top f m d h l = grind (arith, nat_tests)
 
 module _ (limit top : ℕ) where
   -- before the tail of a header
@@ -47,7 +39,7 @@ module _ (limit top : ℕ) where
   spelled : (f : Field) (v : ℕ) (prefix left : List ℕ) (b : ℕ) → word_of f ≡ prefix ++ b ∷ left
       → Walks opb (head v (phase.TheVariants.Word f (length prefix))) (plain (b ∷ left)) (head v (phase.TheVariants.BeforeCount f))
   spelled f v prefix [] b e =
-      let n : nat_eq (length prefix + 1) (length (word_of f)) ≡ true = ap (λ x. nat_eq (length prefix + 1) (length x)) e ∙ ap (λ x. nat_eq (length prefix + 1) x) (length-append prefix (b ∷ [])) ∙ eq-eqb (length prefix + 1) (length prefix + 1) refl in (
+      let n : nat_eq (length prefix + 1) (length (word_of f)) ≡ true = rw e (grind (arith, common_steps)) in (
         head v (phase.TheVariants.BeforeCount f),
         ap (λ x. act (head v (phase.TheVariants.Word f (length prefix))) b x) (spell_next (word_of f) prefix [] b (phase.TheVariants.Word f (length prefix + 1)) (phase.TheVariants.BeforeCount f) true e n),
         refl,
@@ -55,8 +47,7 @@ module _ (limit top : ℕ) where
         refl,
       )
   spelled f v prefix (c ∷ left) b e =
-      let m : length (word_of f) ≡ length prefix + (2 + length left) = ap length e ∙ (length-append prefix (b ∷ c ∷ left) ∙ omega arith) in
-      let n : nat_eq (length prefix + 1) (length (word_of f)) ≡ false = rw m (grind (arith, nat_tests)) in (
+      let n : nat_eq (length prefix + 1) (length (word_of f)) ≡ false = rw e (grind (arith, common_steps)) in (
         head v (phase.TheVariants.Word f (length prefix + 1)),
         ap (λ x. act (head v (phase.TheVariants.Word f (length prefix))) b x) (spell_next (word_of f) prefix (c ∷ left) b (phase.TheVariants.Word f (length prefix + 1)) (phase.TheVariants.BeforeCount f) false e n),
         refl,

@@ -1,18 +1,18 @@
 -- The state of a machine of instances after a byte.
-use Rattle.pb_opb.proofs.Common.{ℕ, ◌&&◌, ◌*◌, ◌++◌, ◌+◌, ◌-◌, ◌<◌, ◌∙◌, ◌∷◌, ◌≡◌, [], ap, arith, Bool, false, IsTrue, length, List, nat_eq, nat_le}
-use Rattle.pb_opb.proofs.Common.{refl, subst, suc, sym, true, zero, slice_index, midway-not-done, continues, continues-midway, ended-last, SumEvent}
+use Rattle.pb_opb.proofs.Common.{ℕ, ◌&&◌, ◌++◌, ◌<◌, ◌∙◌, ◌∷◌, ◌≡◌, [], ap, arith, Bool, false, IsTrue, List}
+use Rattle.pb_opb.proofs.Common.{refl, subst, sym, true, midway-not-done, continues, continues-midway, ended-last, SumEvent}
 use Rattle.pb_opb.proofs.Common.{White, first, sums, SumState, admits_before, admits_final, Admits, begins, begins_with, Continues, End, Go, is_large}
-use Rattle.pb_opb.proofs.Common.{IsState, Next, Refuse, is_blank, is_digit, is_white, Action, BeginSum, BeginTail, Declare, EndComment, EndHeader}
-use Rattle.pb_opb.proofs.Common.{EndTail, Give, Keep, Stop, To, Field, Constraints, Variables, Phase, after_count, count, transition, word_of, Holds}
-use Rattle.pb_opb.proofs.Common.{IsIdle, IsInOrder, PhaseFits, act, after, asks, at, giving, is_done, is_in_number, is_within, linears, opb, OpbState}
-use Rattle.pb_opb.proofs.Common.{over, phase_owing, remaining_after, statement_of, min_word}
+use Rattle.pb_opb.proofs.Common.{IsState, Next, Refuse, is_digit, Action, BeginTail}
+use Rattle.pb_opb.proofs.Common.{Give, Keep, To, Phase, transition, Holds}
+use Rattle.pb_opb.proofs.Common.{IsIdle, IsInOrder, PhaseFits, act, after, asks, at, giving, is_in_number, is_within, linears, opb, OpbState}
+use Rattle.pb_opb.proofs.Common.{over, phase_owing, remaining_after, statement_of}
 use Rattle.pb_text.proofs.lemmas.machine.Residual.{refuses}
 use Rattle.pb_text.proofs.lemmas.machine.Admitted.{admits_within}
 use Rattle.pb_sums.specs.declared.Part as part
 use Rattle.pb_opb.specs.declared.phase.Phase as phase
 use Rattle.pb_opb.proofs.lemmas.machine.Alive.{giving_alive, owed_read}
 use Rattle.pb_opb.proofs.lemmas.machine.GivenBytes.{Gives, IsGiving, gives_at, gives_objective, gives_constraint}
-use Rattle.pb_opb.proofs.lemmas.machine.States.{either_way, is_state, outside}
+use Rattle.pb_opb.proofs.lemmas.machine.States.{is_state, outside}
 
 -- what holds if a byte is given to the machine of sums
 pub record IsGiven (s : OpbState) (q p : Phase) : Type 0 where
@@ -29,44 +29,12 @@ Knows s q (Keep c) = (s.sums ≡ linears s.limit) × (is_within q ≡ true) × (
 Knows s q (Give p) = IsGiven s q p
 Knows s q _ = Unit {0}
 
-knows_count : (s : OpbState) (q : Phase) (top : ℕ) (f : Field) (n b : ℕ) → IsIdle s → Knows s q (count top f n b)
-knows_count s q top f n b h = either_way (Knows s q) (is_digit b && nat_le (10 * n + (b - 48)) top) _ Stop h tt
-
-knows_after : (s : OpbState) (q : Phase) (f : Field) (n b : ℕ) → IsIdle s → Knows s q (after_count f n b)
-knows_after s q Variables n b h = either_way (Knows s q) (is_blank b) (Declare n) Stop tt tt
-knows_after s q Constraints n b h = either_way (Knows s q) (nat_eq b 10) (EndHeader n) _ tt (either_way (Knows s q) (is_blank b) (BeginTail n b) Stop h tt)
-
 pub knows : (s : OpbState) (q : Phase) → Holds s q → (b : ℕ) → Knows s q (transition s.top q b)
-knows s phase.TheVariants.Start h b = either_way (Knows s phase.TheVariants.Start) (nat_eq b 42) (To (phase.TheVariants.BeforeWord Variables)) Stop h tt
-knows s (phase.TheVariants.BeforeWord f) h b =
-    either_way (Knows s (phase.TheVariants.BeforeWord f)) (is_blank b) (To (phase.TheVariants.BeforeWord f)) _ h
-    (either_way (Knows s (phase.TheVariants.BeforeWord f)) (nat_eq b 35) (To (phase.TheVariants.Word f 1)) Stop h tt)
-knows s (phase.TheVariants.Word f k) h b =
-    either_way (Knows s (phase.TheVariants.Word f k)) (nat_eq b (slice_index (word_of f) k)) _ Stop
-    (either_way (Holds s) (nat_eq (k + 1) (length (word_of f))) (phase.TheVariants.BeforeCount f) (phase.TheVariants.Word f (k + 1)) h h) tt
-knows s (phase.TheVariants.BeforeCount f) h b =
-    either_way (Knows s (phase.TheVariants.BeforeCount f)) (is_blank b) (To (phase.TheVariants.BeforeCount f)) _ h (knows_count s (phase.TheVariants.BeforeCount f) s.top f 0 b h)
-knows s (phase.TheVariants.Count f n) h b =
-    either_way (Knows s (phase.TheVariants.Count f n)) (is_digit b) _ _ (knows_count s (phase.TheVariants.Count f n) s.top f n b h) (knows_after s (phase.TheVariants.Count f n) f n b h)
-knows s phase.TheVariants.Tail h b = either_way (Knows s phase.TheVariants.Tail) (nat_eq b 10) EndTail (Keep b) tt (h, refl, λ text. h)
-knows s (phase.TheVariants.Between objective_allowed) h b =
-    either_way (Knows s (phase.TheVariants.Between objective_allowed)) (is_white b) (To (phase.TheVariants.Between objective_allowed)) _ h
-    (either_way (Knows s (phase.TheVariants.Between objective_allowed)) (nat_eq b 42) (To (phase.TheVariants.Comment objective_allowed)) _ (h.0, h.1.1)
-    (either_way (Knows s (phase.TheVariants.Between objective_allowed)) (nat_eq b 109 && objective_allowed) (To (phase.TheVariants.Min 1)) (Give phase.TheVariants.Constraint) h
-    (record { gives = gives_constraint; remaining = h.0; text = h.1.0; number = sym (ap sums.in_number h.1.1) })))
-knows s (phase.TheVariants.Comment objective_allowed) h b = either_way (Knows s (phase.TheVariants.Comment objective_allowed)) (nat_eq b 10) (EndComment objective_allowed) (Keep b) tt (h.1, refl, λ text. h)
-knows s (phase.TheVariants.Min k) h b =
-    either_way (Knows s (phase.TheVariants.Min k)) (nat_eq b (slice_index min_word k)) _ Stop
-    (either_way (Knows s (phase.TheVariants.Min k)) (nat_eq (k + 1) (length min_word)) BeginSum (To (phase.TheVariants.Min (k + 1))) tt h) tt
-knows s phase.TheVariants.AfterMin h b =
-    either_way (Knows s phase.TheVariants.AfterMin) (is_white b) (To phase.TheVariants.AfterMin) (Give phase.TheVariants.Objective) h
-    (record { gives = gives_objective; remaining = h.0; text = h.1; number = sym (ap sums.in_number h.2) })
-knows s phase.TheVariants.Objective h b = record { gives = gives_objective; remaining = h.0; text = h.1; number = refl }
-knows s phase.TheVariants.Constraint h b = record { gives = gives_constraint; remaining = h.0; text = h.1; number = refl }
-knows s phase.TheVariants.Done h b = tt
+knows s (phase.TheVariants.Between objective_allowed) h b = grind (arith, gives_constraint)
+knows s _ h b = grind (arith, gives_objective, gives_constraint)
 
 known : (s : OpbState) → IsInOrder s → (b : ℕ) (m : Action) → transition s.top s.phase b ≡ m → Knows s s.phase m
-known s h b m e = subst (Knows s s.phase) e (knows s s.phase h.holds b)
+known s h b m e = rw e at (knows s s.phase h.holds b)
 
 -- the action for a number that equals the top
 pub planned_at : (n top : ℕ) (p : Phase) (b : ℕ) (m : Action) → n ≡ top → m ≡ transition n p b → transition top p b ≡ m
@@ -118,12 +86,7 @@ goes_order s h b true inner at continues state = give_order s h b s.phase inner 
 -- a state between two statements
 owing_holds : (s : OpbState) (objective_allowed : Bool) (n : ℕ) (inner : SumState) → inner ≡ linears s.limit
     → Holds (record s { remaining = n; phase = phase_owing objective_allowed n; text = []; sums = inner }) (phase_owing objective_allowed n)
-owing_holds s objective_allowed zero inner e = (refl, e)
-owing_holds s objective_allowed (suc n) inner e = (omega arith, (refl, e))
-
-owing_fits : (top : ℕ) (objective_allowed : Bool) (n : ℕ) → PhaseFits top (phase_owing objective_allowed n)
-owing_fits top objective_allowed zero = tt
-owing_fits top objective_allowed (suc n) = tt
+owing_holds s objective_allowed n inner e = grind arith
 
 -- the state if the machine of sums has ended and begins again
 module _ (s : OpbState) (h : IsInOrder s) (b : ℕ) (p : Phase) (next again : SumState) (x : SumEvent) (planned : transition s.top s.phase b ≡ Give p) (ends : sums.step s.sums b ≡ End x next) (begins : again ≡ first next.spaces part.TheVariants.Linear next.limit) where
@@ -144,7 +107,7 @@ module _ (s : OpbState) (h : IsInOrder s) (b : ℕ) (p : Phase) (next again : Su
       record {
         limit = h.limit;
         top = h.top;
-        fits = owing_fits s.top false (remaining_after p s.remaining);
+        fits = grind arith;
         holds = rw k.text (owing_holds s false (remaining_after p s.remaining) again again_is);
         spaces = ap (λ (y : SumState). y.spaces) again_is;
         limits = ap (λ (y : SumState). y.limit) again_is;
@@ -182,38 +145,21 @@ tail_admits s h b n c planned =
     let order : IsInOrder next = record { limit = h.limit; top = h.top; fits = tt; holds = idle.1; spaces = h.spaces; limits = h.limits; state = h.state } in
     (subst (λ (m : Action). IsTrue (asks s b m)) (sym planned) refl, admits_within opb s next b (ap (act s b) planned) refl refl (is_state next order))
 
-not_done : (p : Phase) → is_within p ≡ true → is_done p ≡ false
-not_done phase.TheVariants.Start h = refl
-not_done (phase.TheVariants.BeforeWord f) h = refl
-not_done (phase.TheVariants.Word f k) h = refl
-not_done (phase.TheVariants.BeforeCount f) h = refl
-not_done (phase.TheVariants.Count f n) h = refl
-not_done phase.TheVariants.Tail h = refl
-not_done (phase.TheVariants.Between objective_allowed) h = refl
-not_done (phase.TheVariants.Comment objective_allowed) h = refl
-not_done (phase.TheVariants.Min k) h = refl
-not_done phase.TheVariants.AfterMin h = refl
-not_done phase.TheVariants.Objective h = refl
-not_done phase.TheVariants.Constraint h = refl
-not_done phase.TheVariants.Done h = sym h
-
 pub keep_admits : (s : OpbState) → IsInOrder s → (b c : ℕ) → transition s.top s.phase b ≡ Keep c → IsTrue (opb.asks s b) × Admits opb s b
 keep_admits s h b c planned =
     let next = record s { text = s.text ++ c ∷ [] } in
     let k = known s h b (Keep c) planned in
     let order : IsInOrder next = record { limit = h.limit; top = h.top; fits = h.fits; holds = k.2 (s.text ++ c ∷ []); spaces = h.spaces; limits = h.limits; state = h.state } in
-    (subst (λ (m : Action). IsTrue (asks s b m)) (sym planned) refl, admits_within opb s next b (ap (act s b) planned) k.1 (not_done s.phase k.1) (is_state next order))
+    (subst (λ (m : Action). IsTrue (asks s b m)) (sym planned) refl, admits_within opb s next b (ap (act s b) planned) k.1 (grind (arith, k.1)) (is_state next order))
 
 -- a byte that begins a sum or a linear text begins a statement
-module _ (s : OpbState) (h : IsInOrder s) (b : ℕ) (p : Phase) (planned : transition s.top s.phase b ≡ Give p) (out : is_within s.phase ≡ false) where
-  fresh_inner : sums.begun s.sums ≡ false
-  fresh_inner = ap sums.begun (outside s s.phase out h.holds).1.1
+same_begin : (s : OpbState) (p : Phase) (n : Next SumState SumEvent) → is_within s.phase ≡ false → is_within p ≡ true → ((inner : SumState) → n ≡ Go inner → sums.begun inner ≡ true)
+    → begins_with sums false n ≡ begins_with opb (is_within s.phase) (over s p n)
+same_begin s p n out within goes = grind (arith, goes)
 
-  same_begin : (n : Next SumState SumEvent) → sums.step s.sums b ≡ n → begins_with sums (sums.begun s.sums) n ≡ begins_with opb (is_within s.phase) (over s p n)
-  same_begin (Go inner) e =
-      ap (λ (x : Bool). begins_with sums x (Go inner)) fresh_inner ∙ (continues-midway s.sums inner b e ∙ (sym (known s h b (Give p) planned).gives.within ∙ ap (λ (x : Bool). begins_with opb x (over s p (Go inner))) (sym out)))
-  same_begin (End x inner) e = ap (λ (y : Bool). begins_with sums y (End x inner)) fresh_inner ∙ ap (λ (y : Bool). begins_with opb y (over s p (End x inner))) (sym out)
-  same_begin Refuse e = ap (λ (y : Bool). begins_with sums y Refuse) fresh_inner ∙ ap (λ (y : Bool). begins_with opb y (over s p Refuse)) (sym out)
-
-  pub give_begins : begins sums s.sums b ≡ begins opb s b
-  give_begins = same_begin (sums.step s.sums b) refl ∙ ap (λ (n : _). begins_with opb (is_within s.phase) n) (sym (ap (act s b) planned))
+pub give_begins : (s : OpbState) → IsInOrder s → (b : ℕ) (p : Phase) → transition s.top s.phase b ≡ Give p → is_within s.phase ≡ false → begins sums s.sums b ≡ begins opb s b
+give_begins s h b p planned out =
+    let fresh : sums.begun s.sums ≡ false = ap sums.begun (outside s s.phase out h.holds).1.1 in
+    ap (λ (x : Bool). begins_with sums x (sums.step s.sums b)) fresh
+    ∙ (same_begin s p (sums.step s.sums b) out (known s h b (Give p) planned).gives.within (λ inner e. continues-midway s.sums inner b e)
+    ∙ ap (λ (n : _). begins_with opb (is_within s.phase) n) (sym (ap (act s b) planned)))

@@ -1,7 +1,7 @@
 -- A whole constraint leads from one constraint to the next.
-use Rattle.pb_opb.proofs.Common.{ℕ, ◌<◌, ◌∙◌, ◌∷◌, ◌≡◌, [], ap, arith, Bool, cond, false, get_or, inl, length, List, refl, Some, subst, suc, sym}
+use Rattle.pb_opb.proofs.Common.{ℕ, ◌<◌, ◌∙◌, ◌∷◌, ◌≡◌, [], ap, arith, Bool, false, get_or, inl, length, List, refl, Some, subst, suc, sym}
 use Rattle.pb_opb.proofs.Common.{take, true, zero, first_is_state, Linear, White, last, sums, SumState, begins, begins_with, End, Go, TakesStatement}
-use Rattle.pb_opb.proofs.Common.{Give, To, Phase, transition, Holds, IsInOrder, act, giving, is_within, linears, opb, OpbState, over, phase_owing}
+use Rattle.pb_opb.proofs.Common.{Give, Phase, transition, Holds, IsInOrder, act, giving, is_within, linears, opb, OpbState, over, phase_owing}
 use Rattle.pb_opb.proofs.Common.{remaining_after}
 use Rattle.pb_sums.specs.declared.SumEvent as sum
 use Rattle.pb_sums.specs.declared.Part as part
@@ -14,22 +14,12 @@ use Rattle.pb_opb.proofs.lemmas.machine.States.{is_state}
 use Rattle.pb_opb.proofs.lemmas.machine.Taken.{runs_given}
 
 -- a byte that is given between two statements begins a constraint
-by_class : (w x y may : Bool) (p : Phase)
-    → cond w (To (phase.TheVariants.Between may)) (cond x (To (phase.TheVariants.Comment may)) (cond y (To (phase.TheVariants.Min 1)) (Give phase.TheVariants.Constraint))) ≡ Give p → p ≡ phase.TheVariants.Constraint
-by_class true x y may p e = absurd (let f : ⊥ = cc in f)
-by_class false true y may p e = absurd (let f : ⊥ = cc in f)
-by_class false false true may p e = absurd (let f : ⊥ = cc in f)
-by_class false false false may p e = cc
-
 given_constraint : (top : ℕ) (may : Bool) (b : ℕ) (p : Phase) → transition top (phase.TheVariants.Between may) b ≡ Give p → p ≡ phase.TheVariants.Constraint
-given_constraint top may b p e = by_class _ _ _ may p e
+given_constraint top may b p e = grind arith
 
 module _ (s : OpbState) (h : IsInOrder s) (may : Bool) (at : s.phase ≡ phase.TheVariants.Between may) where
-  idle : Holds s (phase.TheVariants.Between may)
-  idle = subst (Holds s) at h.holds
-
   sums_are : s.sums ≡ linears s.limit
-  sums_are = idle.1.1
+  sums_are = (subst (Holds s) at h.holds).1.1
 
   -- after the constraint
   abbrev pub owing : Phase → OpbState

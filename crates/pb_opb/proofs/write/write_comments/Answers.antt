@@ -1,9 +1,6 @@
-use Rattle.pb_opb.proofs.Common.{arith, refl, part_broke, part_then, part_wrote, writes_nothing}
+use Rattle.pb_opb.proofs.Common.{arith, refl, part_broke, part_then, part_wrote}
 use Rattle.pb_opb.proofs.lemmas.instances.Texts.{comments_more, comments_at}
 use Rattle.pb_opb.proofs.write.write_comments.Goals as goal
-
-pub loop-comment-init : goal.loop-comment-init
-loop-comment-init g c = writes_nothing g.S.Sink.contents g.S.Sink.faults c.args.out.now
 
 pub returns-in_err-write_comment_line : goal.returns-in_err-write_comment_line
 returns-in_err-write_comment_line g c =

@@ -1,14 +1,7 @@
-use Rattle.pb_opb.proofs.Common.{ℕ, ◌++◌, ◌∷◌, [], add-zero, ap, arith, List, refl, subst, sym, linear_bytes, part_broke, part_then, part_wrote}
-use Rattle.pb_opb.proofs.Common.{writes_nothing, Wrote, comment_events, constraint_events, in_order, led_lines}
-use Rattle.pb_opb.proofs.lemmas.instances.Texts.{constraint_turn, constraint_done, constraints_end}
+use Rattle.pb_opb.proofs.Common.{◌++◌, ◌∷◌, arith, refl, linear_bytes, part_broke, part_then, part_wrote}
+use Rattle.pb_opb.proofs.Common.{comment_events, led_lines}
+use Rattle.pb_opb.proofs.lemmas.instances.Texts.{constraint_turn, constraint_done}
 use Rattle.pb_opb.proofs.write.write_constraints.Goals as goal
-
-pub loop-index-init : goal.loop-index-init
-loop-index-init g c = (
-  [],
-  ap (λ (n : ℕ). led_lines (in_order n c.args.comments.now (constraint_events c.args.constraints.now))) (sym (add-zero c.args.first)),
-  writes_nothing g.S.Sink.contents g.S.Sink.faults c.args.out.now,
-)
 
 pub returns-in_err-write_comments : goal.returns-in_err-write_comments
 returns-in_err-write_comments g c =
@@ -28,8 +21,3 @@ loop-index-preserved g c = (
       (constraint_turn _ c.loop-index.invariant.0 c.args.first c.loop-index.index c.count_due.result c.loop-index.rest.now c.split_at.result.0.now c.split_at.result.1.now c.args.constraints.now c.index-constraints-index.result (omega arith) c.count_due.ensures.count c.split_at.ensures.front c.split_at.ensures.back c.index-constraints-index.is c.loop-index.invariant.1),
   part_wrote g.S.Sink.contents g.S.Sink.faults _ _ _ _ _ _ refl c.loop-index.invariant.2 (part_wrote g.S.Sink.contents g.S.Sink.faults _ _ _ _ _ _ refl c.in_ok-write_comments.ensures c.in_ok-write_line.ensures),
 )
-
-pub returns : goal.returns
-returns g c =
-    subst (λ (z : List ℕ). Wrote g.S.Sink.contents g.S.Sink.faults c.args.out.now z c.loop-index.out)
-    (constraints_end _ c.loop-index.invariant.0 c.args.first c.loop-index.index c.loop-index.rest.now c.args.constraints.now c.loop-index-test.false c.loop-index.invariant.1) c.loop-index.invariant.2

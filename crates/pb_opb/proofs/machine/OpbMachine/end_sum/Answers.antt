@@ -1,18 +1,13 @@
-use Rattle.pb_opb.proofs.Common.{◌≡◌, subst, sym, Give, transition, OpbState}
 use Rattle.pb_opb.specs.contracts.machine.OpbMachine.{the_view}
 use Rattle.pb_opb.proofs.lemmas.machine.Pushed.{end_order, end_step}
 use Rattle.pb_opb.proofs.machine.OpbMachine.end_sum.Goals as goal
 
 pub invariant_of-self : goal.invariant_of-self
 invariant_of-self c =
-    let s : OpbState = the_view c.self.inside in
-    let planned : transition s.top s.phase c.args.byte ≡ Give c.args.phase = subst (λ (x : OpbState). transition x.top x.phase c.args.byte ≡ Give c.args.phase) (sym c.self.view_is) c.requires in
     rw (c.phase_owing-self-inside.ensures, c.remaining_after-self-inside.ensures)
-    (end_order s c.self.invariant c.args.byte c.args.phase c.try_finish.new.self c.restart.new.self c.in-Some.event planned c.in-Some.ensures.finishes c.restart.ensures.begins c.restart.ensures.state)
+    (end_order (the_view c.self.inside) c.self.invariant c.args.byte c.args.phase c.try_finish.new.self c.restart.new.self c.in-Some.event (rw (← c.self.view_is) at c.requires) c.in-Some.ensures.finishes c.restart.ensures.begins c.restart.ensures.state)
 
 pub returns-in-Some : goal.returns-in-Some
 returns-in-Some c =
-    let s : OpbState = the_view c.self.inside in
-    let planned : transition s.top s.phase c.args.byte ≡ Give c.args.phase = subst (λ (x : OpbState). transition x.top x.phase c.args.byte ≡ Give c.args.phase) (sym c.self.view_is) c.requires in
     rw (← c.self.view_is, c.statement_of.ensures, c.phase_owing-self-inside.ensures, c.remaining_after-self-inside.ensures)
-    (end_step s c.self.invariant c.args.byte c.args.phase c.try_finish.new.self c.restart.new.self c.in-Some.event planned c.in-Some.ensures.finishes c.restart.ensures.begins)
+    (end_step (the_view c.self.inside) c.self.invariant c.args.byte c.args.phase c.try_finish.new.self c.restart.new.self c.in-Some.event (rw (← c.self.view_is) at c.requires) c.in-Some.ensures.finishes c.restart.ensures.begins)

@@ -1,4 +1,4 @@
-use Rattle.pb_opb.proofs.Common.{ℕ, ◌∙◌, ◌≡◌, List, subst, sym, take, true, Runs, keeps_line, opb, OpbState}
+use Rattle.pb_opb.proofs.Common.{ℕ, ◌∙◌, List, subst, sym, take, Runs, opb, OpbState}
 use Rattle.pb_text.proofs.lemmas.text.Results.{grown}
 use Rattle.pb_opb.specs.contracts.machine.OpbMachine.{the_view}
 use Rattle.pb_opb.proofs.lemmas.machine.Lines.{line_order, line_runs}
@@ -8,14 +8,12 @@ use Rattle.pb_opb.proofs.machine.OpbMachine.keep_line.Goals as goal
 pub returns-clause-runs : goal.returns-clause-runs
 returns-clause-runs c = rw (← c.self.view_is) (
     let s : OpbState = the_view c.self.inside in
-    let keeps : keeps_line s.phase ≡ true = subst (λ (x : OpbState). keeps_line x.phase ≡ true) (sym c.self.view_is) c.requires in
     let length = c.line_prefix-length.result in
     subst (λ (t : List ℕ). Runs opb s (take length c.args.piece.now) (record s { text = t })) (sym (grown c.push_slice.result c.push_slice.new.self _ _ c.push_slice.ensures (sym c.is_err.ensures.value ∙ c.if-is_err.false)))
-    (line_runs s c.self.invariant keeps (take length c.args.piece.now) c.line_prefix-length.ensures.line)
+    (line_runs s c.self.invariant (rw (← c.self.view_is) at c.requires) (take length c.args.piece.now) c.line_prefix-length.ensures.line)
     )
 
 pub returns-clause-state : goal.returns-clause-state
 returns-clause-state c =
     let s : OpbState = the_view c.self.inside in
-    let keeps : keeps_line s.phase ≡ true = subst (λ (x : OpbState). keeps_line x.phase ≡ true) (sym c.self.view_is) c.requires in
-    is_state _ (line_order s c.self.invariant keeps c.push_slice.new.self)
+    is_state _ (line_order s c.self.invariant (rw (← c.self.view_is) at c.requires) c.push_slice.new.self)

@@ -1,4 +1,4 @@
-use Rattle.pb_opb.proofs.Common.{ℕ, ◌∙◌, ◌≡◌, ap, IsTrue, List, subst, sym, Admits, BeginTail, Keep, To, PhaseFits, opb, OpbState}
+use Rattle.pb_opb.proofs.Common.{ℕ, ◌∙◌, ◌≡◌, ap, List, subst, sym, BeginTail, Keep, To, PhaseFits, OpbState}
 use Rattle.pb_text.proofs.lemmas.text.Results.{unchanged}
 use Rattle.pb_opb.specs.contracts.machine.OpbMachine.{the_view}
 use Rattle.pb_opb.proofs.lemmas.machine.Pushed.{planned_at, to_order, tail_admits, keep_admits}
@@ -18,12 +18,10 @@ pub returns-then-is_err : goal.returns-then-is_err
 returns-then-is_err c =
     let s : OpbState = the_view c.self.inside in
     let k = tail_admits s c.self.invariant c.args.byte c.in-BeginTail.constraints c.in-BeginTail.first (planned_at c.top.result s.top s.phase c.args.byte (BeginTail c.in-BeginTail.constraints c.in-BeginTail.first) c.top.ensures.value c.in-BeginTail.ensures.transition) in
-    subst (λ (x : OpbState). IsTrue (opb.asks x c.args.byte) × Admits opb x c.args.byte × (record s { text = c.push.new.self } ≡ x)) c.self.view_is
-    (k.0, k.1, same_text s c.push.new.self (unchanged c.push.result _ _ _ c.push.ensures (sym c.is_err.ensures.value ∙ c.if-is_err.true)))
+    rw (← c.self.view_is) (k.0, k.1, same_text s c.push.new.self (unchanged c.push.result _ _ _ c.push.ensures (sym c.is_err.ensures.value ∙ c.if-is_err.true)))
 
 pub returns-then-is_err-2 : goal.returns-then-is_err-2
 returns-then-is_err-2 c =
     let s : OpbState = the_view c.self.inside in
     let k = keep_admits s c.self.invariant c.args.byte c.in-Keep.next (planned_at c.top.result s.top s.phase c.args.byte (Keep c.in-Keep.next) c.top.ensures.value c.in-Keep.ensures.transition) in
-    subst (λ (x : OpbState). IsTrue (opb.asks x c.args.byte) × Admits opb x c.args.byte × (record s { text = c.push-in-Keep.new.self } ≡ x)) c.self.view_is
-    (k.0, k.1, same_text s c.push-in-Keep.new.self (unchanged c.push-in-Keep.result _ _ _ c.push-in-Keep.ensures (sym c.is_err-in-Keep.ensures.value ∙ c.if-is_err-2.true)))
+    rw (← c.self.view_is) (k.0, k.1, same_text s c.push-in-Keep.new.self (unchanged c.push-in-Keep.result _ _ _ c.push-in-Keep.ensures (sym c.is_err-in-Keep.ensures.value ∙ c.if-is_err-2.true)))
