@@ -2,8 +2,5 @@ use Rattle.pb_normal.proofs.lemmas.names.Loaded.{after_all}
 use Rattle.pb_normal.proofs.lemmas.names.Numbering.{OnErr-always}
 use Rattle.pb_normal.proofs.constraints.add_side.Goals as goal
 
-pub returns-clause-forms : goal.returns-clause-forms
-returns-clause-forms c = (c.in_ok-form.form, (c.in_ok-form.ensures.form, tt), c.in_ok-push.ensures.items)
-
 pub returns-in_err-push-clause-err : goal.returns-in_err-push-clause-err
 returns-in_err-push-clause-err c = OnErr-always _ _ (after_all c.args.names.now _ _ c.in_ok-form.ensures.names)

@@ -1,6 +1,7 @@
 -- Names that appear one after another. Offered to other crates.
-use Rattle.pb_normal.proofs.Common.{ℕ, ◌++◌, ◌<◌, ◌∙◌, ◌∷◌, ◌≡◌, [], ap, append-nil, append_assoc, Bool, cond, false, length, List, map, pos, refl}
-use Rattle.pb_normal.proofs.Common.{subst, sym, true, get_or_append_left, All-head, All-tail, All, Term, Entry, Form, AreDistinct, has_name, HasNames}
+use Rattle.std.proofs.lemmas.Bool.{cond_both}
+use Rattle.pb_normal.proofs.Common.{ℕ, ◌++◌, ◌<◌, ◌∙◌, ◌∷◌, ◌≡◌, [], ap, append-nil, append_assoc, length, List, map, pos, refl}
+use Rattle.pb_normal.proofs.Common.{sym, get_or_append_left, All-head, All-tail, All, Term, Entry, Form, AreDistinct, has_name, HasNames}
 use Rattle.pb_normal.proofs.Common.{with_name, with_names, linear_of, term_of}
 use Rattle.pb_sums.specs.declared.linear.Relation.TheVariants.{AtLeast}
 use Rattle.pb_normal.proofs.lemmas.names.Numbering.{has_name-append, with_name-has, AreDistinct-with}
@@ -11,11 +12,8 @@ in_turn names (n ∷ others) further = in_turn (with_name names n) others furthe
 
 -- the names before are a prefix
 only_prefix : (names : List (List ℕ)) (name : List ℕ) → (more : List (List ℕ)) × (with_name names name ≡ names ++ more)
-only_prefix names name = by_test (has_name names name)
-  where
-    by_test : (b : Bool) → (more : List (List ℕ)) × (cond b names (names ++ name ∷ []) ≡ names ++ more)
-    by_test true = ([], sym (append-nil names))
-    by_test false = (name ∷ [], refl)
+only_prefix names name =
+    cond_both (has_name names name) _ _ (λ ks. (more : List (List ℕ)) × (ks ≡ names ++ more)) (λ has. ([], sym (append-nil names))) (λ has_none. (name ∷ [], refl))
 
 pub prefix : (names others : List (List ℕ)) → (more : List (List ℕ)) × (with_names names others ≡ names ++ more)
 prefix names [] = ([], sym (append-nil names))
@@ -28,14 +26,11 @@ pub distinct : (names others : List (List ℕ)) → AreDistinct names → AreDis
 distinct names [] d = d
 distinct names (n ∷ others) d = distinct (with_name names n) others (AreDistinct-with names n d)
 
-stays_named : (names others : List (List ℕ)) (name : List ℕ) → has_name names name ≡ true → has_name (with_names names others) name ≡ true
-stays_named names others name has =
-    let more = prefix names others in
-    subst (λ (ks : List (List ℕ)). has_name ks name ≡ true) (sym more.1) (has_name-append names more.0 name has)
-
 pub named : (names others : List (List ℕ)) → HasNames (with_names names others) others
 named names [] = tt
-named names (n ∷ others) = (stays_named (with_name names n) others n (with_name-has n names), named (with_name names n) others)
+named names (n ∷ others) =
+    let more = prefix (with_name names n) others in
+    (rw more.1 (has_name-append (with_name names n) more.0 n (with_name-has n names)), named (with_name names n) others)
 
 pub names_split : (names xs ys : List (List ℕ)) → HasNames names (xs ++ ys) → HasNames names xs × HasNames names ys
 names_split names [] ys h = (tt, h)
@@ -43,19 +38,14 @@ names_split names (x ∷ xs) ys h = let rest = names_split names xs ys h.1 in ((
 
 pub present : (names others : List (List ℕ)) → HasNames names others → with_names names others ≡ names
 present names [] h = refl
-present names (n ∷ others) h =
-    let same : with_name names n ≡ names = ap (λ (b : Bool). cond b names (names ++ n ∷ [])) h.0 in
-    rw same (present names others h.1)
+present names (n ∷ others) h = rw h.0 (present names others h.1)
 
 -- the terms of a form are written in the same way if more names follow
 terms_alike : (names more : List (List ℕ)) (ts : List Entry) → All (λ t. t.variable < length names) ts → map (term_of (names ++ more)) ts ≡ map (term_of names) ts
 terms_alike names more [] h = refl
 terms_alike names more (t ∷ ts) h =
-    let below = All-head (λ (u : Entry). u.variable < length names) t ts h in
-    let same = get_or_append_left names more [] t.variable below in
-    let first : term_of (names ++ more) t ≡ term_of names t = ap (λ (name : List ℕ). record { coefficient = pos t.coefficient; literal = record { name = name; negated = t.negated } }) same in
-    let rest = terms_alike names more ts (All-tail (λ (u : Entry). u.variable < length names) t ts h) in
-    cc
+    let same = get_or_append_left names more [] t.variable (All-head (λ (u : Entry). u.variable < length names) t ts h) in
+    cc (same, terms_alike names more ts (All-tail (λ (u : Entry). u.variable < length names) t ts h))
 
 pub written_alike : (names more : List (List ℕ)) (f : Form) → All (λ t. t.variable < length names) f.terms → linear_of (names ++ more) f ≡ linear_of names f
 written_alike names more f h = ap (λ (ts : List Term). record { terms = ts; relation = AtLeast; degree = pos f.degree }) (terms_alike names more f.terms h)

@@ -1,6 +1,7 @@
 -- The forms that constraints load as, over the names so far. Offered to other crates.
+use Rattle.std.proofs.Math.Seq.{take-append-add}
 use Rattle.pb_normal.proofs.Common.{ℕ, ◌++◌, ◌+◌, ◌<◌, ◌∙◌, ◌∷◌, ◌≡◌, [], ap, append-nil, append_assoc, arith, Err, get_or, length, List, Ok, OnErr}
-use Rattle.pb_normal.proofs.Common.{OnOk, refl, Result, subst, suc, sym, take, zero, flat_map-append, All, AllByRecursion, Linear, take_read}
+use Rattle.pb_normal.proofs.Common.{take_all, OnOk, refl, Result, subst, suc, sym, take, zero, flat_map-append, All, AllByRecursion, Linear, take_read}
 use Rattle.pb_normal.proofs.Common.{NormalFault, Memory, Overflow, Side, AreFormsOf, constraint_names, sides_in, with_sides, Form, AfterPrefix}
 use Rattle.pb_normal.proofs.Common.{AreDistinct, HasNames, with_names, names_of}
 use Rattle.pb_sums.specs.declared.linear.Relation.{Relation}
@@ -26,14 +27,12 @@ are_named names (c ∷ cs) h =
 -- the same forms over more names
 pub forms_more : (names more : List (List ℕ)) (sides : List (Side × Linear)) (forms : List Form) → AreDistinct (names ++ more) → AreNamed names sides → AreFormsOf names sides forms → AreFormsOf (names ++ more) sides forms
 forms_more names more [] [] d n f = tt
-forms_more names more [] (r ∷ forms) d n f = absurd f
-forms_more names more (side ∷ sides) [] d n f = absurd f
 forms_more names more (side ∷ sides) (r ∷ forms) d n f = (IsSideOf-append names more side.0 side.1 r d n.0 f.0, forms_more names more sides forms d n.1 f.1)
+forms_more names more _ _ d n f = absurd f
 
 -- a fault that is not `Overflow`
 pub memory_alone : (e : NormalFault) → (e ≡ Overflow → ⊥) → e ≡ Memory
-memory_alone Overflow h = absurd (h refl)
-memory_alone Memory h = refl
+memory_alone e h = grind arith
 
 -- an element that was read from a list is one of its elements
 pub all_read : (P : Linear → Type 0) (cs : List Linear) (i : ℕ) (c : Linear) → i < length cs → c ≡ get_or cs i c → All P cs → P c
@@ -42,17 +41,14 @@ all_read P cs i c lt e h = subst P (sym e) (h i c lt)
 -- one list after another
 pub forms_then : (names : List (List ℕ)) (ss ts : List (Side × Linear)) (fs gs : List Form) → AreFormsOf names ss fs → AreFormsOf names ts gs → AreFormsOf names (ss ++ ts) (fs ++ gs)
 forms_then names [] ts [] gs h k = k
-forms_then names [] ts (f ∷ fs) gs h k = absurd h
-forms_then names (s ∷ ss) ts [] gs h k = absurd h
 forms_then names (s ∷ ss) ts (f ∷ fs) gs h k = (h.0, forms_then names ss ts fs gs h.1 k)
+forms_then names _ ts _ gs h k = absurd h
 
 -- if a constraint's names have numbers already, its second side is loaded over the same names
 pub loaded_twice : (old names new : List (List ℕ)) (c : Linear) (l m : Form) → names ≡ with_names old (names_of c.terms) → HasNames names (names_of c.terms) → new ≡ with_names names (names_of c.terms)
     → AreFormsOf names ((least, c) ∷ []) (l ∷ []) → AreFormsOf new ((most, c) ∷ []) (m ∷ [])
     → AreFormsOf new ((least, c) ∷ (most, c) ∷ []) (l ∷ m ∷ []) × (new ≡ with_names old (names_of c.terms))
-loaded_twice old names new c l m e h k first second =
-    let same : new ≡ names = k ∙ present names (names_of c.terms) h in
-    (forms_then new ((least, c) ∷ []) ((most, c) ∷ []) (l ∷ []) (m ∷ []) (rw same first) second, same ∙ e)
+loaded_twice old names new c l m e h k first second = grind (arith, present, forms_then)
 
 -- the second form of an equality after its first
 pub second_loaded : {E : Type 0} (result : Result Unit E) (old names new : List (List ℕ)) (c : Linear) (before middle after : List Form) → c.relation ≡ Equal → names ≡ with_names old (names_of c.terms)
@@ -85,17 +81,13 @@ pub loaded_next : (old names new : List (List ℕ)) (cs : List Linear) (c : Line
 loaded_next old names new cs c ls added d before e one =
     let more = prefix names (names_of c.terms) in
     let grown : new ≡ names ++ more.0 = e ∙ more.1 in
-    let apart_names : AreDistinct names = subst AreDistinct (sym before.names) (distinct old (constraint_names cs) d) in
-    let apart : AreDistinct (names ++ more.0) = subst AreDistinct more.1 (distinct names (names_of c.terms) apart_names) in
-    let has : HasNames names (constraint_names cs) = subst (λ (ks : List (List ℕ)). HasNames ks (constraint_names cs)) (sym before.names) (named old (constraint_names cs)) in
-    let kept : AreFormsOf new (sides_in cs) ls = subst (λ (ks : List (List ℕ)). AreFormsOf ks (sides_in cs) ls) (sym grown) (forms_more names more.0 (sides_in cs) ls apart (are_named names cs has) before.loaded) in
-    let all_names : constraint_names (cs ++ c ∷ []) ≡ constraint_names cs ++ names_of c.terms =
-    flat_map-append (λ (x : Linear). names_of x.terms) cs (c ∷ []) ∙ ap (λ (ks : List (List ℕ)). constraint_names cs ++ ks) (append-nil (names_of c.terms)) in
-    let all_sides : sides_in (cs ++ c ∷ []) ≡ sides_in cs ++ with_sides c.relation c =
-    flat_map-append (λ (x : Linear). with_sides x.relation x) cs (c ∷ []) ∙ ap (λ (ss : List (Side × Linear)). sides_in cs ++ ss) (append-nil (with_sides c.relation c)) in
+    let apart_names : AreDistinct names = rw before.names (distinct old (constraint_names cs) d) in
+    let apart : AreDistinct (names ++ more.0) = rw (← more.1) (distinct names (names_of c.terms) apart_names) in
+    let has : HasNames names (constraint_names cs) = rw before.names (named old (constraint_names cs)) in
+    let kept : AreFormsOf new (sides_in cs) ls = rw grown (forms_more names more.0 (sides_in cs) ls apart (are_named names cs has) before.loaded) in
     record {
-      names = e ∙ ap (λ (ks : List (List ℕ)). with_names ks (names_of c.terms)) before.names ∙ sym (in_turn old (constraint_names cs) (names_of c.terms)) ∙ ap (with_names old) (sym all_names);
-      loaded = subst (λ (ss : List (Side × Linear)). AreFormsOf new ss (ls ++ added)) (sym all_sides) (forms_then new (sides_in cs) (with_sides c.relation c) ls added kept one);
+      names = rw (flat_map-append, append-nil, in_turn, ← before.names) e;
+      loaded = rw (flat_map-append, append-nil) (forms_then new (sides_in cs) (with_sides c.relation c) ls added kept one);
     }
 
 pub loaded_at : (old names new : List (List ℕ)) (cs : List Linear) (i : ℕ) (c : Linear) (ls after : List Form) → i < length cs → c ≡ get_or cs i c → AreDistinct old → LoadedFrom old names (take i cs) ls
@@ -109,22 +101,13 @@ prefix_longer xs ys zero = (0, refl)
 prefix_longer [] ys (suc k) = (0, refl)
 prefix_longer (x ∷ xs) ys (suc k) = let rest = prefix_longer xs ys k in (suc rest.0, ap (λ (ns : List (List ℕ)). x ∷ ns) rest.1)
 
-prefix_beyond : (xs ys : List (List ℕ)) (k : ℕ) → (m : ℕ) × (take m (xs ++ ys) ≡ xs ++ take k ys)
-prefix_beyond [] ys k = (k, refl)
-prefix_beyond (x ∷ xs) ys k =
-    let rest = prefix_beyond xs ys k in (suc rest.0, ap (λ (ns : List (List ℕ)). x ∷ ns) rest.1)
-
-whole : (xs : List (List ℕ)) → (m : ℕ) × (take m xs ≡ xs)
-whole [] = (0, refl)
-whole (x ∷ xs) = let rest = whole xs in (suc rest.0, ap (λ (ns : List (List ℕ)). x ∷ ns) rest.1)
-
 prefix_named : (names ns : List (List ℕ)) (k : ℕ) → HasNames names ns → HasNames names (take k ns)
 prefix_named names ns zero h = tt
 prefix_named names [] (suc k) h = tt
 prefix_named names (n ∷ ns) (suc k) h = (h.0, prefix_named names ns k h.1)
 
 pub after_all : (old new ns : List (List ℕ)) → new ≡ with_names old ns → AfterPrefix old ns new
-after_all old new ns e = let all = whole ns in (all.0, e ∙ ap (with_names old) (sym all.1))
+after_all old new ns e = (length ns, rw (take_all (length ns) ns (omega arith)) e)
 
 -- the names of the second side have numbers already
 after_again : (old names new ns : List (List ℕ)) → names ≡ with_names old ns → HasNames names ns → AfterPrefix names ns new → AfterPrefix old ns new
@@ -137,9 +120,7 @@ second_after (Err f) old names new ns e h k = after_again old names new ns e h k
 after_others : (old names new before own more : List (List ℕ)) → names ≡ with_names old before → AfterPrefix names own new → AfterPrefix old (before ++ (own ++ more)) new
 after_others old names new before own more e (k, is) =
     let inner = prefix_longer own more k in
-    let outer = prefix_beyond before (own ++ more) inner.0 in
-    let to : before ++ take k own ≡ take outer.0 (before ++ (own ++ more)) = sym (outer.1 ∙ ap (λ (ns : List (List ℕ)). before ++ ns) inner.1) in
-    (outer.0, is ∙ ap (λ (ks : List (List ℕ)). with_names ks (take k own)) e ∙ sym (in_turn old before (take k own)) ∙ ap (with_names old) to)
+    (length before + inner.0, rw (take-append-add before (own ++ more) inner.0, inner.1, in_turn old before (take k own), ← e) is)
 
 -- the names of one constraint come after those of the constraints before
 names_at : (cs : List Linear) (i : ℕ) (c : Linear) → i < length cs → c ≡ get_or cs i c → (more : List (List ℕ)) × (constraint_names cs ≡ constraint_names (take i cs) ++ (names_of c.terms ++ more))
@@ -147,7 +128,7 @@ names_at [] i c lt e = absurd (omega (arith, lt))
 names_at (x ∷ cs) zero c lt e = (constraint_names cs, ap (λ (y : Linear). names_of y.terms ++ constraint_names cs) (sym e))
 names_at (x ∷ cs) (suc i) c lt e =
     let rest = names_at cs i c (omega (arith, lt)) e in
-    (rest.0, ap (λ (ns : List (List ℕ)). names_of x.terms ++ ns) rest.1 ∙ sym (append_assoc (names_of x.terms) (constraint_names (take i cs)) (names_of c.terms ++ rest.0)))
+    (rest.0, rw (rest.1, append_assoc) refl)
 
 pub after_at : (old names new : List (List ℕ)) (cs : List Linear) (i : ℕ) (c : Linear) → i < length cs → c ≡ get_or cs i c → names ≡ with_names old (constraint_names (take i cs)) → AfterPrefix names (names_of c.terms) new
     → AfterPrefix old (constraint_names cs) new

@@ -1,5 +1,5 @@
 -- Tables of names.
-use Rattle.pb_normal.proofs.Common.{ℕ, ◌++◌, ◌+◌, ◌<◌, ◌∙◌, ◌∷◌, ◌≡◌, ◌≢◌, ◌≤◌, [], ap, All, All-head, All-nil, All-push, All-tail, arith, Bool, cond, false, get_or, Global, IfOk, IfSome, length, length-append, length-map, List, map, map-append, None}
+use Rattle.pb_normal.proofs.Common.{ℕ, ◌++◌, ◌+◌, ◌<◌, ◌∙◌, ◌∷◌, ◌≡◌, ◌≢◌, ◌≤◌, [], ap, All, All-head, All-push, All-tail, arith, cond, false, get_or, Global, IfOk, IfSome, length, length-append, length-map, List, map, map-append, None}
 use Rattle.pb_normal.proofs.Common.{Ok, Err, OnOk, Option, refl, Result, slice_get, Some, subst, suc, sym, true, zero, get_or_from_slice_get, slice_get_within}
 use Rattle.pb_normal.proofs.Common.{AreDistinct, ends_of, has_name, hash_by, hashes_of, IsChained, IsTable, listed, names_in, nexts_of, number_in}
 use Rattle.std.proofs.lemmas.List.{get_or-map}
@@ -9,27 +9,13 @@ use Rattle.pb_normal.specs.declared.names.entry.NameEntry.{NameEntry}
 use Rattle.std.specs.declared.vec.Vec.{Vec}
 use Rattle.pb_normal.specs.declared.names.hasher.NameHasher.{NameHasher}
 use Rattle.pb_normal.specs.declared.names.table.NameTable.{NameTable}
-use Rattle.pb_normal.proofs.lemmas.names.Chains.{chained-more, unlinked}
+use Rattle.pb_normal.proofs.lemmas.names.Chains.{chained-more}
 use Rattle.pb_normal.proofs.lemmas.names.Numbering.{AreDistinct-push, has_name-get, number_in-get, slice_get-number}
 use Rattle.pb_normal.proofs.lemmas.names.Texts.{AreEnds-push, length-texts, texts-push}
 
 -- a table of these parts
 abbrev pub made : Global → NameHasher → Vec ℕ Global → Vec NameEntry Global → Vec ℕ Global → NameTable
 made alloc hasher bytes entries heads = record { alloc = alloc; hasher = hasher; bytes = bytes; entries = entries; heads = heads }
-
--- a table with no name
-pub IsTable-empty : (t : NameTable) → t.bytes.items ≡ [] → t.entries.items ≡ [] → t.heads.items ≡ [] → IsTable t
-IsTable-empty t b e h =
-    let no_heads : length t.heads.items ≡ 0 = rw h refl in
-    let no_entries : length t.entries.items ≡ 0 = rw e refl in
-    record {
-      ends = rw (b, e) refl;
-      readable = rw (b, e) (All-nil IsUtf8);
-      distinct = rw (b, e) tt;
-      hashed = rw (b, e) refl;
-      chained = rw no_entries (unlinked t.heads.items (hashes_of t.entries.items) (nexts_of t.entries.items) (λ chain below. absurd (omega (arith, below, no_heads))));
-      sized = omega (arith, no_entries);
-    }
 
 -- the names stay if only the chains change
 pub IsTable-linked : (t : NameTable) (alloc : Global) (bytes : Vec ℕ Global) (entries : Vec NameEntry Global) (heads : Vec ℕ Global) (es : List NameEntry) (hs : List ℕ) → entries.items ≡ es → heads.items ≡ hs → bytes.items ≡ t.bytes.items → ends_of es ≡ ends_of t.entries.items → hashes_of es ≡ hashes_of t.entries.items → IsChained hs (hashes_of es) (nexts_of es) (length es) → length es ≤ length hs → IsTable t → IsTable (made alloc t.hasher bytes entries heads)
@@ -46,10 +32,7 @@ pub IsTable-same : (t : NameTable) (alloc : Global) (bytes : Vec ℕ Global) (en
 IsTable-same t alloc bytes entries heads b e k o = IsTable-linked t alloc bytes entries heads t.entries.items t.heads.items e k b refl refl o.chained o.sized o
 
 pub entries-more : (heads : List ℕ) (entries : List NameEntry) (e : NameEntry) → IsChained heads (hashes_of entries) (nexts_of entries) (length entries) → IsChained heads (hashes_of (entries ++ e ∷ [])) (nexts_of (entries ++ e ∷ [])) (length entries)
-entries-more heads entries e h =
-    let hashes : hashes_of (entries ++ e ∷ []) ≡ hashes_of entries ++ e.hash ∷ [] = map-append (λ (x : NameEntry). x.hash) entries (e ∷ []) in
-    let nexts : nexts_of (entries ++ e ∷ []) ≡ nexts_of entries ++ e.next ∷ [] = map-append (λ (x : NameEntry). x.next) entries (e ∷ []) in
-    rw (hashes, nexts) (chained-more heads (hashes_of entries) (nexts_of entries) (length entries) e.hash e.next (sym (length-map entries _)) (sym (length-map entries _)) h)
+entries-more heads entries e h = grind (arith, e.hash, map-append, e.next, chained-more, length-map)
 
 pub ends_after : (xs entries : List NameEntry) (e : NameEntry) (n : ℕ) → xs ≡ entries ++ e ∷ [] → e.end ≡ n → ends_of xs ≡ ends_of entries ++ n ∷ []
 ends_after xs entries e n is end = ap ends_of is ∙ map-append (λ (x : NameEntry). x.end) entries (e ∷ []) ∙ ap (λ m. ends_of entries ++ m ∷ []) end
@@ -82,27 +65,12 @@ length-listed t = length-texts 0 (ends_of t.entries.items) t.bytes.items ∙ len
 
 -- a name of the table has its hash there
 hash_at_name : (t : NameTable) (n : ℕ) (name : List ℕ) → IsTable t → slice_get (listed t) n ≡ Some name → get_or (hashes_of t.entries.items) n 0 ≡ hash_by t.hasher name
-hash_at_name t n name o at =
-    let inside = slice_get_within (listed t) n name at in
-    let none : List ℕ = [] in
-    let same : get_or (map (hash_by t.hasher) (listed t)) n 0 ≡ hash_by t.hasher (get_or (listed t) n none) = get_or-map (hash_by t.hasher) (listed t) n none 0 inside in
-    ap (λ hs. get_or hs n 0) o.hashed ∙ same ∙ ap (hash_by t.hasher) (get_or_from_slice_get (listed t) n name none at)
+hash_at_name t n name o at = grind (arith, slice_get_within, t.hasher, get_or-map, o.hashed, get_or_from_slice_get)
 
 -- what a search says of a name
 pub looked_up : (t : NameTable) (name : List ℕ) (hash : ℕ) (r : Option ℕ) → IsTable t → hash ≡ hash_by t.hasher name → IfSome r (λ n. slice_get (listed t) n ≡ Some name) → IfNone r ((n : ℕ) → n < length t.entries.items → get_or (hashes_of t.entries.items) n 0 ≡ hash → slice_get (listed t) n ≢ Some name) → r ≡ cond (has_name (listed t) name) (let o : Option ℕ = Some (number_in (listed t) name) in o) None
-looked_up t name hash (Some n) o e some none =
-    let has = has_name-get (listed t) n name some in
-    let number = number_in-get (listed t) n name o.distinct some in
-    rw (has, number) refl
-looked_up t name hash None o e some none = by_test (has_name (listed t) name) refl
-  where
-    by_test : (b : Bool) → has_name (listed t) name ≡ b → (let o : Option ℕ = None in o) ≡ cond b (let o : Option ℕ = Some (number_in (listed t) name) in o) None
-    by_test false absent = refl
-    by_test true has =
-        let n = number_in (listed t) name in
-        let at = slice_get-number (listed t) name has in
-        let inside = slice_get_within (listed t) n name at in
-        absurd (none n (omega (arith, inside, length-listed t)) (hash_at_name t n name o at ∙ sym e) at)
+looked_up t name hash (Some n) o e some none = rw (has_name-get (listed t) n name some, number_in-get (listed t) n name o.distinct some) refl
+looked_up t name hash None o e some none = grind (arith, e, slice_get-number (listed t) name, slice_get_within (listed t) (number_in (listed t) name) name, length-listed t, hash_at_name t (number_in (listed t) name) name o, none (number_in (listed t) name))
 
 last_at : (names : List (List ℕ)) (name : List ℕ) → slice_get (names ++ name ∷ []) (length names) ≡ Some name
 last_at [] name = refl

@@ -64,9 +64,6 @@ start_at entries n lt some = before 0 (ends_of entries) n some ∙ end_at entrie
 inside_ends : (entries : List NameEntry) (n : ℕ) → n < length entries → n < length (ends_of entries)
 inside_ends entries n lt = rw length-map lt
 
-pub first_within : (entries : List NameEntry) (n count : ℕ) → n < length entries → n ≡ 0 → AreEnds 0 (ends_of entries) count → (0 ≤ (get_or entries n no_entry).end) × ((get_or entries n no_entry).end ≤ count)
-first_within entries n count lt none h = rw (← end_at entries n lt) (omega arith, (ends_rise 0 (ends_of entries) count n h (inside_ends entries n lt)).1)
-
 pub span_within : (entries : List NameEntry) (n count : ℕ) → n < length entries → 0 < n → AreEnds 0 (ends_of entries) count → ((get_or entries (n - 1) no_entry).end ≤ (get_or entries n no_entry).end) × ((get_or entries n no_entry).end ≤ count)
 span_within entries n count lt some h = rw (← end_at entries n lt, ← start_at entries n lt some) (ends_rise 0 (ends_of entries) count n h (inside_ends entries n lt))
 

@@ -1,17 +1,16 @@
 -- The form of a written constraint. Offered to other crates.
 use Rattle.pb_normal.proofs.Common.{ℕ, ℤ, ◌&&◌, ◌*◌, ◌++◌, ◌+ℤ◌, ◌+◌, ◌-ℤ◌, ◌-◌, ◌<◌, ◌^◌, ◌↔◌, ◌∙◌, ◌∷◌, ◌≡◌, ◌≤ℤ◌, ◌≤◌, [], ap, arith, Bool, cond}
-use Rattle.pb_normal.proofs.Common.{drop, eqb, false, FitsSigned, get_or, inl, inr, length, List, map, neg_ℤ, negsuc, not, of_z, pos, refl, slice_get}
+use Rattle.pb_normal.proofs.Common.{drop, eqb, FitsSigned, get_or, inl, inr, length, List, map, neg_ℤ, not, of_z, pos, refl, slice_get}
 use Rattle.pb_normal.proofs.Common.{Some, sym, take, to_z, true, unsigned_abs, cases_lt, nat_tests, ints, to_z-of_z, length-append, take-append-drop}
 use Rattle.pb_normal.proofs.Common.{All-cons, All-nil, get_or_from_slice_get, slice_get-get_or, bytes_eq-Decides, w128, All, bytes_eq, Linear, Term}
-use Rattle.pb_normal.proofs.Common.{drop_read, Entry, Side, AtLeast, AtMost, Adds, flip, entry_of, is_below_0, raw_of, shift, AreFormsOf, at_least_0}
+use Rattle.pb_normal.proofs.Common.{drop_read, Entry, Side, AtLeast, AtMost, Adds, is_below_0, raw_of, shift, AreFormsOf, at_least_0}
 use Rattle.pb_normal.proofs.Common.{each, Form, Holds, IsNormal, IsRising, IsWithin, low, negated_of, negative, plain_of, total, true_at, AreDistinct}
 use Rattle.pb_normal.proofs.Common.{has_name, HasNames, number_in, by_number, IsFormOf, IsSideOf, linear_of, magnitude, names_of, on_negations}
 use Rattle.pb_normal.proofs.Common.{SameAsForm, SameAsForms, SameSolutions, side_number, side_terms, term_of, true_sum, written_on}
 use Rattle.pb_sums.specs.declared.linear.Relation.TheVariants.{AtLeast as relation_least, Equal as relation_equal}
 use Rattle.pb_normal.proofs.lemmas.terms.Maps.{counted-le-all}
 use Rattle.pb_normal.proofs.lemmas.terms.Totals.{size-Adds}
-use Rattle.pb_normal.proofs.lemmas.terms.Variables.{total-same}
-use Rattle.pb_normal.proofs.lemmas.rules.Sums.{at_least_0-is, flip_plain}
+use Rattle.pb_normal.proofs.lemmas.rules.Sums.{at_least_0-is, turned}
 use Rattle.pb_normal.proofs.lemmas.rules.Unique.{Balanced, IsRising-same, same_form}
 use Rattle.pb_normal.proofs.lemmas.terms.Balance.{total-balanced, total-past, All-below}
 use Rattle.pb_normal.proofs.lemmas.names.Numbering.{slice_get-number, number_in-below, number_in-get, number_in-append, has_name-append, AreDistinct-prefix}
@@ -22,40 +21,10 @@ total-raw names (t ∷ ts) = omega (arith, total-raw names ts)
 
 -- a term is on the variable x if and only if its name is the one with that number
 same_test : (names : List (List ℕ)) (q name : List ℕ) (x : ℕ) → AreDistinct names → has_name names q ≡ true → slice_get names x ≡ Some name → eqb (number_in names q) x ≡ bytes_eq q name
-same_test names q name x d has get = by_test (bytes_eq q name) refl
-  where
-    there : number_in names name ≡ x
-    there = number_in-get names x name d get
-
-    by_test : (b : Bool) → bytes_eq q name ≡ b → eqb (number_in names q) x ≡ b
-    by_test true t =
-        let same : q ≡ name = (bytes_eq-Decides q name).0 t in
-        let number : number_in names q ≡ x = rw same there in
-        grind (arith, nat_tests)
-    by_test false t = apart (eqb (number_in names q) x) refl
-      where
-        apart : (b : Bool) → eqb (number_in names q) x ≡ b → eqb (number_in names q) x ≡ false
-        apart true e =
-            let number : number_in names q ≡ x = grind (arith, nat_tests) in
-            let found = rw number at (slice_get-number names q has) in
-            let same : q ≡ name = cc in
-            let yes : bytes_eq q name ≡ true = (bytes_eq-Decides q name).1 same in
-            absurd cc
-        apart false e = e
-
--- one term, by the sign of its coefficient z, whether it is negated, and whether it is on the variable
-signed_one : (z : ℤ) (n e : Bool) → (pos (cond (e && not (cond (is_below_0 z) (not n) n)) (unsigned_abs z) 0) -ℤ pos (cond (e && cond (is_below_0 z) (not n) n) (unsigned_abs z) 0)) ≡ cond e (cond n (neg_ℤ z) z) (pos 0)
-signed_one (pos k) true true = omega (arith, ints)
-signed_one (pos k) true false = omega (arith, ints)
-signed_one (pos k) false true = omega (arith, ints)
-signed_one (pos k) false false = omega (arith, ints)
-signed_one (negsuc k) true true = omega (arith, ints)
-signed_one (negsuc k) true false = omega (arith, ints)
-signed_one (negsuc k) false true = omega (arith, ints)
-signed_one (negsuc k) false false = omega (arith, ints)
+same_test names q name x d has get = grind (arith, nat_tests, bytes_eq-Decides q name, number_in-get names x name d get, slice_get-number names q has)
 
 signed_same : (z : ℤ) (n e d : Bool) → e ≡ d → (pos (cond (e && not (cond (is_below_0 z) (not n) n)) (unsigned_abs z) 0) -ℤ pos (cond (e && cond (is_below_0 z) (not n) n) (unsigned_abs z) 0)) ≡ cond d (cond n (neg_ℤ z) z) (pos 0)
-signed_same z n e d h = rw h (signed_one z n d)
+signed_same z n e d h = grind (arith, ints)
 
 signed-raw : (names : List (List ℕ)) (x : ℕ) (name : List ℕ) (ts : List Term) → AreDistinct names → HasNames names (names_of ts) → slice_get names x ≡ Some name → (pos (total (plain_of x) (map (raw_of names) ts)) -ℤ pos (total (negated_of x) (map (raw_of names) ts))) ≡ written_on name ts
 signed-raw names x name [] d h get = refl
@@ -63,27 +32,14 @@ signed-raw names x name (t ∷ ts) d h get =
     omega (arith, ints, signed-raw names x name ts d h.1 get, signed_same t.coefficient t.literal.negated _ _ (same_test names t.literal.name name x d h.0 get))
 
 low_one : (z : ℤ) (n : Bool) → pos (cond (cond (is_below_0 z) (not n) n) (unsigned_abs z) 0) ≡ (cond n z (pos 0) +ℤ pos (cond (is_below_0 z) (unsigned_abs z) 0))
-low_one (pos k) true = omega (arith, ints)
-low_one (pos k) false = omega (arith, ints)
-low_one (negsuc k) true = omega (arith, ints)
-low_one (negsuc k) false = omega (arith, ints)
+low_one z n = grind (arith, ints)
 
 low-raw : (names : List (List ℕ)) (ts : List Term) → pos (total negative (map (raw_of names) ts)) ≡ (on_negations ts +ℤ pos (shift ts))
 low-raw names [] = refl
 low-raw names (t ∷ ts) = omega (arith, ints, low-raw names ts, low_one t.coefficient t.literal.negated)
 
-true_one : (z : ℤ) (n v : Bool) → pos (cond (cond (cond (is_below_0 z) (not n) n) (not v) v) (unsigned_abs z) 0) ≡ (cond (cond n (not v) v) z (pos 0) +ℤ pos (cond (is_below_0 z) (unsigned_abs z) 0))
-true_one (pos k) true true = omega (arith, ints)
-true_one (pos k) true false = omega (arith, ints)
-true_one (pos k) false true = omega (arith, ints)
-true_one (pos k) false false = omega (arith, ints)
-true_one (negsuc k) true true = omega (arith, ints)
-true_one (negsuc k) true false = omega (arith, ints)
-true_one (negsuc k) false true = omega (arith, ints)
-true_one (negsuc k) false false = omega (arith, ints)
-
 true_same : (z : ℤ) (n v w : Bool) → v ≡ w → pos (cond (cond (cond (is_below_0 z) (not n) n) (not v) v) (unsigned_abs z) 0) ≡ (cond (cond n (not w) w) z (pos 0) +ℤ pos (cond (is_below_0 z) (unsigned_abs z) 0))
-true_same z n v w h = rw h (true_one z n w)
+true_same z n v w h = grind (arith, ints)
 
 true-raw : (names : List (List ℕ)) (a : List ℕ → Bool) (ts : List Term) → HasNames names (names_of ts) → pos (total (true_at (by_number names a)) (map (raw_of names) ts)) ≡ (true_sum a ts +ℤ pos (shift ts))
 true-raw names a [] h = refl
@@ -101,7 +57,6 @@ All-raw names (t ∷ ts) h =
 pub IsFormOf-from : (names : List (List ℕ)) (ts : List Term) (d : ℤ) (rs : List Entry) (up down gone : ℕ) → AreDistinct names → HasNames names (names_of ts) → (d +ℤ pos down) ≡ pos up → IsRising 0 rs → Adds (map (raw_of names) ts) [] rs gone → IsFormOf names ts d record { terms = rs; degree = up + shift ts - (down + gone) }
 IsFormOf-from names ts d rs up down gone distinct has e rising h =
     let raw = map (raw_of names) ts in
-    let turned = λ (x : ℕ) (us : List Entry). total-same (flip (plain_of x)) (negated_of x) (λ v n. flip_plain (eqb v x) n) us in
     record {
       ordered = rising;
       named = All-below (length names) 0 rs rising (λ x le. omega (arith, h.signed (plain_of x), turned x rs, turned x raw, total-past not x (length names) raw (All-raw names ts has) le, total-past (λ b. b) x (length names) raw (All-raw names ts has) le));
@@ -122,8 +77,7 @@ Balanced-raw names ts d r distinct has f x =
     ]
 
 at_least_0-below : (z : ℤ) (n : ℕ) → (at_least_0 z ≤ n) ↔ (z ≤ℤ pos n)
-at_least_0-below (pos k) n = (λ h. omega (arith, ints), λ h. omega (arith, ints))
-at_least_0-below (negsuc k) n = (λ h. omega (arith, ints), λ h. omega (arith, ints))
+at_least_0-below z n = grind (arith, ints)
 
 -- a form of the terms holds if and only if their sum is at least the degree
 pub Holds-form : (names : List (List ℕ)) (ts : List Term) (d : ℤ) (r : Form) → AreDistinct names → HasNames names (names_of ts) → IsFormOf names ts d r → (a : List ℕ → Bool) → Holds (by_number names a) r ↔ (d ≤ℤ true_sum a ts)
@@ -144,22 +98,14 @@ IsFormOf-unique names ts d r s p q =
           omega (arith, total-past not x (length names) s.terms q.named ge, total-past (λ b. b) x (length names) s.terms q.named ge, total-past not x (length names) r.terms p.named ge, total-past (λ b. b) x (length names) r.terms p.named ge)
     ] in
     let terms = IsRising-same 0 r.terms s.terms p.ordered q.ordered balanced in
-    let lows : low r ≡ low s = ap (total negative) terms in
-    let degrees : r.degree ≡ s.degree = p.degree ∙ rw lows (sym q.degree) in
-    same_form r.terms s.terms r.degree s.degree terms degrees
+    same_form r.terms s.terms r.degree s.degree terms (p.degree ∙ rw terms (sym q.degree))
 
 -- forms of the same sides are equal if each sum has only one form
 pub same_forms : ((names : List (List ℕ)) (ts : List Term) (d : ℤ) (r s : Form) → IsFormOf names ts d r → IsFormOf names ts d s → r ≡ s)
     → (names : List (List ℕ)) (sides : List (Side × Linear)) (fs gs : List Form) → AreFormsOf names sides fs → AreFormsOf names sides gs → fs ≡ gs
 same_forms unique names [] [] [] h k = refl
-same_forms unique names [] [] (g ∷ gs) h k = absurd k
-same_forms unique names [] (f ∷ fs) gs h k = absurd h
-same_forms unique names (s ∷ sides) [] gs h k = absurd h
-same_forms unique names (s ∷ sides) (f ∷ fs) [] h k = absurd k
-same_forms unique names (s ∷ sides) (f ∷ fs) (g ∷ gs) h k =
-    let first : f ≡ g = unique names _ _ f g h.0 k.0 in
-    let rest : fs ≡ gs = same_forms unique names sides fs gs h.1 k.1 in
-    cc
+same_forms unique names (s ∷ sides) (f ∷ fs) (g ∷ gs) h k = grind (arith, unique names _ _ f g h.0 k.0, same_forms unique names sides fs gs h.1 k.1)
+same_forms unique names _ _ _ h k = grind arith
 
 -- the two sides
 pub names_of-side : (side : Side) (ts : List Term) → names_of (side_terms side ts) ≡ names_of ts
@@ -167,8 +113,7 @@ names_of-side side [] = refl
 names_of-side side (t ∷ ts) = ap (λ (ns : List (List ℕ)). t.literal.name ∷ ns) (names_of-side side ts)
 
 pub magnitude_one : (side : Side) (z : ℤ) → unsigned_abs (side_number side z) ≡ unsigned_abs z
-magnitude_one AtLeast z = refl
-magnitude_one AtMost z = omega (arith, ints)
+magnitude_one side z = grind (arith, ints)
 
 pub magnitude-side : (side : Side) (ts : List Term) → magnitude (side_terms side ts) ≡ magnitude ts
 magnitude-side side [] = refl
@@ -178,14 +123,9 @@ true_sum-least : (a : List ℕ → Bool) (ts : List Term) → true_sum a (side_t
 true_sum-least a [] = refl
 true_sum-least a (t ∷ ts) = omega (arith, ints, true_sum-least a ts)
 
-negated_one : (b : Bool) (z : ℤ) → cond b (neg_ℤ z) (pos 0) ≡ neg_ℤ (cond b z (pos 0))
-negated_one true z = refl
-negated_one false z = refl
-
 true_sum-most : (a : List ℕ → Bool) (ts : List Term) → true_sum a (side_terms AtMost ts) ≡ neg_ℤ (true_sum a ts)
 true_sum-most a [] = refl
-true_sum-most a (t ∷ ts) =
-    omega (arith, ints, true_sum-most a ts, negated_one (cond t.literal.negated (not (a t.literal.name)) (a t.literal.name)) t.coefficient)
+true_sum-most a (t ∷ ts) = grind (arith, ints, true_sum-most a ts)
 
 HasNames-side : (names : List (List ℕ)) (side : Side) (ts : List Term) → HasNames names (names_of ts) → HasNames names (names_of (side_terms side ts))
 HasNames-side names side ts h = rw (names_of-side side ts) h
@@ -201,10 +141,7 @@ SameSolutions-side names AtMost linear r distinct has f a =
 
 raw-append : (names more : List (List ℕ)) (ts : List Term) → HasNames names (names_of ts) → map (raw_of (names ++ more)) ts ≡ map (raw_of names) ts
 raw-append names more [] h = refl
-raw-append names more (t ∷ ts) h =
-    let first = ap (λ n. entry_of n t.literal.negated t.coefficient) (number_in-append names more t.literal.name h.0) in
-    let rest = raw-append names more ts h.1 in
-    cc
+raw-append names more (t ∷ ts) h = grind (arith, number_in-append names more t.literal.name h.0, raw-append names more ts h.1)
 
 pub HasNames-append : (names more ns : List (List ℕ)) → HasNames names ns → HasNames (names ++ more) ns
 HasNames-append names more [] h = tt
@@ -265,18 +202,7 @@ pub record Collected (names : List (List ℕ)) (side : Side) (linear : Linear) (
 
 -- the same, derived from the contracts of the steps
 pub Collected-from : (names : List (List ℕ)) (side : Side) (linear : Linear) (ts : List Term) (raw rs : List Entry) (z : ℤ) (up down gone limit : ℕ) → FitsSigned w128 linear.degree → FitsSigned w128 z → ts ≡ linear.terms → magnitude linear.terms + unsigned_abs linear.degree ≤ limit → AreDistinct names → HasNames names (names_of ts) → z ≡ side_number side (to_z w128 (of_z w128 linear.degree)) → (to_z w128 (of_z w128 z) +ℤ pos down) ≡ pos up → up + down ≡ unsigned_abs (to_z w128 (of_z w128 z)) → IsRising 0 rs → raw ≡ map (raw_of names) (side_terms side ts) → Adds raw [] rs gone → Collected names side linear rs up down gone limit
-Collected-from names side linear ts raw rs z up down gone limit fits z_fits same small distinct named sign difference parts rising entries adds =
-    let signed = rw (to_z-of_z w128 linear.degree fits) at sign in
-    let number = to_z-of_z w128 z z_fits in
-    record {
-      small = small;
-      distinct = distinct;
-      named = rw same at named;
-      difference = rw (number, signed) at difference;
-      parts = omega (arith, rw (number, signed) at parts, magnitude_one side linear.degree);
-      rising = rising;
-      adds = rw (entries, same) at adds;
-    }
+Collected-from names side linear ts raw rs z up down gone limit fits z_fits same small distinct named sign difference parts rising entries adds = grind (arith, to_z-of_z, linear.degree, magnitude_one)
 
 -- the sizes of the collected terms and of what cancelled
 pub size-Collected : (names : List (List ℕ)) (side : Side) (linear : Linear) (rs : List Entry) (up down gone limit : ℕ) → Collected names side linear rs up down gone limit → total each rs + 2 * gone ≡ magnitude linear.terms
@@ -303,15 +229,7 @@ IsSideOf-Collected names side linear rs up down gone limit k =
 -- a form that is written with names holds if and only if the form does
 true_sum-terms : (names : List (List ℕ)) (a : List ℕ → Bool) (ts : List Entry) → true_sum a (map (term_of names) ts) ≡ pos (total (true_at (by_number names a)) ts)
 true_sum-terms names a [] = refl
-true_sum-terms names a (t ∷ ts) =
-    let v = a (get_or names t.variable []) in
-    omega (arith, ints, true_sum-terms names a ts, pos_part (cond t.negated (not v) v) t.coefficient)
-  where
-    pos_part : (b : Bool) (n : ℕ) → cond b (pos n) (pos 0) ≡ pos (cond b n 0)
-    pos_part true n = refl
-    pos_part false n = refl
+true_sum-terms names a (t ∷ ts) = grind (arith, ints, true_sum-terms names a ts)
 
 pub SameAsForm-linear_of : (names : List (List ℕ)) (f : Form) → SameAsForm names (linear_of names f) f
-SameAsForm-linear_of names f a =
-    let sum = true_sum-terms names a f.terms in
-    (λ h. omega (arith, ints, h, sum), λ h. omega (arith, ints, h, sum))
+SameAsForm-linear_of names f a = grind (arith, true_sum-terms, f.terms)

@@ -1,58 +1,30 @@
 -- The size and the degree of a sum are at most those of both forms together.
-use Rattle.pb_normal.proofs.Common.{ℕ, ◌+ℤ◌, ◌+◌, ◌<◌, ◌↔◌, ◌∷◌, ◌≡◌, ◌≤◌, ◌⊎◌, [], arith, Bool, cond, false, inl, inr, IsTrue, List, ltb, max, not}
-use Rattle.pb_normal.proofs.Common.{pos, refl, rules, suc, tests, true, zero, cases_eq, cases_lt, ints, Entry, bound, each, Form, IsRising, low}
+use Rattle.pb_normal.proofs.Common.{nat_tests, ℕ, ◌+ℤ◌, ◌+◌, ◌<◌, ◌↔◌, ◌∷◌, ◌≡◌, ◌≤◌, ◌⊎◌, [], arith, Bool, false, inl, inr, IsTrue, List, ltb, max, not}
+use Rattle.pb_normal.proofs.Common.{pos, refl, rules, suc, tests, zero, ints, Entry, bound, each, Form, IsRising, low}
 use Rattle.pb_normal.proofs.Common.{negated_of, negative, plain_of, size, total, IsSum, SumMeasures, SumPasses}
 use Rattle.pb_normal.proofs.lemmas.rules.Measures.{SumPasses-not}
 use Rattle.pb_normal.proofs.lemmas.rules.Sums.{at_least_0-le, IsSum-swap}
 use Rattle.pb_normal.proofs.lemmas.rules.Unique.{none_below}
-use Rattle.pb_normal.proofs.lemmas.terms.Variables.{counted-here, counted-other, share, top, total-by_variable, up_to}
-
--- of the two literals of a variable at most one has a coefficient
-one_side_here : (b : Bool) (c m n : ℕ) → m ≡ 0 → n ≡ 0 → (cond (not b) c 0 + m ≡ 0) ⊎ (cond b c 0 + n ≡ 0)
-one_side_here true c m n p q = inl (omega (arith, p))
-one_side_here false c m n p q = inr (omega (arith, q))
+use Rattle.pb_normal.proofs.lemmas.terms.Variables.{share, top, total-by_variable, up_to}
 
 one_side : (n x : ℕ) (ts : List Entry) → IsRising n ts → (total (plain_of x) ts ≡ 0) ⊎ (total (negated_of x) ts ≡ 0)
 one_side n x [] h = inl refl
-one_side n x (t ∷ ts) h =
-    elim (cases_eq t.variable x) [
-      | inl same ↦
-          let plain = none_below not x (t.variable + 1) ts h.2 (omega arith) in
-          let negated = none_below (λ b. b) x (t.variable + 1) ts h.2 (omega arith) in
-          elim (one_side_here t.negated t.coefficient _ _ plain negated) [
-            | inl z ↦ inl (omega (arith, z, counted-here t.variable x (not t.negated) t.coefficient same))
-            | inr z ↦ inr (omega (arith, z, counted-here t.variable x t.negated t.coefficient same))
-          ]
-      | inr other ↦
-          elim (one_side (t.variable + 1) x ts h.2) [
-            | inl z ↦ inl (omega (arith, z, counted-other t.variable x (not t.negated) t.coefficient other))
-            | inr z ↦ inr (omega (arith, z, counted-other t.variable x t.negated t.coefficient other))
-          ]
-    ]
-
-share-le : (b c : Bool) (r0 r1 f0 f1 g0 g1 : ℕ) → r0 ≤ f0 + g0 → r1 ≤ f1 + g1 → cond b r0 0 + cond c r1 0 ≤ (cond b f0 0 + cond c f1 0) + (cond b g0 0 + cond c g1 0)
-share-le true true r0 r1 f0 f1 g0 g1 p q = omega arith
-share-le true false r0 r1 f0 f1 g0 g1 p q = omega arith
-share-le false true r0 r1 f0 f1 g0 g1 p q = omega arith
-share-le false false r0 r1 f0 f1 g0 g1 p q = omega arith
+one_side n x (t ∷ ts) h = grind (arith, one_side (t.variable + 1) x ts h.2, none_below not x (t.variable + 1) ts h.2, none_below (λ b. b) x (t.variable + 1) ts h.2, nat_tests)
 
 up_to-le : (a b c : ℕ → ℕ) (n : ℕ) → ((x : ℕ) → a x ≤ b x + c x) → up_to a n ≤ up_to b n + up_to c n
 up_to-le a b c zero h = omega arith
 up_to-le a b c (suc n) h = omega (arith, up_to-le a b c n h, h n)
 
 plain-le : (f g r : Form) → IsSum f g r → (x : ℕ) → total (plain_of x) r.terms ≤ total (plain_of x) f.terms + total (plain_of x) g.terms
-plain-le f g r s x =
-    elim (one_side 0 x r.terms s.ordered) [ inl z ↦ omega (arith, z) | inr z ↦ omega (arith, ints, s.coefficients x, z) ]
+plain-le f g r s x = grind (arith, ints, one_side 0 x r.terms s.ordered, s.coefficients x)
 
 negated-le : (f g r : Form) → IsSum f g r → (x : ℕ) → total (negated_of x) r.terms ≤ total (negated_of x) f.terms + total (negated_of x) g.terms
-negated-le f g r s x =
-    elim (one_side 0 x r.terms s.ordered) [ inl z ↦ omega (arith, ints, s.coefficients x, z) | inr z ↦ omega (arith, z) ]
+negated-le f g r s x = grind (arith, ints, one_side 0 x r.terms s.ordered, s.coefficients x)
 
 total-sum-le : (p : ℕ → Bool → Bool) (f g r : Form) → IsSum f g r → total p r.terms ≤ total p f.terms + total p g.terms
 total-sum-le p f g r s =
     let n = max (top r.terms) (max (top f.terms) (top g.terms)) in
-    let each_one : (x : ℕ) → share p r.terms x ≤ share p f.terms x + share p g.terms x = λ x.
-    share-le (p x false) (p x true) _ _ _ _ _ _ (plain-le f g r s x) (negated-le f g r s x) in
+    let each_one : (x : ℕ) → share p r.terms x ≤ share p f.terms x + share p g.terms x = λ x. grind (arith, plain-le f g r s x, negated-le f g r s x) in
     omega (arith, up_to-le _ _ _ n each_one, total-by_variable p r.terms n (omega arith), total-by_variable p f.terms n (omega arith), total-by_variable p g.terms n (omega arith))
 
 degree-sum-le : (f g r : Form) → IsSum f g r → r.degree ≤ f.degree + g.degree
@@ -64,8 +36,7 @@ degree-sum-le f g r s =
 
 -- so a sum fits where both together do
 pub SumPasses-small : (limit : ℕ) (f g : Form) → size f + size g ≤ limit → f.degree + g.degree ≤ limit → SumPasses limit f g → ⊥
-SumPasses-small limit f g p q w =
-    elim w.2 [ inl h ↦ omega (arith, total-sum-le each f g w.0 w.1) | inr h ↦ omega (arith, degree-sum-le f g w.0 w.1) ]
+SumPasses-small limit f g p q w = grind (arith, total-sum-le each f g w.0 w.1, degree-sum-le f g w.0 w.1, w.2)
 
 -- the measures of the sum decide
 pub SumPasses-measured : (limit : ℕ) (f g : Form) (s d : ℕ) → SumMeasures f g s d → (limit < s) ⊎ (limit < d) → SumPasses limit f g
@@ -84,7 +55,4 @@ reports_none P never = (λ h. absurd (let lt : 0 < 0 = (reports 0 0).0 h in omeg
 
 -- the degree decides, if the size is within the limit
 pub SumPasses-by_degree : (limit : ℕ) (f g : Form) (s d : ℕ) → SumMeasures f g s d → s ≤ limit → IsTrue (ltb limit d) ↔ SumPasses limit f g
-SumPasses-by_degree limit f g s d m le = (
-  λ h. SumPasses-measured limit f g s d m (inr ((reports limit d).0 h)),
-  λ p. elim (cases_lt limit d) [ inl lt ↦ (reports limit d).1 lt | inr small ↦ absurd (SumPasses-not limit f g s d m le small p) ],
-)
+SumPasses-by_degree limit f g s d m le = grind (arith, tests, SumPasses-measured limit f g s d m, SumPasses-not limit f g s d m)

@@ -1,20 +1,16 @@
 -- The result of a rule has no other variables than its operands. Whether a form holds depends on the values of its
 -- variables only. Offered to other crates.
-use Rattle.pb_normal.proofs.Common.{ℕ, ◌&&◌, ◌+◌, ◌<◌, ◌↔◌, ◌∷◌, ◌≡◌, ◌≢◌, [], ap, arith, Bool, cond, eqb, false, List, map, nat_lt, not, refl, true}
+use Rattle.pb_normal.proofs.Common.{nat_tests, ℕ, ◌&&◌, ◌+◌, ◌<◌, ◌↔◌, ◌∷◌, ◌≡◌, [], ap, arith, Bool, cond, eqb, false, List, map, nat_lt, not, refl, true}
 use Rattle.pb_normal.proofs.Common.{lt-ltb, ltb-true, ints, All-cons, All-filter, All-head, All-map, All-nil, All-tail, Entry, AgreeOn, counted, Form}
 use Rattle.pb_normal.proofs.Common.{Holds, IsOver, IsRising, negated_of, plain_of, total, true_at, IsSum, opposite, with_coefficient}
 use Rattle.std.proofs.Common.{All, filter}
-use Rattle.pb_normal.proofs.lemmas.rules.Unique.{none_below, one_sided}
-use Rattle.pb_normal.proofs.lemmas.terms.Variables.{counted-here, counted-other}
+use Rattle.pb_normal.proofs.lemmas.rules.Unique.{none_below}
 
 abbrev pub AreIn : (ℕ → Bool) → List Entry → Type 0
 AreIn p ts = All (λ t. p t.variable ≡ true) ts
 
-differs : (p : ℕ → Bool) (v x : ℕ) → p v ≡ true → p x ≡ false → v ≢ x
-differs p v x h k same = let twice : p x ≡ true = rw same at h in cc
-
 other : (e : Bool → Bool) (p : ℕ → Bool) (t : Entry) (x : ℕ) → p t.variable ≡ true → p x ≡ false → cond (eqb t.variable x && e t.negated) t.coefficient 0 ≡ 0
-other e p t x h k = counted-other t.variable x (e t.negated) t.coefficient (differs p t.variable x h k)
+other e p t x h k = grind (arith, nat_tests)
 
 -- a variable outside the set has no coefficient
 pub none_outside : (e : Bool → Bool) (p : ℕ → Bool) (x : ℕ) (ts : List Entry) → AreIn p ts → p x ≡ false → total (λ v m. eqb v x && e m) ts ≡ 0
@@ -25,18 +21,11 @@ none_outside e p x (t ∷ ts) h k =
 -- a rising list that balances on all variables outside the set has its variables inside it
 pub balanced_outside : (p : ℕ → Bool) (m : ℕ) (ts : List Entry) → IsRising m ts → ((x : ℕ) → p x ≡ false → total (plain_of x) ts ≡ total (negated_of x) ts) → AreIn p ts
 balanced_outside p m [] h e = All-nil (λ (u : Entry). p u.variable ≡ true)
-balanced_outside p m (t ∷ ts) h e =
-    by_place (p t.variable) refl (λ k. balanced_outside p (t.variable + 1) ts h.2 (λ x out. omega (arith, e x out, other not p t x k out, other (λ b. b) p t x k out)))
+balanced_outside p m (t ∷ ts) h e = by_place (p t.variable) refl (λ k. balanced_outside p (t.variable + 1) ts h.2 (λ x out. omega (arith, e x out, other not p t x k out, other (λ b. b) p t x k out)))
   where
     by_place : (b : Bool) → p t.variable ≡ b → (p t.variable ≡ true → AreIn p ts) → AreIn p (t ∷ ts)
     by_place true k rest = All-cons (λ (u : Entry). p u.variable ≡ true) t ts k (rest k)
-    by_place false k rest =
-        let v = t.variable in
-        let plain_rest = none_below not v (v + 1) ts h.2 (omega arith) in
-        let negated_rest = none_below (λ b. b) v (v + 1) ts h.2 (omega arith) in
-        let plain_here = counted-here v v (not t.negated) t.coefficient refl in
-        let negated_here = counted-here v v t.negated t.coefficient refl in
-        absurd (one_sided t.negated t.coefficient h.1 (omega (arith, e v k)))
+    by_place false k rest = grind (arith, nat_tests, e t.variable k, none_below not t.variable (t.variable + 1) ts h.2, none_below (λ b. b) t.variable (t.variable + 1) ts h.2)
 
 pub IsOver-sum : (p : ℕ → Bool) (f g r : Form) → IsSum f g r → IsOver p f → IsOver p g → IsOver p r
 IsOver-sum p f g r s hf hg = balanced_outside p 0 r.terms s.ordered
@@ -53,8 +42,7 @@ pub IsOver-opposite : (p : ℕ → Bool) (ts : List Entry) → AreIn p ts → Ar
 IsOver-opposite p ts h = All-map (λ (u : Entry). p u.variable ≡ true) opposite ts h
 
 All-to : {P Q : Entry → Type 0} (ts : List Entry) → ((t : Entry) → P t → Q t) → All P ts → All Q ts
-All-to {P} {Q} [] f h = All-nil Q
-All-to {P} {Q} (t ∷ ts) f h = All-cons Q t ts (f t (All-head P t ts h)) (All-to ts f (All-tail P t ts h))
+All-to ts f h = λ i d lt. f _ (h i d lt)
 
 -- the numbers below n as a set
 pub AreIn-below : (n : ℕ) (ts : List Entry) → AreIn (λ v. nat_lt v n) ts ↔ All (λ t. t.variable < n) ts

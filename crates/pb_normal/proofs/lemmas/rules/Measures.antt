@@ -1,5 +1,5 @@
 -- The size and the degree of a sum, in terms of what cancels.
-use Rattle.pb_normal.proofs.Common.{ℕ, ◌*◌, ◌+◌, ◌-◌, ◌<◌, ◌↔◌, ◌∙◌, ◌≡◌, ◌≤◌, ap, arith, inl, inr, List, refl, sym, Entry, Adds, Cancels, each, Form}
+use Rattle.pb_normal.proofs.Common.{ℕ, ◌*◌, ◌+◌, ◌-◌, ◌<◌, ◌↔◌, ◌∙◌, ◌≡◌, ◌≤◌, ap, arith, List, refl, sym, Entry, Adds, Cancels, each, Form}
 use Rattle.pb_normal.proofs.Common.{IsRising, size, total, IsSum, SumIsContradiction, SumMeasures, SumPasses}
 use Rattle.pb_normal.proofs.lemmas.terms.Totals.{size-Adds}
 use Rattle.pb_normal.proofs.lemmas.rules.Sums.{IsSum-from}
@@ -11,20 +11,10 @@ SumMeasures-from f g c k =
     (_, s, omega (arith, size-Adds f.terms g.terms k.0 c k.2), refl)
 
 pub SumPasses-not : (limit : ℕ) (f g : Form) (s d : ℕ) → SumMeasures f g s d → s ≤ limit → d ≤ limit → SumPasses limit f g → ⊥
-SumPasses-not limit f g s d m p q w =
-    let same = IsSum-unique f g _ _ m.1 w.1 in
-    let sizes = ap size same in
-    let degrees = ap (λ (r : Form). r.degree) same in
-    elim w.2 [ inl h ↦ omega (arith, m.2) | inr h ↦ omega (arith, m.3) ]
+SumPasses-not limit f g s d m p q w = grind (arith, IsSum-unique f g _ _ m.1 w.1, m.2, m.3, w.2)
 
 pub SumIsContradiction-measured : (f g : Form) (s d : ℕ) → SumMeasures f g s d → (s < d) ↔ SumIsContradiction f g
-SumIsContradiction-measured f g s d m = (
-  λ lt. (m.0, m.1, omega (arith, m.2, m.3)),
-  λ w. let same = IsSum-unique f g _ _ m.1 w.1 in
-      let sizes = ap size same in
-      let degrees = ap (λ (r : Form). r.degree) same in
-      omega (arith, m.2, m.3, w.2),
-)
+SumIsContradiction-measured f g s d m = (λ lt. (m.0, m.1, omega (arith, m.2, m.3)), λ w. grind (arith, IsSum-unique f g _ _ m.1 w.1, m.2, m.3, w.2))
 
 -- the merged list with the measured degree is the sum
 pub IsSum-measured : (f g : Form) (s d : ℕ) (rs : List Entry) (c : ℕ) → SumMeasures f g s d → IsRising 0 rs → Adds f.terms g.terms rs c → IsSum f g record { terms = rs; degree = d } × (total each rs ≡ s)

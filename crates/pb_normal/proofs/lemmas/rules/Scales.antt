@@ -1,6 +1,6 @@
 -- Multiplication and saturation. Offered to other crates.
-use Rattle.pb_normal.proofs.Common.{ℕ, ◌*◌, ◌+◌, ◌/◌, ◌<◌, ◌^◌, ◌∷◌, ◌≡◌, ◌≤◌, [], arith, Bool, cond, false, get_or, inl, inr, List, ltb, map, min}
-use Rattle.pb_normal.proofs.Common.{refl, suc, true, zero, ap, lt-ltb, mul-le-mul_left, cases_lt, nat_tests, div-add-mod', le-div, All, filter, Entry, counted}
+use Rattle.pb_normal.proofs.Common.{ℕ, ◌*◌, ◌+◌, ◌/◌, ◌<◌, ◌^◌, ◌∷◌, ◌≡◌, ◌≤◌, [], arith, Bool, cond, get_or, inl, inr, List, ltb, map, min}
+use Rattle.pb_normal.proofs.Common.{refl, mul-le-mul_left, nat_tests, div-add-mod', le-div, All, filter, Entry}
 use Rattle.pb_normal.proofs.Common.{each, Form, Holds, IsNormal, IsRising, IsWithin, size, total, true_at, multiplied, Passes, saturated}
 use Rattle.pb_normal.proofs.Common.{with_coefficient}
 use Rattle.pb_normal.proofs.lemmas.terms.Maps.{IsRising-map, total-filter-le, total-map-le, counted-le}
@@ -9,23 +9,20 @@ use Rattle.pb_normal.proofs.lemmas.terms.Totals.{IsRising-from}
 
 -- comparing a quotient and a product
 pub past_quotient : (m n k : ℕ) → 0 < k → n / k < m → n < m * k
-past_quotient m n k h lt =
-    elim (cases_lt n (m * k)) [ inl past ↦ past | inr le ↦ absurd (omega (arith, le-div m n k h le)) ]
+past_quotient m n k h lt = grind (arith, le-div)
 
 pub within_quotient : (m n k : ℕ) → m ≤ n / k → m * k ≤ n
 within_quotient m n k le = omega (arith, mul-le-mul_left k le, div-add-mod' n k)
 
 counted-times : (b : Bool) (n k : ℕ) → cond b (n * k) 0 ≡ cond b n 0 * k
-counted-times true n k = refl
-counted-times false n k = omega arith
+counted-times b n k = grind arith
 
 pub total-multiplied : (p : ℕ → Bool → Bool) (k : ℕ) (ts : List Entry) → total p (map (λ t. with_coefficient t (t.coefficient * k)) ts) ≡ total p ts * k
 total-multiplied p k [] = omega arith
 total-multiplied p k (t ∷ ts) = omega (arith, total-multiplied p k ts, counted-times (p t.variable t.negated) t.coefficient k)
 
 times_pos : (n k : ℕ) → 0 < n → 0 < k → 0 < n * k
-times_pos zero k h p = absurd (omega arith)
-times_pos (suc n) k h p = omega arith
+times_pos n k h p = grind arith
 
 pub IsRising-multiplied : (k n : ℕ) (ts : List Entry) → 0 < k → IsRising n ts → IsRising n (map (λ t. with_coefficient t (t.coefficient * k)) ts)
 IsRising-multiplied k n ts h r = IsRising-map _ n ts (λ t. refl) (λ t p. times_pos t.coefficient k p h) r
@@ -38,55 +35,30 @@ All-multiplied k m ts le i d lt =
 pub Holds-multiplied : (a : ℕ → Bool) (k : ℕ) (f : Form) → Holds a f → Holds a (multiplied k f)
 Holds-multiplied a k f h = omega (arith, total-multiplied (true_at a) k f.terms, mul-le-mul_left k h)
 
--- saturation
-positive_step : (b : Bool) (n : ℕ) (t : Entry) (rest : List Entry) → ltb 0 t.coefficient ≡ b → n ≤ t.variable → IsRising (t.variable + 1) rest → IsRising n (cond b (t ∷ rest) rest)
-positive_step true n t rest e le r = (le, let p : 0 < t.coefficient = grind (arith, nat_tests) in p, r)
-positive_step false n t rest e le r = IsRising-from n (t.variable + 1) rest (omega arith) r
-
 pub IsRising-saturated : (d n : ℕ) (ts : List Entry) → IsRising n ts → IsRising n (filter (λ t. ltb 0 t.coefficient) (map (λ t. with_coefficient t (min t.coefficient d)) ts))
 IsRising-saturated d n [] r = tt
-IsRising-saturated d n (t ∷ ts) r = positive_step _ n (with_coefficient t (min t.coefficient d)) _ refl r.0 (IsRising-saturated d (t.variable + 1) ts r.2)
+IsRising-saturated d n (t ∷ ts) r = grind (arith, nat_tests, IsRising-from n (t.variable + 1), IsRising-saturated d (t.variable + 1) ts r.2)
 
 pub total-saturated-le : (p : ℕ → Bool → Bool) (d : ℕ) (ts : List Entry) → total p (filter (λ t. ltb 0 t.coefficient) (map (λ t. with_coefficient t (min t.coefficient d)) ts)) ≤ total p ts
-total-saturated-le p d ts =
-    let filtered = total-filter-le (λ t. ltb 0 t.coefficient) p (map (λ t. with_coefficient t (min t.coefficient d)) ts) in
-    let mapped = total-map-le (λ t. with_coefficient t (min t.coefficient d)) p ts (λ t. counted-le (p t.variable t.negated) _ _ (omega arith)) in
-    omega arith
-
-nothing_lost : (b c : Bool) (n : ℕ) (r s : ℕ) → ltb 0 n ≡ b → r ≤ s → cond c n 0 + r ≤ cond b (cond c n 0 + s) s
-nothing_lost true c n r s e le = omega arith
-nothing_lost false true n r s e le = let z : n ≡ 0 = grind (arith, nat_tests) in omega arith
-nothing_lost false false n r s e le = omega arith
-
-kept : (b : Bool) (p : ℕ → Bool → Bool) (t : Entry) (rest : List Entry) → total p (cond b (t ∷ rest) rest) ≡ cond b (counted p t + total p rest) (total p rest)
-kept true p t rest = refl
-kept false p t rest = refl
+total-saturated-le p d ts = grind (arith, total-filter-le, total-map-le, counted-le)
 
 -- dropping terms whose coefficient is 0 loses nothing
 total-positive : (p : ℕ → Bool → Bool) (ts : List Entry) → total p ts ≤ total p (filter (λ t. ltb 0 t.coefficient) ts)
 total-positive p [] = omega arith
-total-positive p (t ∷ ts) = rw (kept (ltb 0 t.coefficient) p t (filter (λ t. ltb 0 t.coefficient) ts)) (nothing_lost (ltb 0 t.coefficient) (p t.variable t.negated) t.coefficient _ _ refl (total-positive p ts))
-
-least_of : (b : Bool) (n d r s : ℕ) → min d r ≤ s → min d (cond b n 0 + r) ≤ cond b (min n d) 0 + s
-least_of true n d r s le = omega arith
-least_of false n d r s le = omega arith
+total-positive p (t ∷ ts) = grind (arith, nat_tests, total-positive p ts)
 
 total-capped : (p : ℕ → Bool → Bool) (d : ℕ) (ts : List Entry) → min d (total p ts) ≤ total p (map (λ t. with_coefficient t (min t.coefficient d)) ts)
 total-capped p d [] = omega arith
-total-capped p d (t ∷ ts) = least_of (p t.variable t.negated) t.coefficient d _ _ (total-capped p d ts)
+total-capped p d (t ∷ ts) = grind (arith, total-capped p d ts)
 
 -- at degree 0 no term is left, and at any other degree each
 pub saturated_nothing : (ts : List Entry) → filter (λ t. ltb 0 t.coefficient) (map (λ t. with_coefficient t (min t.coefficient 0)) ts) ≡ []
 saturated_nothing [] = refl
-saturated_nothing (t ∷ ts) =
-    let none : min t.coefficient 0 ≡ 0 = omega arith in
-    rw none (saturated_nothing ts)
+saturated_nothing (t ∷ ts) = grind (arith, nat_tests, saturated_nothing ts)
 
 pub saturated_each : (d n : ℕ) (ts : List Entry) → 0 < d → IsRising n ts → filter (λ t. ltb 0 t.coefficient) (map (λ t. with_coefficient t (min t.coefficient d)) ts) ≡ map (λ t. with_coefficient t (min t.coefficient d)) ts
 saturated_each d n [] h r = refl
-saturated_each d n (t ∷ ts) h r =
-    let positive : ltb 0 (min t.coefficient d) ≡ true = lt-ltb _ _ (omega (arith, r.1, h)) in
-    rw positive (ap (λ (xs : List Entry). with_coefficient t (min t.coefficient d) ∷ xs) (saturated_each d (t.variable + 1) ts h r.2))
+saturated_each d n (t ∷ ts) h r = grind (arith, nat_tests, saturated_each d (t.variable + 1) ts h r.2)
 
 pub Holds-saturated : (a : ℕ → Bool) (f : Form) → Holds a f → Holds a (saturated f)
 Holds-saturated a f h =
@@ -107,10 +79,7 @@ pub Passes-degree : (limit k : ℕ) (f : Form) → 0 < k → limit / k < f.degre
 Passes-degree limit k f h lt = inr (past_quotient f.degree limit k h lt)
 
 pub IsWithin-multiplied : (limit k : ℕ) (f : Form) → size f ≤ limit / k → f.degree ≤ limit / k → IsWithin limit (multiplied k f)
-IsWithin-multiplied limit k f s d = record {
-  size_in = omega (arith, total-multiplied each k f.terms, within_quotient (size f) limit k s);
-  degree_in = within_quotient f.degree limit k d;
-}
+IsWithin-multiplied limit k f s d = grind (arith, total-multiplied, f.terms, within_quotient, f.degree)
 
 pub Passes-not : (limit : ℕ) (f : Form) → IsWithin limit f → Passes limit f → ⊥
 Passes-not limit f w p = elim p [ inl h ↦ omega (arith, w.size_in) | inr h ↦ omega (arith, w.degree_in) ]

@@ -1,43 +1,31 @@
 -- The sum of two forms: a merge computes it, and it holds if both forms hold. Offered to other crates.
-use Rattle.pb_normal.proofs.Common.{ℕ, ℤ, ◌&&◌, ◌+ℤ◌, ◌+◌, ◌-◌, ◌≡◌, ◌≤◌, arith, Bool, cond, eqb, Err, false, IfOk, List, max, negsuc, not, Ok, pos}
-use Rattle.pb_normal.proofs.Common.{refl, Result, sym, true, ints, Entry, Adds, flip, at_least_0, bound, Form, Holds, IsRising, low, negated_of}
+use Rattle.pb_normal.proofs.Common.{ℕ, ℤ, ◌+ℤ◌, ◌+◌, ◌-◌, ◌≡◌, ◌≤◌, arith, Bool, Err, IfOk, List, max, Ok, pos}
+use Rattle.pb_normal.proofs.Common.{Result, sym, ints, Entry, Adds, flip, at_least_0, bound, Form, Holds, IsRising, low, negated_of}
 use Rattle.pb_normal.proofs.Common.{negative, plain_of, total, true_at, IsSum}
 use Rattle.pb_normal.proofs.lemmas.terms.Variables.{total-same, total-by_variable, up_to-balance, share, top}
 
 pub at_least_0-is : (z : ℤ) (m k : ℕ) → (z +ℤ pos k) ≡ pos m → at_least_0 z ≡ m - k
-at_least_0-is (pos n) m k e = omega (arith, ints)
-at_least_0-is (negsuc n) m k e = omega (arith, ints)
+at_least_0-is z m k e = grind (arith, ints)
 
-pub flip_plain : (e n : Bool) → (e && not (not n)) ≡ (e && n)
-flip_plain true true = refl
-flip_plain true false = refl
-flip_plain false n = refl
+pub turned : (x : ℕ) (ts : List Entry) → total (flip (plain_of x)) ts ≡ total (negated_of x) ts
+turned x ts = total-same (flip (plain_of x)) (negated_of x) (λ v n. grind arith) ts
 
 pub IsSum-from : (f g : Form) (rs : List Entry) (c : ℕ) → IsRising 0 rs → Adds f.terms g.terms rs c → IsSum f g record { terms = rs; degree = f.degree + g.degree - c }
 IsSum-from f g rs c rising h = record {
   ordered = rising;
-  coefficients = λ x.
-      let turned = λ (ts : List Entry). total-same (flip (plain_of x)) (negated_of x) (λ v n. flip_plain (eqb v x) n) ts in
-      omega (arith, ints, h.signed (plain_of x), turned f.terms, turned g.terms, turned rs);
+  coefficients = λ x. omega (arith, ints, h.signed (plain_of x), turned x f.terms, turned x g.terms, turned x rs);
   degree = sym (at_least_0-is ((bound f +ℤ bound g) +ℤ pos (total negative rs)) (f.degree + g.degree) c (omega (arith, ints, h.lows)));
 }
-
--- one variable's part of the balance; b says whether the variable is true
-balance_at : (b : Bool) (on_r off_r on_f off_f on_g off_g : ℕ) → on_r + off_f + off_g ≡ off_r + on_f + on_g → (cond b on_r 0 + cond (not b) off_r 0) + (0 + off_f) + (0 + off_g) ≡ (0 + off_r) + (cond b on_f 0 + cond (not b) off_f 0) + (cond b on_g 0 + cond (not b) off_g 0)
-balance_at true on_r off_r on_f off_f on_g off_g h = omega arith
-balance_at false on_r off_r on_f off_f on_g off_g h = omega arith
 
 -- if coefficients add up, so do the sums of the true literals at an assignment, up to the coefficients on negations
 pub total-sum : (a : ℕ → Bool) (xs ys rs : List Entry) → ((x : ℕ) → total (plain_of x) rs + total (negated_of x) xs + total (negated_of x) ys ≡ total (negated_of x) rs + total (plain_of x) xs + total (plain_of x) ys) → total (true_at a) rs + total negative xs + total negative ys ≡ total negative rs + total (true_at a) xs + total (true_at a) ys
 total-sum a xs ys rs h =
     let n = max (top rs) (max (top xs) (top ys)) in
-    let each_one : (x : ℕ) → share (true_at a) rs x + share negative xs x + share negative ys x ≡ share negative rs x + share (true_at a) xs x + share (true_at a) ys x = λ x.
-    balance_at (a x) (total (plain_of x) rs) (total (negated_of x) rs) (total (plain_of x) xs) (total (negated_of x) xs) (total (plain_of x) ys) (total (negated_of x) ys) (h x) in
+    let each_one : (x : ℕ) → share (true_at a) rs x + share negative xs x + share negative ys x ≡ share negative rs x + share (true_at a) xs x + share (true_at a) ys x = λ x. grind (arith, h x) in
     omega (arith, up_to-balance _ _ _ _ _ _ n each_one, total-by_variable (true_at a) rs n (omega arith), total-by_variable negative rs n (omega arith), total-by_variable (true_at a) xs n (omega arith), total-by_variable negative xs n (omega arith), total-by_variable (true_at a) ys n (omega arith), total-by_variable negative ys n (omega arith))
 
 pub at_least_0-le : (z : ℤ) (m k n : ℕ) → (z +ℤ pos k) ≡ pos m → m ≤ n + k → at_least_0 z ≤ n
-at_least_0-le (pos i) m k n e le = omega (arith, ints)
-at_least_0-le (negsuc i) m k n e le = omega arith
+at_least_0-le z m k n e le = grind (arith, ints)
 
 -- if two forms hold, their sum holds
 pub Holds-sum : (a : ℕ → Bool) (f g r : Form) → IsSum f g r → Holds a f → Holds a g → Holds a r
@@ -49,11 +37,7 @@ Holds-sum a f g r s hf hg =
 
 -- the order of the two does not matter
 pub IsSum-swap : (f g r : Form) → IsSum f g r → IsSum g f r
-IsSum-swap f g r s = record {
-  ordered = s.ordered;
-  coefficients = λ x. omega (arith, ints, s.coefficients x);
-  degree = let same : ((bound g +ℤ bound f) +ℤ pos (low r)) ≡ ((bound f +ℤ bound g) +ℤ pos (low r)) = omega (arith, ints) in rw same s.degree;
-}
+IsSum-swap f g r s = grind (arith, s.ordered, s.coefficients, s.degree)
 
 pub IsSum-swapped : {E : Type 0} (f g : Form) (r : Result Form E) → IfOk r (λ s. IsSum f g s) → IfOk r (λ s. IsSum g f s)
 IsSum-swapped f g (Ok s) h = IsSum-swap f g s h

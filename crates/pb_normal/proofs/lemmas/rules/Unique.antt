@@ -1,25 +1,14 @@
 -- A form is determined by its coefficients and its degree. Offered to other crates.
-use Rattle.pb_normal.proofs.Common.{ℕ, ◌&&◌, ◌+◌, ◌<◌, ◌∙◌, ◌∷◌, ◌≡◌, [], ap, arith, Bool, cond, eqb, false, inl, inr, List, not, refl, sym, true}
-use Rattle.pb_normal.proofs.Common.{cases_order, ints, Entry, coefficient, counted, Form, IsOrdered, IsRising, low, negated_of, negative, plain_of}
+use Rattle.pb_normal.proofs.Common.{nat_tests, ℕ, ◌&&◌, ◌+◌, ◌<◌, ◌∙◌, ◌∷◌, ◌≡◌, [], ap, arith, Bool, eqb, inl, inr, List, not, refl, sym}
+use Rattle.pb_normal.proofs.Common.{cases_order, ints, Entry, coefficient, counted, Form, IsOrdered, IsRising, negated_of, plain_of}
 use Rattle.pb_normal.proofs.Common.{total, IsSum}
-use Rattle.pb_normal.proofs.lemmas.terms.Variables.{counted-here, counted-other}
+use Rattle.pb_normal.proofs.lemmas.terms.Variables.{counted-other}
 
 -- a variable below all others has no coefficient
 pub none_below : (e : Bool → Bool) (x n : ℕ) (ts : List Entry) → IsRising n ts → x < n → total (λ v m. eqb v x && e m) ts ≡ 0
 none_below e x n [] h lt = refl
 none_below e x n (t ∷ ts) h lt =
     omega (arith, none_below e x (t.variable + 1) ts h.2 (omega (arith, h.0)), counted-other t.variable x (e t.negated) t.coefficient (λ same. omega (arith, h.0)))
-
--- a single term on a variable does not balance
-pub one_sided : (b : Bool) (c : ℕ) → 0 < c → cond (not b) c 0 ≡ cond b c 0 → ⊥
-one_sided true c p e = omega arith
-one_sided false c p e = omega arith
-
-same_head : (b d : Bool) (m n : ℕ) → 0 < m → 0 < n → cond (not b) m 0 + cond d n 0 ≡ cond b m 0 + cond (not d) n 0 → (b ≡ d) × (m ≡ n)
-same_head true true m n p q e = (refl, omega arith)
-same_head true false m n p q e = absurd (omega arith)
-same_head false true m n p q e = absurd (omega arith)
-same_head false false m n p q e = (refl, omega arith)
 
 pub same_entry : (v v' : ℕ) (b b' : Bool) (c c' : ℕ) → v ≡ v' → b ≡ b' → c ≡ c' → (let r : Entry = record { variable = v; negated = b; coefficient = c } in r) ≡ record { variable = v'; negated = b'; coefficient = c' }
 same_entry v v' b b' c c' e f g = rw (e, f, g) refl
@@ -29,10 +18,7 @@ abbrev pub Balanced : List Entry → List Entry → Type 0
 Balanced xs ys = (z : ℕ) → total (plain_of z) xs + total (negated_of z) ys ≡ total (negated_of z) xs + total (plain_of z) ys
 
 no_first : (n : ℕ) (x : Entry) (xs ys : List Entry) → IsRising n (x ∷ xs) → IsRising (x.variable + 1) ys → Balanced (x ∷ xs) ys → ⊥
-no_first n x xs ys h k e =
-    let v = x.variable in
-    one_sided x.negated x.coefficient h.1
-    (omega (arith, e v, counted-here v v (not x.negated) x.coefficient refl, counted-here v v x.negated x.coefficient refl, none_below not v (v + 1) xs h.2 (omega arith), none_below (λ b. b) v (v + 1) xs h.2 (omega arith), none_below not v (v + 1) ys k (omega arith), none_below (λ b. b) v (v + 1) ys k (omega arith)))
+no_first n x xs ys h k e = grind (arith, nat_tests, h.1, e x.variable, none_below not x.variable (x.variable + 1) xs h.2, none_below (λ b. b) x.variable (x.variable + 1) xs h.2, none_below not x.variable (x.variable + 1) ys k, none_below (λ b. b) x.variable (x.variable + 1) ys k)
 
 pub IsRising-same : (n : ℕ) (xs ys : List Entry) → IsRising n xs → IsRising n ys → Balanced xs ys → xs ≡ ys
 IsRising-same n [] [] h k e = refl
@@ -41,11 +27,9 @@ IsRising-same n (x ∷ xs) [] h k e = absurd (no_first n x xs [] h tt e)
 IsRising-same n (x ∷ xs) (y ∷ ys) h k e =
     elim (cases_order x.variable y.variable) [
       | inl same ↦
-          let v = x.variable in
-          let heads = same_head x.negated y.negated x.coefficient y.coefficient h.1 k.1 (omega (arith, e v, counted-here v v (not x.negated) x.coefficient refl, counted-here v v x.negated x.coefficient refl, counted-here y.variable v (not y.negated) y.coefficient (sym same), counted-here y.variable v y.negated y.coefficient (sym same), none_below not v (v + 1) xs h.2 (omega arith), none_below (λ b. b) v (v + 1) xs h.2 (omega arith), none_below not v (y.variable + 1) ys k.2 (omega arith), none_below (λ b. b) v (y.variable + 1) ys k.2 (omega arith))) in
+          let heads : (x.negated ≡ y.negated) × (x.coefficient ≡ y.coefficient) = grind (arith, nat_tests, same, h.1, k.1, e x.variable, none_below not x.variable (x.variable + 1) xs h.2, none_below (λ b. b) x.variable (x.variable + 1) xs h.2, none_below not x.variable (y.variable + 1) ys k.2, none_below (λ b. b) x.variable (y.variable + 1) ys k.2) in
           let first = same_entry _ _ _ _ _ _ same heads.0 heads.1 in
-          let rest = IsRising-same (v + 1) xs ys h.2 (rw same k.2) (λ z. omega (arith, e z, ap (counted (plain_of z)) first, ap (counted (negated_of z)) first)) in
-          cc (first, rest)
+          cc (first, IsRising-same (x.variable + 1) xs ys h.2 (rw same k.2) (λ z. omega (arith, e z, ap (counted (plain_of z)) first, ap (counted (negated_of z)) first)))
       | inr (inl lt) ↦ absurd (no_first n x xs (y ∷ ys) h (omega arith, k.1, k.2) e)
       | inr (inr gt) ↦ absurd (no_first n y ys (x ∷ xs) k (omega arith, h.1, h.2) (λ z. omega (arith, e z)))
     ]
@@ -61,6 +45,4 @@ form-unique r s p q e d = same_form r.terms s.terms r.degree s.degree (IsRising-
 pub IsSum-unique : (f g r s : Form) → IsSum f g r → IsSum f g s → r ≡ s
 IsSum-unique f g r s p q =
     let terms = IsRising-same 0 r.terms s.terms p.ordered q.ordered (λ z. omega (arith, ints, p.coefficients z, q.coefficients z)) in
-    let lows : low r ≡ low s = ap (total negative) terms in
-    let degrees : r.degree ≡ s.degree = p.degree ∙ rw lows (sym q.degree) in
-    same_form r.terms s.terms r.degree s.degree terms degrees
+    same_form r.terms s.terms r.degree s.degree terms (p.degree ∙ rw terms (sym q.degree))

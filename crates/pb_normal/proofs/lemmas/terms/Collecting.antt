@@ -1,16 +1,13 @@
 -- A list of terms collected from two halves.
-use Rattle.pb_normal.proofs.Common.{ℕ, ◌++◌, ◌+◌, ◌-◌, ◌<◌, ◌∙◌, ◌∷◌, ◌≡◌, ◌≤◌, [], ap, arith, Bool, drop, Err, get_or, IfOk, IsPermutation, length}
-use Rattle.pb_normal.proofs.Common.{List, Ok, refl, Result, subst, sym, take, drop_more, take-append-drop, sum_by, Entry, Adds, flip, counted, each}
-use Rattle.pb_normal.proofs.Common.{IsRising, negative, total}
+use Rattle.pb_normal.proofs.Common.{ℕ, ◌++◌, ◌+◌, ◌-◌, ◌<◌, ◌∙◌, ◌∷◌, ◌≡◌, ◌≤◌, [], ap, arith, Bool, drop, get_or, IsPermutation, length}
+use Rattle.pb_normal.proofs.Common.{List, refl, subst, sym, take, drop_more, take-append-drop, sum_by, Entry, Adds, counted, each}
+use Rattle.pb_normal.proofs.Common.{IsRising, total}
 use Rattle.std.proofs.lemmas.List.Sorted.{sum_by-IsPermutation}
 use Rattle.std.proofs.lemmas.List.Sums.{sum_by-cons}
 use Rattle.pb_normal.proofs.lemmas.terms.Totals.{total-append, IsRising-from}
 
 pub Adds-halves : (xs ys ps qs rs : List Entry) (c d e : ℕ) → Adds xs [] ps c → Adds ys [] qs d → Adds ps qs rs e → Adds (xs ++ ys) [] rs (c + d + e)
-Adds-halves xs ys ps qs rs c d e h k m = record {
-  signed = λ p. simp total-append (omega (arith, h.signed p, k.signed p, m.signed p));
-  lows = simp total-append (omega (arith, h.lows, k.lows, m.lows));
-}
+Adds-halves xs ys ps qs rs c d e h k m = grind (arith, total-append, h.signed, k.signed, m.signed, h.lows, k.lows, m.lows)
 
 pub total-halves : (xs : List Entry) (n : ℕ) → total each (take n xs) + total each (drop n xs) ≡ total each xs
 total-halves xs n = sym (total-append each (take n xs) (drop n xs)) ∙ ap (total each) (take-append-drop n xs)
@@ -25,21 +22,10 @@ total-permutation p xs ys h = total-sum p ys ∙ sum_by-IsPermutation (counted p
 
 -- what is collected from the terms in another order is collected from these terms
 pub Adds-permutation : (xs ys rs : List Entry) (c : ℕ) → IsPermutation xs ys → Adds ys [] rs c → Adds xs [] rs c
-Adds-permutation xs ys rs c h k = record {
-  signed = λ p. omega (arith, k.signed p, total-permutation p xs ys h, total-permutation (flip p) xs ys h);
-  lows = omega (arith, k.lows, total-permutation negative xs ys h);
-}
-
-pub reordered : {V E : Type 0} (terms : V → List Entry) (gone : V → ℕ) (xs ys : List Entry) (r : Result V E) → IsPermutation xs ys
-    → IfOk r (λ v. Adds ys [] (terms v) (gone v)) → IfOk r (λ v. Adds xs [] (terms v) (gone v))
-reordered terms gone xs ys (Ok v) h k = Adds-permutation xs ys (terms v) (gone v) h k
-reordered terms gone xs ys (Err e) h k = k
+Adds-permutation xs ys rs c h k = grind (arith, k.signed, total-permutation, k.lows)
 
 pub Adds-self : (xs : List Entry) → Adds xs [] xs 0
-Adds-self xs = record {
-  signed = λ p. omega arith;
-  lows = omega arith;
-}
+Adds-self xs = grind (arith)
 
 pub total-reordered : (xs ys : List Entry) → IsPermutation xs ys → total each ys ≡ total each xs
 total-reordered xs ys h = total-permutation each xs ys h

@@ -1,40 +1,28 @@
 -- Terms in a map by their variables: what an insertion and a removal change.
-use Rattle.pb_normal.proofs.Common.{ℕ, ◌++◌, ◌+◌, ◌<◌, ◌∙◌, ◌∷◌, ◌≡◌, ◌≤◌, [], ap, arith, Bool, cond, drop, eqb, Equal, false, get_or, Greater}
-use Rattle.pb_normal.proofs.Common.{length, Less, List, None, Option, Ordering, refl, Some, sym, take, true, nat_cmp_total, ranked, take-append-drop}
+use Rattle.std.proofs.lemmas.Bool.{cond_both}
+use Rattle.pb_normal.proofs.Common.{ℕ, ◌++◌, ◌+◌, ◌<◌, ◌∙◌, ◌∷◌, ◌≡◌, ◌≤◌, [], arith, Bool, get_or}
+use Rattle.pb_normal.proofs.Common.{length, Less, List, None, Option, refl, Some, sym, take, nat_cmp_total, ranked}
 use Rattle.pb_normal.proofs.Common.{All-cons, All-head, All-tail, sum_by-insert_entry, sum_by-remove_entry, BTreeMap, get, insert_entry, is_at}
 use Rattle.pb_normal.proofs.Common.{values, All, AllByRecursion, keys_of, lookup, remove_entry, values_of, option_map, option_to_list, unwrap_or}
-use Rattle.pb_normal.proofs.Common.{is_eq, match_ordering, nat_cmp, drop_read, take_read, Entry, Adds, flip, IsAtItsKey, IsKeyed, counted, each}
-use Rattle.pb_normal.proofs.Common.{IsRising, negated_of, negative, plain_of, total}
+use Rattle.pb_normal.proofs.Common.{nat_cmp, take_read, Entry, Adds, IsAtItsKey, IsKeyed, counted, each}
+use Rattle.pb_normal.proofs.Common.{IsRising, plain_of, total}
 use Rattle.std.specs.List.Sorted.{IsStrictlySortedBy}
 use Rattle.std.specs.BTreeMap.{IsOrdered}
 use Rattle.std.proofs.lemmas.Map.Keys.{sorted_head, sorted_tail}
 use Rattle.pb_normal.proofs.lemmas.terms.Collecting.{total-sum}
-use Rattle.pb_normal.proofs.lemmas.rules.Sums.{flip_plain}
-use Rattle.pb_normal.proofs.lemmas.terms.Totals.{total-append, Adds-apart, size-Adds}
+use Rattle.pb_normal.proofs.lemmas.rules.Sums.{turned}
+use Rattle.pb_normal.proofs.lemmas.terms.Totals.{total-prefix, total-append, Adds-apart, size-Adds}
 use Rattle.pb_normal.proofs.lemmas.rules.Unique.{IsRising-same}
-use Rattle.pb_normal.proofs.lemmas.terms.Variables.{total-same}
-
--- a term at its key is put into the map
-All-put : (o : Ordering) (k : ℕ) (t : Entry) (e : ℕ × Entry) (es rest : List (ℕ × Entry)) → o ≡ nat_cmp k e.0 → IsAtItsKey (k, t) → IsAtItsKey e → All IsAtItsKey es → All IsAtItsKey rest → All IsAtItsKey (match_ordering o ((k, t) ∷ e ∷ es) ((e.0, t) ∷ es) (e ∷ rest))
-All-put Less k t e es rest is new here h hr = All-cons IsAtItsKey (k, t) (e ∷ es) new (All-cons IsAtItsKey e es here h)
-All-put Equal k t e es rest is new here h hr =
-    let same : k ≡ e.0 = ranked k e.0 Equal is in
-    All-cons IsAtItsKey (e.0, t) es (sym same ∙ new.0, new.1) h
-All-put Greater k t e es rest is new here h hr = All-cons IsAtItsKey e rest here hr
 
 pub All-insert : (k : ℕ) (t : Entry) (es : List (ℕ × Entry)) → IsAtItsKey (k, t) → All IsAtItsKey es → All IsAtItsKey (insert_entry nat_cmp es k t)
 All-insert k t [] new h = All-cons IsAtItsKey (k, t) [] new h
 All-insert k t (e ∷ es) new h =
-    All-put (nat_cmp k e.0) k t e es (insert_entry nat_cmp es k t) refl new (All-head IsAtItsKey e es h) (All-tail IsAtItsKey e es h) (All-insert k t es new (All-tail IsAtItsKey e es h))
-
-All-drop : (b : Bool) (e : ℕ × Entry) (es rest : List (ℕ × Entry)) → IsAtItsKey e → All IsAtItsKey es → All IsAtItsKey rest → All IsAtItsKey (cond b es (e ∷ rest))
-All-drop true e es rest here h hr = h
-All-drop false e es rest here h hr = All-cons IsAtItsKey e rest here hr
+    grind (arith, ranked k e.0, All-cons IsAtItsKey, All-head IsAtItsKey e es h, All-tail IsAtItsKey e es h, All-insert k t es new (All-tail IsAtItsKey e es h))
 
 pub All-remove : (test : ℕ → Bool) (es : List (ℕ × Entry)) → All IsAtItsKey es → All IsAtItsKey (remove_entry test es)
 All-remove test [] h = h
 All-remove test (e ∷ es) h =
-    All-drop (test e.0) e es (remove_entry test es) (All-head IsAtItsKey e es h) (All-tail IsAtItsKey e es h) (All-remove test es (All-tail IsAtItsKey e es h))
+    cond_both (test e.0) _ _ (All IsAtItsKey) (λ same. All-tail IsAtItsKey e es h) (λ apart. All-cons IsAtItsKey e _ (All-head IsAtItsKey e es h) (All-remove test es (All-tail IsAtItsKey e es h)))
 
 pub IsKeyed-insert : (m n : BTreeMap ℕ Entry) (t : Entry) → IsKeyed m → 0 < t.coefficient → n.entries ≡ insert_entry nat_cmp m.entries t.variable t → IsKeyed n
 IsKeyed-insert m n t h p e = rw e (All-insert t.variable t m.entries (refl, p) h)
@@ -46,18 +34,9 @@ IsKeyed-insert_at m n k t h same p e = rw e (All-insert k t m.entries (same, p) 
 pub IsKeyed-remove : (m n : BTreeMap ℕ Entry) (k : ℕ) → IsKeyed m → n.entries ≡ remove_entry (is_at (nat_cmp k)) m.entries → IsKeyed n
 IsKeyed-remove m n k h e = rw e (All-remove (is_at (nat_cmp k)) m.entries h)
 
--- what a lookup finds is at its key
-found_step : (o : Ordering) (k : ℕ) (e : ℕ × Entry) (rest : Option Entry) (x : Entry) → o ≡ nat_cmp k e.0 → IsAtItsKey e → (rest ≡ Some x → (k ≡ x.variable) × (0 < x.coefficient)) → cond (is_eq o) (Some e.1) rest ≡ Some x → (k ≡ x.variable) × (0 < x.coefficient)
-found_step Less k e rest x is here next h = next h
-found_step Equal k e rest x is here next h =
-    let same : k ≡ e.0 = ranked k e.0 Equal is in
-    let it : e.1 ≡ x = cc h in
-    (same ∙ here.0 ∙ ap (λ (t : Entry). t.variable) it, rw (← it) here.1)
-found_step Greater k e rest x is here next h = next h
-
 found_in : (k : ℕ) (es : List (ℕ × Entry)) (x : Entry) → All IsAtItsKey es → lookup (is_at (nat_cmp k)) es ≡ Some x → (k ≡ x.variable) × (0 < x.coefficient)
 found_in k [] x h is = absurd cc
-found_in k (e ∷ es) x h is = found_step (nat_cmp k e.0) k e (lookup (is_at (nat_cmp k)) es) x refl (All-head IsAtItsKey e es h) (found_in k es x (All-tail IsAtItsKey e es h)) is
+found_in k (e ∷ es) x h is = grind (arith, ranked k e.0, All-head IsAtItsKey e es h, found_in k es x (All-tail IsAtItsKey e es h))
 
 pub IsKeyed-get : (m : BTreeMap ℕ Entry) (k : ℕ) (x : Entry) → IsKeyed m → Some x ≡ get nat_cmp m k → (k ≡ x.variable) × (0 < x.coefficient)
 IsKeyed-get m k x h is = found_in k m.entries x h (sym is)
@@ -65,9 +44,7 @@ IsKeyed-get m k x h is = found_in k m.entries x h (sym is)
 -- the terms rise
 above : (k : ℕ) (ks : List ℕ) → AllByRecursion (λ y. nat_cmp k y ≡ Less) ks → AllByRecursion (λ y. k + 1 ≤ y) ks
 above k [] h = tt
-above k (y ∷ ks) h =
-    let lt : k < y = ranked k y Less (sym h.0) in
-    (omega arith, above k ks h.1)
+above k (y ∷ ks) h = grind (arith, ranked k y Less, above k ks)
 
 IsRising-sorted : (n : ℕ) (es : List (ℕ × Entry)) → AllByRecursion (λ y. n ≤ y) (keys_of es) → IsStrictlySortedBy nat_cmp (keys_of es) → All IsAtItsKey es → IsRising n (values_of es)
 IsRising-sorted n [] low sorted h = tt
@@ -89,8 +66,7 @@ abbrev pub Replaces : List Entry → List Entry → List Entry → List Entry �
 Replaces xs ys o n = (p : ℕ → Bool → Bool) → total p ys + total p o ≡ total p xs + total p n
 
 counted-option : (p : ℕ → Bool → Bool) (o : Option Entry) → unwrap_or (option_map (counted p) o) 0 ≡ total p (option_to_list o)
-counted-option p None = refl
-counted-option p (Some t) = omega arith
+counted-option p o = grind arith
 
 pub Replaces-put : (es : List (ℕ × Entry)) (k : ℕ) (t : Entry) → IsStrictlySortedBy nat_cmp (keys_of es) → Replaces (values_of es) (values_of (insert_entry nat_cmp es k t)) (option_to_list (lookup (is_at (nat_cmp k)) es)) (t ∷ [])
 Replaces-put es k t sorted p =
@@ -101,9 +77,7 @@ pub Replaces-insert : (m n : BTreeMap ℕ Entry) (k : ℕ) (t : Entry) → IsOrd
 Replaces-insert m n k t sorted e = rw e (Replaces-put m.entries k t sorted)
 
 pub Replaces-drop : (es : List (ℕ × Entry)) (k : ℕ) → Replaces (values_of es) (values_of (remove_entry (is_at (nat_cmp k)) es)) (option_to_list (lookup (is_at (nat_cmp k)) es)) []
-Replaces-drop es k p =
-    let sums = sum_by-remove_entry (counted p) (is_at (nat_cmp k)) es in
-    omega (arith, sums, total-sum p (values_of (remove_entry (is_at (nat_cmp k)) es)), total-sum p (values_of es), counted-option p (lookup (is_at (nat_cmp k)) es))
+Replaces-drop es k p = grind (arith, sum_by-remove_entry, total-sum, counted-option)
 
 pub Replaces-remove : (m n : BTreeMap ℕ Entry) (k : ℕ) → n.entries ≡ remove_entry (is_at (nat_cmp k)) m.entries → Replaces (values m) (values n) (option_to_list (get nat_cmp m k)) []
 Replaces-remove m n k e = rw e (Replaces-drop m.entries k)
@@ -113,17 +87,11 @@ Replaces-then xs ys zs o i n h k p = omega (arith, h p, k p)
 
 -- the sum with one term, from the sum with the term of its variable
 pub Adds-replaced : (xs ys o n : List Entry) (t : Entry) (g : ℕ) → Replaces xs ys o n → Adds o (t ∷ []) n g → Adds xs (t ∷ []) ys g
-Adds-replaced xs ys o n t g h a = record {
-  signed = λ p. omega (arith, h p, h (flip p), a.signed p);
-  lows = omega (arith, h negative, a.lows);
-}
+Adds-replaced xs ys o n t g h a = grind (arith, a.signed, a.lows)
 
 -- one more term of a list
 pub Adds-then : (xs ts ys zs : List Entry) (t : Entry) (c g : ℕ) → Adds xs ts ys c → Adds ys (t ∷ []) zs g → Adds xs (ts ++ t ∷ []) zs (c + g)
-Adds-then xs ts ys zs t c g h k = record {
-  signed = λ p. simp total-append (omega (arith, h.signed p, k.signed p));
-  lows = simp total-append (omega (arith, h.lows, k.lows));
-}
+Adds-then xs ts ys zs t c g h k = grind (arith, total-append, h.signed, k.signed, h.lows, k.lows)
 
 -- the lookup and the change, by what was found
 pub Adds-absent : (m n : BTreeMap ℕ Entry) (t : Entry) (o : Option Entry) → IsOrdered nat_cmp m → o ≡ get nat_cmp m t.variable → o ≡ None → n.entries ≡ insert_entry nat_cmp m.entries t.variable t → Adds (values m) (t ∷ []) (values n) 0
@@ -144,13 +112,6 @@ get-le-total m k x found =
     let here = rw (← found) at sums in
     omega (arith, here, total-sum each (values m))
 
--- a list is added term by term
-pub total-prefix : (list : List Entry) (i : ℕ) (d x : Entry) → i < length list → x ≡ get_or list i d → total each (take i list) + x.coefficient ≤ total each list
-total-prefix list i d x lt e =
-    let s = total-append each (take i list) (drop i list) in
-    let t = rw (take-append-drop, drop_read list i d x lt e) at s in
-    omega arith
-
 pub Putting-fits : (xs list ys : List Entry) (i c n : ℕ) (d x : Entry) → Adds xs (take i list) ys c → i < length list → x ≡ get_or list i d → total each xs + total each list < n → total each ys + x.coefficient < n
 Putting-fits xs list ys i c n d x h lt e fits = omega (arith, size-Adds xs (take i list) ys c h, total-prefix list i d x lt e)
 
@@ -163,7 +124,4 @@ Putting-cancels xs list ys zs i c g n d x h lt e k fits =
 
 -- what is added to nothing is the list
 pub Adds-from_none : (ys rs : List Entry) (c : ℕ) → IsRising 0 ys → IsRising 0 rs → Adds [] ys rs c → rs ≡ ys
-Adds-from_none ys rs c p q h =
-    IsRising-same 0 rs ys q p (λ x.
-    let turned = λ (ts : List Entry). total-same (flip (plain_of x)) (negated_of x) (λ v n. flip_plain (eqb v x) n) ts in
-    omega (arith, h.signed (plain_of x), turned ys, turned rs))
+Adds-from_none ys rs c p q h = IsRising-same 0 rs ys q p (λ x. omega (arith, h.signed (plain_of x), turned x ys, turned x rs))

@@ -1,66 +1,36 @@
 -- What cancels in the sum of a map and a list, from lookups in the map alone.
-use Rattle.pb_normal.proofs.Common.{ℕ, ◌++◌, ◌+◌, ◌<◌, ◌∙◌, ◌∷◌, ◌≡◌, ◌≤◌, [], ap, append_assoc, arith, cond, Equal, false, get_or, Greater, IfSome}
-use Rattle.pb_normal.proofs.Common.{length, Less, List, None, Option, Ordering, refl, Some, sym, take, ranked, All-head, All-tail, lookup_tail}
+use Rattle.pb_normal.proofs.Common.{ℕ, ◌++◌, ◌+◌, ◌<◌, ◌∙◌, ◌∷◌, ◌≡◌, ◌≤◌, [], ap, append_assoc, arith, false, get_or, Greater, IfSome}
+use Rattle.pb_normal.proofs.Common.{length, Less, List, None, Option, refl, Some, sym, take, ranked, All-head, All-tail, lookup_tail}
 use Rattle.pb_normal.proofs.Common.{BTreeMap, get, insert_entry, is_at, values, nat_cmp_is, All, AllByRecursion, keys_of, lookup, remove_entry}
-use Rattle.pb_normal.proofs.Common.{values_of, option_to_list, is_eq, match_ordering, nat_cmp, take_read, Entry, Adds, Cancels, IsAtItsKey, IsKeyed}
+use Rattle.pb_normal.proofs.Common.{values_of, option_to_list, is_eq, nat_cmp, take_read, Entry, Adds, Cancels, IsAtItsKey, IsKeyed}
 use Rattle.pb_normal.proofs.Common.{TermCancels, each, IsRising, total}
 use Rattle.std.specs.List.Sorted.{IsStrictlySortedBy}
-use Rattle.pb_normal.proofs.lemmas.terms.KeyedTerms.{All-insert, All-remove, IsKeyed-get, Replaces-put, Replaces-drop, Adds-replaced, total-prefix}
+use Rattle.pb_normal.proofs.lemmas.terms.KeyedTerms.{All-insert, All-remove, IsKeyed-get, Replaces-put, Replaces-drop, Adds-replaced}
 use Rattle.pb_normal.proofs.lemmas.terms.Maps.{IsRising-filter}
 use Rattle.pb_normal.proofs.lemmas.terms.Removals.{values-removed}
-use Rattle.pb_normal.proofs.lemmas.terms.Totals.{Adds-apart, IsRising-from, IsRising-positive, total-append}
+use Rattle.pb_normal.proofs.lemmas.terms.Totals.{Adds-apart, IsRising-from, IsRising-positive, total-append, total-prefix}
 
 -- a change at one key leaves the lookups of larger ones
 miss : (q k : ℕ) → k < q → is_eq (nat_cmp q k) ≡ false
 miss q k lt = ap is_eq (sym (nat_cmp_is q k Greater lt))
 
-lookup-put_at : (o : Ordering) (q k : ℕ) (s : Entry) (e : ℕ × Entry) (es rest : List (ℕ × Entry)) → o ≡ nat_cmp k e.0 → k < q → lookup (is_at (nat_cmp q)) rest ≡ lookup (is_at (nat_cmp q)) es → lookup (is_at (nat_cmp q)) (match_ordering o ((k, s) ∷ e ∷ es) ((e.0, s) ∷ es) (e ∷ rest)) ≡ lookup (is_at (nat_cmp q)) (e ∷ es)
-lookup-put_at Less q k s e es rest is lt ih = lookup_tail (is_at (nat_cmp q)) (k, s) (e ∷ es) (miss q k lt)
-lookup-put_at Equal q k s e es rest is lt ih =
-    let same : k ≡ e.0 = ranked k e.0 Equal is in
-    let out = miss q e.0 (omega arith) in
-    lookup_tail (is_at (nat_cmp q)) (e.0, s) es out ∙ sym (lookup_tail (is_at (nat_cmp q)) e es out)
-lookup-put_at Greater q k s e es rest is lt ih = ap (cond (is_eq (nat_cmp q e.0)) (Some e.1)) ih
-
 lookup-put : (q k : ℕ) (s : Entry) (es : List (ℕ × Entry)) → k < q → lookup (is_at (nat_cmp q)) (insert_entry nat_cmp es k s) ≡ lookup (is_at (nat_cmp q)) es
 lookup-put q k s [] lt = lookup_tail (is_at (nat_cmp q)) (k, s) [] (miss q k lt)
-lookup-put q k s (e ∷ es) lt = lookup-put_at (nat_cmp k e.0) q k s e es (insert_entry nat_cmp es k s) refl lt (lookup-put q k s es lt)
-
-lookup-drop_at : (o : Ordering) (q k : ℕ) (e : ℕ × Entry) (es rest : List (ℕ × Entry)) → o ≡ nat_cmp k e.0 → k < q → lookup (is_at (nat_cmp q)) rest ≡ lookup (is_at (nat_cmp q)) es → lookup (is_at (nat_cmp q)) (cond (is_eq o) es (e ∷ rest)) ≡ lookup (is_at (nat_cmp q)) (e ∷ es)
-lookup-drop_at Less q k e es rest is lt ih = ap (cond (is_eq (nat_cmp q e.0)) (Some e.1)) ih
-lookup-drop_at Equal q k e es rest is lt ih =
-    let same : k ≡ e.0 = ranked k e.0 Equal is in
-    sym (lookup_tail (is_at (nat_cmp q)) e es (miss q e.0 (omega arith)))
-lookup-drop_at Greater q k e es rest is lt ih = ap (cond (is_eq (nat_cmp q e.0)) (Some e.1)) ih
+lookup-put q k s (e ∷ es) lt = grind (arith, ranked k e.0, miss q k, miss q e.0, lookup-put q k s es lt)
 
 lookup-drop : (q k : ℕ) (es : List (ℕ × Entry)) → k < q → lookup (is_at (nat_cmp q)) (remove_entry (is_at (nat_cmp k)) es) ≡ lookup (is_at (nat_cmp q)) es
 lookup-drop q k [] lt = refl
-lookup-drop q k (e ∷ es) lt = lookup-drop_at (nat_cmp k e.0) q k e es (remove_entry (is_at (nat_cmp k)) es) refl lt (lookup-drop q k es lt)
-
--- the terms still rise
-rising-put_at : (o : Ordering) (n k : ℕ) (s : Entry) (e : ℕ × Entry) (es rest : List (ℕ × Entry)) → o ≡ nat_cmp k e.0 → IsAtItsKey e → k ≡ s.variable → 0 < s.coefficient → n ≤ k → IsRising n (values_of (e ∷ es)) → (e.0 < k → IsRising (e.1.variable + 1) (values_of rest)) → IsRising n (values_of (match_ordering o ((k, s) ∷ e ∷ es) ((e.0, s) ∷ es) (e ∷ rest)))
-rising-put_at Less n k s e es rest is key same p le h next =
-    let lt : k < e.0 = ranked k e.0 Less is in
-    (omega arith, p, (omega (arith, key.0), h.1, h.2))
-rising-put_at Equal n k s e es rest is key same p le h next =
-    let here : k ≡ e.0 = ranked k e.0 Equal is in
-    (omega arith, p, IsRising-from (s.variable + 1) (e.1.variable + 1) (values_of es) (omega (arith, key.0)) h.2)
-rising-put_at Greater n k s e es rest is key same p le h next =
-    let gt : e.0 < k = ranked k e.0 Greater is in
-    (h.0, h.1, next gt)
+lookup-drop q k (e ∷ es) lt = grind (arith, ranked k e.0, miss q e.0, lookup-drop q k es lt)
 
 rising-put : (n k : ℕ) (s : Entry) (es : List (ℕ × Entry)) → All IsAtItsKey es → k ≡ s.variable → 0 < s.coefficient → n ≤ k → IsRising n (values_of es) → IsRising n (values_of (insert_entry nat_cmp es k s))
 rising-put n k s [] keyed same p le h = (omega arith, p, tt)
 rising-put n k s (e ∷ es) keyed same p le h =
-    let key = All-head IsAtItsKey e es keyed in
-    rising-put_at (nat_cmp k e.0) n k s e es (insert_entry nat_cmp es k s) refl key same p le h (λ lt. rising-put (e.1.variable + 1) k s es (All-tail IsAtItsKey e es keyed) same p (omega (arith, key.0)) h.2)
+    grind (arith, ranked k e.0, All-head IsAtItsKey e es keyed, IsRising-from (s.variable + 1) (e.1.variable + 1) (values_of es), rising-put (e.1.variable + 1) k s es (All-tail IsAtItsKey e es keyed) same p)
 
 -- so the keys do
 ascending : (k m : ℕ) (es : List (ℕ × Entry)) → All IsAtItsKey es → IsRising m (values_of es) → k < m → AllByRecursion (λ y. nat_cmp k y ≡ Less) (keys_of es)
 ascending k m [] keyed h lt = tt
-ascending k m (e ∷ es) keyed h lt =
-    let key = All-head IsAtItsKey e es keyed in
-    (sym (nat_cmp_is k e.0 Less (omega (arith, key.0, h.0))), ascending k (e.1.variable + 1) es (All-tail IsAtItsKey e es keyed) h.2 (omega (arith, h.0)))
+ascending k m (e ∷ es) keyed h lt = grind (arith, nat_cmp_is k e.0 Less, All-head IsAtItsKey e es keyed, ascending k (e.1.variable + 1) es (All-tail IsAtItsKey e es keyed))
 
 sorted : (m : ℕ) (es : List (ℕ × Entry)) → All IsAtItsKey es → IsRising m (values_of es) → IsStrictlySortedBy nat_cmp (keys_of es)
 unfolding IsStrictlySortedBy
@@ -112,10 +82,7 @@ AllCancel-le m [] c h = omega (arith, h)
 AllCancel-le m (t ∷ ts) c (g, one, d, is, more) = omega (arith, is, one.3, AllCancel-le m ts d more)
 
 Adds-after : (xs ys zs : List Entry) (t : Entry) (ts : List Entry) (g d : ℕ) → Adds xs (t ∷ []) ys g → Adds ys ts zs d → Adds xs (t ∷ ts) zs (g + d)
-Adds-after xs ys zs t ts g d h k = record {
-  signed = λ p. omega (arith, h.signed p, k.signed p);
-  lows = omega (arith, h.lows, k.lows);
-}
+Adds-after xs ys zs t ts g d h k = grind (arith, h.signed, k.signed, h.lows, k.lows)
 
 along : (m : BTreeMap ℕ Entry) (es : List (ℕ × Entry)) (k : ℕ) (ts : List Entry) (c : ℕ) → All IsAtItsKey es → IsRising 0 (values_of es) → ((q : ℕ) → k ≤ q → lookup (is_at (nat_cmp q)) es ≡ get nat_cmp m q) → IsRising k ts → AllCancel m ts c → Cancels (values_of es) ts c
 along m es k [] c keyed rising same h e = (values_of es, rising, record { signed = λ p. omega arith; lows = omega (arith, e) })
@@ -127,10 +94,6 @@ along m es k (t ∷ ts) c keyed rising same h (g, one, d, is, more) =
 
 pub Cancels-AllCancel : (m : BTreeMap ℕ Entry) (ts : List Entry) (c : ℕ) → IsKeyed m → IsRising 0 (values m) → IsRising 0 ts → AllCancel m ts c → Cancels (values m) ts c
 Cancels-AllCancel m ts c keyed rising h cancels = along m m.entries 0 ts c keyed rising (λ q le. refl) h cancels
-
--- the order of the two lists does not matter
-pub Cancels-swap : (xs ys : List Entry) (c : ℕ) → Cancels xs ys c → Cancels ys xs c
-Cancels-swap xs ys c (rs, rising, adds) = (rs, rising, record { signed = λ p. omega (arith, adds.signed p); lows = omega (arith, adds.lows) })
 
 -- the term on the variable, by what was found
 pub TermCancels-absent : (m : BTreeMap ℕ Entry) (t : Entry) → 0 < t.coefficient → None ≡ get nat_cmp m t.variable → TermCancels m t 0

@@ -1,6 +1,7 @@
 -- What a change of every term and a filter preserve. Offered to other crates.
-use Rattle.pb_normal.proofs.Common.{ℕ, ◌%◌, ◌*◌, ◌+◌, ◌/◌, ◌<◌, ◌∷◌, ◌≡◌, ◌≤◌, ◌⊎◌, [], arith, Bool, cond, eqb, false, inl, inr, List, map, min, not}
-use Rattle.pb_normal.proofs.Common.{refl, suc, true, zero, mul-le-mul_left, cases_lt, div-add-mod', mod_below, div_ceil, filter, Entry, counted, each}
+use Rattle.std.proofs.lemmas.Bool.{cond_both}
+use Rattle.pb_normal.proofs.Common.{ℕ, ◌%◌, ◌*◌, ◌+◌, ◌/◌, ◌<◌, ◌∷◌, ◌≡◌, ◌≤◌, ◌⊎◌, [], arith, Bool, cond, eqb, inl, inr, List, map, min, not}
+use Rattle.pb_normal.proofs.Common.{refl, mul-le-mul_left, div-add-mod', mod_below, div_ceil, filter, Entry, counted, each}
 use Rattle.pb_normal.proofs.Common.{Form, Holds, IsNormal, IsRising, total, true_at, divided, negation_of, of_variable, opposite, weakened}
 use Rattle.pb_normal.proofs.Common.{with_coefficient}
 use Rattle.pb_normal.proofs.lemmas.terms.Totals.{IsRising-from}
@@ -20,61 +21,40 @@ total-map-same g p q (t ∷ ts) h = omega (arith, h t, total-map-same g p q ts h
 
 pub IsRising-filter : (p : Entry → Bool) (n : ℕ) (ts : List Entry) → IsRising n ts → IsRising n (filter p ts)
 IsRising-filter p n [] h = tt
-IsRising-filter p n (t ∷ ts) h =
-    let rest = IsRising-filter p (t.variable + 1) ts h.2 in
-    elim (p t) as (λ b. IsRising n (cond b (t ∷ filter p ts) (filter p ts))) [
-      | true ↦ (h.0, h.1, rest)
-      | false ↦ IsRising-from n (t.variable + 1) _ (omega (arith, h.0)) rest
-    ]
+IsRising-filter p n (t ∷ ts) h = cond_both (p t) _ _ (IsRising n) (λ e. (h.0, h.1, IsRising-filter p (t.variable + 1) ts h.2)) (λ e. IsRising-from n (t.variable + 1) _ (omega (arith, h.0)) (IsRising-filter p (t.variable + 1) ts h.2))
 
 pub total-filter-le : (q : Entry → Bool) (p : ℕ → Bool → Bool) (ts : List Entry) → total p (filter q ts) ≤ total p ts
 total-filter-le q p [] = omega arith
-total-filter-le q p (t ∷ ts) =
-    elim (q t) as (λ b. total p (cond b (t ∷ filter q ts) (filter q ts)) ≤ counted p t + total p ts) [
-      | true ↦ omega (arith, total-filter-le q p ts)
-      | false ↦ omega (arith, total-filter-le q p ts)
-    ]
-
-ceil_pos : (q r k n : ℕ) → q * k + r ≡ n → 0 < n → 0 < q + min 1 r
-ceil_pos zero r k n e p = omega (arith, e)
-ceil_pos (suc q) r k n e p = omega arith
+total-filter-le q p (t ∷ ts) = grind (arith, total-filter-le q p ts)
 
 div_ceil-pos : (n k : ℕ) → 0 < n → 0 < div_ceil n k
-div_ceil-pos n k p = ceil_pos (n / k) (n % k) k n (div-add-mod' n k) p
+div_ceil-pos n k p = grind (arith, div-add-mod' n k)
 
 below_ceil : (q r k n m : ℕ) → q * k + r ≡ n → r < k → (m ≡ 0) × (r ≡ 0) ⊎ (m ≡ 1) × (0 < r) → n ≤ k * (q + m)
-below_ceil q r k n m e lt (inl h) = rw h.0 (omega arith)
-below_ceil q r k n m e lt (inr h) = rw h.0 (omega arith)
+below_ceil q r k n m e lt h = grind arith
 
 least_ceil : (q r k n m b : ℕ) → q * k + r ≡ n → r < k → (m ≡ 0) × (r ≡ 0) ⊎ (m ≡ 1) × (0 < r) → n ≤ k * b → b < q + m → ⊥
 least_ceil q r k n m b e lt (inl h) le lt' = omega (arith, mul-le-mul_left k (let up : b + 1 ≤ q = omega arith in up))
 least_ceil q r k n m b e lt (inr h) le lt' = omega (arith, mul-le-mul_left k (let up : b ≤ q = omega arith in up))
 
 one_or_none : (r : ℕ) → (min 1 r ≡ 0) × (r ≡ 0) ⊎ (min 1 r ≡ 1) × (0 < r)
-one_or_none zero = inl (omega arith, refl)
-one_or_none (suc r) = inr (omega arith, omega arith)
+one_or_none r = grind arith
 
 -- n is at most k times its quotient rounded up, which is the least such number
 pub le-div_ceil : (n k : ℕ) → 0 < k → n ≤ k * div_ceil n k
 le-div_ceil n k h = below_ceil (n / k) (n % k) k n (min 1 (n % k)) (div-add-mod' n k) (mod_below n k h) (one_or_none (n % k))
 
 pub div_ceil-least : (n k m : ℕ) → 0 < k → n ≤ k * m → div_ceil n k ≤ m
-div_ceil-least n k m h le =
-    elim (cases_lt m (div_ceil n k)) [
-      | inl lt ↦ absurd (least_ceil (n / k) (n % k) k n (min 1 (n % k)) m (div-add-mod' n k) (mod_below n k h) (one_or_none (n % k)) le lt)
-      | inr ge ↦ ge
-    ]
+div_ceil-least n k m h le = grind (arith, least_ceil, div-add-mod', mod_below, one_or_none)
 
 pub div_ceil-le : (n k : ℕ) → 0 < k → div_ceil n k ≤ n
 div_ceil-le n k h = div_ceil-least n k n h (omega (arith, mul-le-mul_left n h))
 
 pub counted-le : (b : Bool) (m n : ℕ) → m ≤ n → cond b m 0 ≤ cond b n 0
-counted-le true m n h = h
-counted-le false m n h = omega arith
+counted-le b m n h = grind arith
 
 pub counted-le-all : (b : Bool) (n : ℕ) → cond b n 0 ≤ n
-counted-le-all true n = omega arith
-counted-le-all false n = omega arith
+counted-le-all b n = grind arith
 
 pub IsRising-divided : (k n : ℕ) (ts : List Entry) → 0 < k → IsRising n ts → IsRising n (map (λ t. with_coefficient t (div_ceil t.coefficient k)) ts)
 IsRising-divided k n ts h r = IsRising-map _ n ts (λ t. refl) (λ t p. div_ceil-pos t.coefficient k p) r
@@ -90,16 +70,11 @@ total-each-opposite ts = total-map-same _ each each ts (λ t. refl)
 
 pub total-le-each : (p : ℕ → Bool → Bool) (ts : List Entry) → total p ts ≤ total each ts
 total-le-each p [] = omega arith
-total-le-each p (t ∷ ts) = omega (arith, total-le-each p ts, counted-le-all (p t.variable t.negated) t.coefficient)
-
-counted-mul : (b : Bool) (k m n : ℕ) → n ≤ k * m → cond b n 0 ≤ k * cond b m 0
-counted-mul true k m n h = h
-counted-mul false k m n h = omega arith
+total-le-each p (t ∷ ts) = grind (arith, total-le-each p ts)
 
 total-divided : (p : ℕ → Bool → Bool) (k : ℕ) (ts : List Entry) → 0 < k → total p ts ≤ k * total p (map (λ t. with_coefficient t (div_ceil t.coefficient k)) ts)
 total-divided p k [] h = omega arith
-total-divided p k (t ∷ ts) h =
-    omega (arith, total-divided p k ts h, counted-mul (p t.variable t.negated) k (div_ceil t.coefficient k) t.coefficient (le-div_ceil t.coefficient k h))
+total-divided p k (t ∷ ts) h = grind (arith, total-divided p k ts h, le-div_ceil t.coefficient k h)
 
 -- if a form holds, its quotient holds
 pub Holds-divided : (a : ℕ → Bool) (k : ℕ) (f : Form) → 0 < k → Holds a f → Holds a (divided k f)
@@ -109,36 +84,21 @@ Holds-divided a k f h holds =
 -- weakening: what is dropped counts for at most its coefficient
 total-without : (p : ℕ → Bool → Bool) (x : ℕ) (ts : List Entry) → total p ts ≤ total p (filter (λ t. not (eqb t.variable x)) ts) + total (of_variable x) ts
 total-without p x [] = omega arith
-total-without p x (t ∷ ts) =
-    elim (eqb t.variable x) as (λ b. counted p t + total p ts ≤ total p (cond (not b) (t ∷ filter (λ t. not (eqb t.variable x)) ts) (filter (λ t. not (eqb t.variable x)) ts)) + (cond b t.coefficient 0 + total (of_variable x) ts)) [
-      | true ↦ omega (arith, total-without p x ts, counted-le-all (p t.variable t.negated) t.coefficient)
-      | false ↦ omega (arith, total-without p x ts)
-    ]
+total-without p x (t ∷ ts) = grind (arith, total-without p x ts)
 
 pub Holds-weakened : (a : ℕ → Bool) (x : ℕ) (f : Form) → Holds a f → Holds a (weakened x f)
 Holds-weakened a x f holds = omega (arith, total-without (true_at a) x f.terms)
 
--- the literals that are true at an assignment are those that are false after negation
-opposite-sum : (v n : Bool) (c : ℕ) → cond (cond n (not v) v) c 0 + cond (cond (not n) (not v) v) c 0 ≡ c
-opposite-sum true true c = omega arith
-opposite-sum true false c = omega arith
-opposite-sum false true c = omega arith
-opposite-sum false false c = omega arith
-
 total-opposite : (a : ℕ → Bool) (ts : List Entry) → total (true_at a) ts + total (true_at a) (map opposite ts) ≡ total each ts
 total-opposite a [] = refl
-total-opposite a (t ∷ ts) = omega (arith, total-opposite a ts, opposite-sum (a t.variable) t.negated t.coefficient)
+total-opposite a (t ∷ ts) = grind (arith, total-opposite a ts)
 
 -- the negation holds if and only if the form does not
 pub Holds-negation : (a : ℕ → Bool) (f : Form) → 1 ≤ f.degree → Holds a (negation_of f) → ¬ Holds a f
 Holds-negation a f h n holds = omega (arith, total-opposite a f.terms)
 
 pub Holds-negation_back : (a : ℕ → Bool) (f : Form) → 1 ≤ f.degree → ¬ Holds a f → Holds a (negation_of f)
-Holds-negation_back a f h n =
-    elim (cases_lt (total (true_at a) f.terms) f.degree) [
-      | inl lt ↦ omega (arith, total-opposite a f.terms)
-      | inr ge ↦ absurd (n ge)
-    ]
+Holds-negation_back a f h n = grind (arith, total-opposite a f.terms)
 
 -- what stays normal
 pub IsNormal-divided : (k : ℕ) (f : Form) → 0 < k → IsNormal f → IsNormal (divided k f)

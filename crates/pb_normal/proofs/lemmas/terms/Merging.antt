@@ -3,7 +3,7 @@ use Rattle.pb_normal.proofs.Common.{ℕ, ◌++◌, ◌+◌, ◌<◌, ◌∷◌, 
 use Rattle.pb_normal.proofs.Common.{ap, Bool, inl, inr, length, List, None, Option, Some, take, drop_all, take-append-drop, option_to_list, drop_read}
 use Rattle.pb_normal.proofs.Common.{take_read, Entry, Adds, each, IsRising, total}
 use Rattle.pb_normal.specs.meaning.Form.{counted}
-use Rattle.pb_normal.proofs.lemmas.terms.Totals.{Adds-append, Adds-apart, IsRising-between, IsRising-without, IsRising-instead, total-append, size-Adds, IsRising-positive}
+use Rattle.pb_normal.proofs.lemmas.terms.Totals.{Adds-append, Adds-apart, IsRising-between, IsRising-without, IsRising-instead, size-Adds, IsRising-positive, total-prefix}
 
 pub record Merging (left right : List Entry) (i j : ℕ) (out : List Entry) (c : ℕ) : Type 0 where
   pub in_left : i ≤ length left
@@ -17,55 +17,26 @@ one_more out x xs = simp append_assoc
 
 pub Merging-left : (left right : List Entry) (i j : ℕ) (out : List Entry) (c : ℕ) (d x y : Entry) → Merging left right i j out c → i < length left → j < length right → x ≡ get_or left i d → y ≡ get_or right j d → x.variable < y.variable → Merging left right (i + 1) j (out ++ x ∷ []) c
 Merging-left left right i j out c d x y m ilt jlt xe ye lt =
-    let dx = drop_read left i d x ilt xe in
-    let dy = drop_read right j d y jlt ye in
     let a = Adds-append _ _ _ _ _ _ _ _ m.adds (Adds-apart (x ∷ []) []) in
+    let rises = rw (drop_read left i d x ilt xe) at m.left_rising in
     record {
       in_left = omega arith;
       in_right = m.in_right;
       adds = rw (take_read left i d x ilt xe) (simp (append-nil, add-zero) at a);
-      left_rising = rw (append_assoc) (rw dx at m.left_rising);
-      right_rising = rw (append_assoc, dy) (IsRising-between 0 out x y _ _ (rw dx at m.left_rising) (rw dy at m.right_rising) lt);
+      left_rising = rw (append_assoc) rises;
+      right_rising = rw (append_assoc, drop_read right j d y jlt ye) (IsRising-between 0 out x y _ _ rises (rw (drop_read right j d y jlt ye) at m.right_rising) lt);
     }
 
 pub Merging-right : (left right : List Entry) (i j : ℕ) (out : List Entry) (c : ℕ) (d x y : Entry) → Merging left right i j out c → i < length left → j < length right → x ≡ get_or left i d → y ≡ get_or right j d → y.variable < x.variable → Merging left right i (j + 1) (out ++ y ∷ []) c
 Merging-right left right i j out c d x y m ilt jlt xe ye lt =
-    let dx = drop_read left i d x ilt xe in
-    let dy = drop_read right j d y jlt ye in
     let a = Adds-append _ _ _ _ _ _ _ _ m.adds (Adds-apart [] (y ∷ [])) in
+    let rises = rw (drop_read right j d y jlt ye) at m.right_rising in
     record {
       in_left = m.in_left;
       in_right = omega arith;
       adds = rw (take_read right j d y jlt ye) (simp (append-nil, add-zero) at a);
-      left_rising = rw (append_assoc, dx) (IsRising-between 0 out y x _ _ (rw dy at m.right_rising) (rw dx at m.left_rising) lt);
-      right_rising = rw (append_assoc) (rw dy at m.right_rising);
-    }
-
--- both entries add up to the entry t
-pub Merging-both : (left right : List Entry) (i j : ℕ) (out : List Entry) (c : ℕ) (d x y t : Entry) (g : ℕ) → Merging left right i j out c → i < length left → j < length right → x ≡ get_or left i d → y ≡ get_or right j d → x.variable ≡ y.variable → Adds (x ∷ []) (y ∷ []) (t ∷ []) g → (t.variable ≡ x.variable) × (0 < t.coefficient) → Merging left right (i + 1) (j + 1) (out ++ t ∷ []) (c + g)
-Merging-both left right i j out c d x y t g m ilt jlt xe ye e a k =
-    let dx = drop_read left i d x ilt xe in
-    let dy = drop_read right j d y jlt ye in
-    record {
-      in_left = omega arith;
-      in_right = omega arith;
-      adds = rw (take_read left i d x ilt xe, take_read right j d y jlt ye) (Adds-append _ _ _ _ _ _ _ _ m.adds a);
-      left_rising = rw (append_assoc) (IsRising-instead 0 out x t _ (rw dx at m.left_rising) k.0 k.1);
-      right_rising = rw (append_assoc) (IsRising-instead 0 out y t _ (rw dy at m.right_rising) (omega arith) k.1);
-    }
-
--- both entries cancel
-pub Merging-none : (left right : List Entry) (i j : ℕ) (out : List Entry) (c : ℕ) (d x y : Entry) (g : ℕ) → Merging left right i j out c → i < length left → j < length right → x ≡ get_or left i d → y ≡ get_or right j d → Adds (x ∷ []) (y ∷ []) [] g → Merging left right (i + 1) (j + 1) out (c + g)
-Merging-none left right i j out c d x y g m ilt jlt xe ye a =
-    let dx = drop_read left i d x ilt xe in
-    let dy = drop_read right j d y jlt ye in
-    let b = Adds-append _ _ _ _ _ _ _ _ m.adds a in
-    record {
-      in_left = omega arith;
-      in_right = omega arith;
-      adds = rw (take_read left i d x ilt xe, take_read right j d y jlt ye) (simp append-nil at b);
-      left_rising = IsRising-without 0 out x _ (rw dx at m.left_rising);
-      right_rising = IsRising-without 0 out y _ (rw dy at m.right_rising);
+      left_rising = rw (append_assoc, drop_read left i d x ilt xe) (IsRising-between 0 out y x _ _ rises (rw (drop_read left i d x ilt xe) at m.left_rising) lt);
+      right_rising = rw (append_assoc) rises;
     }
 
 -- if one list is at its end, the rests of both follow
@@ -84,10 +55,7 @@ Merging-fits left right i j out c n m p q =
     omega (arith, size-Adds _ _ _ _ (Merging-end left right i j out c m))
 
 pub total-read : (xs : List Entry) (i : ℕ) (d x : Entry) → i < length xs → x ≡ get_or xs i d → x.coefficient ≤ total each xs
-total-read xs i d x lt e =
-    let s = total-append each (take i xs) (drop i xs) in
-    let t = rw (take-append-drop, drop_read xs i d x lt e) at s in
-    omega arith
+total-read xs i d x lt e = omega (arith, total-prefix xs i d x lt e)
 
 -- what the literals from an entry on add up to
 pub total-drop : (p : ℕ → Bool → Bool) (xs : List Entry) (i : ℕ) (d x : Entry) → i < length xs → x ≡ get_or xs i d → total p (drop i xs) ≡ counted p x + total p (drop (i + 1) xs)
@@ -102,5 +70,19 @@ positive-read n out xs i d x h lt e = IsRising-positive n out x _ (rw (drop_read
 
 -- both entries give the result of `combined`
 pub Merging-combined : (left right : List Entry) (i j : ℕ) (out : List Entry) (c : ℕ) (d x y : Entry) (o : Option Entry) (g : ℕ) → Merging left right i j out c → i < length left → j < length right → x ≡ get_or left i d → y ≡ get_or right j d → x.variable ≡ y.variable → Adds (x ∷ []) (y ∷ []) (option_to_list o) g → IfSome o (λ t. (t.variable ≡ x.variable) × (0 < t.coefficient)) → Merging left right (i + 1) (j + 1) (out ++ option_to_list o) (c + g)
-Merging-combined left right i j out c d x y (Some t) g m ilt jlt xe ye e a k = Merging-both left right i j out c d x y t g m ilt jlt xe ye e a k
-Merging-combined left right i j out c d x y None g m ilt jlt xe ye e a k = rw append-nil (Merging-none left right i j out c d x y g m ilt jlt xe ye a)
+Merging-combined left right i j out c d x y (Some t) g m ilt jlt xe ye e a k = record {
+  in_left = omega arith;
+  in_right = omega arith;
+  adds = rw (take_read left i d x ilt xe, take_read right j d y jlt ye) (Adds-append _ _ _ _ _ _ _ _ m.adds a);
+  left_rising = rw (append_assoc) (IsRising-instead 0 out x t _ (rw (drop_read left i d x ilt xe) at m.left_rising) k.0 k.1);
+  right_rising = rw (append_assoc) (IsRising-instead 0 out y t _ (rw (drop_read right j d y jlt ye) at m.right_rising) (omega arith) k.1);
+}
+Merging-combined left right i j out c d x y None g m ilt jlt xe ye e a k =
+    let both = Adds-append _ _ _ _ _ _ _ _ m.adds a in
+    rw append-nil record {
+      in_left = omega arith;
+      in_right = omega arith;
+      adds = rw (take_read left i d x ilt xe, take_read right j d y jlt ye) (simp append-nil at both);
+      left_rising = IsRising-without 0 out x _ (rw (drop_read left i d x ilt xe) at m.left_rising);
+      right_rising = IsRising-without 0 out y _ (rw (drop_read right j d y jlt ye) at m.right_rising);
+    }

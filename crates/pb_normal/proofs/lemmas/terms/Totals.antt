@@ -1,35 +1,32 @@
 -- Lemmas on totals and on lists with rising variables
-use Rattle.pb_normal.proofs.Common.{ℕ, ◌*◌, ◌++◌, ◌+◌, ◌<◌, ◌∷◌, ◌≡◌, ◌≤◌, [], arith, Bool, cond, false, List, not, refl, true, Entry, Adds, flip}
+use Rattle.pb_normal.proofs.Common.{drop, drop_read, get_or, length, take, take-append-drop, ℕ, ◌*◌, ◌++◌, ◌+◌, ◌<◌, ◌∷◌, ◌≡◌, ◌≤◌, [], arith, Bool, List, refl, Entry, Adds, flip}
 use Rattle.pb_normal.proofs.Common.{each, IsRising, negative, total}
 
 pub total-append : (p : ℕ → Bool → Bool) (xs ys : List Entry) → total p (xs ++ ys) ≡ total p xs + total p ys
 total-append p [] ys = omega arith
 total-append p (x ∷ xs) ys = omega (arith, total-append p xs ys)
 
-counted-split : (b : Bool) (n : ℕ) → n ≡ cond b n 0 + cond (not b) n 0
-counted-split true n = omega arith
-counted-split false n = omega arith
-
 -- the size is the sum of the coefficients on variables and of those on negations
 pub total-each : (xs : List Entry) → total each xs ≡ total negative xs + total (flip negative) xs
 total-each [] = refl
-total-each (x ∷ xs) = omega (arith, total-each xs, counted-split x.negated x.coefficient)
+total-each (x ∷ xs) = grind (arith, total-each xs)
 
 pub Adds-append : (a b r a' b' r' : List Entry) (c c' : ℕ) → Adds a b r c → Adds a' b' r' c' → Adds (a ++ a') (b ++ b') (r ++ r') (c + c')
-Adds-append a b r a' b' r' c c' h k = record {
-  signed = λ p. simp total-append (omega (arith, h.signed p, k.signed p));
-  lows = simp total-append (omega (arith, h.lows, k.lows));
-}
+Adds-append a b r a' b' r' c c' h k = grind (arith, total-append, h.signed, k.signed, h.lows, k.lows)
 
 -- without a common variable nothing cancels
 pub Adds-apart : (xs ys : List Entry) → Adds xs ys (xs ++ ys) 0
-Adds-apart xs ys = record {
-  signed = λ p. simp total-append (omega arith);
-  lows = simp total-append (omega arith);
-}
+Adds-apart xs ys = grind (arith, total-append)
 
 pub size-Adds : (a b r : List Entry) (c : ℕ) → Adds a b r c → total each r + 2 * c ≡ total each a + total each b
 size-Adds a b r c h = omega (arith, h.signed negative, h.lows, total-each a, total-each b, total-each r)
+
+-- a coefficient and those before it are within the whole
+pub total-prefix : (list : List Entry) (i : ℕ) (d x : Entry) → i < length list → x ≡ get_or list i d → total each (take i list) + x.coefficient ≤ total each list
+total-prefix list i d x lt e =
+    let s = total-append each (take i list) (drop i list) in
+    let t = rw (take-append-drop, drop_read list i d x lt e) at s in
+    omega arith
 
 pub IsRising-from : (m n : ℕ) (xs : List Entry) → m ≤ n → IsRising n xs → IsRising m xs
 IsRising-from m n [] le h = tt

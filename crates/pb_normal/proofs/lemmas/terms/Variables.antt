@@ -1,12 +1,10 @@
 -- A total over a list of terms, as a sum over the variables
-use Rattle.pb_normal.proofs.Common.{ℕ, ◌&&◌, ◌+◌, ◌<◌, ◌∙◌, ◌∷◌, ◌≡◌, ◌≢◌, ◌≤◌, [], ap, arith, Bool, cond, eqb, false, inl, inr, List, max, not, refl}
-use Rattle.pb_normal.proofs.Common.{suc, sym, true, zero, cases_eq, eq-eqb, ne_eqb, Entry, counted, negated_of, plain_of, total}
+use Rattle.pb_normal.proofs.Common.{ℕ, ◌&&◌, ◌+◌, ◌<◌, ◌∷◌, ◌≡◌, ◌≢◌, ◌≤◌, [], ap, arith, Bool, cond, eqb, false, inl, inr, List, max, refl}
+use Rattle.pb_normal.proofs.Common.{nat_tests, suc, sym, true, zero, cases_eq, ne_eqb, Entry, counted, negated_of, plain_of, total}
 
 pub total-same : (p q : ℕ → Bool → Bool) → ((v : ℕ) (n : Bool) → p v n ≡ q v n) → (ts : List Entry) → total p ts ≡ total q ts
 total-same p q h [] = refl
-total-same p q h (t ∷ ts) =
-    let first : counted p t ≡ counted q t = ap (λ b. cond b t.coefficient 0) (h t.variable t.negated) in
-    omega (arith, total-same p q h ts)
+total-same p q h (t ∷ ts) = grind (arith, total-same p q h ts, h t.variable t.negated)
 
 -- g 0 + .. + g (n - 1)
 abbrev pub up_to : (ℕ → ℕ) → ℕ → ℕ
@@ -43,55 +41,25 @@ abbrev pub top : List Entry → ℕ
 top [] = 0
 top (t ∷ ts) = max (t.variable + 1) (top ts)
 
-share_of_one : (b0 b1 n e : Bool) (c : ℕ) → e ≡ true → cond b0 (cond (e && not n) c 0) 0 + cond b1 (cond (e && n) c 0) 0 ≡ cond (cond n b1 b0) c 0
-share_of_one true true true true c h = omega arith
-share_of_one true true false true c h = omega arith
-share_of_one true false true true c h = omega arith
-share_of_one true false false true c h = omega arith
-share_of_one false true true true c h = omega arith
-share_of_one false true false true c h = omega arith
-share_of_one false false true true c h = omega arith
-share_of_one false false false true c h = omega arith
-share_of_one b0 b1 n false c h = absurd cc
-
-at_sign : (f : Bool → Bool) (n : Bool) → cond n (f true) (f false) ≡ f n
-at_sign f true = refl
-at_sign f false = refl
-
--- what a coefficient counts for on another variable, and on its own
+-- what a coefficient counts for on another variable
 pub counted-other : (v x : ℕ) (b : Bool) (c : ℕ) → v ≢ x → cond (eqb v x && b) c 0 ≡ 0
 counted-other v x b c ne = ap (λ (e : Bool). cond (e && b) c 0) (ne_eqb v x ne)
-
-pub counted-here : (v x : ℕ) (b : Bool) (c : ℕ) → v ≡ x → cond (eqb v x && b) c 0 ≡ cond b c 0
-counted-here v x b c same = ap (λ (e : Bool). cond (e && b) c 0) (eq-eqb v x same)
-
-cond_zero : (b c : Bool) (n m : ℕ) → n ≡ 0 → m ≡ 0 → cond b n 0 + cond c m 0 ≡ 0
-cond_zero true true n m e f = omega arith
-cond_zero true false n m e f = omega arith
-cond_zero false true n m e f = omega arith
-cond_zero false false n m e f = omega arith
 
 -- what one term contributes on the variable x
 abbrev share_of : (ℕ → Bool → Bool) → Entry → ℕ → ℕ
 share_of p t x = cond (p x false) (counted (plain_of x) t) 0 + cond (p x true) (counted (negated_of x) t) 0
 
 share_of-other : (p : ℕ → Bool → Bool) (t : Entry) (x : ℕ) → x ≢ t.variable → share_of p t x ≡ 0
-share_of-other p t x ne =
-    let here : t.variable ≢ x = λ e. ne (sym e) in
-    cond_zero (p x false) (p x true) _ _ (counted-other t.variable x (not t.negated) t.coefficient here) (counted-other t.variable x t.negated t.coefficient here)
+share_of-other p t x ne = grind (arith, ne_eqb, nat_tests)
 
 share_of-self : (p : ℕ → Bool → Bool) (t : Entry) → share_of p t t.variable ≡ counted p t
-share_of-self p t =
-    share_of_one (p t.variable false) (p t.variable true) t.negated (eqb t.variable t.variable) t.coefficient (eq-eqb t.variable t.variable refl) ∙ ap (λ b. cond b t.coefficient 0) (at_sign (p t.variable) t.negated)
+share_of-self p t = grind (arith, nat_tests)
 
 cond_plus : (b c : Bool) (k l m n : ℕ) → cond b (k + l) 0 + cond c (m + n) 0 ≡ (cond b k 0 + cond c m 0) + (cond b l 0 + cond c n 0)
-cond_plus true true k l m n = omega arith
-cond_plus true false k l m n = omega arith
-cond_plus false true k l m n = omega arith
-cond_plus false false k l m n = omega arith
+cond_plus b c k l m n = grind arith
 
 pub total-by_variable : (p : ℕ → Bool → Bool) (ts : List Entry) (n : ℕ) → top ts ≤ n → total p ts ≡ up_to (share p ts) n
-total-by_variable p [] n le = sym (up_to-zero (share p []) n (λ x lt. cond_zero (p x false) (p x true) 0 0 refl refl))
+total-by_variable p [] n le = sym (up_to-zero (share p []) n (λ x lt. grind arith))
 total-by_variable p (t ∷ ts) n le =
     let both = up_to-add (share p (t ∷ ts)) (share_of p t) (share p ts) n (λ x. cond_plus (p x false) (p x true) _ _ _ _) in
     let one = up_to-one (share_of p t) t.variable n (omega arith) (share_of-other p t) in

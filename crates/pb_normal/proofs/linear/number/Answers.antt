@@ -1,4 +1,4 @@
-use Rattle.pb_normal.proofs.Common.{◌<◌, ◌∙◌, ◌≡◌, arith, FitsSigned, length, of_z, rules, to_z, to_z-of_z, w128, take, take_read, AfterPrefix, names_of}
+use Rattle.pb_normal.proofs.Common.{◌<◌, ◌∙◌, arith, length, rules, to_z-of_z, w128, take, take_read, AfterPrefix, names_of}
 use Rattle.std.proofs.lemmas.List.{take_more_set}
 use Rattle.pb_normal.proofs.lemmas.names.Numbering.{Numbering-push, AfterPrefix-from, OnErr-always}
 use Rattle.pb_normal.proofs.lemmas.names.WrittenForms.{magnitude-read}
@@ -11,20 +11,14 @@ returns-in_err-variable-clause-err c =
     OnErr-always _ _ after
 
 pub signed-coefficient-requires : goal.signed-coefficient-requires
-signed-coefficient-requires c =
-    let t = c.index-terms-i.result in
-    let fits : FitsSigned w128 t.coefficient = search rules in
-    let same : to_z w128 (of_z w128 t.coefficient) ≡ t.coefficient = to_z-of_z w128 t.coefficient fits in
-    rw same (omega (arith, magnitude-read c.args.terms.now c.terms.i t (omega arith) c.index-terms-i.is))
+signed-coefficient-requires c = grind (arith, to_z-of_z, magnitude-read, c.index-terms-i.is)
 
 pub terms-preserved : goal.terms-preserved
 terms-preserved c =
     let t = c.index-terms-i.result in
-    let fits : FitsSigned w128 t.coefficient = search rules in
-    let same : to_z w128 (of_z w128 t.coefficient) ≡ t.coefficient = to_z-of_z w128 t.coefficient fits in
+    let same = to_z-of_z w128 t.coefficient (search rules) in
     let signed = rw same at c.signed-coefficient.ensures in
-    let signed_fits : FitsSigned w128 c.signed-coefficient.result = search rules in
-    let signed_same : to_z w128 (of_z w128 c.signed-coefficient.result) ≡ c.signed-coefficient.result = to_z-of_z w128 c.signed-coefficient.result signed_fits in
+    let signed_same = to_z-of_z w128 c.signed-coefficient.result (search rules) in
     let entry = rw (signed_same, signed) at c.raw.ensures in
     let step = Numbering-push c.args.side _ _ _ _ t _ _ c.terms.invariant.1 (rw c.as_str.ensures at c.in_ok-variable.ensures.names) (rw c.as_str.ensures at c.in_ok-variable.ensures.number) in
     let room : c.terms.i < length c.terms.out = omega (arith, c.terms.invariant.0, c.terms-test.true) in

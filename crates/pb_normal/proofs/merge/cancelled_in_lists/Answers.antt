@@ -1,4 +1,4 @@
-use Rattle.pb_normal.proofs.Common.{◌<◌, arith, inl, inr, length}
+use Rattle.pb_normal.proofs.Common.{arith, inl, inr}
 use Rattle.pb_normal.proofs.lemmas.terms.Totals.{size-Adds}
 use Rattle.pb_normal.proofs.lemmas.terms.Merging.{Merging-left, Merging-right, Merging-combined, Merging-end, Merging-end_rising, Merging-fits, total-read, positive-read, no_entry}
 use Rattle.pb_normal.proofs.merge.cancelled_in_lists.Goals as goal
@@ -11,24 +11,18 @@ pub merge-preserved-then-r-l : goal.merge-preserved-then-r-l
 merge-preserved-then-r-l g c =
     (_, Merging-right _ _ _ _ _ _ no_entry c.at-l.result c.at-r.result c.merge.invariant.1 (omega arith) (omega arith) (c.at-l.ensures no_entry) (c.at-r.ensures no_entry) (omega arith))
 
-pub combined-gone-requires-clause-left_positive : goal.combined-gone-requires-clause-left_positive
-combined-gone-requires-clause-left_positive g c =
-    let lt : c.merge.i < length (g.L.Listed.entries c.args.left.now) = omega arith in
-    positive-read 0 _ _ _ no_entry _ c.merge.invariant.1.left_rising lt (c.at-l.ensures no_entry)
-
-pub combined-gone-requires-clause-fits : goal.combined-gone-requires-clause-fits
-combined-gone-requires-clause-fits g c =
-    let x = total-read (g.L.Listed.entries c.args.left.now) c.merge.i no_entry _ (omega arith) (c.at-l.ensures no_entry) in
-    let y = total-read (g.R.Listed.entries c.args.right.now) c.merge.j no_entry _ (omega arith) (c.at-r.ensures no_entry) in
-    omega arith
+pub combined-gone-requires : goal.combined-gone-requires
+combined-gone-requires g c = record {
+  same_variable = omega arith;
+  left_positive = positive-read 0 _ (g.L.Listed.entries c.args.left.now) c.merge.i no_entry _ c.merge.invariant.1.left_rising (omega arith) (c.at-l.ensures no_entry);
+  fits = omega (arith, total-read (g.L.Listed.entries c.args.left.now) c.merge.i no_entry _ (omega arith) (c.at-l.ensures no_entry), total-read (g.R.Listed.entries c.args.right.now) c.merge.j no_entry _ (omega arith) (c.at-r.ensures no_entry));
+}
 
 pub overflow_add-cancelled : goal.overflow_add-cancelled
 overflow_add-cancelled g c =
     let x = total-read (g.L.Listed.entries c.args.left.now) c.merge.i no_entry _ (omega arith) (c.at-l.ensures no_entry) in
     let y = total-read (g.R.Listed.entries c.args.right.now) c.merge.j no_entry _ (omega arith) (c.at-r.ensures no_entry) in
-    let before = Merging-fits _ _ _ _ _ _ _ c.merge.invariant.1 c.requires.left_size c.requires.right_size in
-    let here = size-Adds _ _ _ _ c.combined-gone.ensures.adds in
-    omega arith
+    omega (arith, Merging-fits _ _ _ _ _ _ _ c.merge.invariant.1 c.requires.left_size c.requires.right_size, size-Adds _ _ _ _ c.combined-gone.ensures.adds)
 
 pub merge-preserved : goal.merge-preserved
 merge-preserved g c =

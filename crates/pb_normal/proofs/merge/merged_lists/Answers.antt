@@ -1,5 +1,5 @@
-use Rattle.pb_normal.proofs.Common.{◌<◌, arith, length}
-use Rattle.pb_normal.proofs.lemmas.terms.Merging.{Merging-left, Merging-right, Merging-both, Merging-none, Merging-end, Merging-fits, total-read, positive-read, no_entry}
+use Rattle.pb_normal.proofs.Common.{append-nil, arith}
+use Rattle.pb_normal.proofs.lemmas.terms.Merging.{Merging-left, Merging-right, Merging-combined, Merging-end, Merging-fits, total-read, positive-read, no_entry}
 use Rattle.pb_normal.proofs.lemmas.terms.Totals.{size-Adds}
 use Rattle.pb_normal.proofs.merge.merged_lists.Goals as goal
 use Rattle.pb_normal.proofs.merge.merged_lists.Goals.{in-Some+in_ok-push-3, in_default}
@@ -12,34 +12,25 @@ pub merge-preserved-then-y-x : goal.merge-preserved-then-y-x
 merge-preserved-then-y-x g c =
     rw c.in_ok-push-2.ensures.items (Merging-right _ _ _ _ _ _ no_entry c.at-x.result _ c.merge.invariant (omega arith) (omega arith) (c.at-x.ensures no_entry) (c.at-y.ensures no_entry) (omega arith))
 
-pub combined-sum-requires-clause-left_positive : goal.combined-sum-requires-clause-left_positive
-combined-sum-requires-clause-left_positive g c =
-    let lt : c.merge.i < length (g.L.Listed.entries c.args.left.now) = omega arith in
-    positive-read 0 _ _ _ no_entry _ c.merge.invariant.left_rising lt (c.at-x.ensures no_entry)
-
-pub combined-sum-requires-clause-fits : goal.combined-sum-requires-clause-fits
-combined-sum-requires-clause-fits g c =
-    let x = total-read (g.L.Listed.entries c.args.left.now) c.merge.i no_entry _ (omega arith) (c.at-x.ensures no_entry) in
-    let y = total-read (g.R.Listed.entries c.args.right.now) c.merge.j no_entry _ (omega arith) (c.at-y.ensures no_entry) in
-    omega arith
+pub combined-sum-requires : goal.combined-sum-requires
+combined-sum-requires g c = record {
+  same_variable = omega arith;
+  left_positive = positive-read 0 _ (g.L.Listed.entries c.args.left.now) c.merge.i no_entry _ c.merge.invariant.left_rising (omega arith) (c.at-x.ensures no_entry);
+  fits = omega (arith, total-read (g.L.Listed.entries c.args.left.now) c.merge.i no_entry _ (omega arith) (c.at-x.ensures no_entry), total-read (g.R.Listed.entries c.args.right.now) c.merge.j no_entry _ (omega arith) (c.at-y.ensures no_entry));
+}
 
 pub overflow_add-cancelled : goal.overflow_add-cancelled
 overflow_add-cancelled g c =
     let x = total-read (g.L.Listed.entries c.args.left.now) c.merge.i no_entry _ (omega arith) (c.at-x.ensures no_entry) in
     let y = total-read (g.R.Listed.entries c.args.right.now) c.merge.j no_entry _ (omega arith) (c.at-y.ensures no_entry) in
-    let before = Merging-fits _ _ _ _ _ _ _ c.merge.invariant c.requires.left_size c.requires.right_size in
-    let here = size-Adds _ _ _ _ c.combined-sum.ensures.adds in
-    omega arith
+    omega (arith, Merging-fits _ _ _ _ _ _ _ c.merge.invariant c.requires.left_size c.requires.right_size, size-Adds _ _ _ _ c.combined-sum.ensures.adds)
 
 pub merge-preserved : goal.merge-preserved
 merge-preserved g c =
-    let x = c.at-x.result in
-    let y = c.at-y.result in
+    let both = Merging-combined _ _ _ _ _ _ no_entry c.at-x.result c.at-y.result _ _ c.merge.invariant (omega arith) (omega arith) (c.at-x.ensures no_entry) (c.at-y.ensures no_entry) (omega arith) c.combined-sum.ensures.adds c.combined-sum.ensures.entry in
     elim c.match-sum.branch [
-      | in-Some+in_ok-push-3 w ↦
-          rw (w.out-is, w.in_ok-push-3.ensures.items) (Merging-both _ _ _ _ _ _ no_entry x y _ _ c.merge.invariant (omega arith) (omega arith) (c.at-x.ensures no_entry) (c.at-y.ensures no_entry) (omega arith) (rw w.in-Some.is at c.combined-sum.ensures.adds) (rw w.in-Some.is at c.combined-sum.ensures.entry))
-      | in_default w ↦
-          rw w.out-is (Merging-none _ _ _ _ _ _ no_entry x y _ c.merge.invariant (omega arith) (omega arith) (c.at-x.ensures no_entry) (c.at-y.ensures no_entry) (rw w.in_default.is at c.combined-sum.ensures.adds))
+      | in-Some+in_ok-push-3 w ↦ rw (w.out-is, w.in_ok-push-3.ensures.items) (rw w.in-Some.is at both)
+      | in_default w ↦ rw w.out-is (rw (w.in_default.is, append-nil) at both)
     ]
 
 pub returns-clause-adds : goal.returns-clause-adds

@@ -8,19 +8,15 @@ returns-in_default c =
     let found : None ≡ get nat_cmp c.args.terms.now c.args.term.variable = rw c.in_default.is at c.get.ensures.value in
     TermCancels-absent c.args.terms.now c.args.term c.requires.positive found
 
--- the term that is there
-found : (c : goal.After-combined-arg-1) → Some c.in-Some.before.now ≡ get nat_cmp c.args.terms.now c.args.term.variable
-found c = rw c.in-Some.is at c.get.ensures.value
-
-pub combined-gone-requires-clause-same_variable : goal.combined-gone-requires-clause-same_variable
-combined-gone-requires-clause-same_variable c = sym (IsKeyed-get c.args.terms.now c.args.term.variable c.in-Some.before.now c.requires.keyed (found c)).0
-
-pub combined-gone-requires-clause-left_positive : goal.combined-gone-requires-clause-left_positive
-combined-gone-requires-clause-left_positive c = (IsKeyed-get c.args.terms.now c.args.term.variable c.in-Some.before.now c.requires.keyed (found c)).1
-
-pub combined-gone-requires-clause-fits : goal.combined-gone-requires-clause-fits
-combined-gone-requires-clause-fits c =
-    omega (arith, c.requires.fits, get-le-total c.args.terms.now c.args.term.variable c.in-Some.before.now (found c))
+pub combined-gone-requires : goal.combined-gone-requires
+combined-gone-requires c =
+    let found : Some c.in-Some.before.now ≡ get nat_cmp c.args.terms.now c.args.term.variable = rw c.in-Some.is at c.get.ensures.value in
+    let here = IsKeyed-get c.args.terms.now c.args.term.variable c.in-Some.before.now c.requires.keyed found in
+    record {
+      same_variable = sym here.0;
+      left_positive = here.1;
+      fits = omega (arith, c.requires.fits, get-le-total c.args.terms.now c.args.term.variable c.in-Some.before.now found);
+    }
 
 pub returns : goal.returns
 returns c =

@@ -2,15 +2,14 @@ use Rattle.pb_normal.proofs.Common.{◌++◌, ◌∷◌, ◌≡◌, [], append-n
 use Rattle.pb_normal.proofs.lemmas.terms.Lookups.{AllCancel-le, AllCancel-more, Cancels-AllCancel, split-positive, split-le, split-next}
 use Rattle.pb_normal.proofs.tree.cancelled_by_tree.Goals as goal
 
-pub cancelled_by-cancelled-requires-clause-positive : goal.cancelled_by-cancelled-requires-clause-positive
-cancelled_by-cancelled-requires-clause-positive c =
+pub cancelled_by-cancelled-requires : goal.cancelled_by-cancelled-requires
+cancelled_by-cancelled-requires c =
     let next : c.loop-term.term-iterator ≡ c.in-Some.term.now ∷ c.next.new.self = search rules in
-    split-positive _ c.loop-term.invariant.0 _ _ c.in-Some.term.now c.requires.others_rising c.loop-term.invariant.1 next
-
-pub cancelled_by-cancelled-requires-clause-fits : goal.cancelled_by-cancelled-requires-clause-fits
-cancelled_by-cancelled-requires-clause-fits c =
-    let next : c.loop-term.term-iterator ≡ c.in-Some.term.now ∷ c.next.new.self = search rules in
-    omega (arith, c.requires.fits, split-le _ c.loop-term.invariant.0 _ _ c.in-Some.term.now c.loop-term.invariant.1 next)
+    record {
+      keyed = c.requires.keyed;
+      positive = split-positive _ c.loop-term.invariant.0 _ _ c.in-Some.term.now c.requires.others_rising c.loop-term.invariant.1 next;
+      fits = omega (arith, c.requires.fits, split-le _ c.loop-term.invariant.0 _ _ c.in-Some.term.now c.loop-term.invariant.1 next);
+    }
 
 pub overflow_add-cancelled : goal.overflow_add-cancelled
 overflow_add-cancelled c =

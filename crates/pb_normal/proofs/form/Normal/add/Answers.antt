@@ -16,28 +16,15 @@ whole c =
     rw (← c.self.view_is, ← c.other.view_is) (IsSum-measured _ _ _ _ _ _ (rw (← c.self.view_is, ← c.other.view_is) at c.measures_of_sum-size.ensures) c.in_ok-terms.ensures.rising adds)
 
 pub invariant_of-result : goal.invariant_of-result
-invariant_of-result c = rw c.wide.ensures.same record {
-  ordered = c.in_ok-terms.ensures.rising;
-  size_in = omega (arith, (whole c).1);
-  degree_in = omega arith;
-}
+invariant_of-result c = grind (arith, c.wide.ensures.same, c.in_ok-terms.ensures.rising, whole)
 
-pub returns-clause-sum : goal.returns-clause-sum
-returns-clause-sum c = rw c.wide.ensures.same (whole c).0
-
-pub returns-clause-normal : goal.returns-clause-normal
-returns-clause-normal c = invariant_of-result c
-
-pub returns-clause-within : goal.returns-clause-within
-returns-clause-within c = rw c.wide.ensures.same record {
-  size_in = omega (arith, (whole c).1);
-  degree_in = omega arith;
-}
-
-pub returns-clause-overflow : goal.returns-clause-overflow
-returns-clause-overflow c =
-    let within = SumPasses-not _ _ _ _ _ c.measures_of_sum-size.ensures c.if-size-limit.false c.if-degree-limit.false in
-    overflow-Ok _ _ (rw c.largest-limit.ensures.value at within)
-
-pub returns-clause-sound : goal.returns-clause-sound
-returns-clause-sound c = λ a. Holds-sum a _ _ _ (returns-clause-sum c)
+pub returns : goal.returns
+returns c =
+    let not_past = SumPasses-not _ _ _ _ _ c.measures_of_sum-size.ensures c.if-size-limit.false c.if-degree-limit.false in
+    rw c.wide.ensures.same record {
+      sum = (whole c).0;
+      normal = record { ordered = c.in_ok-terms.ensures.rising; size_in = omega (arith, (whole c).1); degree_in = omega arith };
+      within = record { size_in = omega (arith, (whole c).1); degree_in = omega arith };
+      overflow = overflow-Ok _ _ (rw c.largest-limit.ensures.value at not_past);
+      sound = λ a. Holds-sum a _ _ _ (whole c).0;
+    }

@@ -1,19 +1,14 @@
-use Rattle.pb_normal.proofs.Common.{◌+◌, ◌≤◌, arith, FitsSigned, refl, rules, unsigned_abs, w128, magnitude}
+use Rattle.pb_normal.proofs.Common.{arith, refl, rules}
 use Rattle.pb_normal.proofs.lemmas.names.WrittenForms.{shift-side-le, Collected, Collected-from, size-Collected, IsNormal-Collected, IsWithin-Collected, IsSideOf-Collected, SameSolutions-side}
 use Rattle.pb_normal.proofs.form.Normal.from_linear.Goals as goal
 
 -- all that holds before the degree is computed and from then on
 before_degree : (c : goal.After-shift_of) → Collected c.side_terms.new.names c.args.side c.args.linear.now c.in_ok-collected_terms.collected_terms c.split-up.result.0 c.split-up.result.1 c.in_ok-collected_terms.gone c.largest.result
 before_degree c =
-    let limit : magnitude c.args.linear.now.terms + unsigned_abs c.args.linear.now.degree ≤ c.largest.result = search rules in
-    let fits : FitsSigned w128 c.args.linear.now.degree = search rules in
-    let signed_fits : FitsSigned w128 c.signed.result = search rules in
-    Collected-from _ _ _ _ _ _ _ _ _ _ _ fits signed_fits c.as_slice-terms.ensures limit c.in_ok-collected_terms.ensures.distinct c.in_ok-collected_terms.ensures.named c.signed.ensures c.split-up.ensures.difference c.split-up.ensures.magnitude c.in_ok-collected_terms.ensures.rising refl c.in_ok-collected_terms.ensures.adds
+    Collected-from _ _ _ _ _ _ _ _ _ _ _ (search rules) (search rules) c.as_slice-terms.ensures (search rules) c.in_ok-collected_terms.ensures.distinct c.in_ok-collected_terms.ensures.named c.signed.ensures c.split-up.ensures.difference c.split-up.ensures.magnitude c.in_ok-collected_terms.ensures.rising refl c.in_ok-collected_terms.ensures.adds
 
 pub overflow_add-up : goal.overflow_add-up
-overflow_add-up c =
-    let k = before_degree c in
-    omega (arith, k.small, c.largest.ensures.room, k.parts, shift-side-le c.args.side c.args.linear.now.terms, rw c.as_slice-terms.ensures at c.shift_of.ensures)
+overflow_add-up c = grind (arith, before_degree, c.largest.ensures.room, shift-side-le, c.as_slice-terms.ensures, c.shift_of.ensures)
 
 pub overflow_add-down : goal.overflow_add-down
 overflow_add-down c =
@@ -22,10 +17,7 @@ overflow_add-down c =
 
 with_degree : (c : goal.After-saturating_sub-degree) → Collected c.side_terms.new.names c.args.side c.args.linear.now c.in_ok-collected_terms.collected_terms c.split-up.result.0 c.split-up.result.1 c.in_ok-collected_terms.gone c.largest.result
 with_degree c =
-    let limit : magnitude c.args.linear.now.terms + unsigned_abs c.args.linear.now.degree ≤ c.largest.result = search rules in
-    let fits : FitsSigned w128 c.args.linear.now.degree = search rules in
-    let signed_fits : FitsSigned w128 c.signed.result = search rules in
-    Collected-from _ _ _ _ _ _ _ _ _ _ _ fits signed_fits c.as_slice-terms.ensures limit c.in_ok-collected_terms.ensures.distinct c.in_ok-collected_terms.ensures.named c.signed.ensures c.split-up.ensures.difference c.split-up.ensures.magnitude c.in_ok-collected_terms.ensures.rising refl c.in_ok-collected_terms.ensures.adds
+    Collected-from _ _ _ _ _ _ _ _ _ _ _ (search rules) (search rules) c.as_slice-terms.ensures (search rules) c.in_ok-collected_terms.ensures.distinct c.in_ok-collected_terms.ensures.named c.signed.ensures c.split-up.ensures.difference c.split-up.ensures.magnitude c.in_ok-collected_terms.ensures.rising refl c.in_ok-collected_terms.ensures.adds
 
 pub invariant_of-result : goal.invariant_of-result
 invariant_of-result c = rw (c.saturating_sub-degree.ensures, c.shift_of.ensures, c.as_slice-terms.ensures) (IsNormal-Collected _ _ _ _ _ _ _ _ c.largest.ensures.room (with_degree c))
@@ -34,7 +26,7 @@ pub returns-clause-form : goal.returns-clause-form
 returns-clause-form c = rw (c.saturating_sub-degree.ensures, c.shift_of.ensures, c.as_slice-terms.ensures) (IsSideOf-Collected _ _ _ _ _ _ _ _ (with_degree c))
 
 pub returns-clause-normal : goal.returns-clause-normal
-returns-clause-normal c = rw (c.saturating_sub-degree.ensures, c.shift_of.ensures, c.as_slice-terms.ensures) (IsNormal-Collected _ _ _ _ _ _ _ _ c.largest.ensures.room (with_degree c))
+returns-clause-normal c = invariant_of-result c
 
 pub returns-clause-within : goal.returns-clause-within
 returns-clause-within c = rw (c.saturating_sub-degree.ensures, c.shift_of.ensures, c.as_slice-terms.ensures, ← c.largest.ensures.value) (IsWithin-Collected _ _ _ _ _ _ _ _ (with_degree c))

@@ -1,15 +1,8 @@
-use Rattle.pb_normal.proofs.Common.{◌+◌, ◌-◌, IsSum}
 use Rattle.pb_normal.proofs.lemmas.rules.Sums.{IsSum-from}
 use Rattle.pb_normal.proofs.form.Normal.joined.Goals as goal
 
--- the merged terms are those of the sum
-whole : (c : goal.After-wide) → IsSum c.args.self.now c.args.other.now record { terms = c.in_ok-terms.terms.items; degree = c.self.inside.degree + c.other.inside.degree - c.in_ok-terms.gone }
-whole c =
-    let adds = c.in_ok-terms.ensures.adds in
-    rw (← c.self.view_is, ← c.other.view_is) (IsSum-from _ _ c.in_ok-terms.terms.items c.in_ok-terms.gone c.in_ok-terms.ensures.rising adds)
-
 pub returns-clause-sum : goal.returns-clause-sum
-returns-clause-sum c = rw (c.wide.ensures.same, c.saturating_sub-degree.ensures) (whole c)
+returns-clause-sum c = rw (c.wide.ensures.same, c.saturating_sub-degree.ensures, ← c.self.view_is, ← c.other.view_is) (IsSum-from _ _ c.in_ok-terms.terms.items c.in_ok-terms.gone c.in_ok-terms.ensures.rising c.in_ok-terms.ensures.adds)
 
 pub invariant_of-result : goal.invariant_of-result
 invariant_of-result c = c.requires.fits _ (returns-clause-sum c)

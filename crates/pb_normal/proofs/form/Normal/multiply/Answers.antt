@@ -1,4 +1,4 @@
-use Rattle.pb_normal.proofs.Common.{◌<◌, ◌≡◌, arith, refl, rules, unsigned_abs, common_steps, Form, IsWithin, multiplied, Passes}
+use Rattle.pb_normal.proofs.Common.{◌≡◌, arith, refl, rules, unsigned_abs, common_steps, Form, multiplied, Passes}
 use Rattle.pb_normal.proofs.lemmas.rules.Faults.{overflow-Memory, overflow-Ok}
 use Rattle.pb_normal.proofs.lemmas.rules.Scales.{All-multiplied, within_quotient, Passes-size, Passes-degree, Passes-not, IsNormal-multiplied, IsWithin-multiplied, Holds-multiplied}
 use Rattle.pb_normal.proofs.form.Normal.multiply.Goals as goal
@@ -6,56 +6,40 @@ use Rattle.pb_normal.proofs.form.Normal.multiply.Goals.{then-size_of-most-via-th
 
 pub returns-then-size_of-most-clause-overflow : goal.returns-then-size_of-most-clause-overflow
 returns-then-size_of-most-clause-overflow c =
-    let h : 0 < c.unsigned_abs-k.result = search rules in
     let factor : unsigned_abs c.args.factor ≡ c.unsigned_abs-k.result = grind (arith, common_steps) in
-    let f : Form = record { terms = c.self.inside.terms; degree = c.self.inside.degree } in
-    let size_is = c.size_of.ensures in
-    let passes : Passes c.largest.result (multiplied c.unsigned_abs-k.result f) = elim c.then-size_of-most.branch [
+    let passes : Passes c.largest.result (multiplied c.unsigned_abs-k.result record { terms = c.self.inside.terms; degree = c.self.inside.degree }) = elim c.then-size_of-most.branch [
       | then-size_of-most-via-then-size_of-most w ↦
-          Passes-size c.largest.result c.unsigned_abs-k.result f h (rw size_is at w.if-size_of-most.true)
+          Passes-size c.largest.result c.unsigned_abs-k.result _ (search rules) (rw c.size_of.ensures at w.if-size_of-most.true)
       | then-size_of-most-via-else-size_of-most+then-self-most w ↦
-          Passes-degree c.largest.result c.unsigned_abs-k.result f h w.if-self-most.true
+          Passes-degree c.largest.result c.unsigned_abs-k.result _ (search rules) w.if-self-most.true
     ] in
     (λ _. rw (← c.self.view_is, factor, ← c.largest.ensures.value) passes, λ _. refl)
 
 pub returns-in_err-terms-clause-overflow : goal.returns-in_err-terms-clause-overflow
 returns-in_err-terms-clause-overflow c =
     let factor : unsigned_abs c.args.factor ≡ c.unsigned_abs-k.result = grind (arith, common_steps) in
-    let f : Form = record { terms = c.self.inside.terms; degree = c.self.inside.degree } in
-    let size_is = c.size_of.ensures in
-    let within = IsWithin-multiplied c.largest.result c.unsigned_abs-k.result f (rw size_is at c.if-size_of-most.false) c.if-self-most.false in
+    let within = IsWithin-multiplied c.largest.result c.unsigned_abs-k.result record { terms = c.self.inside.terms; degree = c.self.inside.degree } (rw c.size_of.ensures at c.if-size_of-most.false) c.if-self-most.false in
     rw (← c.self.view_is, factor, ← c.largest.ensures.value) (overflow-Memory _ _ c.from_residual.ensures.1 (Passes-not _ _ within))
 
 pub multiplied_terms-requires : goal.multiplied_terms-requires
 multiplied_terms-requires c =
-    let size_is = c.size_of.ensures in
-    let le = within_quotient _ c.largest.result c.unsigned_abs-k.result (rw size_is at c.if-size_of-most.false) in
-    let all = All-multiplied c.unsigned_abs-k.result c.largest.result c.self.inside.terms le in
-    λ k d lt. (omega (arith, c.largest.ensures.room, all k d (lt)))
-
--- the product is within the limit
-within : (c : goal.After-wide) → IsWithin c.largest.result (multiplied c.unsigned_abs-k.result record { terms = c.self.inside.terms; degree = c.self.inside.degree })
-within c =
-    let size_is = c.size_of.ensures in
-    IsWithin-multiplied c.largest.result c.unsigned_abs-k.result _ (rw size_is at c.if-size_of-most.false) c.if-self-most.false
+    let all = All-multiplied c.unsigned_abs-k.result c.largest.result c.self.inside.terms (within_quotient _ c.largest.result c.unsigned_abs-k.result (rw c.size_of.ensures at c.if-size_of-most.false)) in
+    λ k d lt. omega (arith, c.largest.ensures.room, all k d lt)
 
 pub invariant_of-result : goal.invariant_of-result
 invariant_of-result c =
-    let h : 0 < c.unsigned_abs-k.result = search rules in
-    rw (c.wide.ensures.same, c.in_ok-terms.ensures) (IsNormal-multiplied c.largest.result c.unsigned_abs-k.result _ h c.largest.ensures.room c.self.invariant (within c))
+    let within = IsWithin-multiplied c.largest.result c.unsigned_abs-k.result record { terms = c.self.inside.terms; degree = c.self.inside.degree } (rw c.size_of.ensures at c.if-size_of-most.false) c.if-self-most.false in
+    rw (c.wide.ensures.same, c.in_ok-terms.ensures) (IsNormal-multiplied c.largest.result c.unsigned_abs-k.result _ (search rules) c.largest.ensures.room c.self.invariant within)
 
-pub returns-clause-normal : goal.returns-clause-normal
-returns-clause-normal c = invariant_of-result c
-
-pub returns-clause-within : goal.returns-clause-within
-returns-clause-within c = rw (← c.largest.ensures.value, c.wide.ensures.same, c.in_ok-terms.ensures) (within c)
-
-pub returns-clause-overflow : goal.returns-clause-overflow
-returns-clause-overflow c =
-    let factor : unsigned_abs c.args.factor ≡ c.unsigned_abs-k.result = grind (arith, common_steps) in
-    rw (← c.self.view_is, factor, ← c.largest.ensures.value) (overflow-Ok _ _ (Passes-not _ _ (within c)))
-
-pub returns-clause-sound : goal.returns-clause-sound
-returns-clause-sound c =
+pub returns : goal.returns
+returns c =
     let f : Form = record { terms = c.self.inside.terms; degree = c.self.inside.degree } in
-    rw (c.wide.ensures.same, c.in_ok-terms.ensures, ← c.self.view_is) (λ a. Holds-multiplied a c.unsigned_abs-k.result f)
+    let factor : unsigned_abs c.args.factor ≡ c.unsigned_abs-k.result = grind (arith, common_steps) in
+    let within = IsWithin-multiplied c.largest.result c.unsigned_abs-k.result f (rw c.size_of.ensures at c.if-size_of-most.false) c.if-self-most.false in
+    record {
+      product = search rules;
+      normal = invariant_of-result c;
+      within = rw (← c.largest.ensures.value, c.wide.ensures.same, c.in_ok-terms.ensures) within;
+      overflow = rw (← c.self.view_is, factor, ← c.largest.ensures.value) (overflow-Ok _ _ (Passes-not _ _ within));
+      sound = rw (c.wide.ensures.same, c.in_ok-terms.ensures, ← c.self.view_is) (λ a. Holds-multiplied a c.unsigned_abs-k.result f);
+    }

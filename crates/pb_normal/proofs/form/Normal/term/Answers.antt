@@ -11,11 +11,12 @@ overflow_cast-result c =
 
 pub returns : goal.returns
 returns c =
+    let t = c.get-t.result in
     let lt : c.args.index < length c.self.inside.terms = rw (← c.self.view_is) at c.requires in
-    let one = total-read c.self.inside.terms c.args.index c.get-t.result c.get-t.result lt (c.get-t.ensures.read c.get-t.result) in
-    let same : to_z w128 c.get-t.result.coefficient ≡ pos c.get-t.result.coefficient = to_z_pos w128 _ (omega (arith, c.self.invariant.size_in)) in
+    let same : to_z w128 t.coefficient ≡ pos t.coefficient = to_z_pos w128 _ (omega (arith, c.self.invariant.size_in, total-read c.self.inside.terms c.args.index t t lt (c.get-t.ensures.read t))) in
     let ordered = rw (← take-append-drop c.args.index c.self.inside.terms) at c.self.invariant.ordered in
-    let positive = positive-read 0 _ c.self.inside.terms c.args.index c.get-t.result c.get-t.result ordered lt (c.get-t.ensures.read c.get-t.result) in
-    let read = slice_get-get_or c.self.inside.terms c.args.index c.get-t.result lt in
-    let found = rw (← c.get-t.ensures.read c.get-t.result) at read in
-    rw (same, ← c.self.view_is) record { is = found; positive = omega (arith, ints) }
+    let found = rw (← c.get-t.ensures.read t) at (slice_get-get_or c.self.inside.terms c.args.index t lt) in
+    rw (same, ← c.self.view_is) record {
+      is = found;
+      positive = omega (arith, ints, positive-read 0 _ c.self.inside.terms c.args.index t t ordered lt (c.get-t.ensures.read t));
+    }

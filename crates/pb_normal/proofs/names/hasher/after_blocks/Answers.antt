@@ -1,4 +1,4 @@
-use Rattle.pb_normal.proofs.Common.{ℕ, ◌*◌, ◌+◌, ◌-◌, ◌/◌, ◌≡◌, length, suc}
+use Rattle.pb_normal.proofs.Common.{ℕ, ◌*◌, ◌+◌, ◌/◌, ◌≡◌, suc}
 use mathlib.Core.Path.{refl}
 use native.Mathlib.Omega.{arith}
 use Rattle.pb_normal.specs.contract.NameHasher.{mixed}
@@ -20,7 +20,4 @@ loop-at-preserved c =
     )
 
 pub returns : goal.returns
-returns c =
-    let n : ℕ = length c.args.bytes.now in
-    let count : (n - 1) / 16 ≡ c.loop-at.at / 16 = omega (arith, c.loop-at.invariant.0, c.loop-at.invariant.1, c.loop-at-test.false) in
-    rw (count, ← c.loop-at.invariant.2) refl
+returns c = grind (arith, c.loop-at.invariant.0, c.loop-at.invariant.1, c.loop-at-test.false, c.loop-at.invariant.2)

@@ -7,12 +7,10 @@ pub returns-in_err-extend_from_slice-clause-table : goal.returns-in_err-extend_f
 returns-in_err-extend_from_slice-clause-table c = IsTable-same c.args.table.now _ _ _ _ c.in_err-extend_from_slice.ensures.items refl refl c.requires.table
 
 pub link-requires-clause-chained : goal.link-requires-clause-chained
-link-requires-clause-chained c =
-    let number : c.len-number.result ≡ length c.args.table.now.entries.items = omega (arith, c.len-number.ensures, c.args.table.now.entries.ok.0) in
-    rw c.as_mut_slice.ensures.value (entries_after c.args.table.now.heads.items c.as_mut_slice-2.result.now c.args.table.now.entries.items _ c.len-number.result (c.as_mut_slice-2.ensures.value ∙ c.push_reserved.ensures.items) number c.requires.table.chained)
+link-requires-clause-chained c = grind (arith, c.len-number.ensures, c.args.table.now.entries.ok.0, c.as_mut_slice.ensures.value, entries_after, c.as_mut_slice-2.ensures.value, c.requires.table.chained)
 
-pub returns-clause-table : goal.returns-clause-table
-returns-clause-table c =
+pub returns : goal.returns
+returns c =
     let t = c.args.table.now in
     let pushed = c.as_mut_slice-2.ensures.value ∙ c.push_reserved.ensures.items in
     let bytes = rw c.as_bytes.ensures.value at c.in_ok-extend_from_slice.ensures.items in
@@ -24,14 +22,8 @@ returns-clause-table c =
     let ends = c.link.ensures.ends ∙ ends_after _ t.entries.items _ _ pushed end in
     let hashes = c.link.ensures.hashes ∙ hashes_after _ t.entries.items _ _ pushed c.requires.hash in
     let chained : IsChained c.link.new.heads (hashes_of c.link.new.entries) (nexts_of c.link.new.entries) (length c.link.new.entries) = rw number c.link.ensures.chained in
-    IsTable-push t c.args.name.now _ _ _ _ c.link.new.entries c.link.new.heads written linked bytes ends hashes chained sized c.utf8.name c.requires.absent c.requires.table
-
-pub returns-clause-names : goal.returns-clause-names
-returns-clause-names c =
-    let t = c.args.table.now in
-    let pushed = c.as_mut_slice-2.ensures.value ∙ c.push_reserved.ensures.items in
-    let bytes = rw c.as_bytes.ensures.value at c.in_ok-extend_from_slice.ensures.items in
-    let end : c.len.result ≡ length t.bytes.items + length c.args.name.now = omega (arith, c.len.ensures, c.in_ok-extend_from_slice.ensures.len, c.as_bytes.ensures.len, t.bytes.ok.0) in
-    let written = with_items_is c.push_reserved.new.self c.link.new.entries (c.link.ensures.entries ∙ c.as_mut_slice-2.ensures.len) in
-    let ends = c.link.ensures.ends ∙ ends_after _ t.entries.items _ _ pushed end in
-    listed-push t _ c.args.name.now _ bytes (ap ends_of written ∙ ends) c.requires.table
+    record {
+      table = IsTable-push t c.args.name.now _ _ _ _ c.link.new.entries c.link.new.heads written linked bytes ends hashes chained sized c.utf8.name c.requires.absent c.requires.table;
+      names = listed-push t _ c.args.name.now _ bytes (ap ends_of written ∙ ends) c.requires.table;
+      err = tt;
+    }

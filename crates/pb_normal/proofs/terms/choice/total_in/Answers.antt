@@ -7,12 +7,7 @@ pub counted-sum-requires : goal.counted-sum-requires
 counted-sum-requires g c = subst (g.C.Choice.covers c.args.choice.now) (sym (c.at-t.ensures no_entry)) (c.requires.covered c.terms.i no_entry (omega arith))
 
 pub overflow_add-sum : goal.overflow_add-sum
-overflow_add-sum g c =
-    let all = total-le-each (g.C.Choice.chosen c.args.choice.now) (g.L.Listed.entries c.args.terms.now) in
-    let rest = total-drop (g.C.Choice.chosen c.args.choice.now) _ c.terms.i no_entry c.at-t.result (omega arith) (c.at-t.ensures no_entry) in
-    omega (arith, c.terms.invariant, c.requires.small, all, rest, c.counted-sum.ensures)
+overflow_add-sum g c = grind (arith, total-le-each, g.C.Choice.chosen, g.L.Listed.entries, total-drop, no_entry, c.at-t.ensures, c.terms.invariant, c.requires.small, c.counted-sum.ensures)
 
 pub terms-preserved : goal.terms-preserved
-terms-preserved g c =
-    let rest = total-drop (g.C.Choice.chosen c.args.choice.now) _ c.terms.i no_entry c.at-t.result (omega arith) (c.at-t.ensures no_entry) in
-    omega (arith, c.terms.invariant, rest, c.counted-sum.ensures)
+terms-preserved g c = grind (arith, total-drop, g.C.Choice.chosen, no_entry, c.at-t.ensures, c.terms.invariant, c.counted-sum.ensures)

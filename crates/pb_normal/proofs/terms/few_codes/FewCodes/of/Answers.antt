@@ -1,4 +1,4 @@
-use Rattle.pb_normal.proofs.Common.{◌<◌, ◌≡◌, arith, length, map-append, refl, rules, take_all}
+use Rattle.pb_normal.proofs.Common.{◌<◌, arith, length, map-append, refl, rules, take_all}
 use Rattle.std.proofs.lemmas.List.{take_more, take_more_set}
 use Rattle.pb_normal.specs.engine.Codes.{decoded}
 use Rattle.pb_normal.proofs.lemmas.terms.Merging.{no_entry}
@@ -11,6 +11,4 @@ terms-preserved c =
     (search rules, rw (take_more_set c.terms.codes c.terms.i c.of.result room, more, map-append decoded, c.of.ensures, c.terms.invariant.1) refl)
 
 pub returns : goal.returns
-returns c =
-    let done : c.terms.i ≡ length c.args.terms.now = omega arith in
-    rw (done, take_all (length c.args.terms.now) c.args.terms.now (omega arith)) at c.terms.invariant.1
+returns c = grind (arith, take_all, c.terms.invariant.1)
