@@ -12,7 +12,7 @@ pub use Rattle.pb_opb.specs.declared.OpbEvent.{OpbEvent}
 pub use Rattle.pb_opb.specs.engine.State.{opb, OpbState}
 pub use Rattle.pb_opb.specs.meaning.Instances.{IsInstance}
 pub use Rattle.pb_proof.specs.declared.Statement.{Statement}
-pub use Rattle.pb_proof.specs.engine.Machine.State.{proofs, ProofState}
+pub use Rattle.pb_proof.specs.engine.machine.State.{proofs, ProofState}
 pub use Rattle.pb_proof.specs.meaning.Proofs.{IsProof}
 pub use Rattle.pb_replay.specs.declared.fault.Fault.{Fault}
 pub use Rattle.pb_replay.specs.meaning.Problem.{Opened, Problem}

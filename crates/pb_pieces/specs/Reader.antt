@@ -17,7 +17,7 @@ use Rattle.pb_opb.specs.meaning.Instances.{IsInstance}
 use Rattle.pb_opb.specs.engine.State as instances
 use Rattle.pb_opb.specs.declared.OpbEvent.{OpbEvent}
 use Rattle.pb_proof.specs.meaning.Proofs.{IsProof}
-use Rattle.pb_proof.specs.engine.Machine.State as proofs
+use Rattle.pb_proof.specs.engine.machine.State as proofs
 use Rattle.pb_proof.specs.declared.Statement.{Statement}
 use Rattle.pb_pieces.specs.Given.{Given, given}
 use Rattle.pb_normal.specs.meaning.Names.{with_names}

@@ -7,7 +7,7 @@ use Rattle.pb_text.specs.declared.Stop.{Stop}
 use Rattle.pb_text.specs.declared.place.Why.TheVariants.{Memory as no_memory}
 use Rattle.pb_text.specs.contract.Feeding.{state_of}
 use Rattle.pb_opb.specs.declared.Instance.{Instance}
-use Rattle.pb_proof.specs.engine.Machine.State.{proofs}
+use Rattle.pb_proof.specs.engine.machine.State.{proofs}
 use Rattle.pb_replay.specs.meaning.Meaning.{MeansWritten}
 use Rattle.pb_replay.specs.meaning.Problem.{FitsAll, Opened, Problem}
 use Rattle.pb_replay.specs.meaning.Replay.{State, first_state}

@@ -7,7 +7,7 @@ ghost use Rattle.pb_text.specs.contract.Feeding.{stop_of};
 ghost use Rattle.pb_text.specs.meaning.Limits.{largest, top_of};
 ghost use Rattle.pb_opb.specs.engine.State.{opb};
 ghost use Rattle.pb_opb.specs.meaning.Instances.{IsInstance};
-ghost use Rattle.pb_proof.specs.engine.Machine.State.{proofs};
+ghost use Rattle.pb_proof.specs.engine.machine.State.{proofs};
 ghost use Rattle.pb_proof.specs.meaning.Proofs.{IsProof};
 ghost use Rattle.pb_pieces.specs.Reader.{AreRead, Ends, GivesOne, IsReader, StopsAt, fault_of, new_instance, new_proof, place_in, text_in, tokens_in};
 ghost use Rattle.pb_pieces.specs.Given.{Given};

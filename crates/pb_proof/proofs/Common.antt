@@ -85,11 +85,11 @@ pub use Rattle.pb_proof.specs.declared.line.conclusion.phase.Owner.{Owner}
 pub use Rattle.pb_proof.specs.declared.line.conclusion.phase.Showing.{Showing}
 pub use Rattle.pb_proof.specs.declared.line.conclusion.phase.Side.{Side}
 pub use Rattle.pb_proof.specs.declared.line.conclusion.phase.Word.{Word}
-pub use Rattle.pb_proof.specs.declared.line.delete.phase.IdsAction.{IdsAction}
-pub use Rattle.pb_proof.specs.declared.line.delete.phase.IdsPhase.{IdsPhase}
-pub use Rattle.pb_proof.specs.declared.line.delete.phase.IdsPhase.TheVariants.{Between, Done, Gap, Minus}
-pub use Rattle.pb_proof.specs.declared.line.formula.phase.CountPhase.{CountPhase}
-pub use Rattle.pb_proof.specs.declared.line.formula.phase.CountPhase.TheVariants.{Start}
+pub use Rattle.pb_proof.specs.declared.line.delete.phase.DeleteAction.{DeleteAction}
+pub use Rattle.pb_proof.specs.declared.line.delete.phase.DeletePhase.{DeletePhase}
+pub use Rattle.pb_proof.specs.declared.line.delete.phase.DeletePhase.TheVariants.{Between, Done, Gap, Minus}
+pub use Rattle.pb_proof.specs.declared.line.formula.phase.FormulaPhase.{FormulaPhase}
+pub use Rattle.pb_proof.specs.declared.line.formula.phase.FormulaPhase.TheVariants.{Start}
 pub use Rattle.pb_proof.specs.declared.line.pol.phase.Action.{Action}
 pub use Rattle.pb_proof.specs.declared.line.pol.phase.Change.{Change}
 pub use Rattle.pb_proof.specs.declared.line.pol.phase.Held.{Held}
@@ -100,9 +100,9 @@ pub use Rattle.pb_proof.specs.declared.line.rup.phase.RupAction.{RupAction}
 pub use Rattle.pb_proof.specs.declared.line.rup.phase.RupAction.TheVariants.{Give}
 pub use Rattle.pb_proof.specs.declared.line.rup.phase.RupPhase.{RupPhase}
 pub use Rattle.pb_proof.specs.declared.line.rup.phase.RupPhase.TheVariants.{Inside, Tail}
-pub use Rattle.pb_proof.specs.declared.line.solution.phase.LiteralsAction.{LiteralsAction}
-pub use Rattle.pb_proof.specs.declared.line.solution.phase.LiteralsPhase.{LiteralsPhase}
-pub use Rattle.pb_proof.specs.declared.line.solution.phase.LiteralsPhase.TheVariants.{First, More, Negation}
+pub use Rattle.pb_proof.specs.declared.line.solution.phase.SolutionAction.{SolutionAction}
+pub use Rattle.pb_proof.specs.declared.line.solution.phase.SolutionPhase.{SolutionPhase}
+pub use Rattle.pb_proof.specs.declared.line.solution.phase.SolutionPhase.TheVariants.{First, More, Negation}
 pub use Rattle.pb_proof.specs.declared.machine.phase.Keyword.{Keyword}
 pub use Rattle.pb_proof.specs.declared.machine.phase.LineKind.{LineKind}
 pub use Rattle.pb_proof.specs.declared.machine.phase.Stage.{Stage}
@@ -112,30 +112,30 @@ pub use Rattle.pb_proof.specs.declared.statement.Statement.{Statement}
 pub use Rattle.pb_proof.specs.declared.statement.Statement.TheVariants.{Conclude, Delete, F, Header, Output, Pol, Rup, Soli, Solx}
 pub use Rattle.pb_proof.specs.declared.word.PolWord.{PolWord}
 pub use Rattle.pb_proof.specs.declared.word.PolWord.TheVariants.{Add, Axiom, Divide, Id, Multiply, Saturate, Weaken}
-pub use Rattle.pb_proof.specs.engine.Line.ByteKind.{name_byte, number_byte}
-pub use Rattle.pb_proof.specs.engine.Line.Conclusion.{after_bound, after_id, begin_bound, between, colon, digits, first_word, id_digits, is_within}
-pub use Rattle.pb_proof.specs.engine.Line.Conclusion.{phase_after_bound, phase_after_word, PhaseFits, spell, word_of}
-pub use Rattle.pb_proof.specs.engine.Line.ConclusionState.{asks, conclusion_at, conclusion_automaton, conclusion_first, conclusion_last}
-pub use Rattle.pb_proof.specs.engine.Line.ConclusionState.{conclusion_value, ConclusionState, is_in_number, IsConclusionInOrder, kept, showing_value}
-pub use Rattle.pb_proof.specs.engine.Line.ConclusionState.{spent}
-pub use Rattle.pb_proof.specs.engine.Line.Count.{ActionFits, count_automaton, count_last, counting, CountState, IsCountInOrder}
-pub use Rattle.pb_proof.specs.engine.Line.Ended.{ended_lines}
-pub use Rattle.pb_proof.specs.engine.Line.Ids.{before, begins_id, ids_at, ids_automaton, ids_first, ids_last, IdsState, IsIdsInOrder, keeps, step}
-pub use Rattle.pb_proof.specs.engine.Line.Literals.{adds, flushed, is_begun, is_more, IsLiteralsInOrder, literal, literals_at, literals_automaton}
-pub use Rattle.pb_proof.specs.engine.Line.Literals.{literals_first, literals_last, LiteralsState, SpellsJoined}
-pub use Rattle.pb_proof.specs.engine.Line.Machine.{carried, IsCarried, IsEnded, line_automaton, line_first, SpellsRest}
-pub use Rattle.pb_proof.specs.engine.Line.Pol.{blank, bound, changed, close, close_lone, close_number, counted, feed, finished, held_name}
-pub use Rattle.pb_proof.specs.engine.Line.Pol.{held_number, is_done, is_letter_kind, is_midway, is_name_kind, kind_of, late, letter, may_be_name}
-pub use Rattle.pb_proof.specs.engine.Line.Pol.{next_large, next_word, number, Outcome, read, role_of, semicolon, star, symbol, transition, turned}
-pub use Rattle.pb_proof.specs.engine.Line.Pol.{wants, with_last, Work, work}
-pub use Rattle.pb_proof.specs.engine.Line.PolState.{all_units, in_hand, IsPolInOrder, over, pol_automaton, pol_first, pol_last, pol_with, PolState}
-pub use Rattle.pb_proof.specs.engine.Line.PolState.{ready, units, word_units}
-pub use Rattle.pb_proof.specs.engine.Line.Rup.{IsRupInOrder, linear_of, rup_act, rup_asks, rup_automaton, rup_done, rup_finish, rup_first}
-pub use Rattle.pb_proof.specs.engine.Line.Rup.{rup_in_number, rup_last, rup_midway, rup_over, rup_transition, RupHolds, RupState, sum_first, sum_last}
-pub use Rattle.pb_proof.specs.engine.Machine.State.{act, asked, at, begin, giving, HasGaps, Holds, idle, is_complete, IsInOrder, next_stage, proofs}
-pub use Rattle.pb_proof.specs.engine.Machine.State.{ProofState, step_line}
-pub use Rattle.pb_proof.specs.engine.Machine.Transition.{enter, meets, next_action, pass, sol_word, step_keyword, words_of}
-pub use Rattle.pb_proof.specs.engine.Machine.Words.{IsRest, LacksRest}
+pub use Rattle.pb_proof.specs.engine.line.ByteKind.{name_byte, number_byte}
+pub use Rattle.pb_proof.specs.engine.line.Conclusion.{after_bound, after_id, begin_bound, between, colon, digits, first_word, id_digits, is_within}
+pub use Rattle.pb_proof.specs.engine.line.Conclusion.{phase_after_bound, phase_after_word, PhaseFits, spell, word_of}
+pub use Rattle.pb_proof.specs.engine.line.ConclusionState.{asks, conclusion_at, conclusion_automaton, conclusion_first, conclusion_last}
+pub use Rattle.pb_proof.specs.engine.line.ConclusionState.{conclusion_value, ConclusionState, is_in_number, IsConclusionInOrder, kept, showing_value}
+pub use Rattle.pb_proof.specs.engine.line.ConclusionState.{spent}
+pub use Rattle.pb_proof.specs.engine.line.Formula.{ActionFits, formula_automaton, formula_last, formula_first, FormulaState, IsFormulaInOrder}
+pub use Rattle.pb_proof.specs.engine.line.Ended.{ended_lines}
+pub use Rattle.pb_proof.specs.engine.line.Delete.{before, begins_id, delete_at, delete_automaton, delete_first, delete_last, DeleteState, IsDeleteInOrder, keeps, step}
+pub use Rattle.pb_proof.specs.engine.line.Solution.{adds, flushed, is_begun, is_more, IsSolutionInOrder, literal, solution_at, solution_automaton}
+pub use Rattle.pb_proof.specs.engine.line.Solution.{solution_first, solution_last, SolutionState, SpellsJoined}
+pub use Rattle.pb_proof.specs.engine.line.Machine.{carried, IsCarried, IsEnded, line_automaton, line_first, SpellsRest}
+pub use Rattle.pb_proof.specs.engine.line.Pol.{blank, bound, changed, close, close_lone, close_number, counted, feed, finished, held_name}
+pub use Rattle.pb_proof.specs.engine.line.Pol.{held_number, is_done, is_letter_kind, is_midway, is_name_kind, kind_of, late, letter, may_be_name}
+pub use Rattle.pb_proof.specs.engine.line.Pol.{next_large, next_word, number, Outcome, read, role_of, semicolon, star, symbol, transition, turned}
+pub use Rattle.pb_proof.specs.engine.line.Pol.{wants, with_last, Work, work}
+pub use Rattle.pb_proof.specs.engine.line.PolState.{all_units, in_hand, IsPolInOrder, over, pol_automaton, pol_first, pol_last, pol_with, PolState}
+pub use Rattle.pb_proof.specs.engine.line.PolState.{ready, units, word_units}
+pub use Rattle.pb_proof.specs.engine.line.Rup.{IsRupInOrder, linear_of, rup_act, rup_asks, rup_automaton, rup_done, rup_finish, rup_first}
+pub use Rattle.pb_proof.specs.engine.line.Rup.{rup_in_number, rup_last, rup_midway, rup_over, rup_transition, RupHolds, RupState, sum_first, sum_last}
+pub use Rattle.pb_proof.specs.engine.machine.State.{act, asked, at, begin, giving, HasGaps, Holds, idle, is_complete, IsInOrder, next_stage, proofs}
+pub use Rattle.pb_proof.specs.engine.machine.State.{ProofState, step_line}
+pub use Rattle.pb_proof.specs.engine.machine.Transition.{enter, meets, next_action, pass, sol_word, step_keyword, words_of}
+pub use Rattle.pb_proof.specs.engine.machine.Words.{IsRest, LacksRest}
 pub use Rattle.pb_proof.specs.meaning.Asking.{Asks, AsksAfter, AsksConclusion, AsksShown, AsksWord, EndsNumber, FirstWord}
 pub use Rattle.pb_proof.specs.meaning.Canonical.{bound_bytes, conclusion_bytes, id_shown_bytes, lines, listed_bytes, literal_line, proof_bytes}
 pub use Rattle.pb_proof.specs.meaning.Canonical.{shown_bytes, statement_bytes, word_bytes}

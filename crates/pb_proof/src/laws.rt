@@ -1,8 +1,8 @@
 //! The laws of proofs and their texts.
 
 ghost use Rattle.pb_proof.specs.contract.Fields.{ProofKeeps};
-ghost use Rattle.pb_proof.specs.engine.Line.ConclusionFields.{ConclusionKeeps};
-ghost use Rattle.pb_proof.specs.engine.Line.Fields.{CountKeeps, IdsKeeps, LiteralsKeeps, RupKeeps, PolKeeps};
+ghost use Rattle.pb_proof.specs.engine.line.ConclusionFields.{ConclusionKeeps};
+ghost use Rattle.pb_proof.specs.engine.line.Fields.{FormulaKeeps, DeleteKeeps, SolutionKeeps, RupKeeps, PolKeeps};
 ghost use Rattle.pb_proof.specs.contract.Formats.{ReadsProofs, OneProof, FixedSpans, PrefixFree, LargerLimits};
 
 pub mod values;
@@ -36,9 +36,9 @@ pub fn larger_limits()
 /// A machine stores nothing besides its state, its limits, its allocator and, for `pol`, its vector
 /// of words, as contracts see these.
 pub fn keeps_its_state()
-    ensures count { CountKeeps }
-    ensures ids { IdsKeeps }
-    ensures literals { LiteralsKeeps }
+    ensures count { FormulaKeeps }
+    ensures ids { DeleteKeeps }
+    ensures literals { SolutionKeeps }
     ensures rup { RupKeeps }
     ensures conclusion { ConclusionKeeps }
     ensures pol { PolKeeps }

@@ -11,27 +11,27 @@ pub(crate) mod rup;
 mod solution;
 
 use crate::line::conclusion::ConclusionMachine;
-use crate::line::delete::IdsMachine;
-use crate::line::formula::CountMachine;
+use crate::line::delete::DeleteMachine;
+use crate::line::formula::FormulaMachine;
 use crate::line::pol::PolMachine;
 use crate::line::rup::RupMachine;
-use crate::line::solution::LiteralsMachine;
+use crate::line::solution::SolutionMachine;
 
 /// A line machine: it reads the rest of a statement after its first word, through the line feed.
 #[derive(Drop)]
 pub enum LineMachine {
     /// After `f`.
-    Count(CountMachine),
+    Formula(FormulaMachine),
     /// After `pol`.
     Pol(PolMachine),
     /// After `rup`.
     Rup(RupMachine),
     /// After `soli`.
-    Soli(LiteralsMachine),
+    Soli(SolutionMachine),
     /// After `solx`.
-    Solx(LiteralsMachine),
+    Solx(SolutionMachine),
     /// After `del id`.
-    Delete(IdsMachine),
+    Delete(DeleteMachine),
     /// After `conclusion`.
     Conclusion(ConclusionMachine),
 }

@@ -2,7 +2,7 @@
 
 ghost use Rattle.std.specs.Prelude.{◌≡◌, false, None, Some, Option, ℕ, List, Bool, ◌↔◌, ◌≤◌, take, length};
 ghost use Rattle.pb_text.specs.meaning.Limits.{largest, top_of};
-ghost use Rattle.pb_proof.specs.engine.Line.Machine.{line_first};
+ghost use Rattle.pb_proof.specs.engine.line.Machine.{line_first};
 ghost use Rattle.pb_text.specs.meaning.Asking.{AsksOnly};
 ghost use Rattle.pb_text.specs.contract.Automaton.{AcceptsItems, MayAsk, Pushes, IsState, Runs};
 ghost use Rattle.pb_text.specs.meaning.Reading.{Reads};
@@ -12,8 +12,8 @@ ghost use Rattle.pb_text.specs.declared.Stop.{Stop};
 ghost use Rattle.pb_text.specs.meaning.Spelling.{Item};
 ghost use Rattle.pb_proof.specs.meaning.Asking.{Asks};
 ghost use Rattle.pb_proof.specs.meaning.Proofs.{IsProof};
-ghost use Rattle.pb_proof.specs.engine.Machine.State.{proofs, begin};
-ghost use Rattle.pb_proof.specs.engine.Machine.Transition.{transition};
+ghost use Rattle.pb_proof.specs.engine.machine.State.{proofs, begin};
+ghost use Rattle.pb_proof.specs.engine.machine.Transition.{transition};
 
 mod end;
 pub(crate) mod phase;
@@ -41,7 +41,7 @@ pub struct ProofMachine {
 
 impl Model for ProofMachine {
     ghost use Rattle.pb_proof.specs.contract.Fields.{proof_state};
-    ghost use Rattle.pb_proof.specs.engine.Machine.State.{ProofState, IsInOrder};
+    ghost use Rattle.pb_proof.specs.engine.machine.State.{ProofState, IsInOrder};
 
     ghost Value = { ProofState };
 

@@ -2,7 +2,7 @@
 
 ghost use Rattle.std.specs.Prelude.{◌≡◌, ◌+◌, ◌<◌, ◌≤◌, ◌^◌, ◌↔◌, IsTrue, All};
 ghost use Rattle.pb_text.specs.meaning.Limits.{largest, top_of};
-ghost use Rattle.pb_proof.specs.engine.Line.Finished.{finished_with};
+ghost use Rattle.pb_proof.specs.engine.line.Finished.{finished_with};
 ghost use Rattle.pb_proof.specs.meaning.Postfix.{IsPostfix};
 ghost use Rattle.pb_proof.specs.meaning.Proofs.{IsStep};
 ghost use Rattle.pb_proof.specs.contract.Values.{IfGiven, IsId, IsFactor, AreLiterals, IsBound, IsWord, IsConclusion, IsStatementValue, IsProofValue};

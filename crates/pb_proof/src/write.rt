@@ -4,7 +4,7 @@ ghost use Rattle.std.specs.Prelude.{◌≡◌, ◌+◌, ◌≤◌, [], ◌∷◌
 ghost use Rattle.pb_text.specs.meaning.Writing.{Writes};
 ghost use Rattle.pb_proof.specs.meaning.Canonical.{bound_bytes, id_shown_bytes, statement_bytes, proof_bytes};
 ghost use Rattle.pb_proof.specs.meaning.Lines.{bounds_word, conclusion_word};
-ghost use Rattle.pb_proof.specs.engine.Line.Ended.{ended_lines};
+ghost use Rattle.pb_proof.specs.engine.line.Ended.{ended_lines};
 
 mod list;
 pub mod put;

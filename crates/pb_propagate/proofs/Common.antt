@@ -50,47 +50,47 @@ pub use Rattle.pb_propagate.specs.declared.store.stored_form.StoredForm.{StoredF
 pub use Rattle.pb_propagate.specs.declared.store.unit_form.UnitForm.{UnitForm}
 pub use Rattle.pb_propagate.specs.declared.term.Rank.{Rank}
 pub use Rattle.pb_propagate.specs.declared.term.Term.{Term}
-pub use Rattle.pb_propagate.specs.engine.Clauses.Blocks.{AreBlocks, AreKept, begun, Contents, contents, HasBlock, IsBare, IsBefore, IsRenewed, nowhere}
-pub use Rattle.pb_propagate.specs.engine.Clauses.Blocks.{number_at, passed_by, rewatched, rewritten, searched, stored_clause, stored_search, stored_watch, table}
-pub use Rattle.pb_propagate.specs.engine.Clauses.Blocks.{watch_of, watch_place}
-pub use Rattle.pb_propagate.specs.engine.Clauses.Links.{AreBlocked, AreFewer, AreLinked, AreMore, entries_at, idle, IsListed, list_at, Remains, Sits}
-pub use Rattle.pb_propagate.specs.engine.Clauses.Links.{watch_at, watch_lists}
-pub use Rattle.pb_propagate.specs.engine.Clauses.Runs.{all_turned, AreFree, ArePassed, AreReady, AreRound, AreServed, AreStored, AreWalked}
-pub use Rattle.pb_propagate.specs.engine.Clauses.Runs.{AreSet, AreWithin, around, Grows, HasTrue, HasVisited, index_after, IsBroken, IsFreePair, IsPair, IsRefitted}
-pub use Rattle.pb_propagate.specs.engine.Clauses.Runs.{IsRound, IsRunning, IsSameWatch, IsUnit, IsWatched, KeepsWalked, passed_of, search_at, turned}
-pub use Rattle.pb_propagate.specs.engine.Clauses.Shapes.{all_of, AreDifferent, AreJoined, clause_shape, clauses_of, code, code_in, codes_of_terms}
-pub use Rattle.pb_propagate.specs.engine.Clauses.Shapes.{group_by, IsClause, IsLight, joined, literal_at, offset, one_term, slot_shape}
-pub use Rattle.pb_propagate.specs.engine.Clauses.Truths.{AreMarked, false_at, flip, is_failed, is_met, true_at}
-pub use Rattle.pb_propagate.specs.engine.Clauses.Walked.{advanced, fallen, falsified_code, head, heads_at, IsAhead, killed, reached}
-pub use Rattle.pb_propagate.specs.engine.Clauses.Walked.{reached_codes}
-pub use Rattle.pb_propagate.specs.engine.Clauses.Marks.{AreMarks, HasListed, IsMark, IsWalkedTo, KeepsMarks}
+pub use Rattle.pb_propagate.specs.engine.clauses.Blocks.{AreBlocks, AreKept, begun, Contents, contents, HasBlock, IsBare, IsBefore, IsRenewed, nowhere}
+pub use Rattle.pb_propagate.specs.engine.clauses.Blocks.{number_at, passed_by, rewatched, rewritten, searched, stored_clause, stored_search, stored_watch, table}
+pub use Rattle.pb_propagate.specs.engine.clauses.Blocks.{watch_of, watch_place}
+pub use Rattle.pb_propagate.specs.engine.clauses.Links.{AreBlocked, AreFewer, AreLinked, AreMore, entries_at, idle, IsListed, list_at, Remains, Sits}
+pub use Rattle.pb_propagate.specs.engine.clauses.Links.{watch_at, watch_lists}
+pub use Rattle.pb_propagate.specs.engine.clauses.Runs.{all_turned, AreFree, ArePassed, AreReady, AreRound, AreServed, AreStored, AreWalked}
+pub use Rattle.pb_propagate.specs.engine.clauses.Runs.{AreSet, AreWithin, around, Grows, HasTrue, HasVisited, index_after, IsBroken, IsFreePair, IsPair, IsRefitted}
+pub use Rattle.pb_propagate.specs.engine.clauses.Runs.{IsRound, IsRunning, IsSameWatch, IsUnit, IsWatched, KeepsWalked, passed_of, search_at, turned}
+pub use Rattle.pb_propagate.specs.engine.clauses.Shapes.{all_of, AreDifferent, AreJoined, clause_shape, clauses_of, code, code_in, codes_of_terms}
+pub use Rattle.pb_propagate.specs.engine.clauses.Shapes.{group_by, IsClause, IsLight, joined, literal_at, offset, one_term, slot_shape}
+pub use Rattle.pb_propagate.specs.engine.clauses.Truths.{AreMarked, false_at, flip, is_failed, is_met, true_at}
+pub use Rattle.pb_propagate.specs.engine.clauses.Walked.{advanced, fallen, falsified_code, head, heads_at, IsAhead, killed, reached}
+pub use Rattle.pb_propagate.specs.engine.clauses.Walked.{reached_codes}
+pub use Rattle.pb_propagate.specs.engine.clauses.Marks.{AreMarks, HasListed, IsMark, IsWalkedTo, KeepsMarks}
 pub use Rattle.pb_propagate.specs.declared.heads.Walked.{Walked}
-pub use Rattle.pb_propagate.specs.engine.Engine.Counts.{added, Adopted, AreEven, AreFalling, AreFound, AreSingle, Aside, beside, entry_weight, Grown, IsAbsent}
-pub use Rattle.pb_propagate.specs.engine.Engine.Counts.{IsCalm, IsCounted, IsDone, IsTidy, IsUndone, kept, more, NameForms, none, place, pushed}
-pub use Rattle.pb_propagate.specs.engine.Engine.Counts.{rest_open, rest_start, spared, spent, term_weight, weight_in, weight_on}
-pub use Rattle.pb_propagate.specs.engine.Engine.Denial.{AreDenied, denial_of, IsDisjunction, IsHit, IsOne, RunRefutes}
-pub use Rattle.pb_propagate.specs.engine.Engine.Fields.{AreLonger, entries_of, forms_of, HasEntered, HasFilled, IsEmpty, IsSound, IsUnlisted}
-pub use Rattle.pb_propagate.specs.engine.Engine.Fields.{lists_of, shapes_of, spots_of, stored_shape}
-pub use Rattle.pb_propagate.specs.engine.Engine.Forms.{as_term, entry_at_place, entry_of, in_order, IsPlaced, IsStoredAs, picked}
-pub use Rattle.pb_propagate.specs.engine.Engine.Links.{AreCrossed, coefficient_at, Cross, cut, degree_at, entry_at, entry_cross, IsLinked, IsStored}
-pub use Rattle.pb_propagate.specs.engine.Engine.Links.{last, Moved, term_at, term_cross, terms_at, weighted}
-pub use Rattle.pb_propagate.specs.engine.Engine.Lists.{AreInside, begin, broken, by_reason, Conflicts, Derives, Extends, from_given, has, HaveReasons}
-pub use Rattle.pb_propagate.specs.engine.Engine.Lists.{holds, IsDue, IsSettled, IsWithin, KeepsReasons, open_part, open_sum, opposed, put, Puts, same}
-pub use Rattle.pb_propagate.specs.engine.Engine.Lists.{says, Shape, size, vacancy, Weighted}
-pub use Rattle.pb_propagate.specs.engine.Engine.Live.{Gives, Live, one_in, Standing, terms_in, value_says}
-pub use Rattle.pb_propagate.specs.engine.Engine.Progress.{Advances, AreSettled, assigned_to, Costs, Database, database, entries_against, IsOpen}
-pub use Rattle.pb_propagate.specs.engine.Engine.Progress.{IsTidyAt, list_of, Lowers, passed_to, Progress, progress, queued, queued_to, reasons_of}
-pub use Rattle.pb_propagate.specs.engine.Engine.Progress.{RunKeepsReasons, RunPays, RunReasons, RunRecords, RunSpends, seen, seen_to, Spends, StaysTidy}
-pub use Rattle.pb_propagate.specs.engine.Engine.Progress.{taken_to, visited_to, VisitsEach, AreOpen, RunIsCounted, RunIsOpen, RunVisitsEach, shapes_in, values_of}
-pub use Rattle.pb_propagate.specs.engine.Engine.Propagation.{GoesBack, IsReadyRun, Propagates, RunGains, RunPuts, RunVisits}
-pub use Rattle.pb_propagate.specs.engine.Engine.Reached.{HasClash, HasEnded, IsCovered, IsFrom, IsMade}
-pub use Rattle.pb_propagate.specs.engine.Engine.Rest.{AreSlots, derived, IsAtRest, IsEnded, IsRefuted, IsSlot}
-pub use Rattle.pb_propagate.specs.engine.Engine.Root.{alone, HasForm, HasGained, HasLost, HasOtherReasons, RunIsWidened, HasCleared, HasWidened}
-pub use Rattle.pb_propagate.specs.engine.Engine.Root.{HasMet, HasUpdated, IsAnswered, IsAsked, IsConflict, IsFree, IsKeptConflict, IsMet}
-pub use Rattle.pb_propagate.specs.engine.Engine.Root.{IsNeedless, IsOtherUnit, IsRooted, IsVacant, posed, UpdateCosts}
-pub use Rattle.pb_propagate.specs.engine.Engine.Slots.{ArePlaced, form_at, numbered}
-pub use Rattle.pb_propagate.specs.engine.Engine.Spots.{spots_in}
-pub use Rattle.pb_propagate.specs.engine.Engine.Stored.{stored_bound, stored_degree, stored_form, stored_terms, stored_total}
-pub use Rattle.pb_propagate.specs.engine.Engine.Terms.{terms_of, unit_terms}
-pub use Rattle.pb_propagate.specs.engine.Engine.Waiting.{IsWithout}
+pub use Rattle.pb_propagate.specs.engine.engine.Counts.{added, Adopted, AreEven, AreFalling, AreFound, AreSingle, Aside, beside, entry_weight, Grown, IsAbsent}
+pub use Rattle.pb_propagate.specs.engine.engine.Counts.{IsCalm, IsCounted, IsDone, IsTidy, IsUndone, kept, more, NameForms, none, place, pushed}
+pub use Rattle.pb_propagate.specs.engine.engine.Counts.{rest_open, rest_start, spared, spent, term_weight, weight_in, weight_on}
+pub use Rattle.pb_propagate.specs.engine.engine.Denial.{AreDenied, denial_of, IsDisjunction, IsHit, IsOne, RunRefutes}
+pub use Rattle.pb_propagate.specs.engine.engine.Fields.{AreLonger, entries_of, forms_of, HasEntered, HasFilled, IsEmpty, IsSound, IsUnlisted}
+pub use Rattle.pb_propagate.specs.engine.engine.Fields.{lists_of, shapes_of, spots_of, stored_shape}
+pub use Rattle.pb_propagate.specs.engine.engine.Forms.{as_term, entry_at_place, entry_of, in_order, IsPlaced, IsStoredAs, picked}
+pub use Rattle.pb_propagate.specs.engine.engine.Links.{AreCrossed, coefficient_at, Cross, cut, degree_at, entry_at, entry_cross, IsLinked, IsStored}
+pub use Rattle.pb_propagate.specs.engine.engine.Links.{last, Moved, term_at, term_cross, terms_at, weighted}
+pub use Rattle.pb_propagate.specs.engine.engine.Lists.{AreInside, begin, broken, by_reason, Conflicts, Derives, Extends, from_given, has, HaveReasons}
+pub use Rattle.pb_propagate.specs.engine.engine.Lists.{holds, IsDue, IsSettled, IsWithin, KeepsReasons, open_part, open_sum, opposed, put, Puts, same}
+pub use Rattle.pb_propagate.specs.engine.engine.Lists.{says, Shape, size, vacancy, Weighted}
+pub use Rattle.pb_propagate.specs.engine.engine.Live.{Gives, Live, one_in, Standing, terms_in, value_says}
+pub use Rattle.pb_propagate.specs.engine.engine.Progress.{Advances, AreSettled, assigned_to, Costs, Database, database, entries_against, IsOpen}
+pub use Rattle.pb_propagate.specs.engine.engine.Progress.{IsTidyAt, list_of, Lowers, passed_to, Progress, progress, queued, queued_to, reasons_of}
+pub use Rattle.pb_propagate.specs.engine.engine.Progress.{RunKeepsReasons, RunPays, RunReasons, RunRecords, RunSpends, seen, seen_to, Spends, StaysTidy}
+pub use Rattle.pb_propagate.specs.engine.engine.Progress.{taken_to, visited_to, VisitsEach, AreOpen, RunIsCounted, RunIsOpen, RunVisitsEach, shapes_in, values_of}
+pub use Rattle.pb_propagate.specs.engine.engine.Propagation.{GoesBack, IsReadyRun, Propagates, RunGains, RunPuts, RunVisits}
+pub use Rattle.pb_propagate.specs.engine.engine.Reached.{HasClash, HasEnded, IsCovered, IsFrom, IsMade}
+pub use Rattle.pb_propagate.specs.engine.engine.Rest.{AreSlots, derived, IsAtRest, IsEnded, IsRefuted, IsSlot}
+pub use Rattle.pb_propagate.specs.engine.engine.Root.{alone, HasForm, HasGained, HasLost, HasOtherReasons, RunIsWidened, HasCleared, HasWidened}
+pub use Rattle.pb_propagate.specs.engine.engine.Root.{HasMet, HasUpdated, IsAnswered, IsAsked, IsConflict, IsFree, IsKeptConflict, IsMet}
+pub use Rattle.pb_propagate.specs.engine.engine.Root.{IsNeedless, IsOtherUnit, IsRooted, IsVacant, posed, UpdateCosts}
+pub use Rattle.pb_propagate.specs.engine.engine.Slots.{ArePlaced, form_at, numbered}
+pub use Rattle.pb_propagate.specs.engine.engine.Spots.{spots_in}
+pub use Rattle.pb_propagate.specs.engine.engine.Stored.{stored_bound, stored_degree, stored_form, stored_terms, stored_total}
+pub use Rattle.pb_propagate.specs.engine.engine.Terms.{terms_of, unit_terms}
+pub use Rattle.pb_propagate.specs.engine.engine.Waiting.{IsWithout}
 pub use Rattle.pb_propagate.specs.meaning.Propagation.{Derivation, HasConflict, IsCompletion, MayPropagate, MeetsConflict, opened, With}

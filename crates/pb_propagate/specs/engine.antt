@@ -1,3 +1,3 @@
 -- What the propagation engine stores, and what its functions ensure.
-pub mod Clauses
-pub mod Engine
+pub mod clauses
+pub mod engine

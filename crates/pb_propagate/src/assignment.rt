@@ -3,8 +3,8 @@
 ghost use Rattle.std.specs.Prelude.{◌≡◌, ℕ, ◌≤◌, ◌+◌, ◌*◌, ◌<◌, ◌⊎◌, ◌++◌, ◌∷◌, [], None, Some, not, true, false, length, take, sum_by, OnOk, OnErr, slice_index_or, slice_set};
 ghost use Rattle.pb_normal.specs.declared.numbered.NumberedLiteral.{NumberedLiteral};
 ghost use Rattle.pb_normal.specs.meaning.Rules.{negation};
-ghost use Rattle.pb_propagate.specs.engine.Engine.Lists.{has, says, vacancy, KeepsReasons, IsDue};
-ghost use Rattle.pb_propagate.specs.engine.Clauses.Truths.{true_at, false_at, AreMarked};
+ghost use Rattle.pb_propagate.specs.engine.engine.Lists.{has, says, vacancy, KeepsReasons, IsDue};
+ghost use Rattle.pb_propagate.specs.engine.clauses.Truths.{true_at, false_at, AreMarked};
 
 use crate::clause::opposite;
 use pb_normal::NumberedLiteral;

@@ -4,8 +4,8 @@
 
 ghost use Rattle.std.specs.Prelude.{◌≡◌, ◌+◌, ◌*◌, ◌<◌, ◌≤◌, ◌^◌, All, true, false, IfOk};
 ghost use Rattle.pb_normal.specs.meaning.Form.{IsNormal};
-ghost use Rattle.pb_propagate.specs.engine.Clauses.Truths.{flip};
-ghost use Rattle.pb_propagate.specs.engine.Clauses.Shapes.{IsLight, IsClause, code_in, codes_of_terms, group_by};
+ghost use Rattle.pb_propagate.specs.engine.clauses.Truths.{flip};
+ghost use Rattle.pb_propagate.specs.engine.clauses.Shapes.{IsLight, IsClause, code_in, codes_of_terms, group_by};
 
 use crate::store::sorted_form::term_of;
 use pb_normal::{Entry, Normal, NumberedLiteral, Terms};

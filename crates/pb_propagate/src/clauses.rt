@@ -1,10 +1,10 @@
 //! Clauses by slots.
 
 ghost use Rattle.std.specs.Prelude.{◌≡◌, ℕ, ◌+◌, ◌*◌, ◌/◌, ◌<◌, ◌≤◌, ◌++◌, ◌∷◌, [], List, All, Bool, Option, length, slice_set, true, false, OnOk, OnErr, IfOk, IfSome};
-ghost use Rattle.pb_propagate.specs.engine.Clauses.Links.{watch_lists, list_at, watch_at};
-ghost use Rattle.pb_propagate.specs.engine.Clauses.Blocks.{number_at};
-ghost use Rattle.pb_propagate.specs.engine.Clauses.Runs.{AreReady, AreSet, CanHold, IsPair, IsRefitted, IsRunning, IsSameWatch};
-ghost use Rattle.pb_propagate.specs.engine.Engine.Root.{IsFree};
+ghost use Rattle.pb_propagate.specs.engine.clauses.Links.{watch_lists, list_at, watch_at};
+ghost use Rattle.pb_propagate.specs.engine.clauses.Blocks.{number_at};
+ghost use Rattle.pb_propagate.specs.engine.clauses.Runs.{AreReady, AreSet, CanHold, IsPair, IsRefitted, IsRunning, IsSameWatch};
+ghost use Rattle.pb_propagate.specs.engine.engine.Root.{IsFree};
 
 pub mod blocks;
 pub mod lists;

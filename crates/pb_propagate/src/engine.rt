@@ -11,7 +11,7 @@ pub mod visits;
 ghost use Rattle.std.specs.Prelude.{◌≡◌, List, Some, None, ◌+◌, ◌*◌, ◌<◌, ◌≤◌, ◌++◌, ◌∷◌, [], ◌⊎◌, true, false, All, length, slice_index_or, slice_set, sum_by, OnOk, OnErr, IfOk, IfSome, IfNone};
 ghost use Rattle.pb_normal.specs.meaning.Rules.{negation_of};
 ghost use Rattle.pb_normal.specs.declared.numbered.NumberedLiteral.{NumberedLiteral};
-ghost use Rattle.pb_propagate.specs.engine.Engine.Live.{Live, Gives, terms_in, one_in};
+ghost use Rattle.pb_propagate.specs.engine.engine.Live.{Live, Gives, terms_in, one_in};
 ghost use Rattle.pb_propagate.specs.meaning.Propagation.{With, MeetsConflict, IsCompletion, IsRup};
 
 use crate::clauses::Clauses;
@@ -47,16 +47,16 @@ pub struct Engine {
 }
 
 impl Model for Engine {
-    ghost use Rattle.pb_propagate.specs.engine.Engine.Live.{Standing};
+    ghost use Rattle.pb_propagate.specs.engine.engine.Live.{Standing};
 
     ghost Value = { Standing };
 
     ghost use Rattle.std.specs.Prelude.{◌≡◌, true, false, length};
-    ghost use Rattle.pb_propagate.specs.engine.Engine.Fields.{forms_of};
-    ghost use Rattle.pb_propagate.specs.engine.Engine.Rest.{IsAtRest};
-    ghost use Rattle.pb_propagate.specs.engine.Engine.Slots.{numbered, ArePlaced};
-    ghost use Rattle.pb_propagate.specs.engine.Engine.Root.{IsRootOf, IsKeptConflict};
-    ghost use Rattle.pb_propagate.specs.engine.Clauses.Shapes.{all_of};
+    ghost use Rattle.pb_propagate.specs.engine.engine.Fields.{forms_of};
+    ghost use Rattle.pb_propagate.specs.engine.engine.Rest.{IsAtRest};
+    ghost use Rattle.pb_propagate.specs.engine.engine.Slots.{numbered, ArePlaced};
+    ghost use Rattle.pb_propagate.specs.engine.engine.Root.{IsRootOf, IsKeptConflict};
+    ghost use Rattle.pb_propagate.specs.engine.clauses.Shapes.{all_of};
 
     ghost view = { λ e. record {
       forms = numbered (forms_of e.store.stored.items) e.places.items;

@@ -1,7 +1,7 @@
 //! The slots of removed forms, by how many literals their blocks have room for.
 
 ghost use Rattle.std.specs.Prelude.{◌≡◌, ℕ, ◌<◌, [], List, length, OnOk, IfSome, IfNone};
-ghost use Rattle.pb_propagate.specs.engine.Engine.Free.{Holds, HasPut, HasTaken, IsSizeOf};
+ghost use Rattle.pb_propagate.specs.engine.engine.Free.{Holds, HasPut, HasTaken, IsSizeOf};
 
 use std::alloc::{AllocError, Global};
 

@@ -1,7 +1,7 @@
 //! How far the literals of a list are walked in each group of clauses.
 
 ghost use Rattle.std.specs.Prelude.{◌≡◌, ◌+◌, ◌-◌, ◌*◌, ◌^◌, ◌<◌, ◌≤◌, ◌⊎◌, ◌++◌, [], true, false, All, length, replicate, slice_index_or, take, IfSome, IfNone, OnOk};
-ghost use Rattle.pb_propagate.specs.engine.Clauses.Walked.{IsAhead};
+ghost use Rattle.pb_propagate.specs.engine.clauses.Walked.{IsAhead};
 
 use crate::clause::{Group, code_of};
 use pb_normal::NumberedLiteral;

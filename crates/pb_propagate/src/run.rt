@@ -3,14 +3,14 @@
 ghost use Rattle.std.specs.Prelude.{◌≡◌, ◌≤◌, ◌+◌, ◌-◌, ◌*◌, ◌^◌, ◌<◌, ◌++◌, ◌∷◌, [], true, false, All, length, OnOk, OnErr, sum, sum_by};
 ghost use Rattle.pb_normal.specs.declared.numbered.NumberedLiteral.{NumberedLiteral};
 ghost use Rattle.pb_normal.specs.meaning.Rules.{negation};
-ghost use Rattle.pb_propagate.specs.engine.Engine.Lists.{has, Conflicts};
-ghost use Rattle.pb_propagate.specs.engine.Engine.Counts.{place, Grown, IsAbsent, Adopted};
-ghost use Rattle.pb_propagate.specs.engine.Engine.Progress.{progress, IfFound, IfNotFound, RunIsCounted, RunIsOpen, RunIsTidy, shapes_in, list_of, RunIsCalm, RunIsUndone, RunIsShort, RunFits, RunReasons, RunRecords, RunLowers, RunCosts, RunSpends};
-ghost use Rattle.pb_propagate.specs.engine.Engine.Propagation.{IsReadyRun, Propagates, RunGains, HasPropagated, RunPuts, RunVisits};
-ghost use Rattle.pb_propagate.specs.engine.Clauses.Marks.{KeepsMarks};
-ghost use Rattle.pb_propagate.specs.engine.Engine.Fields.{shapes_of, IsSound};
-ghost use Rattle.pb_propagate.specs.engine.Engine.Links.{terms_at};
-ghost use Rattle.pb_propagate.specs.engine.Clauses.Shapes.{all_of};
+ghost use Rattle.pb_propagate.specs.engine.engine.Lists.{has, Conflicts};
+ghost use Rattle.pb_propagate.specs.engine.engine.Counts.{place, Grown, IsAbsent, Adopted};
+ghost use Rattle.pb_propagate.specs.engine.engine.Progress.{progress, IfFound, IfNotFound, RunIsCounted, RunIsOpen, RunIsTidy, shapes_in, list_of, RunIsCalm, RunIsUndone, RunIsShort, RunFits, RunReasons, RunRecords, RunLowers, RunCosts, RunSpends};
+ghost use Rattle.pb_propagate.specs.engine.engine.Propagation.{IsReadyRun, Propagates, RunGains, HasPropagated, RunPuts, RunVisits};
+ghost use Rattle.pb_propagate.specs.engine.clauses.Marks.{KeepsMarks};
+ghost use Rattle.pb_propagate.specs.engine.engine.Fields.{shapes_of, IsSound};
+ghost use Rattle.pb_propagate.specs.engine.engine.Links.{terms_at};
+ghost use Rattle.pb_propagate.specs.engine.clauses.Shapes.{all_of};
 
 use crate::assignment::Assignment;
 use crate::clauses::Clauses;

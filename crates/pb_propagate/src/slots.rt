@@ -1,11 +1,11 @@
 //! Forms take slots and leave them.
 
 ghost use Rattle.std.specs.Prelude.{◌≡◌, ℕ, ◌<◌, ◌++◌, ◌∷◌, [], All, Some, None, length, slice_get, slice_set, slice_index_or, IfSome, IfOk, OnOk, OnErr};
-ghost use Rattle.pb_propagate.specs.engine.Engine.Fields.{forms_of};
-ghost use Rattle.pb_propagate.specs.engine.Engine.Rest.{IsAtRest};
-ghost use Rattle.pb_propagate.specs.engine.Engine.Root.{HasWidened, HasGained, HasCleared};
-ghost use Rattle.pb_propagate.specs.engine.Clauses.Shapes.{IsClause, IsPlanned};
-ghost use Rattle.pb_propagate.specs.engine.Clauses.Runs.{AreFree, AreReady, CanHold, IsFreePair, IsRefitted};
+ghost use Rattle.pb_propagate.specs.engine.engine.Fields.{forms_of};
+ghost use Rattle.pb_propagate.specs.engine.engine.Rest.{IsAtRest};
+ghost use Rattle.pb_propagate.specs.engine.engine.Root.{HasWidened, HasGained, HasCleared};
+ghost use Rattle.pb_propagate.specs.engine.clauses.Shapes.{IsClause, IsPlanned};
+ghost use Rattle.pb_propagate.specs.engine.clauses.Runs.{AreFree, AreReady, CanHold, IsFreePair, IsRefitted};
 
 use crate::assignment::Assignment;
 use crate::clause::{codes_of, is_clause};

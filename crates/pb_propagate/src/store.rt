@@ -14,8 +14,8 @@ pub mod units;
 
 ghost use Rattle.std.specs.Prelude.{◌≡◌, ◌≤◌, ◌+◌, ◌-◌, ◌^◌, ◌<◌, length, min, slice_index_or};
 ghost use Rattle.pb_propagate.specs.declared.term.Term.{Term};
-ghost use Rattle.pb_propagate.specs.engine.Engine.Stored.{stored_terms};
-ghost use Rattle.pb_propagate.specs.engine.Engine.Fields.{entry_at};
+ghost use Rattle.pb_propagate.specs.engine.engine.Stored.{stored_terms};
+ghost use Rattle.pb_propagate.specs.engine.engine.Fields.{entry_at};
 
 use crate::engine::visits::Visits;
 use crate::store::spots::Spots;

@@ -1,8 +1,8 @@
 //! The forms that may propagate with nothing assigned.
 
 ghost use Rattle.std.specs.Prelude.{◌≡◌, ℕ, ◌<◌, ◌≤◌, ◌+◌, ◌++◌, ◌∷◌, [], Some, length, slice_get, swap_remove, true, false, vec_capacity, OnOk};
-ghost use Rattle.pb_propagate.specs.engine.Engine.Counts.{IsAbsent};
-ghost use Rattle.pb_propagate.specs.engine.Engine.Waiting.{IsWithout};
+ghost use Rattle.pb_propagate.specs.engine.engine.Counts.{IsAbsent};
+ghost use Rattle.pb_propagate.specs.engine.engine.Waiting.{IsWithout};
 
 use std::alloc::{AllocError, Global};
 

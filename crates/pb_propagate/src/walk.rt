@@ -1,13 +1,13 @@
 //! Visits to the clauses in which a falsified literal is watched.
 
 ghost use Rattle.std.specs.Prelude.{◌≡◌, ◌≤◌, ◌+◌, ◌<◌, true, false, length, OnOk, OnErr};
-ghost use Rattle.pb_propagate.specs.engine.Engine.Lists.{Conflicts};
-ghost use Rattle.pb_propagate.specs.engine.Engine.Progress.{IfFound, IfNotFound, RunIsOpen, list_of, values_of, WalkCosts, HasWalked};
-ghost use Rattle.pb_propagate.specs.engine.Engine.Propagation.{RunWalks};
-ghost use Rattle.pb_propagate.specs.engine.Engine.Fields.{shapes_of, IsSound};
-ghost use Rattle.pb_propagate.specs.engine.Clauses.Truths.{false_at};
-ghost use Rattle.pb_propagate.specs.engine.Clauses.Runs.{AreWithin, IsRunning, passed_of};
-ghost use Rattle.pb_propagate.specs.engine.Clauses.Shapes.{AreJoined, clauses_of, all_of, literal_at};
+ghost use Rattle.pb_propagate.specs.engine.engine.Lists.{Conflicts};
+ghost use Rattle.pb_propagate.specs.engine.engine.Progress.{IfFound, IfNotFound, RunIsOpen, list_of, values_of, WalkCosts, HasWalked};
+ghost use Rattle.pb_propagate.specs.engine.engine.Propagation.{RunWalks};
+ghost use Rattle.pb_propagate.specs.engine.engine.Fields.{shapes_of, IsSound};
+ghost use Rattle.pb_propagate.specs.engine.clauses.Truths.{false_at};
+ghost use Rattle.pb_propagate.specs.engine.clauses.Runs.{AreWithin, IsRunning, passed_of};
+ghost use Rattle.pb_propagate.specs.engine.clauses.Shapes.{AreJoined, clauses_of, all_of, literal_at};
 
 use crate::clauses::Clauses;
 use crate::clauses::visiting::{Visit, pass_true, visit_clause};

@@ -52,7 +52,7 @@ pub use Rattle.pb_propagate.proofs.lemmas.engine.Choices.{only-self, only-true, 
 pub use Rattle.pb_propagate.proofs.lemmas.engine.Completing.{completion-one, conflict-part, conflicting, derivation-keeps, IsPart, lasting, on_it}
 pub use Rattle.pb_propagate.proofs.lemmas.engine.Completing.{put-part, still}
 pub use Rattle.pb_propagate.proofs.lemmas.store.Gets.{contains-none}
-pub use Rattle.pb_propagate.specs.engine.Engine.Live.{Gives, one_in, Standing, terms_in, value_says}
+pub use Rattle.pb_propagate.specs.engine.engine.Live.{Gives, one_in, Standing, terms_in, value_says}
 pub use Rattle.pb_propagate.specs.meaning.Propagation.{begin, broken, Derivation, HasConflict, HoldAll, IsCompletion, IsRup, Live, MayPropagate}
 pub use Rattle.pb_propagate.specs.meaning.Propagation.{MeetsConflict, opened, opposed, put, With}
 pub use Rattle.pb_sums.specs.declared.Linear.{Linear}

@@ -38,7 +38,7 @@ pub use Rattle.pb_proof.specs.declared.Proof.{Proof}
 pub use Rattle.pb_proof.specs.declared.Stage.{Stage}
 pub use Rattle.pb_proof.specs.declared.Statement.{Statement}
 pub use Rattle.pb_proof.specs.declared.Statement.TheVariants.{Conclude, Delete, End, F, Output, Pol, Rup, Soli, Solx}
-pub use Rattle.pb_proof.specs.engine.Machine.State.{begin, proofs, ProofState}
+pub use Rattle.pb_proof.specs.engine.machine.State.{begin, proofs, ProofState}
 pub use Rattle.pb_proof.specs.meaning.Canonical.{proof_bytes, statement_bytes}
 pub use Rattle.pb_proof.specs.meaning.Proofs.{IsGap, IsProof, IsProofOf, IsStep, statements_of}
 pub use Rattle.pb_replay.specs.contract.Laws.{OutcomesAreSingle, UnvaluedMayWant, VerdictsMean, WholeProofsConclude}

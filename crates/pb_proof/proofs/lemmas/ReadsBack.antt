@@ -1,7 +1,7 @@
 -- What is written reads back as the same value, if each text is of one proof only.
 use Rattle.pb_proof.proofs.Common.{ℕ, ◌∙◌, ◌≡◌, List, subst, sym, bytes_of, Item, events_of, ReadsBack, Statement, IsProof, IsProofOf}
-use Rattle.pb_proof.proofs.lemmas.Proofs.Spelled.{canonical_proof}
-use Rattle.pb_proof.proofs.lemmas.Proofs.Values.{one_value}
+use Rattle.pb_proof.proofs.lemmas.proofs.Spelled.{canonical_proof}
+use Rattle.pb_proof.proofs.lemmas.proofs.Values.{one_value}
 
 pub reads_back_of : ((limit top : ℕ) (items items' : List (Item Statement)) → IsProof limit top items → IsProof limit top items' → bytes_of items ≡ bytes_of items' → items ≡ items') → ReadsBack
 reads_back_of alone limit top longest v m small low rules r =

@@ -5,7 +5,7 @@ use Rattle.pb_proof.proofs.Common.{as_unmarked, is_blank, ◌⋅◌, Blanks1, By
 use Rattle.pb_proof.proofs.Common.{sol_word, words_of, conclusion_word, del_word, end_word, f_word, id_word, none_word, output_word, pol_word}
 use Rattle.pb_proof.proofs.Common.{proof_word, pseudo_word, rup_word, two_word, version_word}
 use Rattle.pb_proof.specs.declared.machine.phase.Keyword.TheVariants.{Header, Formula, Pol, Rup, Solution, Delete, Output, Conclusion, End}
-use Rattle.pb_proof.proofs.lemmas.Line.Ends.{first_blank, further_blank, nil_last}
+use Rattle.pb_proof.proofs.lemmas.line.Ends.{first_blank, further_blank, nil_last}
 
 abbrev pub chooses : Bool → Language → Language → Language
 chooses true P Q = P

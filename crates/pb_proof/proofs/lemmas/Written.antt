@@ -3,7 +3,7 @@ use Rattle.pb_proof.proofs.Common.{bounds_word, conclusion_word, ℕ, ◌++◌, 
 use Rattle.pb_proof.proofs.Common.{refl, suc, sym, take, take-append-drop, drop-cons, drop_all, take_more, Proof, Statement, Conclude, F, Header}
 use Rattle.pb_proof.proofs.Common.{Output, lines, proof_bytes, statement_bytes}
 use Rattle.pb_proof.specs.meaning.Canonical.{listed_bytes}
-use Rattle.pb_proof.specs.engine.Line.Ended.{ended_lines}
+use Rattle.pb_proof.specs.engine.line.Ended.{ended_lines}
 use Rattle.pb_proof.specs.declared.statement.Statement.TheVariants.{End}
 
 -- each with a space before it

@@ -1,7 +1,7 @@
 -- What the machine for proofs stores.
 use Rattle.std.specs.Prelude.{◌≡◌}
 use Rattle.pb_text.specs.meaning.Limits.{largest, top_of}
-use Rattle.pb_proof.specs.engine.Machine.State.{ProofState}
+use Rattle.pb_proof.specs.engine.machine.State.{ProofState}
 use Rattle.pb_proof.specs.declared.machine.ProofMachine.TheInside.{Inside}
 
 -- the state that its fields make up

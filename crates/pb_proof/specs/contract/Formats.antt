@@ -4,7 +4,7 @@ use Rattle.pb_text.specs.contract.Automaton.{AcceptsItems}
 use Rattle.pb_text.specs.contract.FormatLaws.{IsOneText, FixesSpans, IsPrefixFree, Widens}
 use Rattle.pb_text.specs.meaning.Spelling.{Item}
 use Rattle.pb_proof.specs.meaning.Proofs.{IsProof}
-use Rattle.pb_proof.specs.engine.Machine.State.{proofs, begin}
+use Rattle.pb_proof.specs.engine.machine.State.{proofs, begin}
 use Rattle.pb_proof.specs.declared.statement.Statement.{Statement}
 
 -- A new machine accepts exactly the proofs.

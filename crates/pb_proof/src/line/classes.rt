@@ -1,7 +1,7 @@
 //! The class of a byte in a line of numbers, and in a line of names.
 
 ghost use Rattle.std.specs.Prelude.{◌≡◌};
-ghost use Rattle.pb_proof.specs.engine.Line.ByteKind.{symbol, number_byte, name_byte, NumberByteFits, NameByteFits};
+ghost use Rattle.pb_proof.specs.engine.line.ByteKind.{symbol, number_byte, name_byte, NumberByteFits, NameByteFits};
 
 use crate::line::byte_kind::{NameByte, NumberByte};
 use pb_text::bytes::{is_blank, is_digit, is_letter, is_name_byte};

@@ -2,9 +2,9 @@
 
 ghost use Rattle.std.specs.Prelude.{◌≡◌};
 ghost use Rattle.pb_text.specs.meaning.Limits.{largest, top_of};
-ghost use Rattle.pb_proof.specs.engine.Line.ConclusionState.{showing_value, conclusion_value, conclusion_first, conclusion_automaton};
+ghost use Rattle.pb_proof.specs.engine.line.ConclusionState.{showing_value, conclusion_value, conclusion_first, conclusion_automaton};
 ghost use Rattle.pb_text.specs.contract.Automaton.{Pushes};
-ghost use Rattle.pb_proof.specs.engine.Line.Conclusion.{transition};
+ghost use Rattle.pb_proof.specs.engine.line.Conclusion.{transition};
 
 mod phase;
 mod transition;
@@ -12,7 +12,7 @@ mod transition;
 use crate::conclusion::Conclusion;
 use crate::line::conclusion::phase::{Action, Concluding, Phase, Showing};
 use crate::line::conclusion::transition::{is_done, transition};
-use crate::line::solution::LiteralsMachine;
+use crate::line::solution::SolutionMachine;
 use pb_sums::Literal;
 use pb_text::bytes::is_digit;
 use pb_text::{Limits, Machine, Push, Sequence};
@@ -25,12 +25,12 @@ pub struct ConclusionMachine {
     alloc: Global,
     limits: Limits,
     phase: Phase,
-    literals: LiteralsMachine,
+    literals: SolutionMachine,
 }
 
 impl Model for ConclusionMachine {
-    ghost use Rattle.pb_proof.specs.engine.Line.ConclusionFields.{conclusion_state};
-    ghost use Rattle.pb_proof.specs.engine.Line.ConclusionState.{ConclusionState, IsConclusionInOrder};
+    ghost use Rattle.pb_proof.specs.engine.line.ConclusionFields.{conclusion_state};
+    ghost use Rattle.pb_proof.specs.engine.line.ConclusionState.{ConclusionState, IsConclusionInOrder};
 
     ghost Value = { ConclusionState };
 
@@ -74,7 +74,7 @@ impl ConclusionMachine {
             alloc,
             limits,
             phase: Phase::Start,
-            literals: LiteralsMachine::new(alloc, true),
+            literals: SolutionMachine::new(alloc, true),
         }
     }
 
@@ -89,7 +89,7 @@ impl ConclusionMachine {
             }
             Action::Finish(concluding) => {
                 self.phase = Phase::Done;
-                self.literals = LiteralsMachine::new(self.alloc, true);
+                self.literals = SolutionMachine::new(self.alloc, true);
                 Push::Event(conclusion_value(concluding))
             }
             Action::Give(showing) => self.give(showing, byte),
@@ -114,7 +114,7 @@ impl ConclusionMachine {
             Push::Go => Push::Go,
             Push::Event(literals) => {
                 self.phase = Phase::Done;
-                self.literals = LiteralsMachine::new(self.alloc, true);
+                self.literals = SolutionMachine::new(self.alloc, true);
                 Push::Event(showing_value(showing, Some(literals)))
             }
             Push::No => Push::No,

@@ -2,15 +2,15 @@
 
 ghost use Rattle.std.specs.Prelude.{◌≡◌, ◌<◌, ◌≤◌, ◌^◌, take, length, List, ℤ};
 ghost use Rattle.pb_text.specs.meaning.Limits.{top_of};
-ghost use Rattle.pb_proof.specs.engine.Line.ByteKind.{NumberByteFits, number_byte};
-ghost use Rattle.pb_proof.specs.engine.Line.Ids.{digits, before, next_action, transition, ids_first, begins_id, is_done, PhaseFits, ids_automaton};
+ghost use Rattle.pb_proof.specs.engine.line.ByteKind.{NumberByteFits, number_byte};
+ghost use Rattle.pb_proof.specs.engine.line.Delete.{digits, before, next_action, transition, delete_first, begins_id, is_done, PhaseFits, delete_automaton};
 ghost use Rattle.pb_text.specs.contract.Automaton.{IsState, Runs, Pushes};
 
 mod phase;
 
 use crate::line::byte_kind::NumberByte;
 use crate::line::classes::number_byte;
-use crate::line::delete::phase::{IdsAction, IdsPhase};
+use crate::line::delete::phase::{DeleteAction, DeletePhase};
 use pb_text::bytes::is_digit;
 use pb_text::decimal::{next_digit_u64, signed_i64};
 use pb_text::digits::number_prefix;
@@ -21,112 +21,112 @@ use std::mem;
 
 /// A machine that reads one or more ids, with blanks before each, through the line feed.
 #[derive(Drop)]
-pub struct IdsMachine {
+pub struct DeleteMachine {
     alloc: Global,
     top: u64,
     ids: Sequence<i64>,
-    phase: IdsPhase,
+    phase: DeletePhase,
 }
 
-impl Model for IdsMachine {
-    ghost use Rattle.pb_proof.specs.engine.Line.Fields.{ids_state};
-    ghost use Rattle.pb_proof.specs.engine.Line.Ids.{IdsState, IsIdsInOrder};
+impl Model for DeleteMachine {
+    ghost use Rattle.pb_proof.specs.engine.line.Fields.{delete_state};
+    ghost use Rattle.pb_proof.specs.engine.line.Delete.{DeleteState, IsDeleteInOrder};
 
-    ghost Value = { IdsState };
+    ghost Value = { DeleteState };
 
-    ghost view = { ids_state };
+    ghost view = { delete_state };
 
-    ghost invariant = { λ m. IsIdsInOrder (ids_state m) };
+    ghost invariant = { λ m. IsDeleteInOrder (delete_state m) };
 }
 
 /// The action for the next digit of an id.
-fn digits(top: u64, negative: bool, value: u64, digit: u8) -> IdsAction
+fn digits(top: u64, negative: bool, value: u64, digit: u8) -> DeleteAction
     requires top { top < 2 ^ 63 }
     requires value { value ≤ top }
     requires digit { digit < 10 }
     ensures { result ≡ digits top negative value digit }
 {
     match next_digit_u64(top, value, digit) {
-        None => IdsAction::Stop,
-        Some(next) => IdsAction::To(IdsPhase::Digits(negative, next)),
+        None => DeleteAction::Stop,
+        Some(next) => DeleteAction::To(DeletePhase::Digits(negative, next)),
     }
 }
 
 /// The action for a byte at which an id may begin.
-fn before(top: u64, kind: NumberByte) -> IdsAction
+fn before(top: u64, kind: NumberByte) -> DeleteAction
     requires top { top < 2 ^ 63 }
     requires kind { NumberByteFits kind }
     ensures { result ≡ before top kind }
 {
     match kind {
-        NumberByte::Minus => IdsAction::To(IdsPhase::Minus),
+        NumberByte::Minus => DeleteAction::To(DeletePhase::Minus),
         NumberByte::Digit(digit) => digits(top, false, 0, digit),
-        _ => IdsAction::Stop,
+        _ => DeleteAction::Stop,
     }
 }
 
 /// The action for a byte at which an id may end.
-fn next_action(id: i64, kind: NumberByte) -> IdsAction
+fn next_action(id: i64, kind: NumberByte) -> DeleteAction
     ensures { result ≡ next_action id kind }
 {
     match kind {
-        NumberByte::Blank => IdsAction::Keep(IdsPhase::Between, id),
-        NumberByte::Semicolon => IdsAction::Keep(IdsPhase::Closing, id),
-        NumberByte::Feed => IdsAction::EndWith(id),
-        _ => IdsAction::Stop,
+        NumberByte::Blank => DeleteAction::Keep(DeletePhase::Between, id),
+        NumberByte::Semicolon => DeleteAction::Keep(DeletePhase::Closing, id),
+        NumberByte::Feed => DeleteAction::EndWith(id),
+        _ => DeleteAction::Stop,
     }
 }
 
 /// What the machine does with a byte. This does not allocate.
 #[inline(always)]
-fn transition(top: u64, phase: IdsPhase, kind: NumberByte) -> IdsAction
+fn transition(top: u64, phase: DeletePhase, kind: NumberByte) -> DeleteAction
     requires top { top < 2 ^ 63 }
     requires phase { PhaseFits top phase }
     requires kind { NumberByteFits kind }
     ensures { result ≡ transition top phase kind }
 {
     match (phase, kind) {
-        (IdsPhase::Start | IdsPhase::Gap, NumberByte::Blank) => IdsAction::To(IdsPhase::Gap),
-        (IdsPhase::Between, NumberByte::Blank) => IdsAction::To(IdsPhase::Between),
-        (IdsPhase::Between, NumberByte::Semicolon) => IdsAction::To(IdsPhase::Closing),
-        (IdsPhase::Between, NumberByte::Feed) => IdsAction::End,
-        (IdsPhase::Gap | IdsPhase::Between, _) => before(top, kind),
-        (IdsPhase::Minus, NumberByte::Digit(digit)) => digits(top, true, 0, digit),
-        (IdsPhase::Digits(negative, value), NumberByte::Digit(digit)) => {
+        (DeletePhase::Start | DeletePhase::Gap, NumberByte::Blank) => DeleteAction::To(DeletePhase::Gap),
+        (DeletePhase::Between, NumberByte::Blank) => DeleteAction::To(DeletePhase::Between),
+        (DeletePhase::Between, NumberByte::Semicolon) => DeleteAction::To(DeletePhase::Closing),
+        (DeletePhase::Between, NumberByte::Feed) => DeleteAction::End,
+        (DeletePhase::Gap | DeletePhase::Between, _) => before(top, kind),
+        (DeletePhase::Minus, NumberByte::Digit(digit)) => digits(top, true, 0, digit),
+        (DeletePhase::Digits(negative, value), NumberByte::Digit(digit)) => {
             digits(top, negative, value, digit)
         }
-        (IdsPhase::Digits(_, 0), _) => IdsAction::Stop,
-        (IdsPhase::Digits(negative, value), _) => next_action(signed_i64(negative, value), kind),
-        (IdsPhase::Closing, NumberByte::Blank) => IdsAction::To(phase),
-        (IdsPhase::Closing, NumberByte::Feed) => IdsAction::End,
-        _ => IdsAction::Stop,
+        (DeletePhase::Digits(_, 0), _) => DeleteAction::Stop,
+        (DeletePhase::Digits(negative, value), _) => next_action(signed_i64(negative, value), kind),
+        (DeletePhase::Closing, NumberByte::Blank) => DeleteAction::To(phase),
+        (DeletePhase::Closing, NumberByte::Feed) => DeleteAction::End,
+        _ => DeleteAction::Stop,
     }
 }
 
 /// Whether an id may begin.
-fn begins_id(phase: IdsPhase) -> bool
+fn begins_id(phase: DeletePhase) -> bool
     ensures { result ≡ begins_id phase }
 {
-    matches!(phase, IdsPhase::Gap | IdsPhase::Between)
+    matches!(phase, DeletePhase::Gap | DeletePhase::Between)
 }
 
 /// Whether the line has ended.
-fn is_done(phase: IdsPhase) -> bool
+fn is_done(phase: DeletePhase) -> bool
     ensures { result ≡ is_done phase }
 {
-    matches!(phase, IdsPhase::Done)
+    matches!(phase, DeletePhase::Done)
 }
 
-impl IdsMachine {
+impl DeleteMachine {
     /// A machine at the start of its text. Creating it does not allocate.
     pub fn new(alloc: Global, limits: Limits) -> Self
-        ensures begins { result ≡ ids_first (top_of limits) }
+        ensures begins { result ≡ delete_first (top_of limits) }
     {
-        IdsMachine {
+        DeleteMachine {
             alloc,
             top: limits.top(),
             ids: Sequence::new(alloc),
-            phase: IdsPhase::Start,
+            phase: DeletePhase::Start,
         }
     }
 
@@ -134,8 +134,8 @@ impl IdsMachine {
     #[inline(always)]
     fn take_digits(&mut self, text: &[u8]) -> usize
         ensures bound { result ≤ length text.now }
-        ensures runs { Runs ids_automaton self.old (take result text.now) self.new }
-        ensures state { IsState ids_automaton self.new }
+        ensures runs { Runs delete_automaton self.old (take result text.now) self.new }
+        ensures state { IsState delete_automaton self.new }
     {
         let _ = self.is_done();
         if !begins_id(self.phase) {
@@ -145,42 +145,42 @@ impl IdsMachine {
         if count == 0 || value > self.top {
             return 0;
         }
-        self.phase = IdsPhase::Digits(false, value);
+        self.phase = DeletePhase::Digits(false, value);
         let _ = self.is_done();
         count
     }
 
     /// Takes a byte with its action.
     #[inline(always)]
-    fn take(&mut self, byte: u8, action: IdsAction) -> Push<Sequence<i64>>
+    fn take(&mut self, byte: u8, action: DeleteAction) -> Push<Sequence<i64>>
         requires { action ≡ transition self.old.top self.old.phase (number_byte byte) }
-        ensures { Pushes ids_automaton self.old byte result self.new }
+        ensures { Pushes delete_automaton self.old byte result self.new }
     {
         match action {
-            IdsAction::To(phase) => {
+            DeleteAction::To(phase) => {
                 self.phase = phase;
                 Push::Go
             }
-            IdsAction::Keep(phase, id) => {
+            DeleteAction::Keep(phase, id) => {
                 if self.ids.push(id).is_err() {
                     return Push::Memory;
                 }
                 self.phase = phase;
                 Push::Go
             }
-            IdsAction::End => {
-                self.phase = IdsPhase::Done;
+            DeleteAction::End => {
+                self.phase = DeletePhase::Done;
                 Push::Event(mem::replace(&mut self.ids, Sequence::new(self.alloc)))
             }
-            IdsAction::EndWith(id) => {
+            DeleteAction::EndWith(id) => {
                 if self.ids.push(id).is_err() {
                     return Push::Memory;
                 }
-                self.phase = IdsPhase::Done;
+                self.phase = DeletePhase::Done;
                 Push::Event(mem::replace(&mut self.ids, Sequence::new(self.alloc)))
             }
-            IdsAction::Stop => {
-                if matches!(self.phase, IdsPhase::Digits(_, _)) && is_digit(byte) {
+            DeleteAction::Stop => {
+                if matches!(self.phase, DeletePhase::Digits(_, _)) && is_digit(byte) {
                     Push::Large
                 } else {
                     Push::No
@@ -190,17 +190,17 @@ impl IdsMachine {
     }
 }
 
-impl Machine for IdsMachine {
+impl Machine for DeleteMachine {
     type Event = Sequence<i64>;
 
-    ghost automaton = { ids_automaton };
+    ghost automaton = { delete_automaton };
 
     fn try_continue(&mut self, byte: u8) -> bool {
         let _ = self.is_done();
         let action = transition(self.top, self.phase, number_byte(byte));
         if matches!(
             action,
-            IdsAction::End | IdsAction::EndWith(_) | IdsAction::Stop
+            DeleteAction::End | DeleteAction::EndWith(_) | DeleteAction::Stop
         ) {
             return false;
         }
@@ -215,7 +215,7 @@ impl Machine for IdsMachine {
     fn try_finish(&mut self, byte: u8) -> Option<Sequence<i64>> {
         let _ = self.is_done();
         let action = transition(self.top, self.phase, number_byte(byte));
-        if !matches!(action, IdsAction::End | IdsAction::EndWith(_)) {
+        if !matches!(action, DeleteAction::End | DeleteAction::EndWith(_)) {
             return None;
         }
         let answer = self.take(byte, action);
@@ -246,12 +246,12 @@ impl Machine for IdsMachine {
     }
 
     fn starts(&self, byte: u8) -> bool {
-        if !matches!(self.phase, IdsPhase::Start) {
+        if !matches!(self.phase, DeletePhase::Start) {
             return false;
         }
         !matches!(
             transition(self.top, self.phase, number_byte(byte)),
-            IdsAction::Stop
+            DeleteAction::Stop
         )
     }
 

@@ -2,9 +2,9 @@
 
 ghost use Rattle.std.specs.Prelude.{◌≡◌, ◌≤◌, ◌<◌, take, length, true};
 ghost use Rattle.pb_text.specs.meaning.Limits.{largest, top_of};
-ghost use Rattle.pb_proof.specs.engine.Line.PolState.{pol_first, pol_automaton};
+ghost use Rattle.pb_proof.specs.engine.line.PolState.{pol_first, pol_automaton};
 ghost use Rattle.pb_text.specs.contract.Automaton.{Continues, IsState, Runs, Pushes};
-ghost use Rattle.pb_proof.specs.engine.Line.Pol.{transition, kind_of, is_name_kind, ActionFits};
+ghost use Rattle.pb_proof.specs.engine.line.Pol.{transition, kind_of, is_name_kind, ActionFits};
 
 mod close;
 mod fast;
@@ -43,9 +43,9 @@ pub struct PolMachine {
 
 impl Model for PolMachine {
     ghost use Rattle.std.specs.Prelude.{◌<◌, ◌≤◌, ◌^◌, vec_len};
-    ghost use Rattle.pb_proof.specs.engine.Line.Fields.{pol_state};
-    ghost use Rattle.pb_proof.specs.engine.Line.Pol.{PhaseFits};
-    ghost use Rattle.pb_proof.specs.engine.Line.PolState.{PolState, IsPolInOrder};
+    ghost use Rattle.pb_proof.specs.engine.line.Fields.{pol_state};
+    ghost use Rattle.pb_proof.specs.engine.line.Pol.{PhaseFits};
+    ghost use Rattle.pb_proof.specs.engine.line.PolState.{PolState, IsPolInOrder};
 
     ghost Value = { PolState };
 

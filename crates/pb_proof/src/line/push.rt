@@ -2,15 +2,15 @@
 
 ghost use Rattle.std.specs.Prelude.{◌≡◌};
 ghost use Rattle.pb_text.specs.meaning.Limits.{largest, top_of};
-ghost use Rattle.pb_proof.specs.engine.Line.Machine.{line_first, IsCarried, IsEnded, line_automaton};
+ghost use Rattle.pb_proof.specs.engine.line.Machine.{line_first, IsCarried, IsEnded, line_automaton};
 
 use crate::line::LineMachine;
 use crate::line::conclusion::ConclusionMachine;
-use crate::line::delete::IdsMachine;
-use crate::line::formula::CountMachine;
+use crate::line::delete::DeleteMachine;
+use crate::line::formula::FormulaMachine;
 use crate::line::pol::PolMachine;
 use crate::line::rup::RupMachine;
-use crate::line::solution::LiteralsMachine;
+use crate::line::solution::SolutionMachine;
 use crate::machine::phase::LineKind;
 use crate::statement::Statement;
 use pb_text::{Limits, Machine, Push};
@@ -20,7 +20,7 @@ use std::alloc::Global;
 macro_rules! whichever {
     ($line:expr, $machine:ident => $answer:expr) => {
         match $line {
-            LineMachine::Count($machine) => $answer,
+            LineMachine::Formula($machine) => $answer,
             LineMachine::Pol($machine) => $answer,
             LineMachine::Rup($machine) => $answer,
             LineMachine::Soli($machine) => $answer,
@@ -62,12 +62,12 @@ pub fn line_first(alloc: Global, limits: Limits, kind: LineKind) -> LineMachine
     ensures { result ≡ line_first (largest limits) (top_of limits) kind }
 {
     match kind {
-        LineKind::Count => LineMachine::Count(CountMachine::new(limits)),
+        LineKind::Formula => LineMachine::Formula(FormulaMachine::new(limits)),
         LineKind::Pol => LineMachine::Pol(PolMachine::new(alloc, limits)),
         LineKind::Rup => LineMachine::Rup(RupMachine::new(alloc, limits)),
-        LineKind::Soli => LineMachine::Soli(LiteralsMachine::new(alloc, false)),
-        LineKind::Solx => LineMachine::Solx(LiteralsMachine::new(alloc, false)),
-        LineKind::Delete => LineMachine::Delete(IdsMachine::new(alloc, limits)),
+        LineKind::Soli => LineMachine::Soli(SolutionMachine::new(alloc, false)),
+        LineKind::Solx => LineMachine::Solx(SolutionMachine::new(alloc, false)),
+        LineKind::Delete => LineMachine::Delete(DeleteMachine::new(alloc, limits)),
         LineKind::Conclusion => LineMachine::Conclusion(ConclusionMachine::new(alloc, limits)),
     }
 }
@@ -94,7 +94,7 @@ impl Machine for LineMachine {
 
     fn push(&mut self, byte: u8) -> Push<Statement> {
         match self {
-            LineMachine::Count(machine) => carried(machine.push(byte), Statement::F),
+            LineMachine::Formula(machine) => carried(machine.push(byte), Statement::F),
             LineMachine::Pol(machine) => carried(machine.push(byte), Statement::Pol),
             LineMachine::Rup(machine) => carried(machine.push(byte), Statement::Rup),
             LineMachine::Soli(machine) => carried(machine.push(byte), Statement::Soli),

@@ -2,7 +2,7 @@
 
 ghost use Rattle.std.specs.Prelude.{◌≡◌, ◌-◌, ◌^◌, min, ◌≤◌, take, length};
 ghost use Rattle.pb_text.specs.meaning.Limits.{largest};
-ghost use Rattle.pb_proof.specs.engine.Line.Rup.{rup_transition, rup_done, linear_of, units_in, rup_automaton, rup_first};
+ghost use Rattle.pb_proof.specs.engine.line.Rup.{rup_transition, rup_done, linear_of, units_in, rup_automaton, rup_first};
 ghost use Rattle.pb_text.specs.contract.Automaton.{IsState, Pushes, Continues, Runs};
 
 mod end;
@@ -26,8 +26,8 @@ pub(crate) struct RupMachine {
 }
 
 impl Model for RupMachine {
-    ghost use Rattle.pb_proof.specs.engine.Line.Fields.{rup_state};
-    ghost use Rattle.pb_proof.specs.engine.Line.Rup.{RupState, IsRupInOrder};
+    ghost use Rattle.pb_proof.specs.engine.line.Fields.{rup_state};
+    ghost use Rattle.pb_proof.specs.engine.line.Rup.{RupState, IsRupInOrder};
 
     ghost Value = { RupState };
 

@@ -1,15 +1,15 @@
 //! The machine for literals.
 
 ghost use Rattle.std.specs.Prelude.{true, ◌≡◌, ℕ, ◌-◌, ◌^◌, ◌<◌, List, [], IfOk, OnOk, OnErr, min};
-ghost use Rattle.pb_proof.specs.engine.Line.ByteKind.{NameByteFits, name_byte};
-ghost use Rattle.pb_proof.specs.engine.Line.Literals.{next_action, before, transition, flushed, is_more, is_done, in_hand, units, ActionFits, literals_first, literals_automaton};
+ghost use Rattle.pb_proof.specs.engine.line.ByteKind.{NameByteFits, name_byte};
+ghost use Rattle.pb_proof.specs.engine.line.Solution.{next_action, before, transition, flushed, is_more, is_done, in_hand, units, ActionFits, solution_first, solution_automaton};
 ghost use Rattle.pb_text.specs.contract.Automaton.{Pushes};
 
 mod phase;
 
 use crate::line::byte_kind::NameByte;
 use crate::line::classes::name_byte;
-use crate::line::solution::phase::{LiteralsAction, LiteralsPhase};
+use crate::line::solution::phase::{SolutionAction, SolutionPhase};
 use pb_sums::{Literal, Name};
 use pb_text::{Machine, Push, Sequence};
 use std::alloc::{AllocError, Global};
@@ -18,94 +18,94 @@ use std::mem;
 
 /// A machine that reads literals, with blanks before each, through the line feed.
 #[derive(Drop)]
-pub struct LiteralsMachine {
+pub struct SolutionMachine {
     alloc: Global,
     joined: bool,
     literals: Sequence<Literal>,
     name: Name,
-    phase: LiteralsPhase,
+    phase: SolutionPhase,
 }
 
-impl Model for LiteralsMachine {
-    ghost use Rattle.pb_proof.specs.engine.Line.Fields.{literals_state};
-    ghost use Rattle.pb_proof.specs.engine.Line.Literals.{LiteralsState, IsLiteralsInOrder};
+impl Model for SolutionMachine {
+    ghost use Rattle.pb_proof.specs.engine.line.Fields.{solution_state};
+    ghost use Rattle.pb_proof.specs.engine.line.Solution.{SolutionState, IsSolutionInOrder};
 
-    ghost Value = { LiteralsState };
+    ghost Value = { SolutionState };
 
-    ghost view = { literals_state };
+    ghost view = { solution_state };
 
-    ghost invariant = { λ m. IsLiteralsInOrder (literals_state m) };
+    ghost invariant = { λ m. IsSolutionInOrder (solution_state m) };
 }
 
 /// The action for a byte at which the line may end.
-fn next_action(kind: NameByte) -> LiteralsAction
+fn next_action(kind: NameByte) -> SolutionAction
     ensures transition { result ≡ next_action kind }
     ensures fits { ActionFits result }
 {
     match kind {
-        NameByte::Blank => LiteralsAction::To(LiteralsPhase::Gap),
-        NameByte::Semicolon => LiteralsAction::To(LiteralsPhase::Closing),
-        NameByte::Feed => LiteralsAction::End,
-        _ => LiteralsAction::Stop,
+        NameByte::Blank => SolutionAction::To(SolutionPhase::Gap),
+        NameByte::Semicolon => SolutionAction::To(SolutionPhase::Closing),
+        NameByte::Feed => SolutionAction::End,
+        _ => SolutionAction::Stop,
     }
 }
 
 /// The action for a byte at which a literal may begin, or the line may end.
-fn before(kind: NameByte) -> LiteralsAction
+fn before(kind: NameByte) -> SolutionAction
     requires { NameByteFits kind }
     ensures transition { result ≡ before kind }
     ensures fits { ActionFits result }
 {
     match kind {
-        NameByte::Tilde => LiteralsAction::To(LiteralsPhase::Negation),
-        NameByte::Letter(byte) => LiteralsAction::Begin(LiteralsPhase::First(false), byte),
+        NameByte::Tilde => SolutionAction::To(SolutionPhase::Negation),
+        NameByte::Letter(byte) => SolutionAction::Begin(SolutionPhase::First(false), byte),
         _ => next_action(kind),
     }
 }
 
 /// What the machine does with a byte. This does not allocate.
 #[inline(always)]
-fn transition(joined: bool, phase: LiteralsPhase, kind: NameByte) -> LiteralsAction
+fn transition(joined: bool, phase: SolutionPhase, kind: NameByte) -> SolutionAction
     requires { NameByteFits kind }
     ensures transition { result ≡ transition joined phase kind }
     ensures fits { ActionFits result }
 {
     match (phase, kind) {
-        (LiteralsPhase::Start, _) => {
+        (SolutionPhase::Start, _) => {
             if joined {
                 before(kind)
             } else {
                 next_action(kind)
             }
         }
-        (LiteralsPhase::Gap, _) => before(kind),
-        (LiteralsPhase::Negation, NameByte::Letter(byte)) => {
-            LiteralsAction::Begin(LiteralsPhase::First(true), byte)
+        (SolutionPhase::Gap, _) => before(kind),
+        (SolutionPhase::Negation, NameByte::Letter(byte)) => {
+            SolutionAction::Begin(SolutionPhase::First(true), byte)
         }
         (
-            LiteralsPhase::First(negated) | LiteralsPhase::More(negated),
+            SolutionPhase::First(negated) | SolutionPhase::More(negated),
             NameByte::Letter(byte) | NameByte::Inner(byte),
-        ) => LiteralsAction::Add(LiteralsPhase::More(negated), byte),
-        (LiteralsPhase::More(_), _) => next_action(kind),
-        (LiteralsPhase::Closing, NameByte::Blank) => LiteralsAction::To(phase),
-        (LiteralsPhase::Closing, NameByte::Feed) => LiteralsAction::End,
-        _ => LiteralsAction::Stop,
+        ) => SolutionAction::Add(SolutionPhase::More(negated), byte),
+        (SolutionPhase::More(_), _) => next_action(kind),
+        (SolutionPhase::Closing, NameByte::Blank) => SolutionAction::To(phase),
+        (SolutionPhase::Closing, NameByte::Feed) => SolutionAction::End,
+        _ => SolutionAction::Stop,
     }
 }
 
 /// Whether the line has ended.
-fn is_done(phase: LiteralsPhase) -> bool
+fn is_done(phase: SolutionPhase) -> bool
     ensures { result ≡ is_done phase }
 {
-    matches!(phase, LiteralsPhase::Done)
+    matches!(phase, SolutionPhase::Done)
 }
 
 /// How many literals have begun a name and are not complete.
-fn in_hand(phase: LiteralsPhase) -> usize
+fn in_hand(phase: SolutionPhase) -> usize
     ensures { result ≡ in_hand phase }
 {
     match phase {
-        LiteralsPhase::First(_) | LiteralsPhase::More(_) => 1,
+        SolutionPhase::First(_) | SolutionPhase::More(_) => 1,
         _ => 0,
     }
 }
@@ -115,14 +115,14 @@ fn flush(
     alloc: Global,
     literals: &mut Sequence<Literal>,
     name: &mut Name,
-    phase: LiteralsPhase,
+    phase: SolutionPhase,
 ) -> Result<(), AllocError>
     ensures ok { OnOk result ((literals.new ≡ flushed phase literals.old name.old) ×
         (name.new ≡ [])) }
     ensures err { OnErr result ((is_more phase ≡ true) × (literals.new ≡ literals.old) ×
         (name.new ≡ name.old)) }
 {
-    if let LiteralsPhase::More(negated) = phase {
+    if let SolutionPhase::More(negated) = phase {
         let whole = mem::replace(name, Name::new(alloc));
         if let Err(failed) = literals.push(Literal {
             negated,
@@ -141,16 +141,16 @@ fn finish(
     alloc: Global,
     literals: &mut Sequence<Literal>,
     name: &mut Name,
-    phase: &mut LiteralsPhase,
+    phase: &mut SolutionPhase,
 ) -> Result<Sequence<Literal>, AllocError>
     ensures literals { IfOk result (λ all. all ≡ flushed phase.old literals.old name.old) }
     ensures ok { OnOk result ((literals.new ≡ []) × (name.new ≡ []) ×
-        (phase.new ≡ LiteralsPhase.Done)) }
+        (phase.new ≡ SolutionPhase.Done)) }
     ensures err { OnErr result ((is_more phase.old ≡ true) × (literals.new ≡ literals.old) ×
         (name.new ≡ name.old) × (phase.new ≡ phase.old)) }
 {
     flush(alloc, literals, name, *phase)?;
-    *phase = LiteralsPhase::Done;
+    *phase = SolutionPhase::Done;
     Ok(mem::replace(literals, Sequence::new(alloc)))
 }
 
@@ -166,31 +166,31 @@ fn count_units(literals: &[Literal]) -> usize
     count
 }
 
-impl LiteralsMachine {
+impl SolutionMachine {
     /// A machine at the start of its text. `joined` says whether the literals are joined to what
     /// comes before them. Creating it does not allocate.
     pub fn new(alloc: Global, joined: bool) -> Self
-        ensures begins { result ≡ literals_first joined }
+        ensures begins { result ≡ solution_first joined }
     {
-        LiteralsMachine {
+        SolutionMachine {
             alloc,
             joined,
             literals: Sequence::new(alloc),
             name: Name::new(alloc),
-            phase: LiteralsPhase::Start,
+            phase: SolutionPhase::Start,
         }
     }
 
     /// Takes a byte with its action.
     #[inline(always)]
-    fn take(&mut self, byte: u8, action: LiteralsAction) -> Push<Sequence<Literal>>
+    fn take(&mut self, byte: u8, action: SolutionAction) -> Push<Sequence<Literal>>
         requires action { action ≡ transition self.old.joined self.old.phase (name_byte byte) }
         requires fits { ActionFits action }
-        ensures { Pushes literals_automaton self.old byte result self.new }
+        ensures { Pushes solution_automaton self.old byte result self.new }
     {
         match action {
-            LiteralsAction::Stop => Push::No,
-            LiteralsAction::Begin(phase, first) => {
+            SolutionAction::Stop => Push::No,
+            SolutionAction::Begin(phase, first) => {
                 let mut name = Name::new(self.alloc);
                 if name.push(first).is_err() {
                     return Push::Memory;
@@ -199,21 +199,21 @@ impl LiteralsMachine {
                 self.phase = phase;
                 Push::Go
             }
-            LiteralsAction::Add(phase, next) => {
+            SolutionAction::Add(phase, next) => {
                 if self.name.push(next).is_err() {
                     return Push::Memory;
                 }
                 self.phase = phase;
                 Push::Go
             }
-            LiteralsAction::To(phase) => {
+            SolutionAction::To(phase) => {
                 if flush(self.alloc, &mut self.literals, &mut self.name, self.phase).is_err() {
                     return Push::Memory;
                 }
                 self.phase = phase;
                 Push::Go
             }
-            LiteralsAction::End => {
+            SolutionAction::End => {
                 let Ok(literals) = finish(
                     self.alloc,
                     &mut self.literals,
@@ -228,15 +228,15 @@ impl LiteralsMachine {
     }
 }
 
-impl Machine for LiteralsMachine {
+impl Machine for SolutionMachine {
     type Event = Sequence<Literal>;
 
-    ghost automaton = { literals_automaton };
+    ghost automaton = { solution_automaton };
 
     fn try_continue(&mut self, byte: u8) -> bool {
         let _ = self.is_done();
         let action = transition(self.joined, self.phase, name_byte(byte));
-        if matches!(action, LiteralsAction::End | LiteralsAction::Stop) {
+        if matches!(action, SolutionAction::End | SolutionAction::Stop) {
             return false;
         }
         let answer = self.take(byte, action);
@@ -259,12 +259,12 @@ impl Machine for LiteralsMachine {
     }
 
     fn starts(&self, byte: u8) -> bool {
-        if self.joined || !matches!(self.phase, LiteralsPhase::Start) {
+        if self.joined || !matches!(self.phase, SolutionPhase::Start) {
             return false;
         }
         !matches!(
             transition(self.joined, self.phase, name_byte(byte)),
-            LiteralsAction::Stop
+            SolutionAction::Stop
         )
     }
 

@@ -2,7 +2,7 @@
 
 ghost use Rattle.std.specs.Prelude.{◌≡◌};
 ghost use Rattle.pb_text.specs.contract.Automaton.{Finishes, IsState};
-ghost use Rattle.pb_proof.specs.engine.Machine.State.{proofs};
+ghost use Rattle.pb_proof.specs.engine.machine.State.{proofs};
 
 use crate::machine::phase::Phase;
 use crate::machine::transition::next_stage;

@@ -36,7 +36,7 @@ pub enum Keyword {
 #[derive(Clone, Copy, Drop)]
 pub enum LineKind {
     /// After `f`.
-    Count,
+    Formula,
     /// After `pol`.
     Pol,
     /// After `rup`.

@@ -1,9 +1,9 @@
 //! What the machine for proofs does with a byte, given what it has read last.
 
 ghost use Rattle.std.specs.Prelude.{◌≡◌, ◌<◌, ◌≤◌, IfSome, None, length, take};
-ghost use Rattle.pb_proof.specs.engine.Machine.Transition.{words_of, next_action, meets, spell, step_keyword, enter, pass, between, transition};
-ghost use Rattle.pb_proof.specs.engine.Machine.State.{is_within, is_complete, is_done, next_stage, PhaseFits};
-ghost use Rattle.pb_proof.specs.engine.Machine.Words.{IsRest, LacksRest};
+ghost use Rattle.pb_proof.specs.engine.machine.Transition.{words_of, next_action, meets, spell, step_keyword, enter, pass, between, transition};
+ghost use Rattle.pb_proof.specs.engine.machine.State.{is_within, is_complete, is_done, next_stage, PhaseFits};
+ghost use Rattle.pb_proof.specs.engine.machine.Words.{IsRest, LacksRest};
 
 use crate::machine::phase::{Action, Keyword, LineKind, Phase, Stage};
 use pb_text::bytes::{is_blank, is_white};
@@ -31,7 +31,7 @@ fn next_action(keyword: Keyword) -> Action
 {
     match keyword {
         Keyword::Header => Action::To(Phase::HeaderEnd),
-        Keyword::Formula => Action::Begin(LineKind::Count),
+        Keyword::Formula => Action::Begin(LineKind::Formula),
         Keyword::Pol => Action::Begin(LineKind::Pol),
         Keyword::Rup => Action::Begin(LineKind::Rup),
         Keyword::Solution => Action::To(Phase::Solution),

@@ -3,9 +3,9 @@
 
 ghost use Rattle.std.specs.Prelude.{◌≡◌, ℕ, ◌+◌, ◌-◌, ◌*◌, ◌/◌, ◌%◌, ◌^◌, ◌<◌, ◌≤◌, ◌⊎◌, ◌++◌, ◌∷◌, [], true, length, slice_set, IfOk, OnOk, OnErr};
 ghost use Rattle.pb_propagate.specs.declared.clauses.lists.Watch.{Watch};
-ghost use Rattle.pb_propagate.specs.engine.Clauses.Links.{idle, list_at, watch_at};
-ghost use Rattle.pb_propagate.specs.engine.Clauses.Runs.{search_at};
-ghost use Rattle.pb_propagate.specs.engine.Clauses.Blocks.{begun, number_at, HasBlock, rewatched, searched, rewritten, passed_by, IsBare, IsRenewed};
+ghost use Rattle.pb_propagate.specs.engine.clauses.Links.{idle, list_at, watch_at};
+ghost use Rattle.pb_propagate.specs.engine.clauses.Runs.{search_at};
+ghost use Rattle.pb_propagate.specs.engine.clauses.Blocks.{begun, number_at, HasBlock, rewatched, searched, rewritten, passed_by, IsBare, IsRenewed};
 
 use crate::clauses::lists::Watch;
 use crate::clauses::search::Search;
@@ -31,7 +31,7 @@ pub struct Blocks {
 }
 
 impl Model for Blocks {
-    ghost use Rattle.pb_propagate.specs.engine.Clauses.Blocks.{Contents, contents, AreBlocks};
+    ghost use Rattle.pb_propagate.specs.engine.clauses.Blocks.{Contents, contents, AreBlocks};
 
     ghost Value = { Contents };
 

@@ -2,8 +2,8 @@
 
 ghost use Rattle.std.specs.Prelude.{◌≡◌, ℕ, ◌+◌, ◌-◌, ◌/◌, ◌^◌, ◌<◌, ◌++◌, ◌∷◌, [], true, false, length, slice_get, slice_set, swap_remove, OnOk, IfOk, IfSome, IfNone, Some};
 ghost use Rattle.pb_propagate.specs.declared.clauses.lists.Listed.{Listed};
-ghost use Rattle.pb_propagate.specs.engine.Clauses.Links.{watch_lists, list_at, watch_at, idle, AreLinked, Remains, AreFewer, AreMore};
-ghost use Rattle.pb_propagate.specs.engine.Clauses.Blocks.{HasBlock, rewatched};
+ghost use Rattle.pb_propagate.specs.engine.clauses.Links.{watch_lists, list_at, watch_at, idle, AreLinked, Remains, AreFewer, AreMore};
+ghost use Rattle.pb_propagate.specs.engine.clauses.Blocks.{HasBlock, rewatched};
 
 use crate::clauses::blocks::Blocks;
 use crate::tight::append;

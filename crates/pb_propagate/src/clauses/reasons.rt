@@ -1,14 +1,14 @@
 //! A clause goes: the literals that it has forced need other reasons. No visit is counted.
 
 ghost use Rattle.std.specs.Prelude.{◌≡◌, ℕ, ◌*◌, ◌<◌, true, All, length, slice_index_or};
-ghost use Rattle.pb_propagate.specs.engine.Engine.Lists.{IsDue};
-ghost use Rattle.pb_propagate.specs.engine.Engine.Fields.{shapes_of, IsSound};
-ghost use Rattle.pb_propagate.specs.engine.Engine.Progress.{list_of, reasons_of};
-ghost use Rattle.pb_propagate.specs.engine.Engine.Refreshed.{IsReleased, IsSomeRoot};
-ghost use Rattle.pb_propagate.specs.engine.Engine.Root.{HasOtherReasons};
-ghost use Rattle.pb_propagate.specs.engine.Clauses.Links.{list_at};
-ghost use Rattle.pb_propagate.specs.engine.Clauses.Runs.{AreReady};
-ghost use Rattle.pb_propagate.specs.engine.Clauses.Shapes.{clauses_of, literal_at};
+ghost use Rattle.pb_propagate.specs.engine.engine.Lists.{IsDue};
+ghost use Rattle.pb_propagate.specs.engine.engine.Fields.{shapes_of, IsSound};
+ghost use Rattle.pb_propagate.specs.engine.engine.Progress.{list_of, reasons_of};
+ghost use Rattle.pb_propagate.specs.engine.engine.Refreshed.{IsReleased, IsSomeRoot};
+ghost use Rattle.pb_propagate.specs.engine.engine.Root.{HasOtherReasons};
+ghost use Rattle.pb_propagate.specs.engine.clauses.Links.{list_at};
+ghost use Rattle.pb_propagate.specs.engine.clauses.Runs.{AreReady};
+ghost use Rattle.pb_propagate.specs.engine.clauses.Shapes.{clauses_of, literal_at};
 
 use crate::assignment::Assignment;
 use crate::clauses::Clauses;

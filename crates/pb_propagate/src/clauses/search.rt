@@ -2,8 +2,8 @@
 //! where the last one ended.
 
 ghost use Rattle.std.specs.Prelude.{◌≡◌, ℕ, ◌+◌, ◌*◌, ◌-◌, ◌^◌, ◌<◌, ◌≤◌, ◌⊎◌, true, false, All, length, min, slice_index_or};
-ghost use Rattle.pb_propagate.specs.engine.Clauses.Truths.{false_at};
-ghost use Rattle.pb_propagate.specs.engine.Clauses.Runs.{turned, around, IsRound};
+ghost use Rattle.pb_propagate.specs.engine.clauses.Truths.{false_at};
+ghost use Rattle.pb_propagate.specs.engine.clauses.Runs.{turned, around, IsRound};
 
 use crate::assignment::Assignment;
 use crate::engine::visits::Visits;

@@ -1,10 +1,10 @@
 //! A visit to one watch of a falsified literal.
 
 ghost use Rattle.std.specs.Prelude.{◌≡◌, ℕ, ◌+◌, ◌-◌, ◌/◌, ◌^◌, ◌<◌, ◌≤◌, ◌⊎◌, ◌++◌, ◌∷◌, [], true, false, All, List, length, min, sum, slice_get, OnOk, IfOk, Some};
-ghost use Rattle.pb_propagate.specs.engine.Clauses.Truths.{flip, true_at, false_at};
-ghost use Rattle.pb_propagate.specs.engine.Clauses.Links.{watch_lists, list_at, watch_at, AreLinked, Remains, IsListed, AreMore};
-ghost use Rattle.pb_propagate.specs.engine.Clauses.Blocks.{HasBlock, rewatched};
-ghost use Rattle.pb_propagate.specs.engine.Clauses.Runs.{AreWithin, IsRunning, HasVisited, IsServedTo, passed_of};
+ghost use Rattle.pb_propagate.specs.engine.clauses.Truths.{flip, true_at, false_at};
+ghost use Rattle.pb_propagate.specs.engine.clauses.Links.{watch_lists, list_at, watch_at, AreLinked, Remains, IsListed, AreMore};
+ghost use Rattle.pb_propagate.specs.engine.clauses.Blocks.{HasBlock, rewatched};
+ghost use Rattle.pb_propagate.specs.engine.clauses.Runs.{AreWithin, IsRunning, HasVisited, IsServedTo, passed_of};
 
 use crate::assignment::Assignment;
 use crate::clause::opposite;

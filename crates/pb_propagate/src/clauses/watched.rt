@@ -1,8 +1,8 @@
 //! The two literals that a new clause watches.
 
 ghost use Rattle.std.specs.Prelude.{◌≡◌, ◌<◌, false, length, slice_index, IfSome};
-ghost use Rattle.pb_propagate.specs.engine.Clauses.Runs.{IsPair, IsFreePair};
-ghost use Rattle.pb_propagate.specs.engine.Clauses.Truths.{false_at};
+ghost use Rattle.pb_propagate.specs.engine.clauses.Runs.{IsPair, IsFreePair};
+ghost use Rattle.pb_propagate.specs.engine.clauses.Truths.{false_at};
 
 use crate::assignment::Assignment;
 

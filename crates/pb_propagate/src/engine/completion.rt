@@ -2,14 +2,14 @@
 
 ghost use Rattle.std.specs.Prelude.{◌≡◌, [], ◌*◌, ◌<◌, ◌≤◌, true, All, length, OnOk, IfOk, IfSome, IfNone};
 ghost use Rattle.pb_normal.specs.declared.numbered.NumberedLiteral.{NumberedLiteral};
-ghost use Rattle.pb_propagate.specs.engine.Engine.Lists.{IsWithin};
-ghost use Rattle.pb_propagate.specs.engine.Engine.Progress.{IfFound, IfNotFound, RunIsOpen, shapes_in, list_of};
-ghost use Rattle.pb_propagate.specs.engine.Engine.Propagation.{IsReadyRun, Propagates, RunPuts};
-ghost use Rattle.pb_propagate.specs.engine.Engine.Fields.{IsSound};
-ghost use Rattle.pb_propagate.specs.engine.Engine.Reached.{IsFrom, HasClash, HasEnded, IsMade, IsClashed};
-ghost use Rattle.pb_propagate.specs.engine.Engine.Root.{IsStanding, IsVacant, IsLeft};
-ghost use Rattle.pb_propagate.specs.engine.Clauses.Walked.{heads_at};
-ghost use Rattle.pb_propagate.specs.engine.Clauses.Shapes.{all_of};
+ghost use Rattle.pb_propagate.specs.engine.engine.Lists.{IsWithin};
+ghost use Rattle.pb_propagate.specs.engine.engine.Progress.{IfFound, IfNotFound, RunIsOpen, shapes_in, list_of};
+ghost use Rattle.pb_propagate.specs.engine.engine.Propagation.{IsReadyRun, Propagates, RunPuts};
+ghost use Rattle.pb_propagate.specs.engine.engine.Fields.{IsSound};
+ghost use Rattle.pb_propagate.specs.engine.engine.Reached.{IsFrom, HasClash, HasEnded, IsMade, IsClashed};
+ghost use Rattle.pb_propagate.specs.engine.engine.Root.{IsStanding, IsVacant, IsLeft};
+ghost use Rattle.pb_propagate.specs.engine.clauses.Walked.{heads_at};
+ghost use Rattle.pb_propagate.specs.engine.clauses.Shapes.{all_of};
 
 use crate::clauses::Clauses;
 use crate::engine::conflict::Conflict;

@@ -3,11 +3,11 @@
 ghost use Rattle.std.specs.Prelude.{◌≡◌, List, ◌*◌, ◌<◌, [], true, false, length, OnOk};
 ghost use Rattle.pb_propagate.specs.declared.store.Store.{Store};
 ghost use Rattle.pb_propagate.specs.declared.clauses.Clauses.{Clauses};
-ghost use Rattle.pb_propagate.specs.engine.Engine.Lists.{Shape, HaveReasons, KeepsReasons};
-ghost use Rattle.pb_propagate.specs.engine.Engine.Fields.{shapes_of, IsSound};
-ghost use Rattle.pb_propagate.specs.engine.Engine.Root.{IsKeptConflict, IsMet, IsNeedless};
-ghost use Rattle.pb_propagate.specs.engine.Clauses.Runs.{AreReady};
-ghost use Rattle.pb_propagate.specs.engine.Clauses.Shapes.{AreJoined, clauses_of, all_of};
+ghost use Rattle.pb_propagate.specs.engine.engine.Lists.{Shape, HaveReasons, KeepsReasons};
+ghost use Rattle.pb_propagate.specs.engine.engine.Fields.{shapes_of, IsSound};
+ghost use Rattle.pb_propagate.specs.engine.engine.Root.{IsKeptConflict, IsMet, IsNeedless};
+ghost use Rattle.pb_propagate.specs.engine.clauses.Runs.{AreReady};
+ghost use Rattle.pb_propagate.specs.engine.clauses.Shapes.{AreJoined, clauses_of, all_of};
 
 use crate::assignment::Assignment;
 use crate::clauses::Clauses;

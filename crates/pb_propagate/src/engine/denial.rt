@@ -4,14 +4,14 @@
 ghost use Rattle.std.specs.Prelude.{◌≡◌, ◌<◌, ◌≤◌, ◌++◌, ◌∷◌, [], true, false, All, length, OnOk, OnErr};
 ghost use Rattle.pb_normal.specs.meaning.Form.{IsNormal};
 ghost use Rattle.pb_normal.specs.meaning.Rules.{negation};
-ghost use Rattle.pb_propagate.specs.engine.Engine.Denial.{IsDisjunction, IsOne, IsHit, denial_of, AreDenied, RunRefutes};
-ghost use Rattle.pb_propagate.specs.engine.Engine.Lists.{has, Derives, Conflicts};
-ghost use Rattle.pb_propagate.specs.engine.Engine.Counts.{Adopted};
-ghost use Rattle.pb_propagate.specs.engine.Engine.Progress.{IfFound, IfNotFound, AreSettled, RunIsOpen, shapes_in, list_of, RunVisitsEach, RunCosts};
-ghost use Rattle.pb_propagate.specs.engine.Engine.Propagation.{IsReadyRun, Propagates, RunGains, RunPuts};
-ghost use Rattle.pb_propagate.specs.engine.Engine.Fields.{IsSound};
-ghost use Rattle.pb_propagate.specs.engine.Clauses.Walked.{heads_at};
-ghost use Rattle.pb_propagate.specs.engine.Clauses.Shapes.{all_of};
+ghost use Rattle.pb_propagate.specs.engine.engine.Denial.{IsDisjunction, IsOne, IsHit, denial_of, AreDenied, RunRefutes};
+ghost use Rattle.pb_propagate.specs.engine.engine.Lists.{has, Derives, Conflicts};
+ghost use Rattle.pb_propagate.specs.engine.engine.Counts.{Adopted};
+ghost use Rattle.pb_propagate.specs.engine.engine.Progress.{IfFound, IfNotFound, AreSettled, RunIsOpen, shapes_in, list_of, RunVisitsEach, RunCosts};
+ghost use Rattle.pb_propagate.specs.engine.engine.Propagation.{IsReadyRun, Propagates, RunGains, RunPuts};
+ghost use Rattle.pb_propagate.specs.engine.engine.Fields.{IsSound};
+ghost use Rattle.pb_propagate.specs.engine.clauses.Walked.{heads_at};
+ghost use Rattle.pb_propagate.specs.engine.clauses.Shapes.{all_of};
 
 use crate::clauses::Clauses;
 use crate::heads::{Heads, Order};

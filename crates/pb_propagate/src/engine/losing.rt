@@ -3,14 +3,14 @@
 ghost use Rattle.std.specs.Prelude.{◌≡◌, ◌-◌, ◌*◌, ◌<◌, length, take};
 ghost use Rattle.pb_propagate.specs.declared.store.Store.{Store};
 ghost use Rattle.pb_propagate.specs.declared.clauses.Clauses.{Clauses};
-ghost use Rattle.pb_propagate.specs.engine.Engine.Lists.{IsDue};
-ghost use Rattle.pb_propagate.specs.engine.Engine.Progress.{list_of, reasons_of};
-ghost use Rattle.pb_propagate.specs.engine.Engine.Fields.{shapes_of, forms_of, IsSound};
-ghost use Rattle.pb_propagate.specs.engine.Engine.Refreshed.{IsReleased, IsShortened, IsSomeRoot};
-ghost use Rattle.pb_propagate.specs.engine.Engine.Rest.{AreSlots};
-ghost use Rattle.pb_propagate.specs.engine.Engine.Root.{IsRootOf, IsNeedless, HasRemoved};
-ghost use Rattle.pb_propagate.specs.engine.Clauses.Runs.{AreReady};
-ghost use Rattle.pb_propagate.specs.engine.Clauses.Shapes.{AreJoined, clauses_of, all_of};
+ghost use Rattle.pb_propagate.specs.engine.engine.Lists.{IsDue};
+ghost use Rattle.pb_propagate.specs.engine.engine.Progress.{list_of, reasons_of};
+ghost use Rattle.pb_propagate.specs.engine.engine.Fields.{shapes_of, forms_of, IsSound};
+ghost use Rattle.pb_propagate.specs.engine.engine.Refreshed.{IsReleased, IsShortened, IsSomeRoot};
+ghost use Rattle.pb_propagate.specs.engine.engine.Rest.{AreSlots};
+ghost use Rattle.pb_propagate.specs.engine.engine.Root.{IsRootOf, IsNeedless, HasRemoved};
+ghost use Rattle.pb_propagate.specs.engine.clauses.Runs.{AreReady};
+ghost use Rattle.pb_propagate.specs.engine.clauses.Shapes.{AreJoined, clauses_of, all_of};
 
 use crate::clauses::Clauses;
 use crate::clauses::reasons::release_by_literals;

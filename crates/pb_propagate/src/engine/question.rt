@@ -1,13 +1,13 @@
 //! A question that continues from the root.
 
 ghost use Rattle.std.specs.Prelude.{◌≡◌, All, ◌≤◌, ◌+◌, ◌*◌, ◌<◌, true, length, sum_by, OnOk, OnErr, IfOk};
-ghost use Rattle.pb_propagate.specs.engine.Engine.Fields.{forms_of};
+ghost use Rattle.pb_propagate.specs.engine.engine.Fields.{forms_of};
 ghost use Rattle.pb_normal.specs.meaning.Rules.{negation_of};
-ghost use Rattle.pb_propagate.specs.engine.Engine.Denial.{IsDisjunction};
-ghost use Rattle.pb_propagate.specs.engine.Engine.Root.{IsStanding, IsVacant, IsLeft, IsAsked, HasSameForms, terms_of_all};
-ghost use Rattle.pb_propagate.specs.engine.Engine.Live.{one_in};
-ghost use Rattle.pb_propagate.specs.engine.Engine.Progress.{list_of};
-ghost use Rattle.pb_propagate.specs.engine.Clauses.Shapes.{all_of};
+ghost use Rattle.pb_propagate.specs.engine.engine.Denial.{IsDisjunction};
+ghost use Rattle.pb_propagate.specs.engine.engine.Root.{IsStanding, IsVacant, IsLeft, IsAsked, HasSameForms, terms_of_all};
+ghost use Rattle.pb_propagate.specs.engine.engine.Live.{one_in};
+ghost use Rattle.pb_propagate.specs.engine.engine.Progress.{list_of};
+ghost use Rattle.pb_propagate.specs.engine.clauses.Shapes.{all_of};
 
 use crate::clauses::Clauses;
 use crate::engine::conflict::Conflict;

@@ -3,14 +3,14 @@
 ghost use Rattle.std.specs.Prelude.{◌≡◌, ℕ, List, ◌+◌, ◌*◌, ◌<◌, ◌⊎◌, ◌++◌, ◌∷◌, [], length, slice_set, slice_index_or, OnOk};
 ghost use Rattle.pb_propagate.specs.declared.store.Store.{Store};
 ghost use Rattle.pb_propagate.specs.declared.clauses.Clauses.{Clauses};
-ghost use Rattle.pb_propagate.specs.engine.Engine.Lists.{Shape, open_sum};
-ghost use Rattle.pb_propagate.specs.engine.Engine.Progress.{RunIsUndone, IfFound, IfNotFound};
-ghost use Rattle.pb_propagate.specs.engine.Engine.Counts.{Grown, IsAbsent, IsCalm, IsUndone};
-ghost use Rattle.pb_propagate.specs.engine.Engine.Propagation.{GoesBack, IsSaved};
-ghost use Rattle.pb_propagate.specs.engine.Engine.Fields.{shapes_of, IsSound};
-ghost use Rattle.pb_propagate.specs.engine.Engine.Root.{IsRootOf, WasRootOf, IsStanding, IsVacant, IsKeptConflict, RunIsWidened, UpdateCosts, HasMet, HasUpdated};
-ghost use Rattle.pb_propagate.specs.engine.Clauses.Runs.{AreReady, IsRunning};
-ghost use Rattle.pb_propagate.specs.engine.Clauses.Shapes.{AreJoined, clauses_of, all_of};
+ghost use Rattle.pb_propagate.specs.engine.engine.Lists.{Shape, open_sum};
+ghost use Rattle.pb_propagate.specs.engine.engine.Progress.{RunIsUndone, IfFound, IfNotFound};
+ghost use Rattle.pb_propagate.specs.engine.engine.Counts.{Grown, IsAbsent, IsCalm, IsUndone};
+ghost use Rattle.pb_propagate.specs.engine.engine.Propagation.{GoesBack, IsSaved};
+ghost use Rattle.pb_propagate.specs.engine.engine.Fields.{shapes_of, IsSound};
+ghost use Rattle.pb_propagate.specs.engine.engine.Root.{IsRootOf, WasRootOf, IsStanding, IsVacant, IsKeptConflict, RunIsWidened, UpdateCosts, HasMet, HasUpdated};
+ghost use Rattle.pb_propagate.specs.engine.clauses.Runs.{AreReady, IsRunning};
+ghost use Rattle.pb_propagate.specs.engine.clauses.Shapes.{AreJoined, clauses_of, all_of};
 
 use crate::assignment::Assignment;
 use crate::clauses::Clauses;

@@ -2,8 +2,8 @@
 
 ghost use Rattle.std.specs.Prelude.{◌≡◌, ℕ, ◌+◌, ◌<◌, ◌≤◌, ◌^◌, length, sum_by, slice_index_or};
 ghost use Rattle.pb_propagate.specs.declared.term.Term.{Term};
-ghost use Rattle.pb_propagate.specs.engine.Engine.Counts.{AreFalling, IsCalm};
-ghost use Rattle.pb_propagate.specs.engine.Engine.Terms.{terms_of};
+ghost use Rattle.pb_propagate.specs.engine.engine.Counts.{AreFalling, IsCalm};
+ghost use Rattle.pb_propagate.specs.engine.engine.Terms.{terms_of};
 
 use crate::store::sorted_form::SortedForm;
 use crate::store::sums::Sums;

@@ -4,16 +4,16 @@ ghost use Rattle.std.specs.Prelude.{◌≡◌, ℕ, List, All, Some, None, ◌+�
 ghost use Rattle.pb_propagate.specs.declared.term.Term.{Term};
 ghost use Rattle.pb_propagate.specs.declared.store.Occurrence.{Occurrence};
 ghost use Rattle.pb_propagate.specs.declared.store.stored_form.StoredForm.{StoredForm};
-ghost use Rattle.pb_propagate.specs.engine.Engine.Lists.{Shape};
-ghost use Rattle.pb_propagate.specs.engine.Engine.Counts.{AreFalling, IsCalm, place};
-ghost use Rattle.pb_propagate.specs.engine.Engine.Forms.{IsStoredAs};
-ghost use Rattle.pb_propagate.specs.engine.Engine.Stored.{stored_form, stored_terms};
-ghost use Rattle.pb_propagate.specs.engine.Engine.Terms.{terms_of};
-ghost use Rattle.pb_propagate.specs.engine.Engine.Fields.{stored_shape, shapes_of, forms_of, spots_of, lists_of, entries_of, IsSound, HasEntered, HasFilled, IsEmpty, IsUnlisted, AreLonger};
-ghost use Rattle.pb_propagate.specs.engine.Engine.Slots.{MayHold};
-ghost use Rattle.pb_propagate.specs.engine.Engine.Links.{IsLinked, Moved, cut, terms_at};
-ghost use Rattle.pb_propagate.specs.engine.Clauses.Runs.{AreReady, AreSet};
-ghost use Rattle.pb_propagate.specs.engine.Clauses.Shapes.{clauses_of, codes_of_terms};
+ghost use Rattle.pb_propagate.specs.engine.engine.Lists.{Shape};
+ghost use Rattle.pb_propagate.specs.engine.engine.Counts.{AreFalling, IsCalm, place};
+ghost use Rattle.pb_propagate.specs.engine.engine.Forms.{IsStoredAs};
+ghost use Rattle.pb_propagate.specs.engine.engine.Stored.{stored_form, stored_terms};
+ghost use Rattle.pb_propagate.specs.engine.engine.Terms.{terms_of};
+ghost use Rattle.pb_propagate.specs.engine.engine.Fields.{stored_shape, shapes_of, forms_of, spots_of, lists_of, entries_of, IsSound, HasEntered, HasFilled, IsEmpty, IsUnlisted, AreLonger};
+ghost use Rattle.pb_propagate.specs.engine.engine.Slots.{MayHold};
+ghost use Rattle.pb_propagate.specs.engine.engine.Links.{IsLinked, Moved, cut, terms_at};
+ghost use Rattle.pb_propagate.specs.engine.clauses.Runs.{AreReady, AreSet};
+ghost use Rattle.pb_propagate.specs.engine.clauses.Shapes.{clauses_of, codes_of_terms};
 
 use crate::clauses::Clauses;
 use crate::clauses::watched::Pair;

@@ -3,8 +3,8 @@
 ghost use Rattle.std.specs.Prelude.{◌≡◌, ◌≤◌, ◌<◌, ◌^◌, false, List, length, sum_by};
 ghost use Rattle.pb_normal.specs.declared.numbered.NumberedLiteral.{NumberedLiteral};
 ghost use Rattle.pb_normal.specs.meaning.Rules.{negation};
-ghost use Rattle.pb_propagate.specs.engine.Engine.Lists.{has, says, open_part, open_sum, AreInside};
-ghost use Rattle.pb_propagate.specs.engine.Engine.Stored.{stored_terms};
+ghost use Rattle.pb_propagate.specs.engine.engine.Lists.{has, says, open_part, open_sum, AreInside};
+ghost use Rattle.pb_propagate.specs.engine.engine.Stored.{stored_terms};
 
 use crate::store::stored_form::StoredForm;
 use crate::term::Term;

@@ -2,15 +2,15 @@
 
 ghost use Rattle.std.specs.Prelude.{◌≡◌, ℕ, ◌*◌, ◌^◌, ◌<◌, [], true, length, slice_index_or};
 ghost use Rattle.pb_propagate.specs.declared.term.Term.{Term};
-ghost use Rattle.pb_propagate.specs.engine.Engine.Lists.{HaveReasons, IsDue};
-ghost use Rattle.pb_propagate.specs.engine.Engine.Counts.{place};
-ghost use Rattle.pb_propagate.specs.engine.Engine.Fields.{shapes_of, IsSound};
-ghost use Rattle.pb_propagate.specs.engine.Engine.Links.{terms_at};
-ghost use Rattle.pb_propagate.specs.engine.Engine.Progress.{list_of, reasons_of};
-ghost use Rattle.pb_propagate.specs.engine.Engine.Refreshed.{IsReleased, IsSomeRoot};
-ghost use Rattle.pb_propagate.specs.engine.Engine.Root.{HasOtherReasons, IsNeedless};
-ghost use Rattle.pb_propagate.specs.engine.Clauses.Runs.{AreReady};
-ghost use Rattle.pb_propagate.specs.engine.Clauses.Shapes.{AreJoined, clauses_of, all_of};
+ghost use Rattle.pb_propagate.specs.engine.engine.Lists.{HaveReasons, IsDue};
+ghost use Rattle.pb_propagate.specs.engine.engine.Counts.{place};
+ghost use Rattle.pb_propagate.specs.engine.engine.Fields.{shapes_of, IsSound};
+ghost use Rattle.pb_propagate.specs.engine.engine.Links.{terms_at};
+ghost use Rattle.pb_propagate.specs.engine.engine.Progress.{list_of, reasons_of};
+ghost use Rattle.pb_propagate.specs.engine.engine.Refreshed.{IsReleased, IsSomeRoot};
+ghost use Rattle.pb_propagate.specs.engine.engine.Root.{HasOtherReasons, IsNeedless};
+ghost use Rattle.pb_propagate.specs.engine.clauses.Runs.{AreReady};
+ghost use Rattle.pb_propagate.specs.engine.clauses.Shapes.{AreJoined, clauses_of, all_of};
 
 use crate::assignment::Assignment;
 use crate::clauses::Clauses;

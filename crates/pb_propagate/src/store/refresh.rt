@@ -2,12 +2,12 @@
 //! nothing is allocated.
 
 ghost use Rattle.std.specs.Prelude.{◌≡◌, ℕ, ◌≤◌, ◌<◌, ◌⊎◌, [], Some, length, slice_get, slice_index_or, slice_set};
-ghost use Rattle.pb_propagate.specs.engine.Engine.Lists.{Weighted};
-ghost use Rattle.pb_propagate.specs.engine.Engine.Counts.{IsAbsent, place};
-ghost use Rattle.pb_propagate.specs.engine.Engine.Fields.{shapes_of, entries_of, IsSound};
-ghost use Rattle.pb_propagate.specs.engine.Engine.Links.{terms_at};
-ghost use Rattle.pb_propagate.specs.engine.Engine.Refreshed.{AreRefreshed, IsRefreshed, Lacks};
-ghost use Rattle.pb_propagate.specs.engine.Engine.Root.{IsSized};
+ghost use Rattle.pb_propagate.specs.engine.engine.Lists.{Weighted};
+ghost use Rattle.pb_propagate.specs.engine.engine.Counts.{IsAbsent, place};
+ghost use Rattle.pb_propagate.specs.engine.engine.Fields.{shapes_of, entries_of, IsSound};
+ghost use Rattle.pb_propagate.specs.engine.engine.Links.{terms_at};
+ghost use Rattle.pb_propagate.specs.engine.engine.Refreshed.{AreRefreshed, IsRefreshed, Lacks};
+ghost use Rattle.pb_propagate.specs.engine.engine.Root.{IsSized};
 
 use crate::engine::root::Root;
 use crate::run::place_of;

@@ -1,8 +1,8 @@
 //! A form with its terms in order of falling coefficient.
 
 ghost use Rattle.std.specs.Prelude.{◌≡◌, ℕ, ◌<◌, ◌^◌, [], true, All, IfOk, length, map, sum_by, slice_index_or, IsPermutation};
-ghost use Rattle.pb_propagate.specs.engine.Engine.Forms.{entry_of, as_term, picked, in_order, IsPlaced};
-ghost use Rattle.pb_propagate.specs.engine.Engine.Counts.{AreEven, AreFalling};
+ghost use Rattle.pb_propagate.specs.engine.engine.Forms.{entry_of, as_term, picked, in_order, IsPlaced};
+ghost use Rattle.pb_propagate.specs.engine.engine.Counts.{AreEven, AreFalling};
 
 use crate::shared::Shared;
 use crate::term::{Rank, Term};
@@ -114,9 +114,9 @@ fn order_of(alloc: Global, entries: &Terms) -> Result<Vec<usize>, AllocError>
 impl SortedForm {
     ghost use Rattle.std.specs.Prelude.{◌≡◌, ◌<◌, [], true, IfOk, length, map, IsPermutation, slice_index_or};
     ghost use Rattle.pb_propagate.specs.declared.term.Term.{Term};
-    ghost use Rattle.pb_propagate.specs.engine.Engine.Forms.{entry_of, as_term, entry_at_place};
-    ghost use Rattle.pb_propagate.specs.engine.Engine.Counts.{AreEven, AreFalling};
-    ghost use Rattle.pb_propagate.specs.engine.Engine.Terms.{terms_of};
+    ghost use Rattle.pb_propagate.specs.engine.engine.Forms.{entry_of, as_term, entry_at_place};
+    ghost use Rattle.pb_propagate.specs.engine.engine.Counts.{AreEven, AreFalling};
+    ghost use Rattle.pb_propagate.specs.engine.engine.Terms.{terms_of};
 
     /// A form.
     pub fn new(alloc: Global, form: Shared) -> Result<SortedForm, AllocError>

@@ -1,7 +1,7 @@
 //! The positions of a form's entries in the occurrence lists.
 
 ghost use Rattle.std.specs.Prelude.{◌≡◌, ◌<◌, ◌≤◌, [], length, slice_index_or, slice_set, IfOk};
-ghost use Rattle.pb_propagate.specs.engine.Engine.Spots.{spots_in};
+ghost use Rattle.pb_propagate.specs.engine.engine.Spots.{spots_in};
 
 use std::alloc::{AllocError, Global};
 

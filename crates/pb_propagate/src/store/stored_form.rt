@@ -27,7 +27,7 @@ pub enum StoredForm {
 impl StoredForm {
     ghost use Rattle.std.specs.Prelude.{◌≡◌, ◌<◌, Some, None, IfOk, IfSome, IfNone, is_some, length, slice_index_or};
     ghost use Rattle.pb_propagate.specs.declared.term.Term.{Term};
-    ghost use Rattle.pb_propagate.specs.engine.Engine.Stored.{stored_form, stored_terms, stored_degree, stored_total, stored_bound};
+    ghost use Rattle.pb_propagate.specs.engine.engine.Stored.{stored_form, stored_terms, stored_degree, stored_total, stored_bound};
 
     /// Whether there is a form.
     pub fn has_form(&self) -> bool

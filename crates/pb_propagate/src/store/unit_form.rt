@@ -24,7 +24,7 @@ impl UnitForm {
     ghost use Rattle.std.specs.Prelude.{◌≡◌, ◌+◌, length, slice_index_or, sum_by, IfOk};
     ghost use Rattle.pb_normal.specs.meaning.Form.{IsNormal};
     ghost use Rattle.pb_propagate.specs.declared.term.Term.{Term};
-    ghost use Rattle.pb_propagate.specs.engine.Engine.Terms.{unit_terms};
+    ghost use Rattle.pb_propagate.specs.engine.engine.Terms.{unit_terms};
 
     /// A form with one term.
     pub fn of(form: Shared) -> UnitForm

@@ -2,10 +2,10 @@
 
 ghost use Rattle.std.specs.Prelude.{◌≡◌, ◌^◌, ◌<◌, ◌∷◌, [], true, length, IfSome, IfNone};
 ghost use Rattle.pb_normal.specs.declared.numbered.NumberedLiteral.{NumberedLiteral};
-ghost use Rattle.pb_propagate.specs.engine.Engine.Counts.{place};
-ghost use Rattle.pb_propagate.specs.engine.Engine.Fields.{shapes_of};
-ghost use Rattle.pb_propagate.specs.engine.Engine.Root.{IsOtherUnit, IsOnly};
-ghost use Rattle.pb_propagate.specs.engine.Engine.Stored.{stored_degree, stored_terms};
+ghost use Rattle.pb_propagate.specs.engine.engine.Counts.{place};
+ghost use Rattle.pb_propagate.specs.engine.engine.Fields.{shapes_of};
+ghost use Rattle.pb_propagate.specs.engine.engine.Root.{IsOtherUnit, IsOnly};
+ghost use Rattle.pb_propagate.specs.engine.engine.Stored.{stored_degree, stored_terms};
 
 use crate::run::place_of;
 use crate::store::Store;

@@ -16,7 +16,7 @@ use Rattle.pb_replay.specs.declared.state.Running.{Running}
 use Rattle.pb_replay.specs.meaning.Answer.{Answer}
 use Rattle.pb_replay.specs.meaning.Problem.{Problem, Opened, objective_of}
 use Rattle.pb_replay.specs.meaning.Replay.{State, Logged, added, first_state}
-use Rattle.pb_propagate.specs.engine.Engine.Live.{Standing}
+use Rattle.pb_propagate.specs.engine.engine.Live.{Standing}
 use Rattle.pb_propagate.specs.meaning.Propagation.{Live}
 use Rattle.pb_replay.specs.meaning.Statements.{Does, Outcome, PassesFirst, mentioned}
 use Rattle.pb_replay.specs.meaning.Meaning.{IsNamePrefix, IsProblem, IsSound}

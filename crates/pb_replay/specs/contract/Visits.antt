@@ -12,7 +12,7 @@ use Rattle.pb_normal.specs.meaning.Written.{names_of, IsSideOf}
 use Rattle.pb_replay.specs.declared.fault.Fault.{Fault}
 use Rattle.pb_replay.specs.declared.fault.Fault.TheVariants.{IdsSpent, NotImplied, Overflow, Order}
 use Rattle.pb_propagate.specs.meaning.Propagation.{Derivation, HasConflict, IsCompletion, With, Live}
-use Rattle.pb_propagate.specs.engine.Engine.Live.{terms_in, one_in}
+use Rattle.pb_propagate.specs.engine.engine.Live.{terms_in, one_in}
 
 -- With the goal, at most three visits for each live term and one for each live form.
 abbrev pub IsFew : List (Option Form) → Form → ℕ → Type 0

@@ -7,7 +7,7 @@ ghost use Rattle.pb_normal.specs.meaning.Names.{with_names};
 ghost use Rattle.pb_normal.specs.meaning.Rules.{negation_of};
 ghost use Rattle.pb_normal.specs.meaning.Written.{names_of, IsSideOf};
 ghost use Rattle.pb_normal.specs.declared.numbered.NumberedLiteral.{NumberedLiteral};
-ghost use Rattle.pb_propagate.specs.engine.Engine.Live.{Live};
+ghost use Rattle.pb_propagate.specs.engine.engine.Live.{Live};
 ghost use Rattle.pb_propagate.specs.meaning.Propagation.{IsCompletion, IsRup, MeetsConflict, With};
 ghost use Rattle.pb_replay.specs.contract.ReplayModel.{Adding, Keeps, Goes, HasNamed, IsInside, IsLinked, IsReady, Preserves};
 ghost use Rattle.pb_replay.specs.contract.Visits.{IsFew, RupVisits};

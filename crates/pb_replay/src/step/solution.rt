@@ -3,7 +3,7 @@
 ghost use Rattle.std.specs.Prelude.{◌≡◌, ◌<◌, ◌^◌, ◌⊎◌, All, IfOk, IfErr, IsSome, OnOk, Ok, Err, length, true, false, unsigned_abs, ℕ, pos, ◌-ℤ◌, [], List};
 ghost use Rattle.pb_normal.specs.declared.numbered.NumberedLiteral.{NumberedLiteral as ANumberedLiteral};
 ghost use Rattle.pb_normal.specs.meaning.Rules.{on};
-ghost use Rattle.pb_propagate.specs.engine.Engine.Live.{Live, Gives};
+ghost use Rattle.pb_propagate.specs.engine.engine.Live.{Live, Gives};
 ghost use Rattle.pb_propagate.specs.meaning.Propagation.{MeetsConflict, IsCompletion};
 ghost use Rattle.pb_replay.specs.meaning.Replay.{Completed, Excludes, negations, numbered};
 ghost use Rattle.pb_replay.specs.contract.ReplayModel.{Goes, GoesAt, Logs, HasNamed, IsBetter, IsEngine, IsInside, IsLinked, IsProper, IsReady, problem_of, Passes, Preserves, ReturnsValue};

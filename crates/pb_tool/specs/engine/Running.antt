@@ -10,7 +10,7 @@ use Rattle.pb_text.specs.declared.Feeder.{Feeder}
 use Rattle.pb_text.specs.declared.Machine.{Ghosts}
 use Rattle.pb_text.specs.declared.Place.{Place}
 use Rattle.pb_text.specs.declared.Spanned.{Spanned}
-use Rattle.pb_proof.specs.engine.Machine.State.{begin}
+use Rattle.pb_proof.specs.engine.machine.State.{begin}
 use Rattle.pb_proof.specs.declared.Statement.{Statement}
 use Rattle.pb_replay.specs.meaning.Replay.{State}
 use Rattle.pb_replay.specs.meaning.Statements.{Accepts}

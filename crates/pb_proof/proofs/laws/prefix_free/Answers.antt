@@ -1,5 +1,5 @@
 use Rattle.pb_proof.proofs.Common.{prefix_free, begin, proofs}
-use Rattle.pb_proof.proofs.lemmas.Machine.Exact.{reads_proofs, finishes}
+use Rattle.pb_proof.proofs.lemmas.machine.Exact.{reads_proofs, finishes}
 use Rattle.pb_proof.proofs.laws.prefix_free.Goals as goal
 
 pub returns : goal.returns

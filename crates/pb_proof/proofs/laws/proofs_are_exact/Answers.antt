@@ -1,4 +1,4 @@
-use Rattle.pb_proof.proofs.lemmas.Machine.Exact.{reads_proofs}
+use Rattle.pb_proof.proofs.lemmas.machine.Exact.{reads_proofs}
 use Rattle.pb_proof.proofs.laws.proofs_are_exact.Goals as goal
 
 pub returns : goal.returns

@@ -1,5 +1,5 @@
 use Rattle.pb_proof.proofs.Common.{arith}
-use Rattle.pb_proof.proofs.lemmas.Pol.Postfix.{postfix_leads}
+use Rattle.pb_proof.proofs.lemmas.pol.Postfix.{postfix_leads}
 use Rattle.pb_proof.proofs.validity.is_postfix.Goals as goal
 
 pub loop-word-init : goal.loop-word-init

@@ -1,7 +1,7 @@
 //! What the machine for conclusions does with a byte, given what it has read last.
 
 ghost use Rattle.std.specs.Prelude.{◌≡◌, ◌<◌, ◌≤◌, ◌^◌, length};
-ghost use Rattle.pb_proof.specs.engine.Line.Conclusion.{word_of, phase_after_word, spell, first_word, digits, begin_bound, phase_after_bound, colon, next_action, between, after_bound, id_digits, after_id, transition, is_done, PhaseFits};
+ghost use Rattle.pb_proof.specs.engine.line.Conclusion.{word_of, phase_after_word, spell, first_word, digits, begin_bound, phase_after_bound, colon, next_action, between, after_bound, id_digits, after_id, transition, is_done, PhaseFits};
 
 use crate::conclusion::Bound;
 use crate::line::conclusion::phase::{Action, Concluding, Owner, Phase, Showing, Side, Word};

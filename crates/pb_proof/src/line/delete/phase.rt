@@ -2,7 +2,7 @@
 
 /// What has been read last.
 #[derive(Clone, Copy, Drop)]
-pub enum IdsPhase {
+pub enum DeletePhase {
     /// Nothing.
     Start,
     /// Blanks, and no id.
@@ -21,11 +21,11 @@ pub enum IdsPhase {
 
 /// What the machine does with a byte.
 #[derive(Clone, Copy, Drop)]
-pub enum IdsAction {
+pub enum DeleteAction {
     /// Continues in this phase.
-    To(IdsPhase),
+    To(DeletePhase),
     /// Stores an id.
-    Keep(IdsPhase, i64),
+    Keep(DeletePhase, i64),
     /// Ends the line.
     End,
     /// Stores an id, and ends the line.

@@ -2,7 +2,7 @@
 
 /// What has been read last.
 #[derive(Clone, Copy, Drop)]
-pub enum CountPhase {
+pub enum FormulaPhase {
     /// Nothing.
     Start,
     /// Blanks.
@@ -19,9 +19,9 @@ pub enum CountPhase {
 
 /// What the machine does with a byte.
 #[derive(Clone, Copy, Drop)]
-pub enum CountAction {
+pub enum FormulaAction {
     /// Continues in this phase.
-    To(CountPhase),
+    To(FormulaPhase),
     /// Ends the line.
     End(Option<u64>),
     Stop,

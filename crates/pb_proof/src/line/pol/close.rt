@@ -1,7 +1,7 @@
 //! What the end of a postfix word does.
 
 ghost use Rattle.std.specs.Prelude.{◌≡◌, ◌<◌, ◌^◌, Some};
-ghost use Rattle.pb_proof.specs.engine.Line.Pol.{counted, held_number, close_number, close_lone, held_name, close, PhaseFits};
+ghost use Rattle.pb_proof.specs.engine.line.Pol.{counted, held_number, close_number, close_lone, held_name, close, PhaseFits};
 
 use crate::line::pol::phase::{Change, Held, Phase, Role};
 

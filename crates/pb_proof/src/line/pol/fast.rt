@@ -1,7 +1,7 @@
 //! The fast path for postfix words.
 
 ghost use Rattle.std.specs.Prelude.{◌≡◌};
-ghost use Rattle.pb_proof.specs.engine.Line.PolFast.{held_before, held_operator, operator};
+ghost use Rattle.pb_proof.specs.engine.line.PolFast.{held_before, held_operator, operator};
 
 use crate::line::pol::phase::{Change, Held, Phase};
 

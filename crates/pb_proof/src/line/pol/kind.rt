@@ -1,7 +1,7 @@
 //! The kind of a byte in a line of postfix words.
 
 ghost use Rattle.std.specs.Prelude.{◌≡◌, ◌<◌, true};
-ghost use Rattle.pb_proof.specs.engine.Line.Pol.{kind_of, is_letter_kind, is_name_kind, KindFits};
+ghost use Rattle.pb_proof.specs.engine.line.Pol.{kind_of, is_letter_kind, is_name_kind, KindFits};
 
 use crate::line::pol::phase::Kind;
 

@@ -2,7 +2,7 @@
 
 ghost use Rattle.std.specs.Prelude.{ℕ, ◌≡◌, ◌≤◌, ◌<◌, ◌^◌, IfSome, get_or, length, take};
 ghost use Rattle.pb_sums.specs.meaning.Sums.{IsName};
-ghost use Rattle.pb_proof.specs.engine.Line.PolWhole.{IsWord};
+ghost use Rattle.pb_proof.specs.engine.line.PolWhole.{IsWord};
 
 use crate::line::pol::close::held_name;
 use crate::line::pol::phase::{Change, Held};

@@ -1,8 +1,8 @@
 //! What the machine for postfix words does with a kind of byte.
 
 ghost use Rattle.std.specs.Prelude.{◌≡◌, ℕ, ◌+◌, ◌*◌, ◌<◌, ◌^◌, nat_le};
-ghost use Rattle.pb_proof.specs.engine.Line.Pol.{is_in_number, is_done, bound, signed, number, blank, semicolon, feed, role_of, next_large, star, next_word, next, may_be_name, read, late, transition, KindFits, PhaseFits, ActionFits};
-ghost use Rattle.pb_proof.specs.engine.Line.PolState.{in_hand};
+ghost use Rattle.pb_proof.specs.engine.line.Pol.{is_in_number, is_done, bound, signed, number, blank, semicolon, feed, role_of, next_large, star, next_word, next, may_be_name, read, late, transition, KindFits, PhaseFits, ActionFits};
+ghost use Rattle.pb_proof.specs.engine.line.PolState.{in_hand};
 
 use crate::line::pol::close::{close, counted};
 use crate::line::pol::kind::{is_letter_kind, is_name_kind};

@@ -2,8 +2,8 @@
 
 ghost use Rattle.std.specs.Prelude.{◌≡◌, ◌<◌, ◌≤◌, ◌^◌, IfSome, get_or, length, take};
 ghost use Rattle.pb_text.specs.meaning.Limits.{largest, top_of};
-ghost use Rattle.pb_proof.specs.engine.Line.PolWhole.{IsExpression, IsClosing};
-ghost use Rattle.pb_proof.specs.engine.Machine.Whole.{LeadsToPol};
+ghost use Rattle.pb_proof.specs.engine.line.PolWhole.{IsExpression, IsClosing};
+ghost use Rattle.pb_proof.specs.engine.machine.Whole.{LeadsToPol};
 
 use crate::line::pol::literal_prefix::named_prefix;
 use crate::line::pol::phase::Held;

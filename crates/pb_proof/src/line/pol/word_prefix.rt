@@ -1,7 +1,7 @@
 //! Postfix words at the start of a text.
 
 ghost use Rattle.std.specs.Prelude.{ℕ, List, ◌≡◌, ◌≤◌, ◌<◌, ◌^◌, IfSome, length, take};
-ghost use Rattle.pb_proof.specs.engine.Line.PolWhole.{IsWord};
+ghost use Rattle.pb_proof.specs.engine.line.PolWhole.{IsWord};
 
 use crate::line::pol::close::held_number;
 use crate::line::pol::fast::operator;

@@ -1,8 +1,8 @@
 //! How the end of a word changes the postfix words.
 
 ghost use Rattle.std.specs.Prelude.{◌≡◌, ℕ, ◌+◌, ◌-◌, ◌^◌, ◌<◌, ◌≤◌, true, false, List, [], ◌∷◌, ◌++◌, vec_len, vec_capacity, min, IfOk, OnOk, OnErr};
-ghost use Rattle.pb_proof.specs.engine.Line.Pol.{turned, with_last, changed, counted, adds};
-ghost use Rattle.pb_proof.specs.engine.Line.PolState.{word_units, units};
+ghost use Rattle.pb_proof.specs.engine.line.Pol.{turned, with_last, changed, counted, adds};
+ghost use Rattle.pb_proof.specs.engine.line.PolState.{word_units, units};
 
 use crate::line::pol::close::counted;
 use crate::line::pol::phase::{Change, Phase};

@@ -2,7 +2,7 @@
 
 ghost use Rattle.std.specs.Prelude.{◌≡◌};
 ghost use Rattle.pb_text.specs.contract.Automaton.{Finishes};
-ghost use Rattle.pb_proof.specs.engine.Line.Rup.{rup_automaton, rup_transition};
+ghost use Rattle.pb_proof.specs.engine.line.Rup.{rup_automaton, rup_transition};
 
 use crate::line::rup::phase::{RupAction, RupPhase};
 use crate::line::rup::{RupMachine, rup_transition};

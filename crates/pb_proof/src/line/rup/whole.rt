@@ -2,7 +2,7 @@
 
 ghost use Rattle.std.specs.Prelude.{◌≡◌, ◌<◌, IfSome, get_or, length, take};
 ghost use Rattle.pb_text.specs.meaning.Limits.{largest};
-ghost use Rattle.pb_proof.specs.engine.Machine.Whole.{LeadsToRup};
+ghost use Rattle.pb_proof.specs.engine.machine.Whole.{LeadsToRup};
 
 use pb_sums::{Linear, Part, linear_at};
 use pb_text::Limits;

@@ -2,7 +2,7 @@
 
 /// What has been read last.
 #[derive(Clone, Copy, Drop)]
-pub enum LiteralsPhase {
+pub enum SolutionPhase {
     /// Nothing.
     Start,
     /// Blanks.
@@ -21,13 +21,13 @@ pub enum LiteralsPhase {
 
 /// What the machine does with a byte.
 #[derive(Clone, Copy, Drop)]
-pub enum LiteralsAction {
+pub enum SolutionAction {
     /// Continues in this phase. A complete name ends its literal.
-    To(LiteralsPhase),
+    To(SolutionPhase),
     /// Begins a name with a byte.
-    Begin(LiteralsPhase, u8),
+    Begin(SolutionPhase, u8),
     /// Adds a byte to the name.
-    Add(LiteralsPhase, u8),
+    Add(SolutionPhase, u8),
     /// Ends the line.
     End,
     Stop,

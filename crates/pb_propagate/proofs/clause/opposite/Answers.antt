@@ -1,7 +1,7 @@
 use Rattle.pb_propagate.proofs.Common.{◌≡◌, arith, nat_tests, ◌%◌}
 use Rattle.std.specs.Int.Bits.{bit_and, xor_add_and}
 use Rattle.std.proofs.lemmas.Nat.{and_mask}
-use Rattle.pb_propagate.specs.engine.Clauses.Truths.{flip}
+use Rattle.pb_propagate.specs.engine.clauses.Truths.{flip}
 use Rattle.pb_propagate.proofs.clause.opposite.Goals as goal
 
 pub returns : goal.returns

@@ -4,7 +4,7 @@ use Rattle.pb_propagate.proofs.Common.{get_or-set_other, inl, inr, length, List,
 use Rattle.pb_propagate.proofs.Common.{slice_get, Some, sum, sum_by, both_ways, cases_lt, eqb-true, get_or-map, get_or_past, length-map}
 use Rattle.pb_propagate.proofs.Common.{get_or-le-sum_by, sum-map, sum_by-cons, sum_by-set, slice_get-get_or, Watch, list_at}
 use Rattle.pb_propagate.proofs.Common.{watch_at, AreStored, flip}
-pub use Rattle.pb_propagate.specs.engine.Clauses.Walked.{killed, has}
+pub use Rattle.pb_propagate.specs.engine.clauses.Walked.{killed, has}
 use Rattle.pb_propagate.proofs.lemmas.clauses.Linked.{one-place}
 use Rattle.pb_propagate.proofs.lemmas.clauses.Truths.{same-slot}
 use Rattle.pb_propagate.proofs.lemmas.clauses.Steps.{slot-within}

@@ -7,7 +7,7 @@ use Rattle.pb_propagate.proofs.Common.{Watch, Heads, Walked, list_at, negation, 
 use Rattle.pb_propagate.proofs.Common.{IsWithin, AreMarks, IsMark, IsWalkedTo, KeepsMarks, falsified_code, heads_at, reached_codes}
 use Rattle.std.proofs.Math.ListN.{replicate}
 use Rattle.std.proofs.lemmas.List.{get_or-replicate, length-replicate, take-take, get_or-append_right}
-use Rattle.pb_propagate.specs.engine.Engine.Lists.{has}
+use Rattle.pb_propagate.specs.engine.engine.Lists.{has}
 use Rattle.pb_propagate.proofs.lemmas.engine.Literals.{has-get, negation-negation}
 use Rattle.pb_propagate.proofs.lemmas.clauses.Literals.{Agree, true-listed, false-listed, code-back}
 use Rattle.pb_propagate.proofs.lemmas.root.Extends.{extends-within}

@@ -3,10 +3,10 @@ use Rattle.pb_propagate.proofs.Common.{count_by-le-length, sum_by-le-sum_by, ℕ
 use Rattle.pb_propagate.proofs.Common.{cond, false, inl, inr, length, List, map, refl, subst, sym, true, ◌==◌, Contains, count_by, sum_by, both_ways}
 use Rattle.pb_propagate.proofs.Common.{cases_Bool, eqb-true, or_cases, or_left, or_right, map-append, get_or-le-sum_by, NumberedLiteral, negation}
 use Rattle.pb_propagate.proofs.Common.{Group, Long, Short, list_at, code_in, fallen, falsified_code, same}
-use Rattle.pb_propagate.specs.engine.Engine.Lists.{has}
+use Rattle.pb_propagate.specs.engine.engine.Lists.{has}
 use Rattle.pb_propagate.proofs.lemmas.engine.Literals.{same-refl}
 use Rattle.pb_propagate.proofs.lemmas.clauses.Literals.{code-injective, groups-apart}
-use Rattle.pb_propagate.specs.engine.Clauses.Walked.{has as stands}
+use Rattle.pb_propagate.specs.engine.clauses.Walked.{has as stands}
 use Rattle.pb_propagate.proofs.lemmas.clauses.Counts.{killed, killed-more, occurs, count-some, has-append, sums-join}
 use Rattle.pb_propagate.proofs.lemmas.clauses.Stores.{slot-room}
 

@@ -3,8 +3,8 @@ use Rattle.pb_propagate.proofs.Common.{not-not}
 use Rattle.pb_propagate.proofs.Common.{ℕ, ◌*◌, ◌+◌, ◌/◌, ◌∙◌, ◌≡◌, ◌⊎◌, ap, arith, Bool, cond, false, get_or, inl, inr, List, None, not, refl, sym}
 use Rattle.pb_propagate.proofs.Common.{true, ◌%◌, ◌==◌, Option, Some, cases_eq, nat_tests, NumberedLiteral, negation, Group, Long, Short, code_in}
 use Rattle.pb_propagate.proofs.Common.{literal_at, offset, is_failed, is_met, falsified_code, has, holds}
-use Rattle.pb_propagate.specs.engine.Engine.Lists.{says}
-use Rattle.pb_propagate.specs.engine.Clauses.Truths.{true_at, false_at}
+use Rattle.pb_propagate.specs.engine.engine.Lists.{says}
+use Rattle.pb_propagate.specs.engine.clauses.Truths.{true_at, false_at}
 use Rattle.pb_propagate.proofs.lemmas.engine.Literals.{negation-negation}
 use Rattle.pb_propagate.proofs.lemmas.clauses.Truths.{met-other}
 

@@ -3,7 +3,7 @@ use Rattle.pb_propagate.proofs.Common.{ℕ, ◌*◌, ◌++◌, ◌+◌, ◌/◌,
 use Rattle.pb_propagate.proofs.Common.{inl, inr, length, length-append, length-set, List, None, not, refl, set, sym, true, ◌%◌, ◌==◌, Option, Some}
 use Rattle.pb_propagate.proofs.Common.{cases_eq, ne_eqb, nat_tests, get_or_past, AreMarked, is_failed}
 use Rattle.std.proofs.lemmas.Grind.{get_or-set_at}
-use Rattle.pb_propagate.specs.engine.Clauses.Truths.{flip, true_at, false_at}
+use Rattle.pb_propagate.specs.engine.clauses.Truths.{flip, true_at, false_at}
 use Rattle.pb_propagate.proofs.lemmas.store.Gets.{push-default}
 use Rattle.pb_propagate.proofs.lemmas.clauses.Truths.{flip-variable, met-other}
 

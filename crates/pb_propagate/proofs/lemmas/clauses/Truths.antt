@@ -2,7 +2,7 @@
 use Rattle.pb_propagate.proofs.Common.{false, true}
 use Rattle.pb_propagate.proofs.Common.{Bool, None, Option, Some, is_failed, is_met, not, refl}
 use Rattle.pb_propagate.proofs.Common.{ℕ, ◌*◌, ◌+◌, ◌/◌, ◌≡◌, arith, nat_tests}
-use Rattle.pb_propagate.specs.engine.Clauses.Truths.{flip}
+use Rattle.pb_propagate.specs.engine.clauses.Truths.{flip}
 
 pub flip-half : (c : ℕ) → flip c / 2 ≡ c / 2
 unfolding flip

@@ -6,7 +6,7 @@ use Rattle.pb_propagate.proofs.Common.{HasTrue, HasVisited, index_after, IsRunni
 use Rattle.pb_propagate.proofs.Common.{Progress, visited_to, VisitsEach}
 use Rattle.pb_propagate.specs.declared.clauses.visiting.Forced.{Forced}
 use Rattle.pb_propagate.specs.declared.clauses.visiting.Visit.{Visit}
-use Rattle.pb_propagate.specs.engine.Clauses.Runs.{IsServedTo}
+use Rattle.pb_propagate.specs.engine.clauses.Runs.{IsServedTo}
 use Rattle.pb_propagate.proofs.lemmas.engine.Literals.{has-push_old, has-push_new}
 use Rattle.pb_propagate.proofs.lemmas.clauses.Literals.{Agree, true-listed, false-listed}
 use Rattle.pb_propagate.proofs.lemmas.clauses.Steps.{served-true}

@@ -8,9 +8,9 @@ use Rattle.pb_propagate.proofs.Common.{NumberedLiteral, negation, Group, Long, S
 use Rattle.pb_propagate.proofs.Common.{AreReady, AreServed, AreStored, AreWalked, Grows, HasTrue, IsRunning, passed_of, clause_shape, clauses_of}
 use Rattle.pb_propagate.proofs.Common.{code_in, literal_at, offset, false_at, flip, AreSingle, more, none, IsSettled, same}
 use Rattle.pb_propagate.specs.declared.heads.Ahead.{Ahead}
-use Rattle.pb_propagate.specs.engine.Engine.Lists.{has}
-use Rattle.pb_propagate.specs.engine.Engine.Progress.{HasWalked}
-pub use Rattle.pb_propagate.specs.engine.Clauses.Walked.{falsified_code, heads_at, reached_codes, reached, head, advanced}
+use Rattle.pb_propagate.specs.engine.engine.Lists.{has}
+use Rattle.pb_propagate.specs.engine.engine.Progress.{HasWalked}
+pub use Rattle.pb_propagate.specs.engine.clauses.Walked.{falsified_code, heads_at, reached_codes, reached, head, advanced}
 use Rattle.pb_propagate.proofs.lemmas.engine.Literals.{same-true, negation-negation, has-get}
 use Rattle.pb_propagate.proofs.lemmas.engine.Values.{says-inside}
 use Rattle.pb_propagate.proofs.lemmas.store.Gets.{last-is}
@@ -18,7 +18,7 @@ use Rattle.pb_propagate.proofs.lemmas.clauses.Readings.{running-bounded}
 use Rattle.pb_propagate.proofs.lemmas.clauses.Searches.{ready-round, passed-at}
 use Rattle.pb_propagate.proofs.lemmas.clauses.Turned.{turned-count}
 use Rattle.pb_propagate.proofs.lemmas.clauses.Truths.{flip-half}
-use Rattle.pb_propagate.specs.engine.Clauses.Walked.{has as stands}
+use Rattle.pb_propagate.specs.engine.clauses.Walked.{has as stands}
 use Rattle.pb_propagate.proofs.lemmas.clauses.Counts.{killed, killed-more, occurs, list-short, passed-most}
 use Rattle.pb_propagate.proofs.lemmas.clauses.Killed.{stands-source}
 use Rattle.pb_propagate.proofs.lemmas.clauses.Literals.{Agree, false-listed, false-code, code-injective, code-of}

@@ -4,9 +4,9 @@ use Rattle.pb_propagate.proofs.Common.{take, true, Option, Some, both_ways, or_c
 use Rattle.pb_propagate.proofs.Common.{kept, holds, IsWithin, same, Shape, Gives, value_says, HasClash, IsFrom, IsEnded, IsRefuted, IsCompletion}
 use Rattle.pb_propagate.proofs.Common.{MeetsConflict}
 use Rattle.std.specs.Cmp.{both_ways as same_answers}
-use Rattle.pb_propagate.specs.engine.Engine.Lists.{has, says, opposed as both, begin as start_there}
+use Rattle.pb_propagate.specs.engine.engine.Lists.{has, says, opposed as both, begin as start_there}
 use Rattle.pb_propagate.specs.meaning.Propagation.{begin}
-use Rattle.pb_propagate.specs.engine.Engine.Rest.{opposite as opposites, derived as from}
+use Rattle.pb_propagate.specs.engine.engine.Rest.{opposite as opposites, derived as from}
 use Rattle.pb_propagate.proofs.lemmas.engine.Literals.{literal, has-none, has-get, has-push_old, has-push_new, has-push_cases, push-within}
 use Rattle.pb_propagate.proofs.lemmas.engine.Bridge.{AreKept, Matches, only-same, Derived, derives, conflicts, is-closed, has-none as conflict-free}
 use Rattle.pb_propagate.proofs.lemmas.engine.Completing.{closed-none}

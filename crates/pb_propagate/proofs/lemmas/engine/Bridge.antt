@@ -5,7 +5,7 @@ use Rattle.pb_propagate.proofs.Common.{length-map, Contains-permutation, IsPermu
 use Rattle.pb_propagate.proofs.Common.{counted, Form, IsRising, total, negation, on, only, Term, entry_of, IsStoredAs, Conflicts, Derives, has}
 use Rattle.pb_propagate.proofs.Common.{IsSettled, open_part, open_sum, Puts, same, Shape, Derivation, HasConflict, MayPropagate, opened}
 use Rattle.std.specs.Cmp.{both_ways as same_answers}
-use Rattle.pb_propagate.specs.engine.Engine.Lists.{begin as start, put as more, opposed as both, broken as low}
+use Rattle.pb_propagate.specs.engine.engine.Lists.{begin as start, put as more, opposed as both, broken as low}
 use Rattle.pb_propagate.specs.meaning.Propagation.{begin, put, opposed, broken}
 use Rattle.pb_propagate.proofs.lemmas.engine.Choices.{total-has, rising-positive, only-true, only-self}
 use Rattle.pb_propagate.proofs.lemmas.engine.Literals.{literal, same-true, same-refl, has-push, open_part-falsified, open_part-open, literal_ext}

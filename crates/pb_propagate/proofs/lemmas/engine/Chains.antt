@@ -4,7 +4,7 @@ use Rattle.pb_propagate.proofs.Common.{length-append, length-set, List, set, sub
 use Rattle.std.proofs.lemmas.List.{get_or-replicate, length-replicate}
 use Rattle.std.specs.Prelude.{replicate}
 use Rattle.pb_propagate.specs.declared.free.Free.{Free}
-use Rattle.pb_propagate.specs.engine.Engine.Free.{ended, HasPut, IsChain, linked, nobody}
+use Rattle.pb_propagate.specs.engine.engine.Free.{ended, HasPut, IsChain, linked, nobody}
 
 pub same-everywhere : (n i x : ℕ) → get_or (replicate n x) i x ≡ x
 same-everywhere n i x = elim (cases_lt i n) [

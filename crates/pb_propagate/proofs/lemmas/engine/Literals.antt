@@ -3,7 +3,7 @@ use Rattle.pb_propagate.proofs.Common.{ℕ, ◌++◌, ◌+◌, ◌<◌, ◌||◌
 use Rattle.pb_propagate.proofs.Common.{List, not, refl, suc, sym, true, zero, ◌==◌, Contains, sum_by, not-not, or-false, and_parts, both_ways}
 use Rattle.pb_propagate.proofs.Common.{cases_Bool, eqb-true, or_cases, or_left, or_right, list_any-append, sum_by-cons, sum_by-le-sum_by, beq}
 use Rattle.pb_propagate.proofs.Common.{list_any, NumberedLiteral, negation, Term, IsWithin, open_sum}
-use Rattle.pb_propagate.specs.engine.Engine.Lists.{same, has, open_part}
+use Rattle.pb_propagate.specs.engine.engine.Lists.{same, has, open_part}
 
 pub beq-true : (a b : Bool) → beq a b ≡ true → a ≡ b
 beq-true true true h = refl

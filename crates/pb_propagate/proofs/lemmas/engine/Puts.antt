@@ -6,7 +6,7 @@ use Rattle.pb_propagate.proofs.Common.{coefficient_at, terms_at, weighted, broke
 use Rattle.pb_propagate.proofs.Common.{Database, database, entries_against, Lowers, Progress, StaysTidy, visited_to}
 use Rattle.std.proofs.Math.ListN.{get_or-map as get_or-map-default}
 use Rattle.pb_propagate.specs.declared.store.Visited.{Visited}
-use Rattle.pb_propagate.specs.engine.Engine.Fields.{entry_at}
+use Rattle.pb_propagate.specs.engine.engine.Fields.{entry_at}
 use Rattle.pb_propagate.proofs.lemmas.store.Weights.{index-within}
 use Rattle.pb_propagate.proofs.lemmas.engine.Runs.{Counted-fits, Counted-lower, Tidy-lower, done-push, grown-absent, grown-length}
 

@@ -5,8 +5,8 @@ use Rattle.pb_propagate.proofs.Common.{get_or_default, get_or_push, All-push, su
 use Rattle.pb_propagate.proofs.Common.{IsAbsent, IsCalm, IsCounted, IsDone, IsTidyAt, Lowers, passed_to, Progress, pushed, spared, taken_to, weight_in, weight_on, has, IsSettled}
 use Rattle.pb_propagate.proofs.Common.{open_part, open_sum, same, Shape, Weighted}
 use Rattle.pb_propagate.specs.declared.store.Visited.{Visited}
-use Rattle.pb_propagate.specs.engine.Engine.Counts.{entry_weight, term_weight, ArePassed}
-use Rattle.pb_propagate.specs.engine.Engine.Links.{coefficient_at}
+use Rattle.pb_propagate.specs.engine.engine.Counts.{entry_weight, term_weight, ArePassed}
+use Rattle.pb_propagate.specs.engine.engine.Links.{coefficient_at}
 use Rattle.pb_propagate.proofs.lemmas.engine.Derivations.{settled-of_terms}
 use Rattle.pb_propagate.proofs.lemmas.engine.Literals.{negation-negation, has-push, has-push_old, has-push_new, same-true, same-refl, open_part-falsified, open_part-open}
 use Rattle.pb_propagate.proofs.lemmas.store.Gets.{lt_of_apart}

@@ -2,7 +2,7 @@ use Rattle.pb_propagate.proofs.Common.{ℕ, ◌*◌, ◌+◌, ◌<◌, ◌∙◌
 use Rattle.pb_propagate.proofs.Common.{inr, length, List, refl, set, suc, sym, true, sum, sum_by, both_ways, cases_lt, or_left, or_right}
 use Rattle.pb_propagate.proofs.Common.{get_or_past, set_past, sum_by-cons, sum_by-set, sum_by_push, NumberedLiteral, negation, AreSingle}
 use Rattle.pb_propagate.proofs.Common.{more, none, place, spent, begin, Derives, put, same, Shape, Weighted}
-use Rattle.pb_propagate.specs.engine.Engine.Lists.{has}
+use Rattle.pb_propagate.specs.engine.engine.Lists.{has}
 use Rattle.pb_propagate.proofs.lemmas.engine.Literals.{literal_ext, negation-negation, same-refl}
 
 has-head : (x : NumberedLiteral) (xs : List NumberedLiteral) → has (x ∷ xs) x ≡ true

@@ -3,7 +3,7 @@ use Rattle.pb_propagate.proofs.Common.{get_or-set_other, get_or-set_same, inl, i
 use Rattle.pb_propagate.proofs.Common.{◌==◌, Option, Some, sum_by, not-not, or-false, both_ways, cases_eq, cases_lt, ne_eqb, drop_all}
 use Rattle.pb_propagate.proofs.Common.{drop_more, get_or_past, set_past, sum_by-cons, sum_by-set}
 use Rattle.pb_propagate.proofs.Common.{sum_by_push, beq, list_any, NumberedLiteral, negation, holds, vacancy}
-use Rattle.pb_propagate.specs.engine.Engine.Lists.{same, has, says}
+use Rattle.pb_propagate.specs.engine.engine.Lists.{same, has, says}
 use Rattle.pb_propagate.proofs.lemmas.engine.Literals.{has-none, has-push, has-get, beq-refl, literal_ext}
 use Rattle.pb_propagate.proofs.lemmas.engine.Sources.{get_or-push_default}
 

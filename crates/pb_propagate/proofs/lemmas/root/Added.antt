@@ -10,7 +10,7 @@ use Rattle.pb_propagate.proofs.Common.{false_at, Walked, beside, Grown, IsAbsent
 use Rattle.pb_propagate.proofs.Common.{weight_in, forms_of, shapes_of, stored_shape, HaveReasons, open_sum, Shape, HasForm, HasGained}
 use Rattle.pb_propagate.proofs.Common.{RunIsWidened, IsRooted, form_at, AreFree, AreSet, IsFreePair, None, Pair}
 use Rattle.pb_propagate.specs.declared.engine.root.Root.{Root}
-use Rattle.pb_propagate.specs.engine.Engine.Root.{WasRootOf}
+use Rattle.pb_propagate.specs.engine.engine.Root.{WasRootOf}
 use Rattle.pb_propagate.proofs.lemmas.clauses.Heads.{KeepsFallen, walks-kept}
 use Rattle.pb_propagate.proofs.lemmas.clauses.Literals.{Agree, false-listed}
 use Rattle.pb_propagate.proofs.lemmas.clauses.Shapes.{joined-at, joined-length}

@@ -4,7 +4,7 @@ use Rattle.pb_propagate.proofs.Common.{get_or-set_same, inl, inr, length, length
 use Rattle.pb_propagate.proofs.Common.{take, true, zero, Option, Some, sum_by, both_ways, cases_Bool, cases_eq, cases_lt, length-take-le, set_past}
 use Rattle.pb_propagate.proofs.Common.{take_all, take_more, sum_by-set, NumberedLiteral, negation, has, vacancy}
 use Rattle.std.proofs.lemmas.List.{take-take}
-use Rattle.pb_propagate.specs.engine.Engine.Lists.{says}
+use Rattle.pb_propagate.specs.engine.engine.Lists.{says}
 use Rattle.pb_propagate.proofs.lemmas.engine.Literals.{has-push_old, has-push_new, has-push_cases}
 use Rattle.pb_propagate.proofs.lemmas.engine.Values.{Agree, Forgotten, has-neither, says-apart, says-none, says-inside, opposite, forget-next, forget-none, vacancy-none}
 

@@ -3,8 +3,8 @@ use Rattle.pb_propagate.proofs.Common.{ℕ, ◌++◌, ◌||◌, ◌∙◌, ◌�
 use Rattle.pb_propagate.proofs.Common.{subst, sym, take, true, ◌==◌, count_by, both_ways, append-nil, append_assoc, map-append, take-append-drop}
 use Rattle.pb_propagate.proofs.Common.{sum_by-append, sum_by-cons, NumberedLiteral, negation, Long, Short, Heads, fallen, falsified_code, killed}
 use Rattle.pb_propagate.proofs.Common.{place, spent, Extends, IsWithin, reached, same, Weighted, list_any, list_any-append, or_left}
-use Rattle.pb_propagate.specs.engine.Clauses.Walked.{has}
-use Rattle.pb_propagate.specs.engine.Engine.Lists.{has as listed}
+use Rattle.pb_propagate.specs.engine.clauses.Walked.{has}
+use Rattle.pb_propagate.specs.engine.engine.Lists.{has as listed}
 
 pub extends-none : (a : List NumberedLiteral) → Extends a a
 extends-none a = ([], sym (append-nil a))

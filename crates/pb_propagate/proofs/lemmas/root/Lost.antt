@@ -7,7 +7,7 @@ use Rattle.pb_propagate.proofs.Common.{watch_lists, AreReady, all_of, AreJoined,
 use Rattle.pb_propagate.proofs.Common.{shapes_of, stored_shape, HaveReasons, open_part, open_sum, Shape}
 use Rattle.pb_propagate.proofs.Common.{HasCleared, IsNeedless, IsOtherUnit, IsSameWatch}
 use Rattle.pb_propagate.specs.declared.engine.root.Root.{Root}
-use Rattle.pb_propagate.specs.engine.Engine.Root.{HasRemoved, IsRootOf}
+use Rattle.pb_propagate.specs.engine.engine.Root.{HasRemoved, IsRootOf}
 use Rattle.pb_propagate.proofs.lemmas.clauses.Heads.{KeepsFallen, walks-kept}
 use Rattle.pb_propagate.proofs.lemmas.clauses.Shapes.{joined-at}
 use Rattle.pb_propagate.proofs.lemmas.clauses.Slots.{joined-cleared}

@@ -11,7 +11,7 @@ use Rattle.pb_propagate.proofs.Common.{IsUndone, place, rest_open, spent, AreLon
 use Rattle.pb_propagate.proofs.Common.{stored_shape, entry_of, IsStoredAs, weighted, Derives, Extends, open_sum, Shape, size, RunSpends}
 use Rattle.pb_propagate.proofs.Common.{UpdateCosts, list_of, values_of}
 use Rattle.pb_propagate.specs.declared.engine.root.Root.{Root}
-use Rattle.pb_propagate.specs.engine.Engine.Root.{HasUpdated, IsRootOf, IsStanding, terms_of_all}
+use Rattle.pb_propagate.specs.engine.engine.Root.{HasUpdated, IsRootOf, IsStanding, terms_of_all}
 use Rattle.pb_propagate.proofs.lemmas.engine.Reasoned.{reasons-derive}
 use Rattle.pb_propagate.proofs.lemmas.engine.Values.{opposite}
 use Rattle.pb_propagate.proofs.lemmas.clauses.Killed.{IsOneSided, risen, killed-both}

@@ -6,7 +6,7 @@ use Rattle.pb_propagate.proofs.Common.{IsReadyRun, Propagates, RunGains, RunPuts
 use Rattle.pb_propagate.proofs.Common.{◌≡◌, ArePlaced, AreReady, Form, IsAtRest, IsKeptConflict, Live, numbered, Option}
 use Rattle.pb_propagate.specs.declared.engine.conflict.Conflict.{Conflict}
 use Rattle.pb_propagate.specs.declared.engine.root.Root.{Root}
-use Rattle.pb_propagate.specs.engine.Engine.Root.{IsLeft, IsRootOf, IsStanding}
+use Rattle.pb_propagate.specs.engine.engine.Root.{IsLeft, IsRootOf, IsStanding}
 use Rattle.pb_propagate.proofs.lemmas.clauses.Heads.{mark-more}
 use Rattle.pb_propagate.proofs.lemmas.clauses.Walks.{kept-then, running-grow}
 use Rattle.pb_propagate.proofs.lemmas.engine.Advances.{advances-refl, advances-then, advances-as}

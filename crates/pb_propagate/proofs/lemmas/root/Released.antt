@@ -5,8 +5,8 @@ use Rattle.pb_propagate.proofs.lemmas.engine.Literals.{has-none}
 use Rattle.pb_propagate.proofs.lemmas.root.Extends.{extends-none, extends-then, extends-within}
 use Rattle.pb_propagate.proofs.lemmas.root.Returns.{reasoned-rooted}
 use Rattle.pb_propagate.specs.declared.engine.root.Root.{Root}
-use Rattle.pb_propagate.specs.engine.Engine.Refreshed.{IsReleased, IsShortened, IsSomeRoot}
-use Rattle.pb_propagate.specs.engine.Engine.Root.{IsRootOf, IsSized}
+use Rattle.pb_propagate.specs.engine.engine.Refreshed.{IsReleased, IsShortened, IsSomeRoot}
+use Rattle.pb_propagate.specs.engine.engine.Root.{IsRootOf, IsSized}
 
 -- the lists of a root have their sizes
 pub rooted-sized : (store : Store) (clauses : Clauses) (root : Root) → IsRootOf store clauses root → IsSized store root

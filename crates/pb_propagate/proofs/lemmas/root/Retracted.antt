@@ -9,10 +9,10 @@ use Rattle.pb_propagate.proofs.Common.{IsCalm, place, weight_in, entries_of, for
 use Rattle.pb_propagate.proofs.Common.{HaveReasons, open_sum, Shape, size, Weighted, AreSlots, HasForm, IsWalkedTo, from_given, by_reason}
 use Rattle.pb_propagate.proofs.Common.{Walked}
 use Rattle.pb_propagate.specs.declared.engine.root.Root.{Root}
-use Rattle.pb_propagate.specs.engine.Engine.Counts.{entry_weight, IsDone}
-use Rattle.pb_propagate.specs.engine.Engine.Lists.{has, open_part}
-use Rattle.pb_propagate.specs.engine.Engine.Refreshed.{AreRefreshed, IsRefreshed, Lacks}
-use Rattle.pb_propagate.specs.engine.Engine.Root.{IsRootOf, IsSized}
+use Rattle.pb_propagate.specs.engine.engine.Counts.{entry_weight, IsDone}
+use Rattle.pb_propagate.specs.engine.engine.Lists.{has, open_part}
+use Rattle.pb_propagate.specs.engine.engine.Refreshed.{AreRefreshed, IsRefreshed, Lacks}
+use Rattle.pb_propagate.specs.engine.engine.Root.{IsRootOf, IsSized}
 use Rattle.pb_propagate.proofs.lemmas.clauses.Slots.{slots-vacant}
 use Rattle.pb_propagate.proofs.lemmas.engine.Literals.{has-push_cases, negation-negation}
 use Rattle.pb_propagate.proofs.lemmas.engine.Runs.{Tidy-rest, entry_weight-other, entry_weight-same, open_sum-push}

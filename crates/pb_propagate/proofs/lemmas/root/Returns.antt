@@ -6,7 +6,7 @@ use Rattle.pb_propagate.proofs.Common.{fallen, falsified_code, heads_at, reached
 use Rattle.pb_propagate.proofs.Common.{shapes_of, stored_shape, Extends, HaveReasons, all_of, KeepsReasons, same, Advances, Costs, database, progress}
 use Rattle.pb_propagate.proofs.Common.{RunSpends, IsRooted, GoesBack, Propagates, list_of, reasons_of, values_of, Global, Vec, subst}
 use Rattle.pb_propagate.specs.declared.engine.root.Root.{Root}
-use Rattle.pb_propagate.specs.engine.Engine.Root.{HasUpdated, IsRootOf}
+use Rattle.pb_propagate.specs.engine.engine.Root.{HasUpdated, IsRootOf}
 use Rattle.pb_propagate.proofs.lemmas.clauses.Heads.{visits-back, walks-kept}
 use Rattle.pb_propagate.proofs.lemmas.clauses.Counts.{passed-most}
 use Rattle.pb_propagate.proofs.lemmas.clauses.Walks.{grows-listed}

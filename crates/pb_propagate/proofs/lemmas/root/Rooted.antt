@@ -5,7 +5,7 @@ use Rattle.pb_propagate.proofs.Common.{both_ways, get_or-map, get_or_default, le
 use Rattle.pb_propagate.proofs.Common.{sum_by_push, slice_get-get_or, slice_get_within, NumberedLiteral, negation, Long, Short}
 use Rattle.pb_propagate.proofs.Common.{Term, list_at, code_in, joined, literal_at, one_term, AreSingle, more, none, place, spent}
 use Rattle.pb_propagate.proofs.Common.{IsStored, term_cross, terms_at, begin, Derives, put, Puts, Shape, Weighted}
-use Rattle.pb_propagate.specs.engine.Engine.Lists.{has}
+use Rattle.pb_propagate.specs.engine.engine.Lists.{has}
 use Rattle.pb_propagate.proofs.lemmas.engine.Derivations.{puts-other}
 use Rattle.pb_propagate.proofs.lemmas.engine.Literals.{negation-negation, has-push_old, has-push_new}
 use Rattle.pb_propagate.proofs.lemmas.store.Unlinks.{entry-back}

@@ -4,8 +4,8 @@ use Rattle.pb_propagate.proofs.Common.{List, set, sym, slice_get, slice_get_with
 use Rattle.pb_propagate.proofs.Common.{length-map, Assignment, Clauses, Waiting, Rests, Run, Store, all_of, Walked, IsWalkedTo}
 use Rattle.pb_propagate.proofs.Common.{heads_at, IsAbsent, IsCounted, IsUndone, rest_open, rest_start, shapes_of, stored_shape}
 use Rattle.pb_propagate.proofs.Common.{HaveReasons, KeepsReasons, Shape, size, from_given, HasForm, IsRooted}
-use Rattle.pb_propagate.specs.engine.Engine.Progress.{RunIsCalm}
-use Rattle.pb_propagate.specs.engine.Engine.Propagation.{IsSaved}
+use Rattle.pb_propagate.specs.engine.engine.Progress.{RunIsCalm}
+use Rattle.pb_propagate.specs.engine.engine.Propagation.{IsSaved}
 use Rattle.pb_propagate.proofs.lemmas.clauses.Heads.{walks-none}
 use Rattle.pb_propagate.proofs.lemmas.engine.Reasoned.{reasons-keep}
 use Rattle.pb_propagate.proofs.lemmas.engine.Runs.{Tidy-rest, absent-from}

@@ -4,7 +4,7 @@ use Rattle.pb_propagate.proofs.Common.{length, length-append, length-set, List, 
 use Rattle.pb_propagate.proofs.Common.{cases_eq, length-take-le, sum_by-set, sum_by_more, sum_by_push, slice_get-get_or, slice_get_past}
 use Rattle.pb_propagate.proofs.Common.{NumberedLiteral, Term, entry_weight, place, term_weight, weight_in, weight_on, cut, degree_at, entry_at}
 use Rattle.pb_propagate.proofs.Common.{entry_cross, IsLinked, term_at, term_cross, terms_at, same, Shape, Weighted}
-use Rattle.pb_propagate.specs.engine.Engine.Counts.{AreLinked}
+use Rattle.pb_propagate.specs.engine.engine.Counts.{AreLinked}
 use Rattle.pb_propagate.proofs.lemmas.engine.Runs.{entry_weight-same, entry_weight-other, term_weight-same, term_weight-other}
 use Rattle.pb_propagate.proofs.lemmas.engine.Literals.{same-true, same-refl}
 use Rattle.pb_propagate.proofs.lemmas.engine.Spent.{place-injective}

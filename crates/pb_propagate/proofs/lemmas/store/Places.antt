@@ -5,7 +5,7 @@ use Rattle.pb_propagate.proofs.Common.{List, map, refl, set, subst, sym, Vec, sl
 use Rattle.pb_propagate.proofs.Common.{get_or_default, length-map, map-set, set_past, get_or_from_slice_get, slice_get-get_or, slice_get_within}
 use Rattle.pb_propagate.proofs.Common.{Occurrence, StoredForm, Term, place, entries_of, Spots, spots_in, lists_of, shapes_of, spots_of, stored_shape}
 use Rattle.pb_propagate.proofs.Common.{cut, IsLinked, last, Moved, terms_at, weighted, Shape}
-use Rattle.pb_propagate.specs.engine.Engine.Links.{none}
+use Rattle.pb_propagate.specs.engine.engine.Links.{none}
 use Rattle.pb_propagate.proofs.lemmas.store.Gets.{get-push_same, get-push_other, swap-here, swap-length}
 use Rattle.pb_propagate.proofs.lemmas.store.Crosses.{Same}
 use Rattle.pb_propagate.proofs.lemmas.store.Links.{IsTerm, entry_for, link-next, cut-length}

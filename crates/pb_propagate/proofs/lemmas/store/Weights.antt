@@ -6,7 +6,7 @@ use Rattle.pb_propagate.proofs.Common.{entries_of, lists_of, cut, IsLinked, last
 use Rattle.std.proofs.Math.ListN.{get_or-map}
 use Rattle.std.proofs.lemmas.Simd.{map-map}
 use Rattle.pb_propagate.proofs.lemmas.store.Gets.{swap-map}
-use Rattle.pb_propagate.specs.engine.Engine.Links.{none}
+use Rattle.pb_propagate.specs.engine.engine.Links.{none}
 use Rattle.pb_propagate.proofs.lemmas.store.Links.{cut-here}
 use Rattle.pb_propagate.proofs.lemmas.store.Unlinks.{Shifted, stays, goes, named-term}
 

@@ -11,7 +11,7 @@ use Rattle.pb_replay.proofs.Common.{Logged, logged_of, normal_form, numbered, pl
 use Rattle.pb_normal.specs.declared.Side.TheVariants.{AtLeast as least, AtMost as most}
 use Rattle.pb_normal.proofs.lemmas.rules.Unique.{IsSum-unique, IsRising-same, same_form}
 use Rattle.pb_replay.proofs.lemmas.meaning.Accepting.{ok-same}
-use Rattle.pb_proof.proofs.lemmas.Pol.Postfix.{words_report}
+use Rattle.pb_proof.proofs.lemmas.pol.Postfix.{words_report}
 
 Excludes-unique : (given : List NumberedLiteral) (r s : Form) → Excludes given r → Excludes given s → r ≡ s
 Excludes-unique given r s p q =

@@ -1,4 +1,4 @@
-use Rattle.pb_proof.proofs.lemmas.Proofs.Values.{one_value}
+use Rattle.pb_proof.proofs.lemmas.proofs.Values.{one_value}
 use Rattle.pb_proof.proofs.laws.values.one_value.Goals as goal
 
 pub returns : goal.returns

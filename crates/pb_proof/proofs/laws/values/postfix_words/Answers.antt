@@ -1,4 +1,4 @@
-use Rattle.pb_proof.proofs.lemmas.Pol.Postfix.{words_report, words_leave_one}
+use Rattle.pb_proof.proofs.lemmas.pol.Postfix.{words_report, words_leave_one}
 use Rattle.pb_proof.proofs.laws.values.postfix_words.Goals as goal
 
 pub returns-clause-report : goal.returns-clause-report

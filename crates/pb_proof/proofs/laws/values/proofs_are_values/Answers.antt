@@ -1,4 +1,4 @@
-use Rattle.pb_proof.proofs.lemmas.Proofs.Values.{statement_values, proof_values}
+use Rattle.pb_proof.proofs.lemmas.proofs.Values.{statement_values, proof_values}
 use Rattle.pb_proof.proofs.laws.values.proofs_are_values.Goals as goal
 
 pub returns-clause-statements : goal.returns-clause-statements

@@ -1,5 +1,5 @@
 use Rattle.pb_proof.proofs.Common.{◌+◌, ◌-◌, ◌^◌, ◌∙◌, ap, arith, length, min}
-use Rattle.pb_proof.proofs.lemmas.Literals.Theorems.{count_more}
+use Rattle.pb_proof.proofs.lemmas.solution.Theorems.{count_more}
 use Rattle.pb_proof.proofs.line.solution.count_units.Goals as goal
 
 pub loop-literal-preserved : goal.loop-literal-preserved

@@ -1,8 +1,8 @@
 use Rattle.pb_proof.proofs.Common.{◌≡◌, IsTrue, refl, Some, subst, sym, Admits, LineMachine, IsInOrder, proofs, ProofState}
-use Rattle.pb_proof.specs.engine.Machine.Transition.{transition}
+use Rattle.pb_proof.specs.engine.machine.Transition.{transition}
 use Rattle.pb_proof.specs.contracts.machine.ProofMachine.{the_view}
 use Rattle.pb_proof.specs.declared.machine.phase.Action.TheVariants.{Give}
-use Rattle.pb_proof.proofs.lemmas.Machine.States.{give_order, give_admits, known}
+use Rattle.pb_proof.proofs.lemmas.machine.States.{give_order, give_admits, known}
 use Rattle.pb_proof.proofs.machine.ProofMachine.give.Goals as goal
 
 pub invariant_of-self-in-Go : goal.invariant_of-self-in-Go

@@ -1,7 +1,7 @@
 use Rattle.pb_proof.proofs.Common.{subst, sym, IsInOrder, ProofState}
 use Rattle.pb_proof.specs.contracts.machine.ProofMachine.{the_view}
 use Rattle.pb_proof.specs.declared.machine.phase.Phase.TheVariants.{Inside}
-use Rattle.pb_proof.proofs.lemmas.Machine.States.{to_order, begin_order}
+use Rattle.pb_proof.proofs.lemmas.machine.States.{to_order, begin_order}
 use Rattle.pb_proof.proofs.machine.ProofMachine.take.Goals as goal
 
 pub invariant_of-self : goal.invariant_of-self

@@ -4,7 +4,7 @@ use Rattle.pb_proof.specs.declared.machine.phase.Phase.{Phase}
 use Rattle.pb_proof.specs.declared.machine.phase.Phase.TheVariants as phase
 use Rattle.pb_proof.specs.declared.machine.phase.Stage.TheVariants as stage
 use Rattle.pb_proof.specs.declared.statement.Statement.TheVariants as statement
-use Rattle.pb_proof.proofs.lemmas.Machine.Whole.{pol_taken, rup_taken}
+use Rattle.pb_proof.proofs.lemmas.machine.Whole.{pol_taken, rup_taken}
 use Rattle.pb_proof.proofs.machine.ProofMachineMachine.take_statement.Goals as goal
 
 -- between two steps

@@ -1,5 +1,5 @@
 use Rattle.pb_proof.proofs.Common.{◌-◌, ◌∙◌, drop, length, subst, sym, take, bytes_decides}
-use Rattle.pb_proof.proofs.lemmas.Machine.Taken.{rest_is, lacks_rest, LacksPrefix}
+use Rattle.pb_proof.proofs.lemmas.machine.Taken.{rest_is, lacks_rest, LacksPrefix}
 use Rattle.pb_proof.proofs.machine.transition.words_prefix.Goals as goal
 
 pub returns-then-not-starts_with-clause-none : goal.returns-then-not-starts_with-clause-none

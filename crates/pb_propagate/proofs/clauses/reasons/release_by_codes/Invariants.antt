@@ -1,5 +1,5 @@
 use Rattle.pb_propagate.proofs.Common.{ℕ, ◌<◌, get_or, literal_at, IsDue}
-use Rattle.pb_propagate.specs.engine.Engine.Refreshed.{IsReleased}
+use Rattle.pb_propagate.specs.engine.engine.Refreshed.{IsReleased}
 use Rattle.pb_propagate.proofs.clauses.reasons.release_by_codes.Given as goal
 
 abbrev pub invariant-literals : goal.invariant-literals

@@ -1,5 +1,5 @@
 use Rattle.pb_propagate.proofs.Common.{ℕ, ◌-◌, ◌≤◌, length, List, list_at, watch_lists}
-use Rattle.pb_propagate.specs.engine.Clauses.Runs.{IsServedTo}
+use Rattle.pb_propagate.specs.engine.clauses.Runs.{IsServedTo}
 use Rattle.pb_propagate.proofs.clauses.visiting.next_untrue.Given as goal
 
 abbrev pub decreases-entries : goal.decreases-entries

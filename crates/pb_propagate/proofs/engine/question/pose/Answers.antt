@@ -16,7 +16,7 @@ use Rattle.pb_propagate.proofs.lemmas.root.Kept.{met-asked}
 use Rattle.pb_propagate.proofs.lemmas.root.Questions.{IsEntered, entered-shapes, opened-counted, opened-tidy, undone-same, derives-entered, kept-terms, found-after, found-both, question-most, updated-most, both-parts}
 use Rattle.pb_propagate.proofs.lemmas.store.Placed.{numbered-entered}
 use Rattle.pb_propagate.proofs.lemmas.engine.Reasoned.{reasons-derive, reasons-keep}
-use Rattle.pb_propagate.specs.engine.Engine.Root.{terms_of_all}
+use Rattle.pb_propagate.specs.engine.engine.Root.{terms_of_all}
 use Rattle.pb_propagate.proofs.engine.question.pose.Goals.{After-propagate}
 use Rattle.pb_propagate.proofs.engine.question.pose.Goals as goal
 

@@ -9,7 +9,7 @@ use Rattle.pb_propagate.proofs.lemmas.root.Questions.{derives-entered, found-aft
 use Rattle.pb_propagate.proofs.lemmas.root.Ready.{standing-left, updated-ready}
 use Rattle.pb_propagate.proofs.lemmas.root.Returns.{both-costs, question-back}
 use Rattle.pb_propagate.proofs.lemmas.engine.Reasoned.{reasons-derive}
-use Rattle.pb_propagate.specs.engine.Engine.Root.{terms_of_all}
+use Rattle.pb_propagate.specs.engine.engine.Root.{terms_of_all}
 use Rattle.pb_propagate.proofs.engine.question.pose_clause.Goals.{After-refute}
 use Rattle.pb_propagate.proofs.engine.question.pose_clause.Goals as goal
 

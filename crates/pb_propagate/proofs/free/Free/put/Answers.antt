@@ -1,6 +1,6 @@
 use Rattle.pb_propagate.proofs.Common.{◌<◌, ap, get_or_default, length, refl, rules, set}
 use Rattle.pb_propagate.proofs.lemmas.engine.Chains.{free-put}
-use Rattle.pb_propagate.specs.engine.Engine.Free.{nobody}
+use Rattle.pb_propagate.specs.engine.engine.Free.{nobody}
 use Rattle.pb_propagate.proofs.free.Free.put.Goals as goal
 
 pub returns : goal.returns

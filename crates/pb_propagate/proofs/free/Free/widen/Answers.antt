@@ -1,6 +1,6 @@
 use Rattle.pb_propagate.proofs.Common.{◌-◌, ◌^◌, get_or}
 use Rattle.pb_propagate.proofs.lemmas.engine.Chains.{chain-push}
-use Rattle.pb_propagate.specs.engine.Engine.Free.{nobody}
+use Rattle.pb_propagate.specs.engine.engine.Free.{nobody}
 use Rattle.pb_propagate.proofs.free.Free.widen.Goals as goal
 
 pub returns : goal.returns

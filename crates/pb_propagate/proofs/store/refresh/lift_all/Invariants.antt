@@ -1,5 +1,5 @@
 use Rattle.pb_propagate.proofs.Common.{ℕ, ◌<◌, ◌≡◌, [], drop, get_or, map, weighted, place, entries_of, shapes_of, Weighted, slice_get, Some}
-use Rattle.pb_propagate.specs.engine.Engine.Refreshed.{AreRefreshed, IsRefreshed, Lacks}
+use Rattle.pb_propagate.specs.engine.engine.Refreshed.{AreRefreshed, IsRefreshed, Lacks}
 use Rattle.pb_propagate.proofs.store.refresh.lift_all.Given as goal
 
 abbrev pub invariant-entries : goal.invariant-entries

@@ -1,5 +1,5 @@
 use Rattle.pb_propagate.proofs.Common.{◌<◌, ◌≡◌, arith, get_or, length, length-map, Shape, stored_shape, subst, sym}
-use Rattle.pb_propagate.specs.engine.Engine.Root.{IsOnly}
+use Rattle.pb_propagate.specs.engine.engine.Root.{IsOnly}
 use Rattle.pb_propagate.proofs.lemmas.engine.VisitSteps.{shape-at}
 use Rattle.pb_propagate.proofs.store.units.other_unit.Goals as goal
 

@@ -1,9 +1,9 @@
 use Rattle.pb_proof.proofs.Common.{◌≡◌, false, IsTrue, subst, sym, Admits, is_large, Refuse, conclusion_automaton, ConclusionState}
-use Rattle.pb_proof.specs.engine.Line.Conclusion.{transition}
-use Rattle.pb_proof.specs.engine.Line.ConclusionState.{giving}
+use Rattle.pb_proof.specs.engine.line.Conclusion.{transition}
+use Rattle.pb_proof.specs.engine.line.ConclusionState.{giving}
 use Rattle.pb_proof.specs.contracts.line.conclusion.ConclusionMachine.{the_view}
 use Rattle.pb_proof.specs.declared.line.conclusion.phase.Action.TheVariants.{Give}
-use Rattle.pb_proof.proofs.lemmas.Conclusion.Theorems.{give_order, give_refused, give_admits, same_inner}
+use Rattle.pb_proof.proofs.lemmas.conclusion.Theorems.{give_order, give_refused, give_admits, same_inner}
 use Rattle.pb_proof.proofs.line.conclusion.ConclusionMachine.give.Goals as goal
 
 pub invariant_of-self : goal.invariant_of-self

@@ -1,4 +1,4 @@
-use Rattle.pb_proof.proofs.lemmas.Conclusion.Theorems.{first_order}
+use Rattle.pb_proof.proofs.lemmas.conclusion.Theorems.{first_order}
 use Rattle.pb_proof.proofs.line.conclusion.ConclusionMachine.new.Goals as goal
 
 pub invariant_of-result : goal.invariant_of-result

@@ -1,7 +1,7 @@
 use Rattle.pb_proof.proofs.Common.{◌≡◌, ap, rules, sym, Go, conclusion_at, conclusion_automaton, ConclusionState}
-use Rattle.pb_proof.specs.engine.Line.ConclusionState.{act}
+use Rattle.pb_proof.specs.engine.line.ConclusionState.{act}
 use Rattle.pb_proof.specs.contracts.line.conclusion.ConclusionMachine.{the_view}
-use Rattle.pb_proof.proofs.lemmas.Conclusion.Steps.{continues}
+use Rattle.pb_proof.proofs.lemmas.conclusion.Steps.{continues}
 use Rattle.pb_proof.proofs.line.conclusion.ConclusionMachine.take.Goals as goal
 
 pub invariant_of-self : goal.invariant_of-self

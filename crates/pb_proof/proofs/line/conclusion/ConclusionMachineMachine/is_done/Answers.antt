@@ -1,4 +1,4 @@
-use Rattle.pb_proof.proofs.lemmas.Conclusion.Theorems.{conclusion_is_state}
+use Rattle.pb_proof.proofs.lemmas.conclusion.Theorems.{conclusion_is_state}
 use Rattle.pb_proof.proofs.line.conclusion.ConclusionMachineMachine.is_done.Goals as goal
 
 pub returns-clause-state : goal.returns-clause-state

@@ -1,5 +1,5 @@
 use Rattle.pb_proof.proofs.Common.{◌∙◌, ap, refl, subst, sym, unchanged, when_err, wants, IsPolInOrder}
-use Rattle.pb_proof.proofs.lemmas.Pol.Theorems.{asks_for, same_state}
+use Rattle.pb_proof.proofs.lemmas.pol.Theorems.{asks_for, same_state}
 use Rattle.pb_proof.proofs.line.pol.PolMachine.take.Goals as goal
 
 pub returns-then-is_err : goal.returns-then-is_err

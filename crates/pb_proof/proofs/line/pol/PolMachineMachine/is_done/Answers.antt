@@ -1,4 +1,4 @@
-use Rattle.pb_proof.proofs.lemmas.Pol.Theorems.{pol_is_state}
+use Rattle.pb_proof.proofs.lemmas.pol.Theorems.{pol_is_state}
 use Rattle.pb_proof.proofs.line.pol.PolMachineMachine.is_done.Goals as goal
 
 pub returns-clause-state : goal.returns-clause-state

@@ -1,5 +1,5 @@
 use Rattle.pb_proof.proofs.Common.{◌∙◌, ap, never, transition}
-use Rattle.pb_proof.proofs.lemmas.Pol.Theorems.{stays}
+use Rattle.pb_proof.proofs.lemmas.pol.Theorems.{stays}
 use Rattle.pb_proof.proofs.line.pol.PolMachineMachine.try_continue.Goals.{in-End, in_default}
 use Rattle.pb_proof.proofs.line.pol.PolMachineMachine.try_continue.Goals as goal
 

@@ -1,5 +1,5 @@
 use Rattle.pb_proof.proofs.Common.{◌∙◌, ap, transition}
-use Rattle.pb_proof.proofs.lemmas.Pol.Theorems.{waits}
+use Rattle.pb_proof.proofs.lemmas.pol.Theorems.{waits}
 use Rattle.pb_proof.proofs.line.pol.PolMachineMachine.try_finish.Goals.{in-End, in_default}
 use Rattle.pb_proof.proofs.line.pol.PolMachineMachine.try_finish.Goals as goal
 

@@ -1,5 +1,5 @@
 use Rattle.pb_proof.proofs.Common.{◌-◌, ◌^◌, ◌∙◌, ap, arith, min, word_units}
-use Rattle.pb_proof.proofs.lemmas.Pol.Theorems.{count_more}
+use Rattle.pb_proof.proofs.lemmas.pol.Theorems.{count_more}
 use Rattle.pb_proof.proofs.line.pol.words.count_units.Goals as goal
 
 pub loop-word-preserved : goal.loop-word-preserved

@@ -1,5 +1,5 @@
 use Rattle.pb_proof.proofs.Common.{◌++◌, ◌∙◌, ◌∷◌, [], ap, sym, turned, with_last}
-use Rattle.pb_proof.proofs.lemmas.Pol.Prefixes.{with_last_append}
+use Rattle.pb_proof.proofs.lemmas.pol.Prefixes.{with_last_append}
 use Rattle.pb_proof.proofs.line.pol.words.turn_last.Goals as goal
 
 pub returns-in-Some-clause-words : goal.returns-in-Some-clause-words

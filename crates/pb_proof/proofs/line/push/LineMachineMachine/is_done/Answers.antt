@@ -1,9 +1,9 @@
 use Rattle.pb_proof.proofs.lemmas.Carried.{state_in}
-use Rattle.pb_proof.proofs.lemmas.Line.Laws.{count_carries, pol_carries, rup_carries, soli_carries, solx_carries, delete_carries, conclusion_carries}
+use Rattle.pb_proof.proofs.lemmas.line.Laws.{formula_carries, pol_carries, rup_carries, soli_carries, solx_carries, delete_carries, conclusion_carries}
 use Rattle.pb_proof.proofs.line.push.LineMachineMachine.is_done.Goals as goal
 
-pub returns-in-Count-clause-state : goal.returns-in-Count-clause-state
-returns-in-Count-clause-state c = rw c.in-Count.is (state_in _ _ _ _ count_carries c.in-Count.machine c.is_done.ensures.state)
+pub returns-in-Formula-clause-state : goal.returns-in-Formula-clause-state
+returns-in-Formula-clause-state c = rw c.in-Formula.is (state_in _ _ _ _ formula_carries c.in-Formula.machine c.is_done.ensures.state)
 
 pub returns-in-Pol-clause-state : goal.returns-in-Pol-clause-state
 returns-in-Pol-clause-state c = rw c.in-Pol.is (state_in _ _ _ _ pol_carries c.in-Pol.machine c.is_done-in-Pol.ensures.state)

@@ -1,9 +1,9 @@
 use Rattle.pb_proof.proofs.lemmas.Carried.{state_in, pushes_in}
-use Rattle.pb_proof.proofs.lemmas.Line.Laws.{count_carries, pol_carries, rup_carries, soli_carries, solx_carries, delete_carries, conclusion_carries}
+use Rattle.pb_proof.proofs.lemmas.line.Laws.{formula_carries, pol_carries, rup_carries, soli_carries, solx_carries, delete_carries, conclusion_carries}
 use Rattle.pb_proof.proofs.line.push.LineMachineMachine.push.Goals as goal
 
-pub returns-in-Count-clause-state : goal.returns-in-Count-clause-state
-returns-in-Count-clause-state c = state_in _ _ _ _ count_carries c.push.new.self c.push.ensures.state
+pub returns-in-Formula-clause-state : goal.returns-in-Formula-clause-state
+returns-in-Formula-clause-state c = state_in _ _ _ _ formula_carries c.push.new.self c.push.ensures.state
 
 pub returns-in-Pol-clause-pushes : goal.returns-in-Pol-clause-pushes
 returns-in-Pol-clause-pushes c = rw c.in-Pol.is (pushes_in _ _ _ _ pol_carries _ (λ e f g. g) c.in-Pol.machine c.push-in-Pol.new.self c.args.byte _ _ c.carried-in-Pol.ensures c.push-in-Pol.ensures.pushes)

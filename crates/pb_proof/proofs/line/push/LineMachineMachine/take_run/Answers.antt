@@ -1,13 +1,13 @@
 use Rattle.pb_proof.proofs.Common.{take}
 use Rattle.pb_proof.proofs.lemmas.Carried.{state_in, runs_in}
-use Rattle.pb_proof.proofs.lemmas.Line.Laws.{count_carries, pol_carries, rup_carries, soli_carries, solx_carries, delete_carries, conclusion_carries}
+use Rattle.pb_proof.proofs.lemmas.line.Laws.{formula_carries, pol_carries, rup_carries, soli_carries, solx_carries, delete_carries, conclusion_carries}
 use Rattle.pb_proof.proofs.line.push.LineMachineMachine.take_run.Goals as goal
 
-pub returns-in-Count-clause-runs : goal.returns-in-Count-clause-runs
-returns-in-Count-clause-runs c = rw c.in-Count.is (runs_in _ _ _ _ count_carries (take c.take_run.result c.args.piece.now) c.in-Count.machine c.take_run.new.self c.take_run.ensures.runs)
+pub returns-in-Formula-clause-runs : goal.returns-in-Formula-clause-runs
+returns-in-Formula-clause-runs c = rw c.in-Formula.is (runs_in _ _ _ _ formula_carries (take c.take_run.result c.args.piece.now) c.in-Formula.machine c.take_run.new.self c.take_run.ensures.runs)
 
-pub returns-in-Count-clause-state : goal.returns-in-Count-clause-state
-returns-in-Count-clause-state c = state_in _ _ _ _ count_carries c.take_run.new.self c.take_run.ensures.state
+pub returns-in-Formula-clause-state : goal.returns-in-Formula-clause-state
+returns-in-Formula-clause-state c = state_in _ _ _ _ formula_carries c.take_run.new.self c.take_run.ensures.state
 
 pub returns-in-Pol-clause-runs : goal.returns-in-Pol-clause-runs
 returns-in-Pol-clause-runs c = rw c.in-Pol.is (runs_in _ _ _ _ pol_carries (take c.take_run-in-Pol.result c.args.piece.now) c.in-Pol.machine c.take_run-in-Pol.new.self c.take_run-in-Pol.ensures.runs)

@@ -1,5 +1,5 @@
 use Rattle.pb_proof.proofs.lemmas.Carried.{state_in, closes_in}
-use Rattle.pb_proof.proofs.lemmas.Line.Laws.{pol_carries, rup_carries, delete_carries}
+use Rattle.pb_proof.proofs.lemmas.line.Laws.{pol_carries, rup_carries, delete_carries}
 use Rattle.pb_proof.proofs.line.push.LineMachineMachine.try_finish.Goals as goal
 
 pub returns-in-Pol-clause-finishes : goal.returns-in-Pol-clause-finishes

@@ -1,7 +1,7 @@
 use Rattle.pb_proof.proofs.Common.{◌<◌, ◌∙◌, ◌≡◌, arith, false, get_or, subst, sym, is_blank, RupState}
 use Rattle.pb_proof.specs.contracts.line.rup.RupMachine.{the_view}
 use Rattle.pb_proof.specs.declared.line.rup.phase.RupPhase.TheVariants.{Gap}
-use Rattle.pb_proof.proofs.lemmas.Machine.Taken.{rup_runs_begun}
+use Rattle.pb_proof.proofs.lemmas.machine.Taken.{rup_runs_begun}
 use Rattle.pb_proof.proofs.line.rup.RupMachine.begin_prefix.Goals as goal
 
 pub invariant_of-self-2 : goal.invariant_of-self-2

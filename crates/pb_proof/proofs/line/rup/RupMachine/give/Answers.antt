@@ -1,7 +1,7 @@
 use Rattle.pb_proof.proofs.Common.{◌∙◌, ◌≡◌, ap, false, IsTrue, Some, subst, sym, true, SumState, Admits, is_large, Refuse, Give, Tail, IsRupInOrder}
 use Rattle.pb_proof.proofs.Common.{rup_automaton, rup_transition, RupState}
 use Rattle.pb_proof.specs.contracts.line.rup.RupMachine.{the_view}
-use Rattle.pb_proof.proofs.lemmas.Rup.States.{give_order, tail_order, give_refused, give_admits}
+use Rattle.pb_proof.proofs.lemmas.rup.States.{give_order, tail_order, give_refused, give_admits}
 use Rattle.pb_proof.proofs.line.rup.RupMachine.give.Goals as goal
 
 pub invariant_of-self : goal.invariant_of-self

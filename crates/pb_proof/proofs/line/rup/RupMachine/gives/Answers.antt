@@ -1,5 +1,5 @@
 use Rattle.pb_proof.proofs.Common.{subst, Pushes, rup_automaton}
-use Rattle.pb_proof.proofs.lemmas.Machine.Taken.{unmoved}
+use Rattle.pb_proof.proofs.lemmas.machine.Taken.{unmoved}
 use Rattle.pb_proof.proofs.line.rup.RupMachine.gives.Goals as goal
 use Rattle.pb_proof.proofs.line.rup.RupMachine.gives.Goals.{in-Go, in_default}
 

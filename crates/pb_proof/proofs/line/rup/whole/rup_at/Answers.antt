@@ -1,5 +1,5 @@
 use Rattle.pb_proof.proofs.Common.{◌∙◌, arith, sym, largest}
-use Rattle.pb_proof.proofs.lemmas.Machine.Whole.{rup_leads}
+use Rattle.pb_proof.proofs.lemmas.machine.Whole.{rup_leads}
 use Rattle.pb_proof.proofs.line.rup.whole.rup_at.Goals as goal
 
 pub returns-clause-runs : goal.returns-clause-runs

@@ -1,0 +1,94 @@
+-- What holds of the machines that read the text after the first word of a statement.
+use Rattle.pb_proof.proofs.Common.{ℕ, ◌<◌, ◌^◌, ◌≡◌, false, List, refl, subst, sym, first_is_state, Blank, IsState, ReadsStatement, Letter}
+use Rattle.pb_proof.proofs.Common.{LineMachine, LineKind, Statement, conclusion_automaton, conclusion_first, conclusion_last, formula_automaton}
+use Rattle.pb_proof.proofs.Common.{formula_last, formula_first, delete_automaton, delete_first, delete_last, solution_automaton, solution_first, solution_last}
+use Rattle.pb_proof.proofs.Common.{line_automaton, line_first, SpellsRest, pol_automaton, pol_first, pol_last, rup_automaton, rup_first, rup_last}
+use Rattle.pb_proof.proofs.Common.{Automaton}
+use Rattle.pb_sums.specs.declared.Part as part
+use Rattle.pb_proof.specs.declared.line.LineMachine as line
+use Rattle.pb_proof.specs.declared.machine.phase.LineKind.TheVariants.{Formula, Pol, Rup, Soli, Solx, Delete, Conclusion}
+use Rattle.pb_proof.specs.declared.statement.Statement as statement
+use Rattle.pb_proof.proofs.lemmas.Carried.{Carries, reads_in, reads_out, state_in, begins_in}
+use Rattle.pb_proof.proofs.lemmas.Formula.{formula_reads, formula_is_state, formula_of_one}
+use Rattle.pb_proof.proofs.lemmas.rup.Reads.{rup_reads}
+use Rattle.pb_proof.proofs.lemmas.rup.States.{rup_is_state, rup_begins, rup_first_in_order}
+use Rattle.pb_proof.proofs.lemmas.pol.Theorems.{pol_reads, pol_is_state, pol_first_in_order, of_one}
+use Rattle.pb_proof.proofs.lemmas.solution.Theorems.{solution_of_one, solution_reads, solution_is_state}
+use Rattle.pb_proof.proofs.lemmas.delete.Theorems.{delete_of_one, delete_reads, delete_is_state}
+use Rattle.pb_proof.proofs.lemmas.conclusion.Theorems.{conclusion_of_one, conclusion_reads, conclusion_is_state}
+use Rattle.pb_text.proofs.lemmas.machine.Living.{BeginsAtOnce}
+
+pub formula_carries : Carries formula_automaton line_automaton line.TheVariants.Formula statement.TheVariants.F
+formula_carries = record { step = λ s b. refl; done = λ s. refl; begun = λ s. refl; in_number = λ s. refl; asks = λ s b. refl; kept = λ s. refl; spent = λ s. refl }
+
+pub pol_carries : Carries pol_automaton line_automaton line.TheVariants.Pol statement.TheVariants.Pol
+pol_carries = record { step = λ s b. refl; done = λ s. refl; begun = λ s. refl; in_number = λ s. refl; asks = λ s b. refl; kept = λ s. refl; spent = λ s. refl }
+
+pub rup_carries : Carries rup_automaton line_automaton line.TheVariants.Rup statement.TheVariants.Rup
+rup_carries = record { step = λ s b. refl; done = λ s. refl; begun = λ s. refl; in_number = λ s. refl; asks = λ s b. refl; kept = λ s. refl; spent = λ s. refl }
+
+pub soli_carries : Carries solution_automaton line_automaton line.TheVariants.Soli statement.TheVariants.Soli
+soli_carries = record { step = λ s b. refl; done = λ s. refl; begun = λ s. refl; in_number = λ s. refl; asks = λ s b. refl; kept = λ s. refl; spent = λ s. refl }
+
+pub solx_carries : Carries solution_automaton line_automaton line.TheVariants.Solx statement.TheVariants.Solx
+solx_carries = record { step = λ s b. refl; done = λ s. refl; begun = λ s. refl; in_number = λ s. refl; asks = λ s b. refl; kept = λ s. refl; spent = λ s. refl }
+
+pub delete_carries : Carries delete_automaton line_automaton line.TheVariants.Delete statement.TheVariants.Delete
+delete_carries = record { step = λ s b. refl; done = λ s. refl; begun = λ s. refl; in_number = λ s. refl; asks = λ s b. refl; kept = λ s. refl; spent = λ s. refl }
+
+pub conclusion_carries : Carries conclusion_automaton line_automaton line.TheVariants.Conclusion statement.TheVariants.Conclude
+conclusion_carries = record { step = λ s b. refl; done = λ s. refl; begun = λ s. refl; in_number = λ s. refl; asks = λ s b. refl; kept = λ s. refl; spent = λ s. refl }
+
+-- Each begins its text with the first byte.
+pub line_begins : BeginsAtOnce line_automaton
+line_begins (line.TheVariants.Formula s) next b e = begins_in _ _ _ _ formula_carries formula_of_one.begins s next b e
+line_begins (line.TheVariants.Pol s) next b e = begins_in _ _ _ _ pol_carries of_one.begins s next b e
+line_begins (line.TheVariants.Rup s) next b e = begins_in _ _ _ _ rup_carries rup_begins s next b e
+line_begins (line.TheVariants.Soli s) next b e = begins_in _ _ _ _ soli_carries solution_of_one.begins s next b e
+line_begins (line.TheVariants.Solx s) next b e = begins_in _ _ _ _ solx_carries solution_of_one.begins s next b e
+line_begins (line.TheVariants.Delete s) next b e = begins_in _ _ _ _ delete_carries delete_of_one.begins s next b e
+line_begins (line.TheVariants.Conclusion s) next b e = begins_in _ _ _ _ conclusion_carries conclusion_of_one.begins s next b e
+
+module _ (limit top : ℕ) where
+  -- What a new line machine reads, the machine of the line reads.
+  within : {S E : Type 0} (m : Automaton S E) (into : S → LineMachine) (event : E → Statement) → Carries m line_automaton into event → (start : S) (r : LineKind) (t : List Letter) (e : Statement) (after : LineMachine)
+      → ReadsStatement line_automaton (into start) t e after → ((c : E) (last : S) → ReadsStatement m start t c last → SpellsRest limit top r (event c) t) → SpellsRest limit top r e t
+  within m into event carries start r t e after h f =
+      let (c, last, g, k) = reads_out m line_automaton into event carries t start e after h in
+      subst (λ x. SpellsRest limit top r x t) (sym g) (f c last k)
+
+  -- It is the text after the first word.
+  pub line_only : (r : LineKind) (t : List Letter) (e : Statement) (after : LineMachine) → ReadsStatement line_automaton (line_first limit top r) t e after → SpellsRest limit top r e t
+  line_only Formula t e after h = within _ _ _ formula_carries (formula_first top) Formula t e after h (λ c last k. ((formula_reads limit top t c last).0 k).0)
+  line_only Pol t e after h = within _ _ _ pol_carries (pol_first limit top) Pol t e after h (λ c last k. ((pol_reads limit top t c last).0 k).0)
+  line_only Rup t e after h = within _ _ _ rup_carries (rup_first limit) Rup t e after h (λ c last k. ((rup_reads limit top t c last).0 k).0)
+  line_only Soli t e after h = within _ _ _ soli_carries (solution_first false) Soli t e after h (λ c last k. ((solution_reads false t c last).0 k).0)
+  line_only Solx t e after h = within _ _ _ solx_carries (solution_first false) Solx t e after h (λ c last k. ((solution_reads false t c last).0 k).0)
+  line_only Delete t e after h = within _ _ _ delete_carries (delete_first top) Delete t e after h (λ c last k. ((delete_reads limit top t c last).0 k).0)
+  line_only Conclusion t e after h =
+      within _ _ _ conclusion_carries (conclusion_first limit top) Conclusion t e after h (λ c last k. ((conclusion_reads limit top t c last).0 k).0)
+
+  pub line_each : (r : LineKind) (t : List Letter) (e : Statement) → SpellsRest limit top r e t → (after : LineMachine) × ReadsStatement line_automaton (line_first limit top r) t e after
+  line_each Formula t (statement.TheVariants.F c) h = (line.TheVariants.Formula (formula_last top), reads_in _ _ _ _ formula_carries t (formula_first top) c (formula_last top) ((formula_reads limit top t c (formula_last top)).1 (h, refl)))
+  line_each Pol t (statement.TheVariants.Pol c) h = (line.TheVariants.Pol (pol_last limit top), reads_in _ _ _ _ pol_carries t (pol_first limit top) c (pol_last limit top) ((pol_reads limit top t c (pol_last limit top)).1 (h, refl)))
+  line_each Rup t (statement.TheVariants.Rup c) h = (line.TheVariants.Rup (rup_last limit), reads_in _ _ _ _ rup_carries t (rup_first limit) c (rup_last limit) ((rup_reads limit top t c (rup_last limit)).1 (h, refl)))
+  line_each Soli t (statement.TheVariants.Soli c) h = (line.TheVariants.Soli (solution_last false), reads_in _ _ _ _ soli_carries t (solution_first false) c (solution_last false) ((solution_reads false t c (solution_last false)).1 (h, refl)))
+  line_each Solx t (statement.TheVariants.Solx c) h = (line.TheVariants.Solx (solution_last false), reads_in _ _ _ _ solx_carries t (solution_first false) c (solution_last false) ((solution_reads false t c (solution_last false)).1 (h, refl)))
+  line_each Delete t (statement.TheVariants.Delete c) h = (line.TheVariants.Delete (delete_last top), reads_in _ _ _ _ delete_carries t (delete_first top) c (delete_last top) ((delete_reads limit top t c (delete_last top)).1 (h, refl)))
+  line_each Conclusion t (statement.TheVariants.Conclude c) h = (line.TheVariants.Conclusion (conclusion_last limit top), reads_in _ _ _ _ conclusion_carries t (conclusion_first limit top) c (conclusion_last limit top) ((conclusion_reads limit top t c (conclusion_last limit top)).1 (h, refl)))
+  line_each _ t _ h = absurd h
+
+  -- A new one has not begun, has not ended, and reads no number.
+  pub line_fresh : (r : LineKind) → (line_automaton.done (line_first limit top r) ≡ false) × (line_automaton.begun (line_first limit top r) ≡ false) × (line_automaton.in_number (line_first limit top r) ≡ false)
+  line_fresh Formula = (refl, refl, refl)
+  line_fresh _ = (refl, refl, refl)
+
+  -- A new one satisfies `IsState`, if there are ids.
+  pub line_first_state : limit < 2 ^ 127 → top < 2 ^ 63 → 0 < top → (r : LineKind) → IsState line_automaton (line_first limit top r)
+  line_first_state l t some Formula = state_in _ _ _ _ formula_carries (formula_first top) (formula_is_state (formula_first top) (t, tt))
+  line_first_state l t some Pol = state_in _ _ _ _ pol_carries (pol_first limit top) (pol_is_state (pol_first limit top) (pol_first_in_order limit top some))
+  line_first_state l t some Rup = state_in _ _ _ _ rup_carries (rup_first limit) (rup_is_state (rup_first limit) (rup_first_in_order limit (first_is_state Blank part.TheVariants.AtLeast limit)))
+  line_first_state l t some Soli = state_in _ _ _ _ soli_carries (solution_first false) (solution_is_state (solution_first false) (λ i. (refl, refl)))
+  line_first_state l t some Solx = state_in _ _ _ _ solx_carries (solution_first false) (solution_is_state (solution_first false) (λ i. (refl, refl)))
+  line_first_state l t some Delete = state_in _ _ _ _ delete_carries (delete_first top) (delete_is_state (delete_first top) (t, some, tt, λ i. refl))
+  line_first_state l t some Conclusion = state_in _ _ _ _ conclusion_carries (conclusion_first limit top) (conclusion_is_state (conclusion_first limit top) (record { limit = l; top = t; some = some; fits = tt; holds = refl; literals = λ i. (refl, refl) }))

@@ -1,0 +1,148 @@
+-- The statements of a proof in order: the proof machine accepts exactly these.
+use Rattle.pb_proof.proofs.Common.{ℕ, ◌++◌, ◌↔◌, ◌∷◌, ◌≡◌, [], All, ap, false, IsTrue, List, refl, subst, sym, true, All-cons, All-head, All-nil}
+use Rattle.pb_proof.proofs.Common.{All-tail, never, one_spelling, AcceptsItems, Refuse, Nothing, Item, events_of, Conclusion, Stage, Closing}
+use Rattle.pb_proof.proofs.Common.{Complete, Formula, Opening, Steps, Proof, Statement, Conclude, Delete, F, Header, Output, Pol, Rup, Soli, Solx}
+use Rattle.pb_proof.proofs.Common.{act, begin, proofs, ProofState, SpellsStatement, GapAt, IsStaged, stage_after, stage_of, AreSpelled, BeginsAtOnce}
+use Rattle.pb_proof.proofs.Common.{IsGap, IsProof, IsStep, statements_of}
+use Rattle.pb_proof.specs.engine.machine.Transition.{transition}
+use Rattle.pb_proof.specs.contract.Formats.{OneProof}
+use Rattle.pb_proof.specs.engine.machine.State.{is_done}
+use Rattle.pb_proof.specs.declared.machine.phase.Stage.TheVariants.{Concluding}
+use Rattle.pb_proof.specs.declared.machine.phase.Phase.{Phase}
+use Rattle.pb_proof.specs.declared.machine.phase.Phase.TheVariants as phase
+use Rattle.pb_proof.specs.declared.statement.Statement.TheVariants.{End}
+use Rattle.pb_proof.proofs.lemmas.machine.Orders.{ordered_only, ordered_each}
+
+-- statements in order
+abbrev InOrder : Stage → List Statement → Type 0
+InOrder at [] = at ≡ Complete
+InOrder at (e ∷ es) = (stage_of e ≡ at) × InOrder (stage_after e) es
+
+-- the statements that end a proof
+abbrev ending : Conclusion → List Statement
+ending c = Output ∷ Conclude c ∷ End ∷ []
+
+abbrev Ends : List Statement → Type 0
+Ends es = (steps : List Statement) × (c : Conclusion) × All IsStep steps × (es ≡ steps ++ ending c)
+
+at_complete : (es : List Statement) → InOrder Complete es → es ≡ []
+at_complete [] h = refl
+at_complete (Header ∷ es) h = cc
+at_complete (_ ∷ es) h = cc
+
+at_closing : (es : List Statement) → InOrder Closing es → es ≡ End ∷ []
+at_closing [] h = cc
+at_closing (End ∷ es) h = ap (λ x. End ∷ x) (at_complete es h.1)
+at_closing (_ ∷ es) h = cc
+
+at_conclusion : (es : List Statement) → InOrder Concluding es → (c : Conclusion) × (es ≡ Conclude c ∷ End ∷ [])
+at_conclusion [] h = cc
+at_conclusion (Conclude c ∷ es) h = (c, ap (λ x. Conclude c ∷ x) (at_closing es h.1))
+at_conclusion (_ ∷ es) h = cc
+
+step_then : (e : Statement) (es : List Statement) → IsStep e → Ends es → Ends (e ∷ es)
+step_then e es h (steps, c, k, g) = (e ∷ steps, c, All-cons IsStep e steps h k, ap (λ x. e ∷ x) g)
+
+at_steps : (es : List Statement) → InOrder Steps es → Ends es
+at_steps [] h = cc
+at_steps (Output ∷ es) h = let (c, e) = at_conclusion es h.1 in ([], c, All-nil IsStep, ap (λ x. Output ∷ x) e)
+at_steps (Pol ws ∷ es) h = step_then (Pol ws) es tt (at_steps es h.1)
+at_steps (Rup c ∷ es) h = step_then (Rup c) es tt (at_steps es h.1)
+at_steps (Soli ls ∷ es) h = step_then (Soli ls) es tt (at_steps es h.1)
+at_steps (Solx ls ∷ es) h = step_then (Solx ls) es tt (at_steps es h.1)
+at_steps (Delete ids ∷ es) h = step_then (Delete ids) es tt (at_steps es h.1)
+at_steps (_ ∷ es) h = cc
+
+abbrev IsOf : List Statement → Type 0
+IsOf es = (v : Proof) × All IsStep v.steps × (es ≡ statements_of v)
+
+at_formula : (es : List Statement) → InOrder Formula es → IsOf (Header ∷ es)
+at_formula [] h = cc
+at_formula (F n ∷ es) h =
+    let (steps, c, k, e) = at_steps es h.1 in
+    (record { count = n; steps = steps; conclusion = c }, k, ap (λ x. Header ∷ F n ∷ x) e)
+at_formula (_ ∷ es) h = cc
+
+at_opening : (es : List Statement) → InOrder Opening es → IsOf es
+at_opening [] h = cc
+at_opening (Header ∷ es) h = at_formula es h.1
+at_opening (_ ∷ es) h = cc
+
+-- the converse
+step_stage : (e : Statement) → IsStep e → (stage_of e ≡ Steps) × (stage_after e ≡ Steps)
+step_stage (Pol ws) h = (refl, refl)
+step_stage (Rup c) h = (refl, refl)
+step_stage (Soli ls) h = (refl, refl)
+step_stage (Solx ls) h = (refl, refl)
+step_stage (Delete ids) h = (refl, refl)
+step_stage _ h = absurd h
+
+steps_order : (steps : List Statement) (c : Conclusion) → All IsStep steps → InOrder Steps (steps ++ ending c)
+steps_order [] c h = (refl, (refl, (refl, refl)))
+steps_order (e ∷ steps) c h =
+    let k = step_stage e (All-head IsStep e steps h) in
+    (k.0, subst (λ x. InOrder x (steps ++ ending c)) (sym k.1) (steps_order steps c (All-tail IsStep e steps h)))
+
+pub no_gap : IsGap []
+no_gap = (Nothing, refl)
+
+module _ (limit top : ℕ) where
+  abbrev Spelled : Item Statement → Type 0
+  Spelled i = IsGap i.gap × SpellsStatement limit top i.event i.text
+
+  gap_is : (at : Stage) (gap : List ℕ) → GapAt at gap → IsGap gap
+  gap_is Opening gap h = subst IsGap (sym h) no_gap
+  gap_is _ gap h = h
+
+  spelled_only : (items : List (Item Statement)) (at : Stage) → IsStaged limit top at items → InOrder at (events_of items) × AreSpelled limit top items
+  spelled_only [] at h = (h, All-nil Spelled)
+  spelled_only (i ∷ rest) at (g, s, t, h) =
+      let k = spelled_only rest (stage_after i.event) h in
+      ((s, k.0), All-cons Spelled i rest (gap_is at i.gap g, t) k.1)
+
+  at_once : (items : List (Item Statement)) → IsStaged limit top Opening items → BeginsAtOnce limit top items
+  at_once [] h = cc
+  at_once (i ∷ rest) h = h.0
+
+  pub proof_only : (items : List (Item Statement)) → IsStaged limit top Opening items → IsProof limit top items
+  proof_only items h =
+      let k = spelled_only items Opening h in
+      let (v, s, e) = at_opening (events_of items) k.0 in
+      (v, (s, e, at_once items h, k.1))
+
+  -- after the first statement, white space and comments may come
+  gap_later : (e : Statement) (gap : List ℕ) → IsGap gap → GapAt (stage_after e) gap
+  gap_later Header gap h = h
+  gap_later _ gap h = h
+
+  later_each : (items : List (Item Statement)) (before : Statement) → InOrder (stage_after before) (events_of items) → AreSpelled limit top items → IsStaged limit top (stage_after before) items
+  later_each [] before h s = h
+  later_each (i ∷ rest) before (e, h) s =
+      let k = All-head Spelled i rest s in
+      (gap_later before i.gap k.0, e, k.1, later_each rest i.event h (All-tail Spelled i rest s))
+
+  pub proof_each : (items : List (Item Statement)) → IsProof limit top items → IsStaged limit top Opening items
+  proof_each items (v, (steps, e, first, spelled)) = from_first items (subst (InOrder Opening) (sym e) (refl, (refl, steps_order v.steps v.conclusion steps))) first spelled
+    where
+      from_first : (items : List (Item Statement)) → InOrder Opening (events_of items) → BeginsAtOnce limit top items → AreSpelled limit top items → IsStaged limit top Opening items
+      from_first [] h f s = absurd f
+      from_first (i ∷ rest) (e, h) f s = (f, e, (All-head Spelled i rest s).1, later_each rest i.event h (All-tail Spelled i rest s))
+
+  -- A new machine accepts exactly the proofs.
+  pub reads_proofs : (items : List (Item Statement)) → AcceptsItems proofs (begin limit top) items ↔ IsProof limit top items
+  reads_proofs items = (
+    (λ h. proof_only items (ordered_only limit top items Opening h)),
+    (λ h. ordered_each limit top items Opening (proof_each items h)),
+  )
+
+-- No byte is taken after a complete proof.
+pub done_stops : (s : ProofState) (p : Phase) (b : ℕ) → is_done p ≡ true → act s b (transition p b) ≡ Refuse
+done_stops s (phase.Between Complete) b h = refl
+done_stops s _ b h = never false h refl
+
+pub finishes : (s : ProofState) → IsTrue (proofs.done s) → (b : ℕ) → proofs.step s b ≡ Refuse
+finishes s h b = done_stops s s.phase b h
+
+-- each text is of one proof only
+pub one_proof : OneProof
+one_proof limit top items items' h k = one_spelling proofs finishes (begin limit top) items items' ((reads_proofs limit top items).1 h) ((reads_proofs limit top items').1 k)

@@ -1,0 +1,5 @@
+use Rattle.pb_proof.proofs.lemmas.delete.Theorems.{delete_is_state}
+use Rattle.pb_proof.proofs.line.delete.DeleteMachineMachine.is_done.Goals as goal
+
+pub returns-clause-state : goal.returns-clause-state
+returns-clause-state c = rw (← c.self.view_is) (delete_is_state _ c.self.invariant)

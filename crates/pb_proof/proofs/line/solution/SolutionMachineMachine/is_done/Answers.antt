@@ -1,0 +1,5 @@
+use Rattle.pb_proof.proofs.lemmas.solution.Theorems.{solution_is_state}
+use Rattle.pb_proof.proofs.line.solution.SolutionMachineMachine.is_done.Goals as goal
+
+pub returns-clause-state : goal.returns-clause-state
+returns-clause-state c = rw (← c.self.view_is) (solution_is_state _ c.self.invariant)

@@ -1,0 +1,90 @@
+-- The machine for the rest of a line after `f`: a count or none, through the line feed.
+use Rattle.std.specs.Prelude.{◌≡◌, ℕ, ◌+◌, ◌*◌, ◌^◌, ◌≤◌, ◌<◌, Bool, true, false, cond, nat_le, Option, Some, None}
+use Rattle.pb_text.specs.contract.Automaton.{Automaton, Next, Go, End, Refuse}
+use Rattle.pb_proof.specs.engine.line.ByteKind.{number_byte}
+use Rattle.pb_proof.specs.declared.line.byte_kind.NumberByte.{NumberByte}
+use Rattle.pb_proof.specs.declared.line.byte_kind.NumberByte.TheVariants.{Blank, Digit, Semicolon, Feed}
+use Rattle.pb_proof.specs.declared.line.formula.phase.FormulaPhase.{FormulaPhase}
+use Rattle.pb_proof.specs.declared.line.formula.phase.FormulaPhase.TheVariants.{Start, Gap, Digits, Tail, Closing, Done}
+use Rattle.pb_proof.specs.declared.line.formula.phase.FormulaAction.{FormulaAction}
+use Rattle.pb_proof.specs.declared.line.formula.phase.FormulaAction as action
+
+-- the largest count, and what was read last
+pub record FormulaState : Type 0 where
+  pub top : ℕ
+  pub phase : FormulaPhase
+
+abbrev pub at : ℕ → FormulaPhase → FormulaState
+at top p = record { top = top; phase = p }
+
+-- before the text after `f`, and after that text
+abbrev pub formula_first : ℕ → FormulaState
+formula_first top = at top Start
+
+abbrev pub formula_last : ℕ → FormulaState
+formula_last top = at top Done
+
+-- the action for the next digit of a count
+abbrev pub digits : ℕ → ℕ → ℕ → FormulaAction
+digits top n d = cond (nat_le (10 * n + d) top) (action.TheVariants.To (Digits (10 * n + d))) action.TheVariants.Stop
+
+-- the action for a byte at which the line may end, with a count or none
+abbrev pub next_action : Option ℕ → FormulaPhase → NumberByte → FormulaAction
+next_action count gap Blank = action.TheVariants.To gap
+next_action count gap Semicolon = action.TheVariants.To (Closing count)
+next_action count gap Feed = action.TheVariants.End count
+next_action count gap _ = action.TheVariants.Stop
+
+abbrev pub transition : ℕ → FormulaPhase → NumberByte → FormulaAction
+transition top Start k = next_action None Gap k
+transition top Gap (Digit d) = digits top 0 d
+transition top Gap k = next_action None Gap k
+transition top (Digits n) (Digit d) = digits top n d
+transition top (Digits n) k = next_action (Some n) (Tail n) k
+transition top (Tail n) k = next_action (Some n) (Tail n) k
+transition top (Closing count) Blank = action.TheVariants.To (Closing count)
+transition top (Closing count) Feed = action.TheVariants.End count
+transition _ _ _ = action.TheVariants.Stop
+
+abbrev pub act : ℕ → FormulaAction → Next FormulaState (Option ℕ)
+act top (action.TheVariants.To p) = Go (at top p)
+act top (action.TheVariants.End count) = End count (formula_last top)
+act top action.TheVariants.Stop = Refuse
+
+abbrev pub is_midway : FormulaPhase → Bool
+is_midway Start = false
+is_midway Done = false
+is_midway _ = true
+
+abbrev pub is_done : FormulaPhase → Bool
+is_done Done = true
+is_done _ = false
+
+abbrev pub is_in_number : FormulaPhase → Bool
+is_in_number (Digits n) = true
+is_in_number _ = false
+
+-- the automaton: it stores nothing
+abbrev pub formula_automaton : Automaton FormulaState (Option ℕ)
+formula_automaton = record {
+  step = λ s b. act s.top (transition s.top s.phase (number_byte b));
+  done = λ s. is_done s.phase;
+  begun = λ s. is_midway s.phase;
+  in_number = λ s. is_in_number s.phase;
+  asks = λ s b. false;
+  kept = λ s. 0;
+  spent = λ s. 0;
+}
+
+-- a count that is being read is at most top
+abbrev pub PhaseFits : ℕ → FormulaPhase → Type 0
+PhaseFits top (Digits n) = n ≤ top
+PhaseFits top _ = Unit {0}
+
+abbrev pub ActionFits : ℕ → FormulaAction → Type 0
+ActionFits top (action.TheVariants.To p) = PhaseFits top p × (is_midway p ≡ true)
+ActionFits top _ = Unit {0}
+
+-- the invariant of a machine
+abbrev pub IsFormulaInOrder : FormulaState → Type 0
+IsFormulaInOrder s = (s.top < 2 ^ 63) × PhaseFits s.top s.phase

@@ -1,0 +1,35 @@
+-- How far the literals of a list are walked, and how far they were when each of them was put.
+use Rattle.std.specs.Prelude.{◌≡◌, ℕ, ◌/◌, ◌<◌, ◌≤◌, true, Contains, List, length, take, Some, slice_get}
+use Rattle.pb_normal.specs.declared.numbered.NumberedLiteral.{NumberedLiteral}
+use Rattle.pb_propagate.specs.declared.heads.Heads.{Heads}
+use Rattle.pb_propagate.specs.declared.heads.Walked.{Walked}
+use Rattle.pb_propagate.specs.declared.clauses.Clauses.{Clauses}
+use Rattle.pb_propagate.specs.declared.clauses.lists.Watch.{Watch}
+use Rattle.pb_propagate.specs.engine.engine.Lists.{has}
+use Rattle.pb_propagate.specs.engine.clauses.Links.{list_at, watch_at}
+use Rattle.pb_propagate.specs.engine.clauses.Shapes.{literal_at}
+use Rattle.pb_propagate.specs.engine.clauses.Walked.{reached_codes}
+
+-- a literal of the clause is on the list
+abbrev pub HasListed : List (List ℕ) → List NumberedLiteral → ℕ → Type 0
+HasListed clauses list s = (x : ℕ) × Contains (list_at clauses s) x × (has list (literal_at x) ≡ true)
+
+-- the heads are walked: if the negation of one of their literals is watched, its clause has a literal of the list
+pub record IsMark (clauses : List (List ℕ)) (watches : List Watch) (list : List NumberedLiteral) (heads : Heads) : Type 0 where
+  pub short : heads.short ≤ length list
+  pub long : heads.long ≤ length list
+  pub done : (e : ℕ) → (watch_at watches e).live ≡ true → Contains (reached_codes heads list) (watch_at watches e).literal → HasListed clauses list (e / 2)
+
+-- each mark is walked under the literals before its position
+abbrev pub AreMarks : List (List ℕ) → List Watch → List NumberedLiteral → List Heads → Type 0
+AreMarks clauses watches list marks = (i : ℕ) (h : Heads) → slice_get marks i ≡ Some h → (i < length list) × IsMark clauses watches (take i list) h
+
+-- how far the clauses are walked under a list, and were under its first literals
+pub record IsWalkedTo (c : Clauses) (list : List NumberedLiteral) (w : Walked) : Type 0 where
+  pub now : IsMark c.blocks.literals c.blocks.watches list w.heads
+  pub marks : AreMarks c.blocks.literals c.blocks.watches list w.marks.items
+  pub level : length w.marks.items ≡ length list
+
+-- marks stay, and literals that were walked since have theirs
+abbrev pub KeepsMarks : Clauses → Clauses → List NumberedLiteral → List NumberedLiteral → List Heads → List Heads → Type 0
+KeepsMarks old new list list' marks marks' = length marks ≡ length list → AreMarks old.blocks.literals old.blocks.watches list marks → (length marks ≤ length marks') × AreMarks new.blocks.literals new.blocks.watches list' marks'

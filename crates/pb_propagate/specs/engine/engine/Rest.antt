@@ -1,0 +1,49 @@
+-- The engine between two calls.
+use Rattle.std.specs.Prelude.{◌≡◌, ◌*◌, List, [], ◌∷◌, length, Contains, Option, Some, None, true, false}
+use Rattle.pb_normal.specs.declared.numbered.NumberedLiteral.{NumberedLiteral}
+use Rattle.pb_normal.specs.meaning.Form.{Form}
+use Rattle.pb_normal.specs.meaning.Rules.{negation}
+use Rattle.pb_propagate.specs.declared.store.Store.{Store}
+use Rattle.pb_propagate.specs.engine.engine.Forms.{IsStoredAs}
+use Rattle.pb_propagate.specs.engine.engine.Lists.{Shape, has, IsWithin, Derives, Conflicts, IsSettled}
+use Rattle.pb_propagate.specs.engine.engine.Fields.{shapes_of, IsSound}
+use Rattle.pb_propagate.specs.declared.clauses.Clauses.{Clauses}
+use Rattle.pb_propagate.specs.engine.clauses.Runs.{AreReady}
+use Rattle.pb_propagate.specs.engine.clauses.Shapes.{AreJoined, clauses_of, all_of}
+
+-- a form as it is stored; the slot of a removed form has an empty one
+abbrev pub IsSlot : Option Form → Shape → Type 0
+IsSlot None x = (x.terms ≡ []) × (x.degree ≡ 0)
+IsSlot (Some f) x = IsStoredAs f x
+
+abbrev pub AreSlots : List (Option Form) → List Shape → Type 0
+AreSlots [] [] = Unit {0}
+AreSlots [] (x ∷ xs) = true ≡ false
+AreSlots (o ∷ os) [] = true ≡ false
+AreSlots (o ∷ os) (x ∷ xs) = IsSlot o x × AreSlots os xs
+
+-- the store and the clauses hold the forms, and no search has begun
+pub record IsAtRest (store : Store) (clauses : Clauses) (forms : List (Option Form)) : Type 0 where
+  pub sound : IsSound store
+  pub slots : AreSlots forms (all_of store clauses)
+  pub joined : AreJoined (shapes_of store.stored.items) (clauses_of clauses)
+  pub ready : AreReady clauses
+  pub widths : length clauses.lists.items ≡ 4 * store.variables
+  pub known : length clauses.blocks.literals ≡ length store.stored.items
+
+-- a derivation from the given literals, in any order
+pub record IsDerived (shapes : List Shape) (given list : List NumberedLiteral) : Type 0 where
+  pub first : List NumberedLiteral
+  pub within : IsWithin first given
+  pub covers : IsWithin given first
+  pub derived : Derives shapes first list
+
+-- a literal and its negation are given, or a derivation from what is given has a conflict
+pub data IsRefuted (shapes : List Shape) (given list : List NumberedLiteral) : Type 0 where
+  opposite : (l : NumberedLiteral) → has given l ≡ true → has given (negation l) ≡ true → IsRefuted shapes given list
+  derived : IsDerived shapes given list → Conflicts shapes list → IsRefuted shapes given list
+
+-- a derivation that cannot be extended, without a conflict
+pub record IsEnded (shapes : List Shape) (given list : List NumberedLiteral) : Type 0 where
+  pub derived : IsDerived shapes given list
+  pub settled : (x : Shape) → Contains shapes x → IsSettled x list

@@ -1,0 +1,13 @@
+-- The terms of a stored form in their order.
+use Rattle.std.specs.Prelude.{List, map}
+use Rattle.pb_propagate.specs.declared.term.Term.{Term}
+use Rattle.pb_propagate.specs.declared.store.sorted_form.SortedForm.{SortedForm}
+use Rattle.pb_propagate.specs.declared.store.unit_form.UnitForm.{UnitForm}
+use Rattle.pb_propagate.specs.engine.engine.Forms.{as_term, in_order}
+
+-- the term of a form that has one
+abbrev pub unit_terms : UnitForm → List Term
+unit_terms u = map as_term u.form.terms
+
+abbrev pub terms_of : SortedForm → List Term
+terms_of f = in_order f.form.terms f.order.items
