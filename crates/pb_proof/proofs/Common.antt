@@ -3,26 +3,25 @@ pub use Rattle.std.proofs.Common.{ℕ, ℤ, ◌&&◌, ◌*◌, ◌++◌, ◌+◌
 pub use Rattle.std.proofs.Common.{append-nil, append_assoc, ap₂, arith, Bool, cond, drop, false, get_or, inl, inr, IsTrue, length, length-append}
 pub use Rattle.std.proofs.Common.{length-drop, length-take, List, map, min, nat_eq, nat_le, None, not, Option, pos, refl, rules, Some, subst, suc}
 pub use Rattle.std.proofs.Common.{sym, take, take-append-drop, true, zero}
-pub use Rattle.std.specs.Prelude.{decimal, neg_ℤ, negsuc, slice_index}
+pub use Rattle.std.specs.Prelude.{decimal, neg_ℤ, negsuc, slice_index, vec_len}
 pub use Rattle.std.proofs.Math.Bool.{or-false, or-true}
 pub use Rattle.std.proofs.Math.Nat.{le-max_left, le-max_right, min-le_left}
 pub use Rattle.std.proofs.Math.Seq.{drop-cons, get_or-append_seam, split_at, take-length, take-suc}
 pub use Rattle.std.proofs.lemmas.Bool.{and_parts, cond_both, eq-eqb, eqb-true, false_from_ne_true, false≢true, le-leb, leb-false, leb-true, lt-leb}
 pub use Rattle.std.proofs.lemmas.Bool.{not-true, true≢false}
 pub use Rattle.std.proofs.lemmas.Bool.Decides.{nat_tests}
-pub use Rattle.std.proofs.lemmas.Int.{ints, to_z-of_z, to_z_pos}
-pub use Rattle.std.proofs.lemmas.List.{drop_all, get_or_default, length-take-le, map-append, take_all, take_more}
-pub use Rattle.std.proofs.lemmas.List.Elements.{All-append, All-cons, All-head, All-map, All-more, All-nil, All-tail, All-weaker}
+pub use Rattle.std.proofs.lemmas.Int.{ints, to_z_pos}
+pub use Rattle.std.proofs.lemmas.List.{drop_all, length-take-le, map-append, take_all, take_more}
+pub use Rattle.std.proofs.lemmas.List.Elements.{All-append, All-cons, All-head, All-map, All-nil, All-tail, All-weaker}
 pub use Rattle.std.proofs.lemmas.Option.{same_Some}
 pub use Rattle.std.specs.Cmp.Lexicographic.{bytes_decides, pointwise}
 pub use Rattle.std.specs.Fmt.{signed_decimal}
-pub use Rattle.std.specs.Int.{w128, w64}
-pub use Rattle.std.specs.Option.{is_some}
+pub use Rattle.std.specs.Int.{w64}
 pub use Rattle.pb_sums.proofs.lemmas.machine.Asked.{asks_after, at_name, ends_after, ends_nothing, first_asks_nothing, first_further, name_further}
 pub use Rattle.pb_sums.proofs.lemmas.machine.Asked.{sums_asked}
 pub use Rattle.pb_sums.proofs.lemmas.machine.Counts.{add-grows, begin-grows, flushed-units, to-grows}
 pub use Rattle.pb_sums.proofs.lemmas.machine.Links.{midway-not-done, reads_grammar, reads_something}
-pub use Rattle.pb_sums.proofs.lemmas.machine.LiteralPrefixes.{first-append, FirstOf, IsFirst, LiteralOf, name-append, name-bytes}
+pub use Rattle.pb_sums.proofs.lemmas.machine.LiteralPrefixes.{first-append, FirstOf, LiteralOf, name-append, name-bytes}
 pub use Rattle.pb_sums.proofs.lemmas.machine.States.{continues-midway, ended-last, first_is_state}
 pub use Rattle.pb_sums.proofs.lemmas.values.CanonicalLaws.{bytes-degree, bytes-linear, degree, linear-spelled}
 pub use Rattle.pb_sums.specs.contract.Canonical.{degree_text, linear_bytes, linear_text, literal_text, space}
@@ -33,18 +32,16 @@ pub use Rattle.pb_sums.specs.declared.SumEvent.{SumEvent}
 pub use Rattle.pb_sums.specs.engine.State.{sums, SumState}
 pub use Rattle.pb_sums.specs.meaning.Asking.{AsksLiteral, EndsIn}
 pub use Rattle.pb_sums.specs.meaning.Sums.{allows, IsName, literal_bytes, Spells, SpellsLinear, SpellsLiteral}
-pub use Rattle.pb_text.proofs.lemmas.machine.Living.{accepted, admits_before, admits_final, admitted_on, final, IsAlive, reads_before, reads_on}
-pub use Rattle.pb_text.proofs.lemmas.machine.Living.{ReadsOn}
+pub use Rattle.pb_text.proofs.lemmas.machine.Living.{accepted, admits_before, admits_final, admitted_on, final, IsAlive, reads_before, reads_on, ReadsOn}
 pub use Rattle.pb_text.proofs.lemmas.machine.OneText.{admits, is_state, IsOfOne, reads_last}
-pub use Rattle.pb_text.proofs.lemmas.machine.Outcomes.{end_or_go, end_or_refuse, go_or_end, go_or_refuse, one_end, one_state, refuse_or_end}
-pub use Rattle.pb_text.proofs.lemmas.machine.Outcomes.{refuse_or_go}
+pub use Rattle.pb_text.proofs.lemmas.machine.Outcomes.{end_or_go, end_or_refuse, go_or_end, go_or_refuse, one_end, one_state, refuse_or_end, refuse_or_go}
 pub use Rattle.pb_text.proofs.lemmas.machine.Residual.{refuses}
 pub use Rattle.pb_text.proofs.lemmas.machine.Running.{runs_more, runs_on}
 pub use Rattle.pb_text.proofs.lemmas.machine.Walking.{ends_walk, Keeps, Leads, leads_then, longer, On, prefixes_of, reads_after, reported, same_first}
 pub use Rattle.pb_text.proofs.lemmas.machine.Walking.{Walks, walks_more, walks_then}
 pub use Rattle.pb_text.proofs.lemmas.numbers.DigitValues.{AreDigits, value-grows}
 pub use Rattle.pb_text.proofs.lemmas.numbers.DigitWalks.{digits_lead, TakesDigits}
-pub use Rattle.pb_text.proofs.lemmas.numbers.Numbers.{decimal-digits, digits-grown, digits-one}
+pub use Rattle.pb_text.proofs.lemmas.numbers.Numbers.{decimal-digits, digits-grown, digits-one, number-within}
 pub use Rattle.pb_text.proofs.lemmas.text.Booleans.{never}
 pub use Rattle.pb_text.proofs.lemmas.text.ByteTests.{blank_digit, blank_each, digit_blank, digit_byte, digit_of, letter_name, name_high, white_each}
 pub use Rattle.pb_text.proofs.lemmas.text.Deterministic.{one_spelling, prefix_free}
@@ -53,7 +50,7 @@ pub use Rattle.pb_text.proofs.lemmas.text.Languages.{none_yet, regroup, regroup3
 pub use Rattle.pb_text.proofs.lemmas.text.Letters.{as_digit, as_unmarked, further, some_digit, word_grown, word_whole}
 pub use Rattle.pb_text.proofs.lemmas.text.Parts.{part_broke, part_then, part_wrote}
 pub use Rattle.pb_text.proofs.lemmas.text.Results.{unchanged, when_err, when_ok}
-pub use Rattle.pb_text.proofs.lemmas.text.Spans.{all_rest, runs_further}
+pub use Rattle.pb_text.proofs.lemmas.text.Spans.{all_rest, runs_further, prefix_parts}
 pub use Rattle.pb_text.proofs.lemmas.text.Writing.{writes_nothing}
 pub use Rattle.pb_text.specs.contract.Automaton.{AcceptsItems, Admits, Automaton, End, Finishes, Go, is_large, IsState, MayAsk, Next, Pushes}
 pub use Rattle.pb_text.specs.contract.Automaton.{ReadsStatement, Refuse, Runs, SkipsGap, TakesStatement}
@@ -114,36 +111,50 @@ pub use Rattle.pb_proof.specs.declared.word.PolWord.{PolWord}
 pub use Rattle.pb_proof.specs.declared.word.PolWord.TheVariants.{Add, Axiom, Divide, Id, Multiply, Saturate, Weaken}
 pub use Rattle.pb_proof.specs.engine.line.ByteKind.{name_byte, number_byte}
 pub use Rattle.pb_proof.specs.engine.line.Conclusion.{after_bound, after_id, begin_bound, between, colon, digits, first_word, id_digits, is_within}
-pub use Rattle.pb_proof.specs.engine.line.Conclusion.{phase_after_bound, phase_after_word, PhaseFits, spell, word_of}
+pub use Rattle.pb_proof.specs.engine.line.Conclusion.{phase_after_bound, phase_after_word, PhaseFits, spell, word_of, next_action as conclusion_next}
+pub use Rattle.pb_proof.specs.engine.line.Conclusion.{transition as conclusion_transition}
 pub use Rattle.pb_proof.specs.engine.line.ConclusionState.{asks, conclusion_at, conclusion_automaton, conclusion_first, conclusion_last}
 pub use Rattle.pb_proof.specs.engine.line.ConclusionState.{conclusion_value, ConclusionState, is_in_number, IsConclusionInOrder, kept, showing_value}
-pub use Rattle.pb_proof.specs.engine.line.ConclusionState.{spent}
+pub use Rattle.pb_proof.specs.engine.line.ConclusionState.{spent, giving as conclusion_giving, over as conclusion_over, act as conclusion_act}
 pub use Rattle.pb_proof.specs.engine.line.Formula.{ActionFits, formula_automaton, formula_last, formula_first, FormulaState, IsFormulaInOrder}
 pub use Rattle.pb_proof.specs.engine.line.Ended.{ended_lines}
 pub use Rattle.pb_proof.specs.engine.line.Delete.{before, begins_id, delete_at, delete_automaton, delete_first, delete_last, DeleteState, IsDeleteInOrder, keeps, step}
+pub use Rattle.pb_proof.specs.engine.line.Delete.{transition as delete_transition}
 pub use Rattle.pb_proof.specs.engine.line.Solution.{adds, flushed, is_begun, is_more, IsSolutionInOrder, literal, solution_at, solution_automaton}
 pub use Rattle.pb_proof.specs.engine.line.Solution.{solution_first, solution_last, SolutionState, SpellsJoined}
 pub use Rattle.pb_proof.specs.engine.line.Machine.{carried, IsCarried, IsEnded, line_automaton, line_first, SpellsRest}
 pub use Rattle.pb_proof.specs.engine.line.Pol.{blank, bound, changed, close, close_lone, close_number, counted, feed, finished, held_name}
 pub use Rattle.pb_proof.specs.engine.line.Pol.{held_number, is_done, is_letter_kind, is_midway, is_name_kind, kind_of, late, letter, may_be_name}
 pub use Rattle.pb_proof.specs.engine.line.Pol.{next_large, next_word, number, Outcome, read, role_of, semicolon, star, symbol, transition, turned}
-pub use Rattle.pb_proof.specs.engine.line.Pol.{wants, with_last, Work, work}
+pub use Rattle.pb_proof.specs.engine.line.Pol.{wants, with_last, Work, work, act as pol_act, next as pol_next, signed as pol_signed}
 pub use Rattle.pb_proof.specs.engine.line.PolState.{all_units, in_hand, IsPolInOrder, over, pol_automaton, pol_first, pol_last, pol_with, PolState}
 pub use Rattle.pb_proof.specs.engine.line.PolState.{ready, units, word_units}
 pub use Rattle.pb_proof.specs.engine.line.Rup.{IsRupInOrder, linear_of, rup_act, rup_asks, rup_automaton, rup_done, rup_finish, rup_first}
 pub use Rattle.pb_proof.specs.engine.line.Rup.{rup_in_number, rup_last, rup_midway, rup_over, rup_transition, RupHolds, RupState, sum_first, sum_last}
 pub use Rattle.pb_proof.specs.engine.machine.State.{act, asked, at, begin, giving, HasGaps, Holds, idle, is_complete, IsInOrder, next_stage, proofs}
-pub use Rattle.pb_proof.specs.engine.machine.State.{ProofState, step_line}
-pub use Rattle.pb_proof.specs.engine.machine.Transition.{enter, meets, next_action, pass, sol_word, step_keyword, words_of}
+pub use Rattle.pb_proof.specs.engine.machine.State.{ProofState, step_line, over as proof_over, PhaseFits as ProofPhaseFits, is_within as proof_within}
+pub use Rattle.pb_proof.specs.engine.machine.Transition.{enter, meets, next_action, pass, sol_word, step_keyword, words_of, spell as proof_spell}
+pub use Rattle.pb_proof.specs.engine.machine.Transition.{transition as proof_transition, between as proof_between}
 pub use Rattle.pb_proof.specs.engine.machine.Words.{IsRest, LacksRest}
 pub use Rattle.pb_proof.specs.meaning.Asking.{Asks, AsksAfter, AsksConclusion, AsksShown, AsksWord, EndsNumber, FirstWord}
 pub use Rattle.pb_proof.specs.meaning.Canonical.{bound_bytes, conclusion_bytes, id_shown_bytes, lines, listed_bytes, literal_line, proof_bytes}
 pub use Rattle.pb_proof.specs.meaning.Canonical.{shown_bytes, statement_bytes, word_bytes}
-pub use Rattle.pb_proof.specs.meaning.Lines.{bounds_word, conclusion_word, del_word, end_word, f_word, Factor, Feed, id_word, IdShown, inf_word}
-pub use Rattle.pb_proof.specs.meaning.Lines.{LineEnd, Listed, LiteralsShown, none_word, output_word, pol_word, proof_word, pseudo_word, rup_word}
-pub use Rattle.pb_proof.specs.meaning.Lines.{sat_word, soli_word, solx_word, SpellsBound, SpellsConclusion, SpellsConclusionLine, SpellsCount}
-pub use Rattle.pb_proof.specs.meaning.Lines.{SpellsId, SpellsIds, SpellsLiterals, SpellsRup, SpellsShown, SpellsStatement, SpellsWord, SpellsWords}
-pub use Rattle.pb_proof.specs.meaning.Lines.{two_word, unsat_word, version_word}
+pub use Rattle.pb_proof.specs.meaning.Lines.{bounds_word, conclusion_word, del_word, end_word, f_word, Factor, Feed, id_word, IdShown, inf_word, LineEnd}
+pub use Rattle.pb_proof.specs.meaning.Lines.{Listed, LiteralsShown, none_word, output_word, pol_word, proof_word, pseudo_word, rup_word, sat_word, soli_word}
+pub use Rattle.pb_proof.specs.meaning.Lines.{solx_word, SpellsBound, SpellsConclusion, SpellsConclusionLine, SpellsCount, SpellsId, SpellsIds, SpellsLiterals}
+pub use Rattle.pb_proof.specs.meaning.Lines.{SpellsRup, SpellsShown, SpellsStatement, SpellsWord, SpellsWords, two_word, unsat_word, version_word}
 pub use Rattle.pb_proof.specs.meaning.Order.{GapAt, IsStaged, stage_after, stage_of}
 pub use Rattle.pb_proof.specs.meaning.Postfix.{Constraint, IsPostfix, LiteralAxiom, Product, Quotient, Saturation, Sum, Tree, Weakening, words}
 pub use Rattle.pb_proof.specs.meaning.Proofs.{AreSpelled, BeginsAtOnce, IsGap, IsProof, IsProofOf, IsStep, statements_of}
+pub use Rattle.pb_proof.specs.declared.line.conclusion.phase.Action.{Action as ConclusionAction}
+pub use Rattle.pb_proof.specs.declared.line.conclusion.phase.Phase.{Phase as ConclusionPhase}
+pub use Rattle.pb_proof.specs.declared.line.formula.phase.FormulaAction.{FormulaAction}
+pub use Rattle.pb_proof.specs.declared.machine.phase.Action.{Action as ProofAction}
+pub use Rattle.pb_proof.specs.declared.machine.phase.Phase.{Phase as ProofPhase}
+pub use Rattle.pb_proof.specs.engine.line.PolWhole.{IsExpression, IsClosing, IsFree, EndsAs, AreWords, standing, no_words}
+pub use Rattle.pb_sums.specs.declared.Part.{Part}
+pub use Rattle.pb_sums.specs.declared.Relation.{Relation}
+pub use Rattle.pb_sums.specs.declared.Spaces.{Spaces}
+pub use Rattle.pb_sums.specs.declared.phase.Action.{Action as SumAction}
+pub use Rattle.pb_sums.specs.declared.phase.Phase.{Phase as SumPhase}
+pub use Rattle.pb_sums.specs.engine.Prefix.{text_after}

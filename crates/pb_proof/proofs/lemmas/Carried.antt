@@ -1,8 +1,7 @@
 -- An automaton within another one.
-use Rattle.pb_proof.proofs.Common.{ℕ, ◌&&◌, ◌++◌, ◌∙◌, ◌∷◌, ◌≡◌, [], ap, List, map, None, Option, refl, Some, subst, sym, true, Walks, AcceptsItems}
-use Rattle.pb_proof.proofs.Common.{Admits, Automaton, End, Finishes, Go, IsState, Next, Pushes, ReadsStatement, Refuse, Runs, SkipsGap, Push}
-use Rattle.pb_proof.proofs.Common.{is_digit, bytes, Item, Letter, letters_of, plain, carried, IsCarried, IsEnded}
-use Rattle.pb_text.specs.declared.machine.Push.TheVariants as push
+use Rattle.pb_proof.proofs.Common.{ℕ, ◌&&◌, ◌++◌, ◌∙◌, ◌∷◌, ◌≡◌, [], ap, List, map, refl, subst, sym, true, Walks, AcceptsItems}
+use Rattle.pb_proof.proofs.Common.{Automaton, End, Go, IsState, Next, Pushes, ReadsStatement, Refuse, Runs, SkipsGap, Push}
+use Rattle.pb_proof.proofs.Common.{is_digit, bytes, Item, Letter, letters_of, plain, carried, IsCarried}
 
 module _ {S E R F : Type 0} (m : Automaton S E) (n : Automaton R F) (into : S → R) (event : E → F) where
   -- In the image of a state, `n` does what `m` does in the state.
@@ -28,13 +27,11 @@ module _ {S E R F : Type 0} (m : Automaton S E) (n : Automaton R F) (into : S �
     -- where a step of `n` comes from
     went : (x : Next S E) (r : R) → carried into event x ≡ Go r → (s : S) × (x ≡ Go s) × (r ≡ into s)
     went (Go s) r e = (s, refl, (let f : r ≡ into s = cc in f))
-    went (End v s) r e = absurd (let f : ⊥ = cc in f)
-    went Refuse r e = absurd (let f : ⊥ = cc in f)
+    went _ r e = absurd (let f : ⊥ = cc in f)
 
     ended : (x : Next S E) (f : F) (r : R) → carried into event x ≡ End f r → (e : E) × (s : S) × (x ≡ End e s) × (f ≡ event e) × (r ≡ into s)
-    ended (Go s) f r e = absurd (let g : ⊥ = cc in g)
     ended (End v s) f r e = (v, s, refl, (let g : f ≡ event v = cc in g), (let g : r ≡ into s = cc in g))
-    ended Refuse f r e = absurd (let g : ⊥ = cc in g)
+    ended _ f r e = absurd (let g : ⊥ = cc in g)
 
     pub went_out : (s : S) (b : ℕ) (r : R) → n.step (into s) b ≡ Go r → (next : S) × (m.step s b ≡ Go next) × (r ≡ into next)
     went_out s b r e = went (m.step s b) r (sym (h.step s b) ∙ e)
@@ -84,23 +81,14 @@ module _ {S E R F : Type 0} (m : Automaton S E) (n : Automaton R F) (into : S �
     runs_in [] s new same = ap into same
     runs_in (b ∷ text) s new (mid, g, state, rest) = (into mid, stepped s b (Go mid) g, state_in mid state, runs_in text mid new rest)
 
-    pub admits_in : (s : S) (b : ℕ) → Admits m s b → Admits n (into s) b
-    admits_in s b (items, a, more, e) = (map carried_item items, accepts_in items s a, more, ap bytes (letters_same items) ∙ e)
-
     -- a push of `m` is a push of `n`
     pub pushes_in : (gives : E → F → Type 0) → ((e : E) (f : F) → gives e f → f ≡ event e) → (s new : S) (b : ℕ) (answer : Push E) (r : Push F)
         → IsCarried gives answer r → Pushes m s b answer new → Pushes n (into s) b r (into new)
-    pushes_in gives is s new b push.Go r c p = rw c (stepped s b (Go new) p)
-    pushes_in gives is s new b (push.Event e) r (f, g, c) p = rw (c, is e f g) (stepped s b (End e new) p)
-    pushes_in gives is s new b push.No r c (p, l, same) = rw c (stepped s b Refuse p, ap (λ x. x && is_digit b) (h.in_number s) ∙ l, ap into same)
-    pushes_in gives is s new b push.Large r c (p, l, same) = rw c (stepped s b Refuse p, ap (λ x. x && is_digit b) (h.in_number s) ∙ l, ap into same)
-    pushes_in gives is s new b push.Memory r c (p, a, same) = rw c (h.asks s b ∙ p, admits_in s b a, ap into same)
-
-    -- what `m` ends, `n` ends
-    pub closes_in : (gives : E → F → Type 0) → ((e : E) (f : F) → gives e f → f ≡ event e) → (s new : S) (b : ℕ) (answer : Option E) (r : Option F)
-        → IsEnded gives answer r → Finishes m s b answer new → Finishes n (into s) b r (into new)
-    closes_in gives is s new b (Some e) r (f, g, c) p = rw (c, is e f g) (stepped s b (End e new) p)
-    closes_in gives is s new b None r c same = rw c (ap into same)
+    pushes_in gives is s new b Push.Go r c p = rw c (stepped s b (Go new) p)
+    pushes_in gives is s new b (Push.Event e) r (f, g, c) p = rw (c, is e f g) (stepped s b (End e new) p)
+    pushes_in gives is s new b Push.Memory r c (p, (items, a, more, e), same) =
+        rw c (h.asks s b ∙ p, (map carried_item items, accepts_in items s a, more, ap bytes (letters_same items) ∙ e), ap into same)
+    pushes_in gives is s new b _ r c (p, l, same) = rw c (stepped s b Refuse p, ap (λ x. x && is_digit b) (h.in_number s) ∙ l, ap into same)
 
     -- after each byte that is taken, the text has begun
     pub begins_in : ((s next : S) (b : ℕ) → m.step s b ≡ Go next → m.begun next ≡ true) → (s : S) (r : R) (b : ℕ) → n.step (into s) b ≡ Go r → n.begun r ≡ true

@@ -4,17 +4,12 @@ use Rattle.pb_proof.proofs.Common.{leb-true, Keeps, On, digits-grown, digits-one
 use Rattle.pb_proof.proofs.Common.{Blanks1, Empty, Language, Count, Letter, NumberByte, Digit, Semicolon, FormulaPhase, Start, number_byte}
 use Rattle.pb_proof.proofs.Common.{formula_automaton, FormulaState, LineEnd, SpellsCount, ◌<◌, ap, arith, subst, sym, le-leb, Leads, leads_then}
 use Rattle.pb_proof.proofs.Common.{reads_after, digits_lead, TakesDigits, Go, ReadsStatement, formula_last, formula_first, ◌^◌, ◌↔◌, ReadsOn, is_state}
-use Rattle.pb_proof.proofs.Common.{IsOfOne, one_state, End, IsState, Refuse, unmarked, ActionFits, IsFormulaInOrder}
-use Rattle.pb_text.specs.meaning.Numbers.{Digits as DigitsOf}
-use Rattle.pb_proof.specs.engine.line.Formula.{act, transition, digits, next_action, is_in_number, at, is_midway, is_done, PhaseFits}
-use Rattle.pb_proof.specs.declared.line.byte_kind.NumberByte.TheVariants.{Blank, Feed}
+use Rattle.pb_proof.proofs.Common.{IsOfOne, one_state, End, IsState, Refuse, unmarked, ActionFits, IsFormulaInOrder, Digits as DigitsOf, FormulaAction}
 use Rattle.pb_proof.specs.declared.line.formula.phase.FormulaPhase.TheVariants.{Gap, Digits, Tail, Closing, Done}
-use Rattle.pb_proof.specs.declared.line.formula.phase.FormulaAction.TheVariants.{To, Stop}
+use Rattle.pb_proof.specs.engine.line.Formula.{act, transition, digits, next_action, is_in_number, at, is_midway, is_done, PhaseFits}
 use Rattle.pb_proof.proofs.lemmas.line.ByteKinds.{NumberMeans, number_means, number_blank, number_digit}
 use Rattle.pb_proof.proofs.lemmas.line.Ends.{TakesBlanks, Feeds, MayEnd, closing_feeds, blanks1_lead, line_reads, reads_exactly}
-use Rattle.pb_proof.specs.declared.line.formula.phase.FormulaAction.{FormulaAction}
 use Rattle.pb_proof.proofs.lemmas.line.Ends as ends
-use Rattle.pb_proof.specs.declared.line.formula.phase.FormulaAction as action
 
 module _ (top : ℕ) where
   -- what is read before the end of the line
@@ -46,13 +41,13 @@ module _ (limit top : ℕ) where
 
   digits_sound : (n d : ℕ) (l : Letter) (q : List Letter) → (l.numeral ≡ true → (Blanks1 ⋅ DigitsOf (10 * n + d)) q) → OnNext (act top (digits top n d)) l q
   digits_sound n d l q h =
-      cond_both (nat_le (10 * n + d) top) (To (Digits (10 * n + d))) Stop (λ m. OnNext (act top m) l q) (λ e _ i. (leb-true (10 * n + d) top e, h i)) (λ _. tt)
+      cond_both (nat_le (10 * n + d) top) (FormulaAction.To (Digits (10 * n + d))) FormulaAction.Stop (λ m. OnNext (act top m) l q) (λ e _ i. (leb-true (10 * n + d) top e, h i)) (λ _. tt)
 
   after_sound : (count : Option ℕ) (gap : FormulaPhase) (k : NumberByte) (l : Letter) (p : List Letter) → is_in_number gap ≡ false → NumberMeans k l.byte
       → ends.Gapped (body top count) p → (IsTrue (is_blank l.byte) → l.numeral ≡ false → prefix top gap (p ++ l ∷ [])) → OnNext (act top (next_action count gap k)) l (p ++ l ∷ [])
-  after_sound count gap Blank l p i m h f = λ _ n. f m (n ∙ i)
+  after_sound count gap NumberByte.Blank l p i m h f = λ _ n. f m (n ∙ i)
   after_sound count gap Semicolon l p i m h f = λ _ n. ends.semicolon_after_blanks (body top count) l p m n h
-  after_sound count gap Feed l p i m h f = λ n. whole count (p ++ l ∷ []) (ends.line_after_blanks (body top count) l p m n h)
+  after_sound count gap NumberByte.Feed l p i m h f = λ n. whole count (p ++ l ∷ []) (ends.line_after_blanks (body top count) l p m n h)
   after_sound count gap _ l p i m h f = tt
 
   -- complete digits
@@ -60,22 +55,18 @@ module _ (limit top : ℕ) where
   counted n p l h = after_it Blanks1 (DigitsOf n) (Count top n) p (λ q k. (l, k)) h
 
   sound : (ph : FormulaPhase) (k : NumberByte) (l : Letter) (p : List Letter) → NumberMeans k l.byte → prefix top ph p → OnNext (act top (transition top ph k)) l (p ++ l ∷ [])
-  sound Start k l p m h =
-      after_sound None Gap k l p refl m (ends.gapped Empty p h)
-      (λ b n. ends.first_blank l p b n h)
+  sound Start k l p m h = after_sound None Gap k l p refl m (ends.gapped Empty p h) (λ b n. ends.first_blank l p b n h)
   sound Gap (Digit d) l p m h =
       digits_sound 0 d l (p ++ l ∷ []) (λ n. next Blanks1 (DigitsOf (10 * 0 + d)) p l h (digits-one d l (as_digit l d m.0 n) m.1))
-  sound Gap k l p m h =
-      after_sound None Gap k l p refl m (ends.gapped_some Empty p ([], p, refl, refl, h))
-      (λ b n. ends.further_blank l p b n h)
+  sound Gap k l p m h = after_sound None Gap k l p refl m (ends.gapped_some Empty p ([], p, refl, refl, h)) (λ b n. ends.further_blank l p b n h)
   sound (Digits n) (Digit d) l p m h =
       digits_sound n d l (p ++ l ∷ []) (λ i. grown Blanks1 (DigitsOf n) (DigitsOf (10 * n + d)) p l (digits-grown n d l (as_digit l d m.0 i) m.1) h.1)
   sound (Digits n) k l p m h =
       after_sound (Some n) (Tail n) k l p refl m (ends.gapped (body top (Some n)) p (counted n p h.0 h.1))
       (λ b i. ends.blank_after (body top (Some n)) l p b i (counted n p h.0 h.1))
   sound (Tail n) k l p m h = after_sound (Some n) (Tail n) k l p refl m h (λ b i. ends.blank_more (body top (Some n)) l p b i h)
-  sound (Closing count) Blank l p m h = λ _ n. ends.blank_closing (body top count) l p m n h
-  sound (Closing count) Feed l p m h = λ n. whole count (p ++ l ∷ []) (ends.line_closing (body top count) l p m n h)
+  sound (Closing count) NumberByte.Blank l p m h = λ _ n. ends.blank_closing (body top count) l p m n h
+  sound (Closing count) NumberByte.Feed l p m h = λ n. whole count (p ++ l ∷ []) (ends.line_closing (body top count) l p m n h)
   sound _ k l p m h = tt
 
 pub keeps_prefix : (limit : ℕ) → Keeps formula_automaton Prefix (Whole limit)
@@ -84,7 +75,7 @@ keeps_prefix limit s l p h = sound limit s.top s.phase (number_byte l.byte) l p 
 -- The count machine reads each text of its grammar.
 
 module _ (limit top : ℕ) where
-  by_blank : (ph : FormulaPhase) (b : ℕ) → IsTrue (is_blank b) → formula_automaton.step (at top ph) b ≡ act top (transition top ph Blank)
+  by_blank : (ph : FormulaPhase) (b : ℕ) → IsTrue (is_blank b) → formula_automaton.step (at top ph) b ≡ act top (transition top ph NumberByte.Blank)
   by_blank ph b h = ap (λ k. act top (transition top ph k)) (number_blank b h)
 
   by_digit : (ph : FormulaPhase) (d : ℕ) → d < 10 → formula_automaton.step (at top ph) (48 + d) ≡ act top (transition top ph (Digit d))
@@ -94,11 +85,7 @@ module _ (limit top : ℕ) where
   digit_fits n d v e l = rw (e, le-leb v top l) refl
 
   takes_digits : TakesDigits formula_automaton (λ n. at top (Digits n)) top
-  takes_digits = record {
-    more = λ n d h l. by_digit (Digits n) d h ∙ digit_fits n d (10 * n + d) refl l;
-    begun = λ n. refl;
-    number = λ n. refl;
-  }
+  takes_digits = record { more = λ n d h l. by_digit (Digits n) d h ∙ digit_fits n d (10 * n + d) refl l; begun = λ n. refl; number = λ n. refl }
 
   in_gap : TakesBlanks formula_automaton (formula_first top) (at top Gap)
   in_gap = record { enters = by_blank Start; stays = by_blank Gap; begun = refl; plain = refl }
@@ -107,14 +94,7 @@ module _ (limit top : ℕ) where
   in_closing count = closing_feeds formula_automaton (at top (Closing count)) (formula_last top) count (by_blank (Closing count)) refl refl refl
 
   none_ends : MayEnd formula_automaton (formula_first top) (at top Gap) (at top (Closing None)) None (formula_last top)
-  none_ends = record {
-    feeds = record { blanks = in_gap; ends = refl; ends_gap = refl };
-    finishes = refl;
-    closes_gap = refl;
-    begun = refl;
-    plain = refl;
-    last = in_closing None;
-  }
+  none_ends = record { feeds = record { blanks = in_gap; ends = refl; ends_gap = refl }; finishes = refl; closes_gap = refl; last = in_closing None }
 
   some_ends : (n : ℕ) → MayEnd formula_automaton (at top (Digits n)) (at top (Tail n)) (at top (Closing (Some n))) (Some n) (formula_last top)
   some_ends n = record {
@@ -125,8 +105,6 @@ module _ (limit top : ℕ) where
     };
     finishes = refl;
     closes_gap = refl;
-    begun = refl;
-    plain = refl;
     last = in_closing (Some n);
   }
 
@@ -138,8 +116,7 @@ module _ (limit top : ℕ) where
   pub reads_each : (count : Option ℕ) (t : List Letter) → SpellsCount limit top count t → ReadsStatement formula_automaton (formula_first top) t count (formula_last top)
   reads_each None t h = line_reads formula_automaton (formula_first top) (at top Gap) (at top (Closing None)) (formula_last top) None none_ends t h
   reads_each (Some n) t (a, b, e, h, k) =
-      subst (λ x. ReadsStatement formula_automaton (formula_first top) x (Some n) (formula_last top)) (sym e)
-      (reads_after formula_automaton a b (formula_first top) (at top (Digits n)) (formula_last top) (Some n)
+      rw e (reads_after formula_automaton a b (formula_first top) (at top (Digits n)) (formula_last top) (Some n)
       (leads_then formula_automaton Blanks1 (Count top n) (formula_first top) (at top Gap) (at top (Digits n))
       (blanks1_lead formula_automaton (formula_first top) (at top Gap) in_gap) (count_leads n) a h)
       (line_reads formula_automaton (at top (Digits n)) (at top (Tail n)) (at top (Closing (Some n))) (formula_last top) (Some n) (some_ends n) b k))
@@ -151,7 +128,7 @@ digits_fit : (top n d : ℕ) → ActionFits top (digits top n d)
 digits_fit top n d = cond_both (nat_le (10 * n + d) top) _ _ (ActionFits top) (λ e. (leb-true (10 * n + d) top e, refl)) (λ _. tt)
 
 after_fits : (top : ℕ) (count : Option ℕ) (gap : FormulaPhase) (k : NumberByte) → PhaseFits top gap → is_midway gap ≡ true → ActionFits top (next_action count gap k)
-after_fits top count gap Blank f h = (f, h)
+after_fits top count gap NumberByte.Blank f h = (f, h)
 after_fits top count gap Semicolon f h = (tt, refl)
 after_fits top count gap _ f h = tt
 
@@ -162,8 +139,8 @@ transition_fits top Gap k = after_fits top None Gap k tt refl
 transition_fits top (Digits n) (Digit d) = digits_fit top n d
 transition_fits top (Digits n) k = after_fits top (Some n) (Tail n) k tt refl
 transition_fits top (Tail n) k = after_fits top (Some n) (Tail n) k tt refl
-transition_fits top (Closing count) Blank = (tt, refl)
-transition_fits top (Closing count) Feed = tt
+transition_fits top (Closing count) NumberByte.Blank = (tt, refl)
+transition_fits top (Closing count) NumberByte.Feed = tt
 transition_fits _ _ _ = tt
 
 -- What holds after a step that continues.
@@ -173,8 +150,7 @@ record Steps (top : ℕ) (next : FormulaState) : Type 0 where
   midway : is_midway next.phase ≡ true
 
 acted : (top : ℕ) (m : FormulaAction) (next : FormulaState) → ActionFits top m → act top m ≡ Go next → Steps top next
-acted top (action.TheVariants.To p) next h e =
-    subst (λ x. Steps top x) (one_state (at top p) next e) (record { same_top = refl; fits = h.0; midway = h.1 })
+acted top (FormulaAction.To p) next h e = subst (λ x. Steps top x) (one_state (at top p) next e) (record { same_top = refl; fits = h.0; midway = h.1 })
 acted top _ next h e = cc
 
 continues : (s next : FormulaState) (b : ℕ) → formula_automaton.step s b ≡ Go next → Steps s.top next
@@ -186,7 +162,7 @@ in_order s next b h e =
     (subst (λ x. x < 2 ^ 63) (sym g.same_top) h.0, subst (λ x. PhaseFits x next.phase) (sym g.same_top) g.fits)
 
 ended : (top : ℕ) (m : FormulaAction) (next : FormulaState) (count : Option ℕ) → act top m ≡ End count next → next ≡ formula_last top
-ended top (action.TheVariants.To p) next count e = cc
+ended top (FormulaAction.To p) next count e = cc
 ended top _ next count e = cc
 
 abbrev last : FormulaState → FormulaState

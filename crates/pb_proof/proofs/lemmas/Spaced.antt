@@ -1,7 +1,7 @@
 -- Words with blanks between them, byte by byte.
-use Rattle.pb_proof.proofs.Common.{ℕ, ◌&&◌, ◌++◌, ◌<◌, ◌∙◌, ◌∷◌, ◌≡◌, [], ap, append-nil, append_assoc, arith, Bool, cond, false, length, List}
+use Rattle.pb_proof.proofs.Common.{ℕ, ◌&&◌, ◌++◌, ◌<◌, ◌∙◌, ◌∷◌, ◌≡◌, [], ap, append-nil, append_assoc, arith, Bool, false, length, List}
 use Rattle.pb_proof.proofs.Common.{nat_eq, not, refl, subst, sym, true, and_parts, eqb-true, not-true, after_it, grown, none_yet, regroup, regroup⁻¹}
-use Rattle.pb_proof.proofs.Common.{as_unmarked, is_blank, ◌⋅◌, Blanks1, Byte, Bytes, Empty, Language, unmarked, Letter, plain, Keyword, meets}
+use Rattle.pb_proof.proofs.Common.{is_blank, ◌⋅◌, Blanks1, Byte, Bytes, Empty, Language, unmarked, Letter, plain, Keyword, meets}
 use Rattle.pb_proof.proofs.Common.{sol_word, words_of, conclusion_word, del_word, end_word, f_word, id_word, none_word, output_word, pol_word}
 use Rattle.pb_proof.proofs.Common.{proof_word, pseudo_word, rup_word, two_word, version_word}
 use Rattle.pb_proof.specs.declared.machine.phase.Keyword.TheVariants.{Header, Formula, Pol, Rup, Solution, Delete, Output, Conclusion, End}
@@ -21,26 +21,19 @@ Spaced (c ∷ cs) = One c ⋅ Spaced cs
 
 -- a letter that matches a byte of the words
 pub one_met : (c : ℕ) (l : Letter) → meets c l.byte ≡ true → l.numeral ≡ false → One c (l ∷ [])
-one_met c l h n = by_test (nat_eq c 32) h
-  where
-    by_test : (x : Bool) → cond x (is_blank l.byte) (nat_eq l.byte c) ≡ true → chooses x Blanks1 (Byte c) (l ∷ [])
-    by_test true e = first_blank l [] e n refl
-    by_test false e = ap (λ x. x ∷ []) (as_unmarked l c n (eqb-true l.byte c e))
+one_met c l h n = grind (arith, l.byte, first_blank, eqb-true)
 
 -- more of the words
 pub spaced_then : (cs ds : List ℕ) (p q : List Letter) → Spaced cs p → Spaced ds q → Spaced (cs ++ ds) (p ++ q)
 spaced_then [] ds p q h k = subst (λ x. Spaced ds (x ++ q)) (sym h) k
-spaced_then (c ∷ cs) ds p q (a, b, e, h, i) k =
-    (a, b ++ q, ap (λ x. x ++ q) e ∙ append_assoc a b q, h, spaced_then cs ds b q i k)
+spaced_then (c ∷ cs) ds p q (a, b, e, h, i) k = (a, b ++ q, ap (λ x. x ++ q) e ∙ append_assoc a b q, h, spaced_then cs ds b q i k)
 
 pub spaced_more : (cs : List ℕ) (c : ℕ) (p : List Letter) (l : Letter) → Spaced cs p → One c (l ∷ []) → Spaced (cs ++ c ∷ []) (p ++ l ∷ [])
 spaced_more cs c p l h k = spaced_then cs (c ∷ []) p (l ∷ []) h (l ∷ [], [], refl, k, refl)
 
 -- one more blank after a space
 pub spaced_blank : (cs : List ℕ) (p : List Letter) (l : Letter) → is_blank l.byte ≡ true → l.numeral ≡ false → Spaced (cs ++ 32 ∷ []) p → Spaced (cs ++ 32 ∷ []) (p ++ l ∷ [])
-spaced_blank [] p l h n k =
-    none_yet Blanks1 Empty (p ++ l ∷ []) refl
-    (further_blank l p h n (nil_last Blanks1 p k))
+spaced_blank [] p l h n k = none_yet Blanks1 Empty (p ++ l ∷ []) refl (further_blank l p h n (nil_last Blanks1 p k))
 spaced_blank (c ∷ cs) p l h n k = grown (One c) (Spaced (cs ++ 32 ∷ [])) (Spaced (cs ++ 32 ∷ [])) p l (λ q i. spaced_blank cs q l h n i) k
 
 -- Words without spaces, and words with a space before each.
@@ -98,12 +91,6 @@ led_each P (w ∷ ws) h t k =
     (regroup (P ⋅ Blanks1) (Bytes w) (Spaced (led ws)) t
     (led_each (P ⋅ Blanks1 ⋅ Bytes w) ws g.1 t k)))
 
-words_only : (w : List ℕ) (ws : List (List ℕ)) → is_plain w ≡ true → are_plain ws ≡ true → (t : List Letter) → Spaced (w ++ led ws) t → Words (Bytes w) ws t
-words_only w ws h k t s = led_only (Bytes w) ws k t (plain_only w (led ws) h t s)
-
-words_each : (w : List ℕ) (ws : List (List ℕ)) → is_plain w ≡ true → are_plain ws ≡ true → (t : List Letter) → Words (Bytes w) ws t → Spaced (w ++ led ws) t
-words_each w ws h k t s = plain_each w (led ws) h t (led_each (Bytes w) ws k t s)
-
 -- The words that a statement begins with.
 abbrev pub first_word : Keyword → List ℕ
 first_word Header = pseudo_word
@@ -137,8 +124,8 @@ same_words _ = (refl, refl, refl)
 
 pub keyword_only : (f : Keyword) (t : List Letter) → Spaced (words_of f) t → KeywordWords f t
 keyword_only f t h =
-    let g = same_words f in words_only (first_word f) (more_words f) g.1 g.2 t (subst (λ x. Spaced x t) g.0 h)
+    let g = same_words f in led_only (Bytes (first_word f)) (more_words f) g.2 t (plain_only (first_word f) (led (more_words f)) g.1 t (subst (λ x. Spaced x t) g.0 h))
 
 pub keyword_each : (f : Keyword) (t : List Letter) → KeywordWords f t → Spaced (words_of f) t
 keyword_each f t h =
-    let g = same_words f in subst (λ x. Spaced x t) (sym g.0) (words_each (first_word f) (more_words f) g.1 g.2 t h)
+    let g = same_words f in subst (λ x. Spaced x t) (sym g.0) (plain_each (first_word f) (led (more_words f)) g.1 t (led_each (Bytes (first_word f)) (more_words f) g.2 t h))

@@ -86,7 +86,9 @@ fn transition(top: u64, phase: DeletePhase, kind: NumberByte) -> DeleteAction
     ensures { result ≡ transition top phase kind }
 {
     match (phase, kind) {
-        (DeletePhase::Start | DeletePhase::Gap, NumberByte::Blank) => DeleteAction::To(DeletePhase::Gap),
+        (DeletePhase::Start | DeletePhase::Gap, NumberByte::Blank) => DeleteAction::To(
+            DeletePhase::Gap,
+        ),
         (DeletePhase::Between, NumberByte::Blank) => DeleteAction::To(DeletePhase::Between),
         (DeletePhase::Between, NumberByte::Semicolon) => DeleteAction::To(DeletePhase::Closing),
         (DeletePhase::Between, NumberByte::Feed) => DeleteAction::End,

@@ -72,13 +72,43 @@ pub fn line_first(alloc: Global, limits: Limits, kind: LineKind) -> LineMachine
     }
 }
 
+impl LineMachine {
+    ghost use Rattle.std.specs.Prelude.{◌≤◌, take, length};
+    ghost use Rattle.pb_text.specs.contract.Automaton.{Pushes, Runs};
+
+    /// Takes a prefix of a piece that ends no statement.
+    fn run(&mut self, piece: &[u8]) -> usize
+        ensures bound { result ≤ length piece.now }
+        ensures runs { Runs line_automaton self.old (take result piece.now) self.new }
+    {
+        whichever!(self, machine => machine.take_run(piece))
+    }
+
+    /// Takes a byte.
+    fn take(&mut self, byte: u8) -> Push<Statement>
+        ensures { Pushes line_automaton self.old byte result self.new }
+    {
+        match self {
+            LineMachine::Formula(machine) => carried(machine.push(byte), Statement::F),
+            LineMachine::Pol(machine) => carried(machine.push(byte), Statement::Pol),
+            LineMachine::Rup(machine) => carried(machine.push(byte), Statement::Rup),
+            LineMachine::Soli(machine) => carried(machine.push(byte), Statement::Soli),
+            LineMachine::Solx(machine) => carried(machine.push(byte), Statement::Solx),
+            LineMachine::Delete(machine) => carried(machine.push(byte), Statement::Delete),
+            LineMachine::Conclusion(machine) => carried(machine.push(byte), Statement::Conclude),
+        }
+    }
+}
+
 impl Machine for LineMachine {
     type Event = Statement;
 
     ghost automaton = { line_automaton };
 
     fn take_run(&mut self, piece: &[u8]) -> usize {
-        whichever!(self, machine => machine.take_run(piece))
+        let taken = self.run(piece);
+        let _ = self.is_done();
+        taken
     }
 
     fn try_finish(&mut self, byte: u8) -> Option<Statement> {
@@ -93,15 +123,9 @@ impl Machine for LineMachine {
     }
 
     fn push(&mut self, byte: u8) -> Push<Statement> {
-        match self {
-            LineMachine::Formula(machine) => carried(machine.push(byte), Statement::F),
-            LineMachine::Pol(machine) => carried(machine.push(byte), Statement::Pol),
-            LineMachine::Rup(machine) => carried(machine.push(byte), Statement::Rup),
-            LineMachine::Soli(machine) => carried(machine.push(byte), Statement::Soli),
-            LineMachine::Solx(machine) => carried(machine.push(byte), Statement::Solx),
-            LineMachine::Delete(machine) => carried(machine.push(byte), Statement::Delete),
-            LineMachine::Conclusion(machine) => carried(machine.push(byte), Statement::Conclude),
-        }
+        let answer = self.take(byte);
+        let _ = self.is_done();
+        answer
     }
 
     fn is_done(&self) -> bool {

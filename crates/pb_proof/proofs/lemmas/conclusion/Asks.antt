@@ -1,40 +1,32 @@
 -- Where the conclusion machine may allocate.
-use Rattle.pb_proof.proofs.Common.{ℕ, ◌++◌, ◌∙◌, ◌∷◌, ◌≡◌, [], ap, append_assoc, List, refl, Some, subst, sym, true, false≢true}
-use Rattle.pb_proof.proofs.Common.{Literal, prefixes_of, Walks, bytes-append, End, Go, Next, ReadsStatement, Refuse, bytes, Letter, Conclusion}
-use Rattle.pb_proof.proofs.Common.{Showing, asks, conclusion_automaton, conclusion_first, ConclusionState, showing_value, solution_automaton}
-use Rattle.pb_proof.proofs.Common.{SolutionState, AsksConclusion, AsksShown}
-use Rattle.pb_proof.specs.engine.line.Conclusion.{transition}
-use Rattle.pb_proof.specs.engine.line.ConclusionState.{act, over, giving}
-use Rattle.pb_proof.specs.declared.line.conclusion.phase.Showing.TheVariants as showing
-use Rattle.pb_proof.specs.declared.line.conclusion.phase.Phase.{Phase}
-use Rattle.pb_proof.specs.declared.line.conclusion.phase.Phase.TheVariants as phase
-use Rattle.pb_proof.specs.declared.line.conclusion.phase.Action.{Action}
+use Rattle.pb_proof.proofs.Common.{ℕ, ◌++◌, ◌∙◌, ◌∷◌, ◌≡◌, [], ap, append_assoc, List, refl, Some, subst, sym, true, false≢true, Literal, prefixes_of}
+use Rattle.pb_proof.proofs.Common.{Walks, bytes-append, End, Go, Next, ReadsStatement, bytes, Letter, Conclusion, Showing, asks}
+use Rattle.pb_proof.proofs.Common.{conclusion_automaton, conclusion_first, ConclusionState, showing_value, solution_automaton, SolutionState}
+use Rattle.pb_proof.proofs.Common.{AsksConclusion, AsksShown, conclusion_transition as transition, conclusion_act as act, conclusion_over as over}
+use Rattle.pb_proof.proofs.Common.{conclusion_giving as giving, ConclusionPhase as Phase, ConclusionAction as Action}
 use Rattle.pb_proof.proofs.lemmas.conclusion.Prefix as conclusion_prefix
-use Rattle.pb_proof.specs.declared.line.conclusion.phase.Action.TheVariants.{Give}
 use Rattle.pb_proof.proofs.lemmas.conclusion.Steps.{OnAction, on_transition}
 use Rattle.pb_proof.proofs.lemmas.line.Asks.{solution_asked}
 
 -- only within shown literals
-asks_shown : (s : ConclusionState) (p : Phase) (b : ℕ) (m : Action) → OnAction s p m → asks s b m ≡ true → (x : Showing) × (p ≡ phase.Shown x)
-asks_shown s p b (Give x) h a = (x, h)
+asks_shown : (s : ConclusionState) (p : Phase) (b : ℕ) (m : Action) → OnAction s p m → asks s b m ≡ true → (x : Showing) × (p ≡ Phase.Shown x)
+asks_shown s p b (Action.Give x) h a = (x, h)
 asks_shown s p b _ h a = absurd (false≢true a)
 
 -- What is read there is shown literals.
-shown_step : (s : ConclusionState) (b : ℕ) (x : Showing) → s.phase ≡ phase.Shown x → conclusion_automaton.step s b ≡ over s x (solution_automaton.step s.literals b)
+shown_step : (s : ConclusionState) (b : ℕ) (x : Showing) → s.phase ≡ Phase.Shown x → conclusion_automaton.step s b ≡ over s x (solution_automaton.step s.literals b)
 shown_step s b x e = ap (λ q. act s b (transition s.limit s.top q b)) e
 
 shown_went : (s next : ConclusionState) (x : Showing) (y : Next SolutionState (List Literal)) → ◌≡◌ {A = Next ConclusionState Conclusion} (over s x y) (Go next) → next.phase ≡ s.phase
 shown_went s next x (Go inner) e = let f : next ≡ giving s inner = cc in ap (λ z. z.phase) f
-shown_went s next x (End ls inner) e = absurd (let f : ⊥ = cc in f)
-shown_went s next x Refuse e = absurd (let f : ⊥ = cc in f)
+shown_went s next x _ e = absurd (let f : ⊥ = cc in f)
 
 shown_ended : (s next : ConclusionState) (x : Showing) (c : Conclusion) (y : Next SolutionState (List Literal)) → ◌≡◌ {A = Next ConclusionState Conclusion} (over s x y) (End c next)
     → (ls : List Literal) × (c ≡ showing_value x (Some ls))
-shown_ended s next x c (Go inner) e = absurd (let f : ⊥ = cc in f)
 shown_ended s next x c (End ls inner) e = (ls, (let f : c ≡ showing_value x (Some ls) = cc in f))
-shown_ended s next x c Refuse e = absurd (let f : ⊥ = cc in f)
+shown_ended s next x c _ e = absurd (let f : ⊥ = cc in f)
 
-shown_reads : (t : List Letter) (s : ConclusionState) (x : Showing) (c : Conclusion) (next : ConclusionState) → s.phase ≡ phase.Shown x → ReadsStatement conclusion_automaton s t c next
+shown_reads : (t : List Letter) (s : ConclusionState) (x : Showing) (c : Conclusion) (next : ConclusionState) → s.phase ≡ Phase.Shown x → ReadsStatement conclusion_automaton s t c next
     → (ls : List Literal) × (c ≡ showing_value x (Some ls))
 shown_reads [] s x c next at r = absurd r
 shown_reads (l ∷ []) s x c next at (h, n) = shown_ended s next x c (solution_automaton.step s.literals l.byte) (sym (shown_step s l.byte x at) ∙ h)
@@ -42,11 +34,11 @@ shown_reads (l ∷ k ∷ t) s x c next at (mid, h, o, n, r) =
     shown_reads (k ∷ t) mid x c next (shown_went s mid x (solution_automaton.step s.literals l.byte) (sym (shown_step s l.byte x at) ∙ h) ∙ at) r
 
 shows_conclusion : (x : Showing) (ls : List Literal) (text : List ℕ) (b : ℕ) → AsksShown text b → AsksConclusion (showing_value x (Some ls)) text b
-shows_conclusion showing.Sat ls text b h = h
-shows_conclusion (showing.Bounds lower id upper) ls text b h = h
+shows_conclusion Showing.Sat ls text b h = h
+shows_conclusion (Showing.Bounds lower id upper) ls text b h = h
 
 module _ (limit top : ℕ) where
-  shown_at : (s : ConclusionState) (x : Showing) (t : List Letter) (b : ℕ) → s.phase ≡ phase.Shown x → conclusion_prefix.prefix s.limit s.top s.literals s.phase t → conclusion_automaton.asks s b ≡ true → AsksShown (bytes t) b
+  shown_at : (s : ConclusionState) (x : Showing) (t : List Letter) (b : ℕ) → s.phase ≡ Phase.Shown x → conclusion_prefix.prefix s.limit s.top s.literals s.phase t → conclusion_automaton.asks s b ≡ true → AsksShown (bytes t) b
   shown_at s x t b at f h =
       let (a, c, e, (u, v, i, j, colon), w) = subst (λ q. conclusion_prefix.prefix s.limit s.top s.literals q t) at f in
       let asks_it : solution_automaton.asks s.literals b ≡ true = subst (λ q. asks s b (transition s.limit s.top q b) ≡ true) at h in

@@ -5,15 +5,7 @@ use Rattle.pb_proof.proofs.Common.{Language, unmarked, signed, Letter, Bound, Co
 use Rattle.pb_proof.proofs.Common.{phase_after_word, word_of, conclusion_automaton, conclusion_first, conclusion_last, conclusion_value}
 use Rattle.pb_proof.proofs.Common.{ConclusionState, showing_value, solution_automaton, solution_first, solution_last, SolutionState, SpellsJoined}
 use Rattle.pb_proof.proofs.Common.{bounds_word, IdShown, LineEnd, LiteralsShown, none_word, SpellsBound, SpellsConclusionLine, SpellsId, SpellsShown}
-use Rattle.pb_proof.proofs.Common.{unsat_word}
-use Rattle.pb_proof.specs.engine.line.ConclusionState.{giving, over}
-use Rattle.pb_proof.specs.declared.line.conclusion.phase.Word as word
-use Rattle.pb_proof.specs.declared.line.conclusion.phase.Owner.TheVariants as owner
-use Rattle.pb_proof.specs.declared.line.conclusion.phase.Side.TheVariants as side
-use Rattle.pb_proof.specs.declared.line.conclusion.phase.Showing.TheVariants as showing
-use Rattle.pb_proof.specs.declared.line.conclusion.phase.Concluding.TheVariants as concluding
-use Rattle.pb_proof.specs.declared.line.conclusion.phase.Phase.{Phase}
-use Rattle.pb_proof.specs.declared.line.conclusion.phase.Phase.TheVariants as phase
+use Rattle.pb_proof.proofs.Common.{unsat_word, conclusion_giving as giving, conclusion_over as over, ConclusionPhase as Phase, Word, Side}
 use Rattle.pb_proof.proofs.lemmas.conclusion.Parts.{Opens, before_opens, spaced_opens, bound_carries, AtId, id_carries}
 use Rattle.pb_proof.proofs.lemmas.conclusion.Texts.{Body, line_shown}
 use Rattle.pb_proof.proofs.lemmas.conclusion.Parts.{at, Carries, carries_then, Is, leads_carry, word_leads, start_blanks, bounded_blanks, id_blanks, Follows, follows_blanks, after_blanks_of, between_blanks, may_end, id_steps, id_follows}
@@ -26,7 +18,7 @@ module _ (limit top : ℕ) where
 
   -- the state with this state of the literals machine
   abbrev pub shown_at : Showing → SolutionState → ConclusionState
-  shown_at x inner = giving (here (phase.Shown x)) inner
+  shown_at x inner = giving (here (Phase.Shown x)) inner
 
   -- What the literals machine reads is read as the shown literals.
   pub shown_reads : (x : Showing) (t : List Letter) (inner : SolutionState) (ls : List Literal) (last : SolutionState)
@@ -39,7 +31,7 @@ module _ (limit top : ℕ) where
   itself : (p : Phase) → Follows limit top p (here p)
   itself p b e = refl
 
-  ends_line : (c : Concluding) (P : Language) → Carries limit top (Is limit top phase.Start) P (Follows limit top (phase.AfterValue c))
+  ends_line : (c : Concluding) (P : Language) → Carries limit top (Is limit top Phase.Start) P (Follows limit top (Phase.AfterValue c))
       → (t : List Letter) → (P ⋅ LineEnd) t → ReadsStatement conclusion_automaton (conclusion_first limit top) t (conclusion_value c) (conclusion_last limit top)
   ends_line c P f t (a, b, e, h, k) =
       let (mid, w, o) = f (conclusion_first limit top) a refl h in
@@ -47,30 +39,27 @@ module _ (limit top : ℕ) where
       (conclusion_last limit top)) (sym e)
       (reads_after conclusion_automaton a b (conclusion_first limit top) mid (conclusion_last limit top)
       (conclusion_value c) w
-      (line_reads conclusion_automaton mid (here (phase.AfterValue c)) (here (phase.Semicolon c)) (conclusion_last limit top) (conclusion_value c) (may_end limit top c mid o) b k))
+      (line_reads conclusion_automaton mid (here (Phase.AfterValue c)) (here (Phase.Semicolon c)) (conclusion_last limit top) (conclusion_value c) (may_end limit top c mid o) b k))
 
   -- shown literals, and the end of the line
-  colon_reads : (x : Showing) (ls : List Literal) (s : ConclusionState)
-      → Follows limit top (phase.AfterValue (concluding.Shows x)) s
+  colon_reads : (x : Showing) (ls : List Literal) (s : ConclusionState) → Follows limit top (Phase.AfterValue (Concluding.Shows x)) s
       → (t : List Letter) → (Byte 58 ⋅ SpellsJoined true ls) t → ReadsStatement conclusion_automaton s t (showing_value x (Some ls)) (conclusion_last limit top)
   colon_reads x ls s f t (a, b, e, h, k) =
       subst (λ y. ReadsStatement conclusion_automaton s y (showing_value x (Some ls)) (conclusion_last limit top)) (sym (e ∙ ap (λ y. y ++ b) h))
-      (longer conclusion_automaton (unmarked 58) b s (here (phase.Shown x)) (conclusion_last limit top) (showing_value x (Some ls)) (f 58 refl) refl refl
+      (longer conclusion_automaton (unmarked 58) b s (here (Phase.Shown x)) (conclusion_last limit top) (showing_value x (Some ls)) (f 58 refl) refl refl
       (shown_reads x b (solution_first true) ls (solution_last true) ((solution_reads true b ls (solution_last true)).1 (k, refl))))
 
-  some_shown : (x : Showing) (ls : List Literal) (s : ConclusionState)
-      → Follows limit top (phase.AfterValue (concluding.Shows x)) s
+  some_shown : (x : Showing) (ls : List Literal) (s : ConclusionState) → Follows limit top (Phase.AfterValue (Concluding.Shows x)) s
       → (t : List Letter) → (Blanks0 ⋅ (SpellsShown ls ⋅ LineEnd)) t → ReadsStatement conclusion_automaton s t (showing_value x (Some ls)) (conclusion_last limit top)
   some_shown x ls s f t (a, b, e, h, k) =
       let c : (Byte 58 ⋅ SpellsJoined true ls) b = line_shown limit top ls b k in
-      let gap : ConclusionState = here (phase.AfterValue (concluding.Shows x)) in
-      subst (λ y. ReadsStatement conclusion_automaton s y (showing_value x (Some ls)) (conclusion_last limit top)) (sym e)
-      (after_blanks conclusion_automaton s gap (conclusion_last limit top) (showing_value x (Some ls)) a b
-      (follows_blanks limit top (phase.AfterValue (concluding.Shows x)) (phase.AfterValue (concluding.Shows x)) s (after_blanks_of limit top (concluding.Shows x)) f) h
-      (colon_reads x ls s f b c) (colon_reads x ls gap (itself (phase.AfterValue (concluding.Shows x))) b c))
+      let gap : ConclusionState = here (Phase.AfterValue (Concluding.Shows x)) in
+      rw e (after_blanks conclusion_automaton s gap (conclusion_last limit top) (showing_value x (Some ls)) a b
+      (follows_blanks limit top (Phase.AfterValue (Concluding.Shows x)) (Phase.AfterValue (Concluding.Shows x)) s (after_blanks_of limit top (Concluding.Shows x)) f) h
+      (colon_reads x ls s f b c) (colon_reads x ls gap (itself (Phase.AfterValue (Concluding.Shows x))) b c))
 
-  start_carries : Carries limit top (Is limit top phase.Start) Blanks1 (Is limit top phase.Before)
-  start_carries = leads_carry limit top phase.Start phase.Before Blanks1 (blanks1_lead conclusion_automaton (here phase.Start) (here phase.Before) (start_blanks limit top))
+  start_carries : Carries limit top (Is limit top Phase.Start) Blanks1 (Is limit top Phase.Before)
+  start_carries = leads_carry limit top Phase.Start Phase.Before Blanks1 (blanks1_lead conclusion_automaton (here Phase.Start) (here Phase.Before) (start_blanks limit top))
 
   -- the parts of a line with shown literals
   shown_parts : (x : Showing) (ls : List Literal) (t : List Letter) → (Blanks1 ⋅ (Body limit top x ⋅ (Blanks0 ⋅ SpellsShown ls)) ⋅ LineEnd) t
@@ -83,11 +72,11 @@ module _ (limit top : ℕ) where
       (regroup Blanks1 (B ⋅ (Blanks0 ⋅ S)) LineEnd t h)
 
   -- a conclusion that may show literals
-  showing_reads : (x : Showing) (shown : Option (List Literal)) → Carries limit top (Is limit top phase.Before) (Body limit top x) (Follows limit top (phase.AfterValue (concluding.Shows x)))
+  showing_reads : (x : Showing) (shown : Option (List Literal)) → Carries limit top (Is limit top Phase.Before) (Body limit top x) (Follows limit top (Phase.AfterValue (Concluding.Shows x)))
       → (t : List Letter) → (Blanks1 ⋅ (Body limit top x ⋅ LiteralsShown shown) ⋅ LineEnd) t → ReadsStatement conclusion_automaton (conclusion_first limit top) t (showing_value x shown) (conclusion_last limit top)
   showing_reads x None f t h =
-      ends_line (concluding.Shows x) (Blanks1 ⋅ Body limit top x)
-      (carries_then limit top (Is limit top phase.Start) (Is limit top phase.Before) (Follows limit top (phase.AfterValue (concluding.Shows x))) Blanks1 (Body limit top x) start_carries f) t
+      ends_line (Concluding.Shows x) (Blanks1 ⋅ Body limit top x)
+      (carries_then limit top (Is limit top Phase.Start) (Is limit top Phase.Before) (Follows limit top (Phase.AfterValue (Concluding.Shows x))) Blanks1 (Body limit top x) start_carries f) t
       (inside (Blanks1 ⋅ (Body limit top x ⋅ Empty)) (Blanks1 ⋅ Body limit top x) LineEnd t (λ q. after_it Blanks1 (Body limit top x ⋅ Empty) (Body limit top x) q (nil_last (Body limit top x))) h)
   showing_reads x (Some ls) f t h =
       let (a, b, e, k, (c, d, g, i, j)) = shown_parts x ls t h in
@@ -104,22 +93,22 @@ module _ (limit top : ℕ) where
 
   -- a state that takes the `:` before an id
   abbrev Colons : Owner → ConclusionState → Type 0
-  Colons x s = conclusion_automaton.step s 58 ≡ Go (here (phase.BeforeId x))
+  Colons x s = conclusion_automaton.step s 58 ≡ Go (here (Phase.BeforeId x))
 
-  colon_carries : (x : Owner) → Carries limit top (Colons x) (Byte 58) (Is limit top (phase.BeforeId x))
+  colon_carries : (x : Owner) → Carries limit top (Colons x) (Byte 58) (Is limit top (Phase.BeforeId x))
   colon_carries x s t i h = (
-    here (phase.BeforeId x),
-    subst (λ y. Walks conclusion_automaton s y (here (phase.BeforeId x))) (sym h) (here (phase.BeforeId x), i, refl, refl, refl),
+    here (Phase.BeforeId x),
+    subst (λ y. Walks conclusion_automaton s y (here (Phase.BeforeId x))) (sym h) (here (Phase.BeforeId x), i, refl, refl, refl),
     refl,
   )
 
   id_shown_carries : (x : Owner) (id : ℤ) (A : ConclusionState → Type 0) → Carries limit top A Blanks0 (Colons x) → Carries limit top A (IdShown limit top (Some id)) (AtId limit top x id)
   id_shown_carries x id A f =
-      let B : ConclusionState → Type 0 = Is limit top (phase.BeforeId x) in
+      let B : ConclusionState → Type 0 = Is limit top (Phase.BeforeId x) in
       carries_then limit top A B (AtId limit top x id) (Blanks0 ⋅ Byte 58 ⋅ Blanks0) (SpellsId top id)
       (carries_then limit top A B B (Blanks0 ⋅ Byte 58) Blanks0
       (carries_then limit top A (Colons x) B Blanks0 (Byte 58) f (colon_carries x))
-      (leads_carry limit top (phase.BeforeId x) (phase.BeforeId x) Blanks0 (blanks0_lead conclusion_automaton (here (phase.BeforeId x)) (id_blanks limit top x))))
+      (leads_carry limit top (Phase.BeforeId x) (Phase.BeforeId x) Blanks0 (blanks0_lead conclusion_automaton (here (Phase.BeforeId x)) (id_blanks limit top x))))
       (id_carries limit top x id)
 
   -- the empty text
@@ -130,94 +119,93 @@ module _ (limit top : ℕ) where
   carries_to : (A B C : ConclusionState → Type 0) (P : Language) → ((s : ConclusionState) → B s → C s) → Carries limit top A P B → Carries limit top A P C
   carries_to A B C P g f s t i h = let (new, w, k) = f s t i h in (new, w, g new k)
 
-  word_carries : (w : word.Word) → Carries limit top (Is limit top phase.Before) (Bytes (word_of w)) (Is limit top (phase_after_word w))
-  word_carries w = leads_carry limit top phase.Before (phase_after_word w) (Bytes (word_of w)) (word_leads limit top w)
+  word_carries : (w : Word) → Carries limit top (Is limit top Phase.Before) (Bytes (word_of w)) (Is limit top (phase_after_word w))
+  word_carries w = leads_carry limit top Phase.Before (phase_after_word w) (Bytes (word_of w)) (word_leads limit top w)
 
-  word_follows : (w : word.Word) (c : Concluding) → phase_after_word w ≡ phase.AfterValue c → Carries limit top (Is limit top phase.Before) (Bytes (word_of w)) (Follows limit top (phase.AfterValue c))
+  word_follows : (w : Word) (c : Concluding) → phase_after_word w ≡ Phase.AfterValue c → Carries limit top (Is limit top Phase.Before) (Bytes (word_of w)) (Follows limit top (Phase.AfterValue c))
   word_follows w c e =
-      carries_to (Is limit top phase.Before) (Is limit top (phase_after_word w)) (Follows limit top (phase.AfterValue c)) (Bytes (word_of w))
-      (λ s i. subst (Follows limit top (phase.AfterValue c)) (sym (i ∙ ap (λ q. here q) e)) (itself (phase.AfterValue c))) (word_carries w)
+      carries_to (Is limit top Phase.Before) (Is limit top (phase_after_word w)) (Follows limit top (Phase.AfterValue c)) (Bytes (word_of w))
+      (λ s i. subst (Follows limit top (Phase.AfterValue c)) (sym (i ∙ ap (λ q. here q) e)) (itself (Phase.AfterValue c))) (word_carries w)
 
   -- `UNSAT`, and an id
-  unsat_gap : (s : ConclusionState) → s ≡ here (phase.AfterValue (concluding.Unsat None)) → TakesBlanks conclusion_automaton s (here (phase.AfterValue (concluding.Unsat None))) × Colons owner.Unsat s
+  unsat_gap : (s : ConclusionState) → s ≡ here (Phase.AfterValue (Concluding.Unsat None)) → TakesBlanks conclusion_automaton s (here (Phase.AfterValue (Concluding.Unsat None))) × Colons Owner.Unsat s
   unsat_gap s e =
-      subst (λ y. TakesBlanks conclusion_automaton y (here (phase.AfterValue (concluding.Unsat None))) × Colons owner.Unsat y) (sym e) (after_blanks_of limit top (concluding.Unsat None), refl)
+      subst (λ y. TakesBlanks conclusion_automaton y (here (Phase.AfterValue (Concluding.Unsat None))) × Colons Owner.Unsat y) (sym e) (after_blanks_of limit top (Concluding.Unsat None), refl)
 
-  unsat_id : (id : ℤ) (s : ConclusionState) → AtId limit top owner.Unsat id s → Follows limit top (phase.AfterValue (concluding.Unsat (Some id))) s
+  unsat_id : (id : ℤ) (s : ConclusionState) → AtId limit top Owner.Unsat id s → Follows limit top (Phase.AfterValue (Concluding.Unsat (Some id))) s
   unsat_id id s (negative, n, z, e, i) =
-      subst (λ y. Follows limit top (phase.AfterValue (concluding.Unsat (Some y))) s) (sym e)
-      (subst (λ y. Follows limit top (phase.AfterValue (concluding.Unsat (Some (signed negative n)))) y) (sym i) (id_follows limit top negative n z))
+      rw e
+      (subst (λ y. Follows limit top (Phase.AfterValue (Concluding.Unsat (Some (signed negative n)))) y) (sym i) (id_follows limit top negative n z))
 
-  unsat_carries : (id : Option ℤ) → Carries limit top (Is limit top phase.Before) (Bytes unsat_word ⋅ IdShown limit top id) (Follows limit top (phase.AfterValue (concluding.Unsat id)))
+  unsat_carries : (id : Option ℤ) → Carries limit top (Is limit top Phase.Before) (Bytes unsat_word ⋅ IdShown limit top id) (Follows limit top (Phase.AfterValue (Concluding.Unsat id)))
   unsat_carries None =
-      let F : ConclusionState → Type 0 = Follows limit top (phase.AfterValue (concluding.Unsat None)) in
-      carries_then limit top (Is limit top phase.Before) F F (Bytes unsat_word) Empty (word_follows word.TheVariants.Unsat (concluding.Unsat None) refl) (empty_carries F)
+      let F : ConclusionState → Type 0 = Follows limit top (Phase.AfterValue (Concluding.Unsat None)) in
+      carries_then limit top (Is limit top Phase.Before) F F (Bytes unsat_word) Empty (word_follows Word.Unsat (Concluding.Unsat None) refl) (empty_carries F)
   unsat_carries (Some id) =
-      let A : ConclusionState → Type 0 = Is limit top (phase.AfterValue (concluding.Unsat None)) in
-      carries_then limit top (Is limit top phase.Before) A (Follows limit top (phase.AfterValue (concluding.Unsat (Some id)))) (Bytes unsat_word) (IdShown limit top (Some id))
-      (word_carries word.TheVariants.Unsat)
-      (carries_to A (AtId limit top owner.Unsat id) (Follows limit top (phase.AfterValue (concluding.Unsat (Some id)))) (IdShown limit top (Some id)) (unsat_id id)
-      (id_shown_carries owner.Unsat id A (blanks_carry A (Colons owner.Unsat) (here (phase.AfterValue (concluding.Unsat None))) unsat_gap refl)))
+      let A : ConclusionState → Type 0 = Is limit top (Phase.AfterValue (Concluding.Unsat None)) in
+      carries_then limit top (Is limit top Phase.Before) A (Follows limit top (Phase.AfterValue (Concluding.Unsat (Some id)))) (Bytes unsat_word) (IdShown limit top (Some id))
+      (word_carries Word.Unsat)
+      (carries_to A (AtId limit top Owner.Unsat id) (Follows limit top (Phase.AfterValue (Concluding.Unsat (Some id)))) (IdShown limit top (Some id)) (unsat_id id)
+      (id_shown_carries Owner.Unsat id A (blanks_carry A (Colons Owner.Unsat) (here (Phase.AfterValue (Concluding.Unsat None))) unsat_gap refl)))
 
   -- the lower bound, and an id
   abbrev Middle : Bound → Option ℤ → ConclusionState → Type 0
-  Middle x None = Follows limit top (phase.Between x)
-  Middle x (Some id) = AtId limit top (owner.Lower x) id
+  Middle x None = Follows limit top (Phase.Between x)
+  Middle x (Some id) = AtId limit top (Owner.Lower x) id
 
-  lower_gap : (x : Bound) (s : ConclusionState) → Follows limit top (phase.Between x) s → TakesBlanks conclusion_automaton s (here (phase.Spaced x)) × Colons (owner.Lower x) s
-  lower_gap x s f = (follows_blanks limit top (phase.Between x) (phase.Spaced x) s (between_blanks limit top x) f, f 58 refl)
+  lower_gap : (x : Bound) (s : ConclusionState) → Follows limit top (Phase.Between x) s → TakesBlanks conclusion_automaton s (here (Phase.Spaced x)) × Colons (Owner.Lower x) s
+  lower_gap x s f = (follows_blanks limit top (Phase.Between x) (Phase.Spaced x) s (between_blanks limit top x) f, f 58 refl)
 
-  middle_carries : (x : Bound) (id : Option ℤ) → Carries limit top (Follows limit top (phase.Between x)) (IdShown limit top id) (Middle x id)
-  middle_carries x None = empty_carries (Follows limit top (phase.Between x))
+  middle_carries : (x : Bound) (id : Option ℤ) → Carries limit top (Follows limit top (Phase.Between x)) (IdShown limit top id) (Middle x id)
+  middle_carries x None = empty_carries (Follows limit top (Phase.Between x))
   middle_carries x (Some id) =
-      let A : ConclusionState → Type 0 = Follows limit top (phase.Between x) in
-      id_shown_carries (owner.Lower x) id A (blanks_carry A (Colons (owner.Lower x)) (here (phase.Spaced x)) (lower_gap x) refl)
+      let A : ConclusionState → Type 0 = Follows limit top (Phase.Between x) in
+      id_shown_carries (Owner.Lower x) id A (blanks_carry A (Colons (Owner.Lower x)) (here (Phase.Spaced x)) (lower_gap x) refl)
 
-  before_upper : (x : Bound) (id : ℤ) (s : ConclusionState) → AtId limit top (owner.Lower x) id s → TakesBlanks conclusion_automaton s (here (phase.BeforeBound (side.Upper x (Some id))))
+  before_upper : (x : Bound) (id : ℤ) (s : ConclusionState) → AtId limit top (Owner.Lower x) id s → TakesBlanks conclusion_automaton s (here (Phase.BeforeBound (Side.Upper x (Some id))))
   before_upper x id s (negative, n, z, e, i) =
-      subst (λ y. TakesBlanks conclusion_automaton s (here (phase.BeforeBound (side.Upper x (Some y))))) (sym e)
-      (subst (λ y. TakesBlanks conclusion_automaton y (here (phase.BeforeBound (side.Upper x (Some (signed negative n)))))) (sym i)
-      (record { enters = λ b h. id_steps limit top (owner.Lower x) negative n b z (blank_digit b h) ∙ rw h refl; stays = λ b h. rw h refl; begun = refl; plain = refl }))
+      rw e (subst (λ y. TakesBlanks conclusion_automaton y (here (Phase.BeforeBound (Side.Upper x (Some (signed negative n)))))) (sym i)
+      (record { enters = λ b h. id_steps limit top (Owner.Lower x) negative n b z (blank_digit b h) ∙ rw h refl; stays = λ b h. rw h refl; begun = refl; plain = refl }))
 
-  gap_carries : (x : Bound) (id : Option ℤ) → Carries limit top (Middle x id) Blanks1 (Opens limit top (side.Upper x id))
+  gap_carries : (x : Bound) (id : Option ℤ) → Carries limit top (Middle x id) Blanks1 (Opens limit top (Side.Upper x id))
   gap_carries x None s t f h =
-      (here (phase.Spaced x), blanks1_lead conclusion_automaton s (here (phase.Spaced x)) (lower_gap x s f).0 t h, spaced_opens limit top x)
+      (here (Phase.Spaced x), blanks1_lead conclusion_automaton s (here (Phase.Spaced x)) (lower_gap x s f).0 t h, spaced_opens limit top x)
   gap_carries x (Some id) s t f h = (
-    here (phase.BeforeBound (side.Upper x (Some id))),
-    blanks1_lead conclusion_automaton s (here (phase.BeforeBound (side.Upper x (Some id)))) (before_upper x id s f) t h,
-    before_opens limit top (side.Upper x (Some id)),
+    here (Phase.BeforeBound (Side.Upper x (Some id))),
+    blanks1_lead conclusion_automaton s (here (Phase.BeforeBound (Side.Upper x (Some id)))) (before_upper x id s f) t h,
+    before_opens limit top (Side.Upper x (Some id)),
   )
 
-  lower_carries : (x : Bound) → Carries limit top (Is limit top phase.Before) (Bytes bounds_word ⋅ Blanks1 ⋅ SpellsBound limit x) (Follows limit top (phase.Between x))
+  lower_carries : (x : Bound) → Carries limit top (Is limit top Phase.Before) (Bytes bounds_word ⋅ Blanks1 ⋅ SpellsBound limit x) (Follows limit top (Phase.Between x))
   lower_carries x =
-      let A : ConclusionState → Type 0 = Is limit top phase.Before in
-      let B : ConclusionState → Type 0 = Is limit top (phase.BeforeBound side.Lower) in
-      let C : ConclusionState → Type 0 = Follows limit top (phase.Between x) in
+      let A : ConclusionState → Type 0 = Is limit top Phase.Before in
+      let B : ConclusionState → Type 0 = Is limit top (Phase.BeforeBound Side.Lower) in
+      let C : ConclusionState → Type 0 = Follows limit top (Phase.Between x) in
       carries_then limit top A B C (Bytes bounds_word ⋅ Blanks1) (SpellsBound limit x)
-      (carries_then limit top A (Is limit top phase.Bounded) B (Bytes bounds_word) Blanks1
-      (word_carries word.TheVariants.Bounds)
-      (leads_carry limit top phase.Bounded (phase.BeforeBound side.Lower) Blanks1 (blanks1_lead conclusion_automaton (here phase.Bounded) (here (phase.BeforeBound side.Lower)) (bounded_blanks limit top))))
-      (λ s t i h. bound_carries limit top side.Lower x s t (subst (Opens limit top side.Lower) (sym i) (before_opens limit top side.Lower)) h)
+      (carries_then limit top A (Is limit top Phase.Bounded) B (Bytes bounds_word) Blanks1
+      (word_carries Word.Bounds)
+      (leads_carry limit top Phase.Bounded (Phase.BeforeBound Side.Lower) Blanks1 (blanks1_lead conclusion_automaton (here Phase.Bounded) (here (Phase.BeforeBound Side.Lower)) (bounded_blanks limit top))))
+      (λ s t i h. bound_carries limit top Side.Lower x s t (subst (Opens limit top Side.Lower) (sym i) (before_opens limit top Side.Lower)) h)
 
   bounds_carries : (x : Bound) (id : Option ℤ) (y : Bound)
-      → Carries limit top (Is limit top phase.Before) (Body limit top (showing.Bounds x id y)) (Follows limit top (phase.AfterValue (concluding.Shows (showing.Bounds x id y))))
+      → Carries limit top (Is limit top Phase.Before) (Body limit top (Showing.Bounds x id y)) (Follows limit top (Phase.AfterValue (Concluding.Shows (Showing.Bounds x id y))))
   bounds_carries x id y =
-      let A : ConclusionState → Type 0 = Is limit top phase.Before in
+      let A : ConclusionState → Type 0 = Is limit top Phase.Before in
       let L : Language = Bytes bounds_word ⋅ Blanks1 ⋅ SpellsBound limit x in
-      carries_then limit top A (Opens limit top (side.Upper x id)) (Follows limit top (phase.AfterValue (concluding.Shows (showing.Bounds x id y)))) (L ⋅ IdShown limit top id ⋅ Blanks1) (SpellsBound limit y)
-      (carries_then limit top A (Middle x id) (Opens limit top (side.Upper x id)) (L ⋅ IdShown limit top id) Blanks1
-      (carries_then limit top A (Follows limit top (phase.Between x)) (Middle x id) L (IdShown limit top id) (lower_carries x) (middle_carries x id))
+      carries_then limit top A (Opens limit top (Side.Upper x id)) (Follows limit top (Phase.AfterValue (Concluding.Shows (Showing.Bounds x id y)))) (L ⋅ IdShown limit top id ⋅ Blanks1) (SpellsBound limit y)
+      (carries_then limit top A (Middle x id) (Opens limit top (Side.Upper x id)) (L ⋅ IdShown limit top id) Blanks1
+      (carries_then limit top A (Follows limit top (Phase.Between x)) (Middle x id) L (IdShown limit top id) (lower_carries x) (middle_carries x id))
       (gap_carries x id))
-      (bound_carries limit top (side.Upper x id) y)
+      (bound_carries limit top (Side.Upper x id) y)
 
   -- a conclusion without literals, after the first blanks
-  plain_reads : (c : Concluding) (P : Language) → Carries limit top (Is limit top phase.Before) P (Follows limit top (phase.AfterValue c))
+  plain_reads : (c : Concluding) (P : Language) → Carries limit top (Is limit top Phase.Before) P (Follows limit top (Phase.AfterValue c))
       → (t : List Letter) → (Blanks1 ⋅ P ⋅ LineEnd) t → ReadsStatement conclusion_automaton (conclusion_first limit top) t (conclusion_value c) (conclusion_last limit top)
   plain_reads c P f =
-      ends_line c (Blanks1 ⋅ P) (carries_then limit top (Is limit top phase.Start) (Is limit top phase.Before) (Follows limit top (phase.AfterValue c)) Blanks1 P start_carries f)
+      ends_line c (Blanks1 ⋅ P) (carries_then limit top (Is limit top Phase.Start) (Is limit top Phase.Before) (Follows limit top (Phase.AfterValue c)) Blanks1 P start_carries f)
 
   pub conclusion_each : (c : Conclusion) (t : List Letter) → SpellsConclusionLine limit top c t → ReadsStatement conclusion_automaton (conclusion_first limit top) t c (conclusion_last limit top)
-  conclusion_each NoClaim t h = plain_reads concluding.NoClaim (Bytes none_word) (word_follows word.TheVariants.NoClaim concluding.NoClaim refl) t h
-  conclusion_each (Unsat id) t h = plain_reads (concluding.Unsat id) (Bytes unsat_word ⋅ IdShown limit top id) (unsat_carries id) t h
-  conclusion_each (Sat shown) t h = showing_reads showing.Sat shown (word_follows word.TheVariants.Sat (concluding.Shows showing.Sat) refl) t h
-  conclusion_each (Bounds x id y shown) t h = showing_reads (showing.Bounds x id y) shown (bounds_carries x id y) t h
+  conclusion_each NoClaim t h = plain_reads Concluding.NoClaim (Bytes none_word) (word_follows Word.NoClaim Concluding.NoClaim refl) t h
+  conclusion_each (Unsat id) t h = plain_reads (Concluding.Unsat id) (Bytes unsat_word ⋅ IdShown limit top id) (unsat_carries id) t h
+  conclusion_each (Sat shown) t h = showing_reads Showing.Sat shown (word_follows Word.Sat (Concluding.Shows Showing.Sat) refl) t h
+  conclusion_each (Bounds x id y shown) t h = showing_reads (Showing.Bounds x id y) shown (bounds_carries x id y) t h

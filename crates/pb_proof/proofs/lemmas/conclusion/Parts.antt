@@ -1,26 +1,15 @@
 -- How the conclusion machine walks through the parts of a conclusion.
-use Rattle.pb_proof.proofs.Common.{ℕ, ◌++◌, ◌+◌, ◌<◌, ◌∙◌, ◌∷◌, ◌≡◌, [], ap, append-nil, append_assoc, arith, Bool, cond, drop, false, length}
-use Rattle.pb_proof.proofs.Common.{length-append, List, nat_eq, refl, Some, subst, sym, take, take-append-drop, true, slice_index, get_or-append_seam}
-use Rattle.pb_proof.proofs.Common.{eq-eqb, nat_tests, length-take-le, Leads, Walks, walks_then, blank_digit, Go, is_digit, ◌⋅◌, Bytes, Language}
-use Rattle.pb_proof.proofs.Common.{signed, Letter, plain, Bound, Finite, To, Concluding, Owner, Side, Word, after_bound, after_id, between, digits}
-use Rattle.pb_proof.proofs.Common.{is_within, phase_after_bound, phase_after_word, spell, word_of, conclusion_at, conclusion_automaton}
-use Rattle.pb_proof.proofs.Common.{conclusion_last, conclusion_value, ConclusionState, Showing, ℤ, ◌*◌, ◌-◌, ◌≤◌, inl, inr, None, le-leb, digits_lead}
-use Rattle.pb_proof.proofs.Common.{digit_blank, digit_byte, unmarked, Digits, Number, Infinite, Stop, id_digits, is_in_number, inf_word, SpellsBound}
-use Rattle.pb_proof.proofs.Common.{SpellsId}
-use Rattle.pb_proof.specs.engine.line.Conclusion.{next_action, transition}
-use Rattle.pb_proof.specs.engine.line.ConclusionState.{act}
-use Rattle.pb_proof.specs.declared.line.conclusion.phase.Phase.{Phase}
-use Rattle.pb_proof.specs.declared.line.conclusion.phase.Action.{Action}
+use Rattle.pb_proof.proofs.Common.{ℕ, ◌++◌, ◌+◌, ◌<◌, ◌∙◌, ◌∷◌, ◌≡◌, [], ap, append-nil, append_assoc, arith, Bool, cond, drop, false, length, length-append}
+use Rattle.pb_proof.proofs.Common.{List, nat_eq, refl, Some, subst, sym, take, take-append-drop, true, slice_index, get_or-append_seam, eq-eqb, nat_tests}
+use Rattle.pb_proof.proofs.Common.{length-take-le, Leads, Walks, walks_then, blank_digit, Go, is_digit, ◌⋅◌, Bytes, Language, signed, Letter, plain, Bound}
+use Rattle.pb_proof.proofs.Common.{Finite, To, Concluding, Owner, Side, Word, after_bound, after_id, between, digits, is_within, phase_after_bound}
+use Rattle.pb_proof.proofs.Common.{phase_after_word, spell, word_of, conclusion_at, conclusion_automaton, conclusion_last, conclusion_value, ConclusionState}
+use Rattle.pb_proof.proofs.Common.{Showing, ℤ, ◌*◌, ◌-◌, ◌≤◌, inl, inr, None, le-leb, digits_lead, digit_blank, digit_byte, unmarked, Digits, Number}
+use Rattle.pb_proof.proofs.Common.{Infinite, Stop, id_digits, is_in_number, inf_word, SpellsBound, SpellsId, conclusion_next as next_action}
+use Rattle.pb_proof.proofs.Common.{conclusion_transition as transition, conclusion_act as act, ConclusionPhase as Phase, ConclusionAction as Action}
 use Rattle.pb_proof.proofs.lemmas.line.Ends.{TakesBlanks, MayEnd, closing_feeds}
 use Rattle.pb_proof.proofs.lemmas.NumberTests.{not_zero}
-use Rattle.pb_proof.specs.declared.line.conclusion.phase.Action.TheVariants.{Give}
 use Rattle.pb_proof.proofs.lemmas.conclusion.Steps.{OnAction, on_transition}
-use Rattle.pb_proof.specs.declared.line.conclusion.phase.Word.TheVariants as word
-use Rattle.pb_proof.specs.declared.line.conclusion.phase.Owner.TheVariants as owner
-use Rattle.pb_proof.specs.declared.line.conclusion.phase.Side.TheVariants as side
-use Rattle.pb_proof.specs.declared.line.conclusion.phase.Showing.TheVariants as showing
-use Rattle.pb_proof.specs.declared.line.conclusion.phase.Concluding.TheVariants as concluding
-use Rattle.pb_proof.specs.declared.line.conclusion.phase.Phase.TheVariants as phase
 
 module _ (limit top : ℕ) where
   abbrev pub at : Phase → ConclusionState
@@ -33,12 +22,7 @@ module _ (limit top : ℕ) where
   pub carries_then : (A B C : ConclusionState → Type 0) (P Q : Language) → Carries A P B → Carries B Q C → Carries A (P ⋅ Q) C
   carries_then A B C P Q f g s t i (a, b, e, p, q) =
       let (mid, w, j) = f s a i p in
-      let (new, v, k) = g mid b j q in (
-        new,
-        subst (λ x. Walks conclusion_automaton s x new) (sym e)
-            (walks_then conclusion_automaton a b s mid new w v),
-        k,
-      )
+      let (new, v, k) = g mid b j q in (new, rw e (walks_then conclusion_automaton a b s mid new w v), k)
 
   abbrev pub Is : Phase → ConclusionState → Type 0
   Is p s = s ≡ at p
@@ -77,8 +61,7 @@ module _ (limit top : ℕ) where
         ap (λ x. act (at (more (length prefix))) b x) (h.planned (length prefix) b ∙ spell_next w prefix (c ∷ left) b (more (length prefix + 1)) whole false e n),
         h.within (length prefix + 1),
         sym (h.number (length prefix + 1)),
-        subst (λ k. Walks conclusion_automaton (at (more k)) (plain (c ∷ left)) (at whole))
-            (length-append prefix (b ∷ []))
+        subst (λ k. Walks conclusion_automaton (at (more k)) (plain (c ∷ left)) (at whole)) (length-append prefix (b ∷ []))
             (spelled w more whole h (prefix ++ b ∷ []) left c (e ∙ sym (append_assoc prefix (b ∷ []) (c ∷ left)))),
       )
 
@@ -93,37 +76,36 @@ module _ (limit top : ℕ) where
       go [] e = absurd (omega (arith, size, ap length e, ap length (append-nil (take k w))))
       go (b ∷ left) e = subst (λ x. Walks conclusion_automaton (at (more x)) (plain (b ∷ left)) (at whole)) size (spelled w more whole h (take k w) left b e)
 
-  spelled_word : (w : Word) → is_within (phase_after_word w) ≡ true → conclusion_automaton.in_number (at (phase_after_word w)) ≡ false → Spelled (word_of w) (λ k. phase.Word w k) (phase_after_word w)
+  spelled_word : (w : Word) → is_within (phase_after_word w) ≡ true → conclusion_automaton.in_number (at (phase_after_word w)) ≡ false → Spelled (word_of w) (λ k. Phase.Word w k) (phase_after_word w)
   spelled_word w i n = record { planned = λ k b. refl; within = λ k. refl; number = λ k. refl; within_whole = i; number_whole = n }
 
-  word_spelled : (w : Word) → Spelled (word_of w) (λ k. phase.Word w k) (phase_after_word w)
-  word_spelled word.NoClaim = spelled_word word.NoClaim refl refl
+  word_spelled : (w : Word) → Spelled (word_of w) (λ k. Phase.Word w k) (phase_after_word w)
+  word_spelled Word.NoClaim = spelled_word Word.NoClaim refl refl
   word_spelled w = spelled_word w refl refl
 
-  pub word_left : (w : Word) (k : ℕ) → k < length (word_of w) → Walks conclusion_automaton (at (phase.Word w k)) (plain (drop k (word_of w))) (at (phase_after_word w))
-  word_left w k i = left_walk (word_of w) (λ j. phase.Word w j) (phase_after_word w) (word_spelled w) k i
+  pub word_left : (w : Word) (k : ℕ) → k < length (word_of w) → Walks conclusion_automaton (at (Phase.Word w k)) (plain (drop k (word_of w))) (at (phase_after_word w))
+  word_left w k i = left_walk (word_of w) (λ j. Phase.Word w j) (phase_after_word w) (word_spelled w) k i
 
-  begins_word : (w : Word) (b : ℕ) (left : List ℕ) → word_of w ≡ b ∷ left → conclusion_automaton.step (at phase.Before) b ≡ Go (at (phase.Word w 1)) → 1 < length (word_of w)
-      → Leads conclusion_automaton (at phase.Before) (Bytes (word_of w)) (at (phase_after_word w))
+  begins_word : (w : Word) (b : ℕ) (left : List ℕ) → word_of w ≡ b ∷ left → conclusion_automaton.step (at Phase.Before) b ≡ Go (at (Phase.Word w 1)) → 1 < length (word_of w)
+      → Leads conclusion_automaton (at Phase.Before) (Bytes (word_of w)) (at (phase_after_word w))
   begins_word w b left e g i t h =
-      subst (λ x. Walks conclusion_automaton (at phase.Before) x (at (phase_after_word w))) (sym (h ∙ ap plain e))
-      (at (phase.Word w 1), g, refl, refl, subst (λ x. Walks conclusion_automaton (at (phase.Word w 1)) (plain x) (at (phase_after_word w))) (ap (drop 1) e) (word_left w 1 i))
+      subst (λ x. Walks conclusion_automaton (at Phase.Before) x (at (phase_after_word w))) (sym (h ∙ ap plain e))
+      (at (Phase.Word w 1), g, refl, refl, subst (λ x. Walks conclusion_automaton (at (Phase.Word w 1)) (plain x) (at (phase_after_word w))) (ap (drop 1) e) (word_left w 1 i))
 
-  pub word_leads : (w : Word)
-      → Leads conclusion_automaton (at phase.Before) (Bytes (word_of w)) (at (phase_after_word w))
-  word_leads word.NoClaim = begins_word word.NoClaim 78 _ refl refl (omega arith)
-  word_leads word.Unsat = begins_word word.Unsat 85 _ refl refl (omega arith)
-  word_leads word.Sat = begins_word word.Sat 83 _ refl refl (omega arith)
-  word_leads word.Bounds = begins_word word.Bounds 66 _ refl refl (omega arith)
+  pub word_leads : (w : Word) → Leads conclusion_automaton (at Phase.Before) (Bytes (word_of w)) (at (phase_after_word w))
+  word_leads Word.NoClaim = begins_word Word.NoClaim 78 _ refl refl (omega arith)
+  word_leads Word.Unsat = begins_word Word.Unsat 85 _ refl refl (omega arith)
+  word_leads Word.Sat = begins_word Word.Sat 83 _ refl refl (omega arith)
+  word_leads Word.Bounds = begins_word Word.Bounds 66 _ refl refl (omega arith)
 
   -- blanks
-  pub start_blanks : TakesBlanks conclusion_automaton (at phase.Start) (at phase.Before)
+  pub start_blanks : TakesBlanks conclusion_automaton (at Phase.Start) (at Phase.Before)
   start_blanks = record { enters = λ b h. rw h refl; stays = λ b h. rw h refl; begun = refl; plain = refl }
 
-  pub bounded_blanks : TakesBlanks conclusion_automaton (at phase.Bounded) (at (phase.BeforeBound side.Lower))
+  pub bounded_blanks : TakesBlanks conclusion_automaton (at Phase.Bounded) (at (Phase.BeforeBound Side.Lower))
   bounded_blanks = record { enters = λ b h. rw h refl; stays = λ b h. rw h refl; begun = refl; plain = refl }
 
-  pub id_blanks : (x : Owner) → TakesBlanks conclusion_automaton (at (phase.BeforeId x)) (at (phase.BeforeId x))
+  pub id_blanks : (x : Owner) → TakesBlanks conclusion_automaton (at (Phase.BeforeId x)) (at (Phase.BeforeId x))
   id_blanks x = record { enters = λ b h. rw h refl; stays = λ b h. rw h refl; begun = refl; plain = refl }
 
   -- A state that has, for each byte but a digit, the same step as that of a phase.
@@ -133,49 +115,46 @@ module _ (limit top : ℕ) where
   pub follows_blanks : (p q : Phase) (s : ConclusionState) → TakesBlanks conclusion_automaton (at p) (at q) → Follows p s → TakesBlanks conclusion_automaton s (at q)
   follows_blanks p q s h f = record { enters = λ b i. f b (blank_digit b i) ∙ h.enters b i; stays = h.stays; begun = h.begun; plain = h.plain }
 
-  pub after_blanks_of : (c : Concluding)
-      → TakesBlanks conclusion_automaton (at (phase.AfterValue c)) (at (phase.AfterValue c))
+  pub after_blanks_of : (c : Concluding) → TakesBlanks conclusion_automaton (at (Phase.AfterValue c)) (at (Phase.AfterValue c))
   after_blanks_of c = record { enters = λ b h. rw h refl; stays = λ b h. rw h refl; begun = refl; plain = refl }
 
-  pub between_blanks : (x : Bound) → TakesBlanks conclusion_automaton (at (phase.Between x)) (at (phase.Spaced x))
+  pub between_blanks : (x : Bound) → TakesBlanks conclusion_automaton (at (Phase.Between x)) (at (Phase.Spaced x))
   between_blanks x = record { enters = λ b h. rw h refl; stays = λ b h. rw h refl; begun = refl; plain = refl }
 
   -- the end of the line after a conclusion
-  pub may_end : (c : Concluding) (s : ConclusionState) → Follows (phase.AfterValue c) s → MayEnd conclusion_automaton s (at (phase.AfterValue c)) (at (phase.Semicolon c)) (conclusion_value c) (conclusion_last limit top)
+  pub may_end : (c : Concluding) (s : ConclusionState) → Follows (Phase.AfterValue c) s → MayEnd conclusion_automaton s (at (Phase.AfterValue c)) (at (Phase.Semicolon c)) (conclusion_value c) (conclusion_last limit top)
   may_end c s f = record {
-    feeds = record { blanks = follows_blanks (phase.AfterValue c) (phase.AfterValue c) s (after_blanks_of c) f; ends = f 10 refl; ends_gap = refl };
+    feeds = record { blanks = follows_blanks (Phase.AfterValue c) (Phase.AfterValue c) s (after_blanks_of c) f; ends = f 10 refl; ends_gap = refl };
     finishes = f 59 refl;
     closes_gap = refl;
-    begun = refl;
-    plain = refl;
-    last = closing_feeds conclusion_automaton (at (phase.Semicolon c)) (conclusion_last limit top) (conclusion_value c) (λ b h. rw h refl) refl refl refl;
+    last = closing_feeds conclusion_automaton (at (Phase.Semicolon c)) (conclusion_last limit top) (conclusion_value c) (λ b h. rw h refl) refl refl refl;
   }
 
   -- the transition after a bound or an id is that after the conclusion, whatever was read last
-  act_same : (p q r : Phase) (b : ℕ) (m : Action) → OnAction (at p) r m → ((x : Showing) → r ≡ phase.Shown x → ⊥) → act (at p) b m ≡ act (at q) b m
-  act_same p q r b (Give x) h n = absurd (n x h)
+  act_same : (p q r : Phase) (b : ℕ) (m : Action) → OnAction (at p) r m → ((x : Showing) → r ≡ Phase.Shown x → ⊥) → act (at p) b m ≡ act (at q) b m
+  act_same p q r b (Action.Give x) h n = absurd (n x h)
   act_same p q r b _ h n = refl
 
   act_after : (p q : Phase) (b : ℕ) (c : Concluding) → act (at p) b (next_action c b) ≡ act (at q) b (next_action c b)
-  act_after p q b c = act_same p q (phase.AfterValue c) b (next_action c b) (on_transition (at p) (phase.AfterValue c) b) (λ x e. cc)
+  act_after p q b c = act_same p q (Phase.AfterValue c) b (next_action c b) (on_transition (at p) (Phase.AfterValue c) b) (λ x e. cc)
 
   act_after_bound : (p : Phase) (b : ℕ) (x : Side) (y : Bound) → act (at p) b (after_bound x y b) ≡ conclusion_automaton.step (at (phase_after_bound x y)) b
-  act_after_bound p b side.Lower y = act_same p (phase.Between y) (phase.Between y) b (between y b) (on_transition (at p) (phase.Between y) b) (λ x e. cc)
-  act_after_bound p b (side.Upper x id) y = act_after p (phase.AfterValue (concluding.Shows (showing.Bounds x id y))) b (concluding.Shows (showing.Bounds x id y))
+  act_after_bound p b Side.Lower y = act_same p (Phase.Between y) (Phase.Between y) b (between y b) (on_transition (at p) (Phase.Between y) b) (λ x e. cc)
+  act_after_bound p b (Side.Upper x id) y = act_after p (Phase.AfterValue (Concluding.Shows (Showing.Bounds x id y))) b (Concluding.Shows (Showing.Bounds x id y))
 
-  pub number_follows : (x : Side) (negative : Bool) (n : ℕ) → Follows (phase_after_bound x (Finite (signed negative n))) (at (phase.Digits x negative n))
+  pub number_follows : (x : Side) (negative : Bool) (n : ℕ) → Follows (phase_after_bound x (Finite (signed negative n))) (at (Phase.Digits x negative n))
   number_follows x negative n b e =
-      ap (λ y. act (at (phase.Digits x negative n)) b (cond y (digits limit x negative n b) (after_bound x (Finite (signed negative n)) b))) e
-      ∙ act_after_bound (phase.Digits x negative n) b x (Finite (signed negative n))
+      ap (λ y. act (at (Phase.Digits x negative n)) b (cond y (digits limit x negative n b) (after_bound x (Finite (signed negative n)) b))) e
+      ∙ act_after_bound (Phase.Digits x negative n) b x (Finite (signed negative n))
 
   pub id_steps : (x : Owner) (negative : Bool) (n b : ℕ) → 0 < n → is_digit b ≡ false
-      → conclusion_automaton.step (at (phase.IdDigits x negative n)) b ≡ act (at (phase.IdDigits x negative n)) b (after_id x (signed negative n) b)
+      → conclusion_automaton.step (at (Phase.IdDigits x negative n)) b ≡ act (at (Phase.IdDigits x negative n)) b (after_id x (signed negative n) b)
   id_steps x negative n b z e = rw (e, not_zero n z) refl
 
-  pub id_follows : (negative : Bool) (n : ℕ) → 0 < n → Follows (phase.AfterValue (concluding.Unsat (Some (signed negative n)))) (at (phase.IdDigits owner.Unsat negative n))
+  pub id_follows : (negative : Bool) (n : ℕ) → 0 < n → Follows (Phase.AfterValue (Concluding.Unsat (Some (signed negative n)))) (at (Phase.IdDigits Owner.Unsat negative n))
   id_follows negative n z b e =
-      id_steps owner.Unsat negative n b z e
-      ∙ act_after (phase.IdDigits owner.Unsat negative n) (phase.AfterValue (concluding.Unsat (Some (signed negative n)))) b (concluding.Unsat (Some (signed negative n)))
+      id_steps Owner.Unsat negative n b z e
+      ∙ act_after (Phase.IdDigits Owner.Unsat negative n) (Phase.AfterValue (Concluding.Unsat (Some (signed negative n)))) b (Concluding.Unsat (Some (signed negative n)))
 
 -- How the conclusion machine walks through bounds and ids.
 
@@ -188,28 +167,28 @@ module _ (limit top : ℕ) where
   here p = at limit top p
 
   -- digits of a bound
-  digits_next : (x : Side) (negative : Bool) (m d : ℕ) → d < 10 → 10 * m + d ≤ limit → digits limit x negative m (48 + d) ≡ To (phase.Digits x negative (10 * m + d))
+  digits_next : (x : Side) (negative : Bool) (m d : ℕ) → d < 10 → 10 * m + d ≤ limit → digits limit x negative m (48 + d) ≡ To (Phase.Digits x negative (10 * m + d))
   digits_next x negative m d h l =
       let e : (48 + d) - 48 ≡ d = omega arith in
       rw (digit_byte d h, e, le-leb (10 * m + d) limit l) refl
 
   digits_step : (x : Side) (negative : Bool) (m d : ℕ) → d < 10 → 10 * m + d ≤ limit
-      → conclusion_automaton.step (here (phase.Digits x negative m)) (48 + d) ≡ Go (here (phase.Digits x negative (10 * m + d)))
+      → conclusion_automaton.step (here (Phase.Digits x negative m)) (48 + d) ≡ Go (here (Phase.Digits x negative (10 * m + d)))
   digits_step x negative m d h l =
-      ap (λ y. act (here (phase.Digits x negative m)) (48 + d) (cond y (digits limit x negative m (48 + d)) (after_bound x (Finite (signed negative m)) (48 + d)))) (digit_byte d h)
-      ∙ ap (λ y. act (here (phase.Digits x negative m)) (48 + d) y) (digits_next x negative m d h l)
+      ap (λ y. act (here (Phase.Digits x negative m)) (48 + d) (cond y (digits limit x negative m (48 + d)) (after_bound x (Finite (signed negative m)) (48 + d)))) (digit_byte d h)
+      ∙ ap (λ y. act (here (Phase.Digits x negative m)) (48 + d) y) (digits_next x negative m d h l)
 
-  digits_first : (x : Side) (negative : Bool) (d : ℕ) → d < 10 → d ≤ limit → digits limit x negative 0 (48 + d) ≡ To (phase.Digits x negative d)
-  digits_first x negative d h l = let e : 10 * 0 + d ≡ d = omega arith in digits_next x negative 0 d h (omega arith) ∙ ap (λ y. To (phase.Digits x negative y)) e
+  digits_first : (x : Side) (negative : Bool) (d : ℕ) → d < 10 → d ≤ limit → digits limit x negative 0 (48 + d) ≡ To (Phase.Digits x negative d)
+  digits_first x negative d h l = let e : 10 * 0 + d ≡ d = omega arith in digits_next x negative 0 d h (omega arith) ∙ ap (λ y. To (Phase.Digits x negative y)) e
 
   -- A state before a bound.
   pub record Opens (x : Side) (s : ConclusionState) : Type 0 where
-    pub plus : conclusion_automaton.step s 43 ≡ Go (here (phase.Signed x false))
-    pub minus : conclusion_automaton.step s 45 ≡ Go (here (phase.Signed x true))
-    pub letter : conclusion_automaton.step s 73 ≡ Go (here (phase.Infinity x 1))
-    pub first : (d : ℕ) → d < 10 → d ≤ limit → conclusion_automaton.step s (48 + d) ≡ Go (here (phase.Digits x false d))
+    pub plus : conclusion_automaton.step s 43 ≡ Go (here (Phase.Signed x false))
+    pub minus : conclusion_automaton.step s 45 ≡ Go (here (Phase.Signed x true))
+    pub letter : conclusion_automaton.step s 73 ≡ Go (here (Phase.Infinity x 1))
+    pub first : (d : ℕ) → d < 10 → d ≤ limit → conclusion_automaton.step s (48 + d) ≡ Go (here (Phase.Digits x false d))
 
-  pub before_opens : (x : Side) → Opens x (here (phase.BeforeBound x))
+  pub before_opens : (x : Side) → Opens x (here (Phase.BeforeBound x))
   before_opens x = record {
     plus = refl;
     minus = refl;
@@ -217,58 +196,58 @@ module _ (limit top : ℕ) where
     first = λ d h l. rw (digit_blank d h, digit-not d 43 h refl, digit-not d 45 h refl, digit-not d 73 h refl, digits_first x false d h l) refl;
   }
 
-  pub spaced_opens : (x : Bound) → Opens (side.Upper x None) (here (phase.Spaced x))
+  pub spaced_opens : (x : Bound) → Opens (Side.Upper x None) (here (Phase.Spaced x))
   spaced_opens x = record {
     plus = refl;
     minus = refl;
     letter = refl;
     first = λ d h l.
-        rw (digit_blank d h, digit-not d 58 h refl, digit-not d 43 h refl, digit-not d 45 h refl, digit-not d 73 h refl, digits_first (side.Upper x None) false d h l) refl;
+        rw (digit_blank d h, digit-not d 58 h refl, digit-not d 43 h refl, digit-not d 45 h refl, digit-not d 73 h refl, digits_first (Side.Upper x None) false d h l) refl;
   }
 
   -- the digits after a first byte
-  number_lead : (x : Side) (negative : Bool) (s : ConclusionState) → ((d : ℕ) → d < 10 → d ≤ limit → conclusion_automaton.step s (48 + d) ≡ Go (here (phase.Digits x negative d)))
-      → (n : ℕ) → n ≤ limit → Leads conclusion_automaton s (Digits n) (here (phase.Digits x negative n))
-  number_lead x negative s f n l = digits_lead conclusion_automaton (λ m. here (phase.Digits x negative m)) limit (record { more = digits_step x negative; begun = λ n. refl; number = λ n. refl }) s f n l
+  number_lead : (x : Side) (negative : Bool) (s : ConclusionState) → ((d : ℕ) → d < 10 → d ≤ limit → conclusion_automaton.step s (48 + d) ≡ Go (here (Phase.Digits x negative d)))
+      → (n : ℕ) → n ≤ limit → Leads conclusion_automaton s (Digits n) (here (Phase.Digits x negative n))
+  number_lead x negative s f n l = digits_lead conclusion_automaton (λ m. here (Phase.Digits x negative m)) limit (record { more = digits_step x negative; begun = λ n. refl; number = λ n. refl }) s f n l
 
-  pub signed_step : (x : Side) (negative : Bool) → conclusion_automaton.step (here (phase.Signed x negative)) 48 ≡ Go (here (phase.Digits x negative 0))
-  signed_step x negative = ap (λ y. act (here (phase.Signed x negative)) 48 y) (digits_first x negative 0 (omega arith) (omega arith))
+  pub signed_step : (x : Side) (negative : Bool) → conclusion_automaton.step (here (Phase.Signed x negative)) 48 ≡ Go (here (Phase.Digits x negative 0))
+  signed_step x negative = ap (λ y. act (here (Phase.Signed x negative)) 48 y) (digits_first x negative 0 (omega arith) (omega arith))
 
-  signed_lead : (x : Side) (negative : Bool) (n : ℕ) → n ≤ limit → Leads conclusion_automaton (here (phase.Signed x negative)) (Digits n) (here (phase.Digits x negative n))
+  signed_lead : (x : Side) (negative : Bool) (n : ℕ) → n ≤ limit → Leads conclusion_automaton (here (Phase.Signed x negative)) (Digits n) (here (Phase.Digits x negative n))
   signed_lead x negative n l =
-      number_lead x negative (here (phase.Signed x negative)) (λ d h i. ap (λ y. act (here (phase.Signed x negative)) (48 + d) y) (digits_first x negative d h i)) n l
+      number_lead x negative (here (Phase.Signed x negative)) (λ d h i. ap (λ y. act (here (Phase.Signed x negative)) (48 + d) y) (digits_first x negative d h i)) n l
 
   -- a sign, and the digits after it
-  signed_walk : (x : Side) (negative : Bool) (b n : ℕ) (s : ConclusionState) (t u v : List Letter) → conclusion_automaton.step s b ≡ Go (here (phase.Signed x negative)) → t ≡ u ++ v → u ≡ unmarked b ∷ []
-      → n ≤ limit → Digits n v → Walks conclusion_automaton s t (here (phase.Digits x negative n))
+  signed_walk : (x : Side) (negative : Bool) (b n : ℕ) (s : ConclusionState) (t u v : List Letter) → conclusion_automaton.step s b ≡ Go (here (Phase.Signed x negative)) → t ≡ u ++ v → u ≡ unmarked b ∷ []
+      → n ≤ limit → Digits n v → Walks conclusion_automaton s t (here (Phase.Digits x negative n))
   signed_walk x negative b n s t u v g f e l ds =
-      subst (λ y. Walks conclusion_automaton s y (here (phase.Digits x negative n))) (sym (f ∙ ap (λ y. y ++ v) e)) (here (phase.Signed x negative), g, refl, refl, signed_lead x negative n l v ds)
+      subst (λ y. Walks conclusion_automaton s y (here (Phase.Digits x negative n))) (sym (f ∙ ap (λ y. y ++ v) e)) (here (Phase.Signed x negative), g, refl, refl, signed_lead x negative n l v ds)
 
-  number_read : (x : Side) (negative : Bool) (n : ℕ) (z : ℤ) (s : ConclusionState) (t : List Letter) → z ≡ signed negative n → Walks conclusion_automaton s t (here (phase.Digits x negative n))
+  number_read : (x : Side) (negative : Bool) (n : ℕ) (z : ℤ) (s : ConclusionState) (t : List Letter) → z ≡ signed negative n → Walks conclusion_automaton s t (here (Phase.Digits x negative n))
       → (new : ConclusionState) × Walks conclusion_automaton s t new × Follows limit top (phase_after_bound x (Finite z)) new
   number_read x negative n z s t e w =
-      (here (phase.Digits x negative n), w, subst (λ y. Follows limit top (phase_after_bound x (Finite y)) (here (phase.Digits x negative n))) (sym e) (number_follows limit top x negative n))
+      (here (Phase.Digits x negative n), w, subst (λ y. Follows limit top (phase_after_bound x (Finite y)) (here (Phase.Digits x negative n))) (sym e) (number_follows limit top x negative n))
 
   number_carries : (x : Side) (z : ℤ) → Carries limit top (Opens x) (Number limit z) (Follows limit top (phase_after_bound x (Finite z)))
   number_carries x z s t o (true, n, l, e, (u, v, f, sign, ds)) = number_read x true n z s t e (signed_walk x true 45 n s t u v o.minus f sign l ds)
   number_carries x z s t o (false, n, l, e, (u, v, f, inr sign, ds)) = number_read x false n z s t e (signed_walk x false 43 n s t u v o.plus f sign l ds)
   number_carries x z s t o (false, n, l, e, (u, v, f, inl sign, ds)) =
-      number_read x false n z s t e (subst (λ y. Walks conclusion_automaton s y (here (phase.Digits x false n))) (sym (f ∙ ap (λ y. y ++ v) sign)) (number_lead x false s o.first n l v ds))
+      number_read x false n z s t e (subst (λ y. Walks conclusion_automaton s y (here (Phase.Digits x false n))) (sym (f ∙ ap (λ y. y ++ v) sign)) (number_lead x false s o.first n l v ds))
 
   -- the rest of `INF`
   infinity_spelled : (x : Side) → is_within (phase_after_bound x Infinite) ≡ true → is_in_number (here (phase_after_bound x Infinite)) (phase_after_bound x Infinite) ≡ false
-      → Spelled limit top inf_word (λ k. phase.Infinity x k) (phase_after_bound x Infinite)
+      → Spelled limit top inf_word (λ k. Phase.Infinity x k) (phase_after_bound x Infinite)
   infinity_spelled x i n = record { planned = λ k b. refl; within = λ k. refl; number = λ k. refl; within_whole = i; number_whole = n }
 
-  spelled_of : (x : Side) → Spelled limit top inf_word (λ k. phase.Infinity x k) (phase_after_bound x Infinite)
-  spelled_of side.Lower = infinity_spelled side.Lower refl refl
-  spelled_of (side.Upper x id) = infinity_spelled (side.Upper x id) refl refl
+  spelled_of : (x : Side) → Spelled limit top inf_word (λ k. Phase.Infinity x k) (phase_after_bound x Infinite)
+  spelled_of Side.Lower = infinity_spelled Side.Lower refl refl
+  spelled_of (Side.Upper x id) = infinity_spelled (Side.Upper x id) refl refl
 
-  pub infinity_left : (x : Side) (k : ℕ) → k < length inf_word → Walks conclusion_automaton (here (phase.Infinity x k)) (plain (drop k inf_word)) (here (phase_after_bound x Infinite))
-  infinity_left x k i = left_walk limit top inf_word (λ j. phase.Infinity x j) (phase_after_bound x Infinite) (spelled_of x) k i
+  pub infinity_left : (x : Side) (k : ℕ) → k < length inf_word → Walks conclusion_automaton (here (Phase.Infinity x k)) (plain (drop k inf_word)) (here (phase_after_bound x Infinite))
+  infinity_left x k i = left_walk limit top inf_word (λ j. Phase.Infinity x j) (phase_after_bound x Infinite) (spelled_of x) k i
 
   pub infinity_leads : (x : Side) (s : ConclusionState) → Opens x s → Walks conclusion_automaton s (plain inf_word) (here (phase_after_bound x Infinite))
-  infinity_leads x s o = (here (phase.Infinity x 1), o.letter, refl, refl, infinity_left x 1 (omega arith))
+  infinity_leads x s o = (here (Phase.Infinity x 1), o.letter, refl, refl, infinity_left x 1 (omega arith))
 
   pub bound_carries : (x : Side) (y : Bound) → Carries limit top (Opens x) (SpellsBound limit y) (Follows limit top (phase_after_bound x y))
   bound_carries x (Finite z) = number_carries x z
@@ -279,39 +258,39 @@ module _ (limit top : ℕ) where
   )
 
   -- digits of an id
-  id_next : (x : Owner) (negative : Bool) (m d : ℕ) → d < 10 → 10 * m + d ≤ top → id_digits top x negative m (48 + d) ≡ To (phase.IdDigits x negative (10 * m + d))
+  id_next : (x : Owner) (negative : Bool) (m d : ℕ) → d < 10 → 10 * m + d ≤ top → id_digits top x negative m (48 + d) ≡ To (Phase.IdDigits x negative (10 * m + d))
   id_next x negative m d h l =
       let e : (48 + d) - 48 ≡ d = omega arith in
       rw (digit_byte d h, e, le-leb (10 * m + d) top l) refl
 
   pub id_step : (x : Owner) (negative : Bool) (m d : ℕ) → d < 10 → 10 * m + d ≤ top
-      → conclusion_automaton.step (here (phase.IdDigits x negative m)) (48 + d) ≡ Go (here (phase.IdDigits x negative (10 * m + d)))
+      → conclusion_automaton.step (here (Phase.IdDigits x negative m)) (48 + d) ≡ Go (here (Phase.IdDigits x negative (10 * m + d)))
   id_step x negative m d h l =
-      ap (λ y. act (here (phase.IdDigits x negative m)) (48 + d) (cond y (id_digits top x negative m (48 + d)) (cond (nat_eq m 0) Stop (after_id x (signed negative m) (48 + d))))) (digit_byte d h)
-      ∙ ap (λ y. act (here (phase.IdDigits x negative m)) (48 + d) y) (id_next x negative m d h l)
+      ap (λ y. act (here (Phase.IdDigits x negative m)) (48 + d) (cond y (id_digits top x negative m (48 + d)) (cond (nat_eq m 0) Stop (after_id x (signed negative m) (48 + d))))) (digit_byte d h)
+      ∙ ap (λ y. act (here (Phase.IdDigits x negative m)) (48 + d) y) (id_next x negative m d h l)
 
-  id_first : (x : Owner) (negative : Bool) (d : ℕ) → d < 10 → d ≤ top → id_digits top x negative 0 (48 + d) ≡ To (phase.IdDigits x negative d)
-  id_first x negative d h l = let e : 10 * 0 + d ≡ d = omega arith in id_next x negative 0 d h (omega arith) ∙ ap (λ y. To (phase.IdDigits x negative y)) e
+  id_first : (x : Owner) (negative : Bool) (d : ℕ) → d < 10 → d ≤ top → id_digits top x negative 0 (48 + d) ≡ To (Phase.IdDigits x negative d)
+  id_first x negative d h l = let e : 10 * 0 + d ≡ d = omega arith in id_next x negative 0 d h (omega arith) ∙ ap (λ y. To (Phase.IdDigits x negative y)) e
 
-  id_lead : (x : Owner) (negative : Bool) (s : ConclusionState) → ((d : ℕ) → d < 10 → d ≤ top → conclusion_automaton.step s (48 + d) ≡ Go (here (phase.IdDigits x negative d)))
-      → (n : ℕ) → n ≤ top → Leads conclusion_automaton s (Digits n) (here (phase.IdDigits x negative n))
-  id_lead x negative s f n l = digits_lead conclusion_automaton (λ m. here (phase.IdDigits x negative m)) top (record { more = id_step x negative; begun = λ n. refl; number = λ n. refl }) s f n l
+  id_lead : (x : Owner) (negative : Bool) (s : ConclusionState) → ((d : ℕ) → d < 10 → d ≤ top → conclusion_automaton.step s (48 + d) ≡ Go (here (Phase.IdDigits x negative d)))
+      → (n : ℕ) → n ≤ top → Leads conclusion_automaton s (Digits n) (here (Phase.IdDigits x negative n))
+  id_lead x negative s f n l = digits_lead conclusion_automaton (λ m. here (Phase.IdDigits x negative m)) top (record { more = id_step x negative; begun = λ n. refl; number = λ n. refl }) s f n l
 
-  pub first_id_step : (x : Owner) (d : ℕ) → d < 10 → d ≤ top → conclusion_automaton.step (here (phase.BeforeId x)) (48 + d) ≡ Go (here (phase.IdDigits x false d))
+  pub first_id_step : (x : Owner) (d : ℕ) → d < 10 → d ≤ top → conclusion_automaton.step (here (Phase.BeforeId x)) (48 + d) ≡ Go (here (Phase.IdDigits x false d))
   first_id_step x d h l = rw (digit_blank d h, digit-not d 45 h refl, id_first x false d h l) refl
 
-  pub signed_id_step : (x : Owner) (d : ℕ) → d < 10 → d ≤ top → conclusion_automaton.step (here (phase.IdSigned x)) (48 + d) ≡ Go (here (phase.IdDigits x true d))
-  signed_id_step x d h l = ap (λ y. act (here (phase.IdSigned x)) (48 + d) y) (id_first x true d h l)
+  pub signed_id_step : (x : Owner) (d : ℕ) → d < 10 → d ≤ top → conclusion_automaton.step (here (Phase.IdSigned x)) (48 + d) ≡ Go (here (Phase.IdDigits x true d))
+  signed_id_step x d h l = ap (λ y. act (here (Phase.IdSigned x)) (48 + d) y) (id_first x true d h l)
 
   -- after an id
   abbrev pub AtId : Owner → ℤ → ConclusionState → Type 0
-  AtId x id s = (negative : Bool) × (n : ℕ) × (0 < n) × (id ≡ signed negative n) × (s ≡ here (phase.IdDigits x negative n))
+  AtId x id s = (negative : Bool) × (n : ℕ) × (0 < n) × (id ≡ signed negative n) × (s ≡ here (Phase.IdDigits x negative n))
 
-  id_read : (x : Owner) (negative : Bool) (n : ℕ) (id : ℤ) (s : ConclusionState) (t u v : List Letter) → Is limit top (phase.BeforeId x) s → 0 < n → id ≡ signed negative n → t ≡ u ++ v
-      → Walks conclusion_automaton (here (phase.BeforeId x)) (u ++ v) (here (phase.IdDigits x negative n)) → (new : ConclusionState) × Walks conclusion_automaton s t new × AtId x id new
-  id_read x negative n id s t u v i z e f w = (here (phase.IdDigits x negative n), rw (i, f) w, (negative, n, z, e, refl))
+  id_read : (x : Owner) (negative : Bool) (n : ℕ) (id : ℤ) (s : ConclusionState) (t u v : List Letter) → Is limit top (Phase.BeforeId x) s → 0 < n → id ≡ signed negative n → t ≡ u ++ v
+      → Walks conclusion_automaton (here (Phase.BeforeId x)) (u ++ v) (here (Phase.IdDigits x negative n)) → (new : ConclusionState) × Walks conclusion_automaton s t new × AtId x id new
+  id_read x negative n id s t u v i z e f w = (here (Phase.IdDigits x negative n), rw (i, f) w, (negative, n, z, e, refl))
 
-  pub id_carries : (x : Owner) (id : ℤ) → Carries limit top (Is limit top (phase.BeforeId x)) (SpellsId top id) (AtId x id)
+  pub id_carries : (x : Owner) (id : ℤ) → Carries limit top (Is limit top (Phase.BeforeId x)) (SpellsId top id) (AtId x id)
   id_carries x id s t i (true, n, z, l, e, (u, v, f, sign, ds)) = id_read x true n id s t u v i z e f
-      (rw sign (here (phase.IdSigned x), refl, refl, refl, id_lead x true (here (phase.IdSigned x)) (signed_id_step x) n l v ds))
-  id_carries x id s t i (false, n, z, l, e, (u, v, f, sign, ds)) = id_read x false n id s t u v i z e f (rw sign (id_lead x false (here (phase.BeforeId x)) (first_id_step x) n l v ds))
+      (rw sign (here (Phase.IdSigned x), refl, refl, refl, id_lead x true (here (Phase.IdSigned x)) (signed_id_step x) n l v ds))
+  id_carries x id s t i (false, n, z, l, e, (u, v, f, sign, ds)) = id_read x false n id s t u v i z e f (rw sign (id_lead x false (here (Phase.BeforeId x)) (first_id_step x) n l v ds))

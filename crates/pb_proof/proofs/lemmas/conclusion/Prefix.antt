@@ -8,17 +8,9 @@ use Rattle.pb_proof.proofs.Common.{Conclusion, Stop, To, Concluding, Owner, Show
 use Rattle.pb_proof.proofs.Common.{digits, first_word, id_digits, phase_after_bound, phase_after_word, PhaseFits, spell, word_of, conclusion_at}
 use Rattle.pb_proof.proofs.Common.{conclusion_automaton, ConclusionState, is_in_number, solution_automaton, solution_first, SolutionState}
 use Rattle.pb_proof.proofs.Common.{SpellsJoined, bounds_word, IdShown, inf_word, SpellsBound, SpellsConclusionLine, SpellsId, unsat_word}
+use Rattle.pb_proof.proofs.Common.{conclusion_next as next_action, conclusion_transition as transition, conclusion_giving as giving}
+use Rattle.pb_proof.proofs.Common.{conclusion_act as act, conclusion_over as over, ConclusionPhase as Phase, ConclusionAction as Action}
 use Rattle.pb_proof.specs.meaning.Lines.{Minus}
-use Rattle.pb_proof.specs.engine.line.Conclusion.{next_action, transition}
-use Rattle.pb_proof.specs.engine.line.ConclusionState.{giving, act, over}
-use Rattle.pb_proof.specs.declared.line.conclusion.phase.Word.TheVariants as word
-use Rattle.pb_proof.specs.declared.line.conclusion.phase.Owner.TheVariants as owner
-use Rattle.pb_proof.specs.declared.line.conclusion.phase.Side.TheVariants as side
-use Rattle.pb_proof.specs.declared.line.conclusion.phase.Showing.TheVariants as showing
-use Rattle.pb_proof.specs.declared.line.conclusion.phase.Concluding.TheVariants as concluding
-use Rattle.pb_proof.specs.declared.line.conclusion.phase.Phase.{Phase}
-use Rattle.pb_proof.specs.declared.line.conclusion.phase.Phase.TheVariants as phase
-use Rattle.pb_proof.specs.declared.line.conclusion.phase.Action.{Action}
 use Rattle.pb_proof.proofs.lemmas.conclusion.Steps.{continues}
 use Rattle.pb_proof.proofs.lemmas.conclusion.Texts.{ConclusionRead, LowerRead, Lead, IdLead, Colon, BeforeIdRead, id_shown, bounds_body, conclusion_line, showing_line}
 use Rattle.pb_proof.proofs.lemmas.line.Ends.{Gapped, Closing, blank_more, blank_closing, semicolon_after_blanks, line_after_blanks, line_closing, gapped, gapped_some, first_blank, further_blank, blanks_begin, blanks_go_on}
@@ -31,23 +23,23 @@ Walked inner = λ p. Walks solution_automaton (solution_first true) p inner
 
 -- What has been read, by phase.
 abbrev pub prefix : ℕ → ℕ → SolutionState → Phase → Language
-prefix limit top inner phase.Start = λ p. p ≡ []
-prefix limit top inner phase.Before = Blanks1
-prefix limit top inner (phase.Word w k) = Blanks1 ⋅ Bytes (take k (word_of w))
-prefix limit top inner (phase.AfterValue c) = Gapped (ConclusionRead limit top c)
-prefix limit top inner (phase.Semicolon c) = Closing (ConclusionRead limit top c)
-prefix limit top inner phase.Bounded = Blanks1 ⋅ Bytes bounds_word
-prefix limit top inner (phase.BeforeBound x) = Lead limit top x ⋅ Blanks1
-prefix limit top inner (phase.Signed x negative) = Lead limit top x ⋅ Blanks1 ⋅ Sign negative
-prefix limit top inner (phase.Digits x negative n) = Lead limit top x ⋅ Blanks1 ⋅ Sign negative ⋅ Digits n
-prefix limit top inner (phase.Infinity x k) = Lead limit top x ⋅ Blanks1 ⋅ Bytes (take k inf_word)
-prefix limit top inner (phase.Between x) = LowerRead limit top x
-prefix limit top inner (phase.Spaced x) = LowerRead limit top x ⋅ Blanks1
-prefix limit top inner (phase.BeforeId x) = BeforeIdRead limit top x
-prefix limit top inner (phase.IdSigned x) = BeforeIdRead limit top x ⋅ Minus true
-prefix limit top inner (phase.IdDigits x negative n) = BeforeIdRead limit top x ⋅ Minus negative ⋅ Digits n
-prefix limit top inner (phase.Shown x) = Colon limit top (ConclusionRead limit top (concluding.Shows x)) ⋅ Walked inner
-prefix limit top inner phase.Done = λ p. ⊥
+prefix limit top inner Phase.Start = λ p. p ≡ []
+prefix limit top inner Phase.Before = Blanks1
+prefix limit top inner (Phase.Word w k) = Blanks1 ⋅ Bytes (take k (word_of w))
+prefix limit top inner (Phase.AfterValue c) = Gapped (ConclusionRead limit top c)
+prefix limit top inner (Phase.Semicolon c) = Closing (ConclusionRead limit top c)
+prefix limit top inner Phase.Bounded = Blanks1 ⋅ Bytes bounds_word
+prefix limit top inner (Phase.BeforeBound x) = Lead limit top x ⋅ Blanks1
+prefix limit top inner (Phase.Signed x negative) = Lead limit top x ⋅ Blanks1 ⋅ Sign negative
+prefix limit top inner (Phase.Digits x negative n) = Lead limit top x ⋅ Blanks1 ⋅ Sign negative ⋅ Digits n
+prefix limit top inner (Phase.Infinity x k) = Lead limit top x ⋅ Blanks1 ⋅ Bytes (take k inf_word)
+prefix limit top inner (Phase.Between x) = LowerRead limit top x
+prefix limit top inner (Phase.Spaced x) = LowerRead limit top x ⋅ Blanks1
+prefix limit top inner (Phase.BeforeId x) = BeforeIdRead limit top x
+prefix limit top inner (Phase.IdSigned x) = BeforeIdRead limit top x ⋅ Minus true
+prefix limit top inner (Phase.IdDigits x negative n) = BeforeIdRead limit top x ⋅ Minus negative ⋅ Digits n
+prefix limit top inner (Phase.Shown x) = Colon limit top (ConclusionRead limit top (Concluding.Shows x)) ⋅ Walked inner
+prefix limit top inner Phase.Done = λ p. ⊥
 
 abbrev pub Prefix : ConclusionState → Language
 Prefix s = prefix s.limit s.top s.literals s.phase
@@ -95,38 +87,38 @@ module _ (s : ConclusionState) (l : Letter) (p : List Letter) where
       longer : l.numeral ≡ false → nat_eq l.byte (slice_index w j) ≡ true → (P ⋅ Bytes (take (j + 1) w)) (p ++ l ∷ [])
       longer n e = grown P (Bytes (take j w)) (Bytes (take (j + 1) w)) p l (word_grown w j l i n (eqb-true l.byte (slice_index w j) e)) h
 
-  in_word : (w : Word) (j : ℕ) → j < length (word_of w) → (Blanks1 ⋅ Bytes (take j (word_of w))) p → After (spell (word_of w) j l.byte (phase.Word w (j + 1)) (phase_after_word w))
-  in_word word.NoClaim j i h =
-      spelled Blanks1 (word_of word.NoClaim) j (phase.Word word.NoClaim (j + 1)) (phase_after_word word.NoClaim) (λ n. n) (λ n. n) (λ r. r)
-      (gapped (ConclusionOf concluding.NoClaim) (p ++ l ∷ [])) i h
-  in_word word.Unsat j i h =
-      spelled Blanks1 (word_of word.Unsat) j (phase.Word word.Unsat (j + 1)) (phase_after_word word.Unsat) (λ n. n) (λ n. n) (λ r. r)
-      (gapped (ConclusionOf (concluding.Unsat None)) (p ++ l ∷ [])) i h
-  in_word word.Sat j i h =
-      spelled Blanks1 (word_of word.Sat) j (phase.Word word.Sat (j + 1)) (phase_after_word word.Sat) (λ n. n) (λ n. n) (λ r. r)
-      (gapped (ConclusionOf (concluding.Shows showing.Sat)) (p ++ l ∷ [])) i h
-  in_word word.Bounds j i h =
-      spelled Blanks1 (word_of word.Bounds) j (phase.Word word.Bounds (j + 1)) (phase_after_word word.Bounds) (λ n. n) (λ n. n) (λ r. r) (λ r. r) i h
+  in_word : (w : Word) (j : ℕ) → j < length (word_of w) → (Blanks1 ⋅ Bytes (take j (word_of w))) p → After (spell (word_of w) j l.byte (Phase.Word w (j + 1)) (phase_after_word w))
+  in_word Word.NoClaim j i h =
+      spelled Blanks1 (word_of Word.NoClaim) j (Phase.Word Word.NoClaim (j + 1)) (phase_after_word Word.NoClaim) (λ n. n) (λ n. n) (λ r. r)
+      (gapped (ConclusionOf Concluding.NoClaim) (p ++ l ∷ [])) i h
+  in_word Word.Unsat j i h =
+      spelled Blanks1 (word_of Word.Unsat) j (Phase.Word Word.Unsat (j + 1)) (phase_after_word Word.Unsat) (λ n. n) (λ n. n) (λ r. r)
+      (gapped (ConclusionOf (Concluding.Unsat None)) (p ++ l ∷ [])) i h
+  in_word Word.Sat j i h =
+      spelled Blanks1 (word_of Word.Sat) j (Phase.Word Word.Sat (j + 1)) (phase_after_word Word.Sat) (λ n. n) (λ n. n) (λ r. r)
+      (gapped (ConclusionOf (Concluding.Shows Showing.Sat)) (p ++ l ∷ [])) i h
+  in_word Word.Bounds j i h =
+      spelled Blanks1 (word_of Word.Bounds) j (Phase.Word Word.Bounds (j + 1)) (phase_after_word Word.Bounds) (λ n. n) (λ n. n) (λ r. r) (λ r. r) i h
 
-  first : (w : Word) (b : ℕ) → unmarked b ∷ [] ≡ plain (take 1 (word_of w)) → Blanks1 p → nat_eq l.byte b ≡ true → After (To (phase.Word w 1))
+  first : (w : Word) (b : ℕ) → unmarked b ∷ [] ≡ plain (take 1 (word_of w)) → Blanks1 p → nat_eq l.byte b ≡ true → After (To (Phase.Word w 1))
   first w b f h e u n = next Blanks1 (Bytes (take 1 (word_of w))) p l h (byte b n e ∙ f)
 
   before_word : Blanks1 p → After (first_word l.byte)
   before_word h =
-      cond_both (nat_eq l.byte 78) _ _ After (first word.NoClaim 78 refl h) (λ _.
-      cond_both (nat_eq l.byte 85) _ _ After (first word.Unsat 85 refl h) (λ _.
-      cond_both (nat_eq l.byte 83) _ _ After (first word.Sat 83 refl h) (λ _.
-      cond_both (nat_eq l.byte 66) _ _ After (first word.Bounds 66 refl h) (λ _. tt))))
+      cond_both (nat_eq l.byte 78) _ _ After (first Word.NoClaim 78 refl h) (λ _.
+      cond_both (nat_eq l.byte 85) _ _ After (first Word.Unsat 85 refl h) (λ _.
+      cond_both (nat_eq l.byte 83) _ _ After (first Word.Sat 83 refl h) (λ _.
+      cond_both (nat_eq l.byte 66) _ _ After (first Word.Bounds 66 refl h) (λ _. tt))))
 
   -- after a conclusion
   in_colon : (c : Concluding) → nat_eq l.byte 58 ≡ true → Gapped (ConclusionOf c) p → After (colon c)
-  in_colon concluding.NoClaim e h = tt
-  in_colon (concluding.Unsat None) e h = λ u n.
-      let C : Language = ConclusionOf (concluding.Unsat None) in
+  in_colon Concluding.NoClaim e h = tt
+  in_colon (Concluding.Unsat None) e h = λ u n.
+      let C : Language = ConclusionOf (Concluding.Unsat None) in
       gapped (C ⋅ Blanks0 ⋅ Byte 58) (p ++ l ∷ []) (next (C ⋅ Blanks0) (Byte 58) p l h (byte 58 n e))
-  in_colon (concluding.Unsat (Some id)) e h = tt
-  in_colon (concluding.Shows x) e h = λ u n.
-      let C : Language = ConclusionOf (concluding.Shows x) in
+  in_colon (Concluding.Unsat (Some id)) e h = tt
+  in_colon (Concluding.Shows x) e h = λ u n.
+      let C : Language = ConclusionOf (Concluding.Shows x) in
       none_yet (C ⋅ Blanks0 ⋅ Byte 58) (Walked (solution_first true)) (p ++ l ∷ []) refl (next (C ⋅ Blanks0) (Byte 58) p l h (byte 58 n e))
 
   in_after : (c : Concluding) → Gapped (ConclusionOf c) p → After (next_action c l.byte)
@@ -135,11 +127,6 @@ module _ (s : ConclusionState) (l : Letter) (p : List Letter) where
       cond_both (nat_eq l.byte 10) _ _ After (λ e n. conclusion_line s.limit s.top c (p ++ l ∷ []) (line_after_blanks (ConclusionOf c) l p (eqb-true l.byte 10 e) n h)) (λ _.
       cond_both (nat_eq l.byte 59) _ _ After (λ e u n. semicolon_after_blanks (ConclusionOf c) l p (eqb-true l.byte 59 e) n h) (λ _.
       cond_both (nat_eq l.byte 58) _ _ After (λ e. in_colon c e h) (λ _. tt))))
-
-  in_semicolon : (c : Concluding) → Closing (ConclusionOf c) p → After (transition s.limit s.top (phase.Semicolon c) l.byte)
-  in_semicolon c h =
-      cond_both (is_blank l.byte) _ _ After (λ e u n. blank_closing (ConclusionOf c) l p e n h) (λ _.
-      cond_both (nat_eq l.byte 10) _ _ After (λ e n. conclusion_line s.limit s.top c (p ++ l ∷ []) (line_closing (ConclusionOf c) l p (eqb-true l.byte 10 e) n h)) (λ _. tt))
 
   -- bounds
   abbrev Value : ℕ → ℕ
@@ -153,11 +140,11 @@ module _ (s : ConclusionState) (l : Letter) (p : List Letter) where
       (λ _. tt)
 
   first_digit : (x : Side) (negative : Bool) → (LeadOf x ⋅ Blanks1 ⋅ Sign negative) p → After (digits s.limit x negative 0 l.byte)
-  first_digit x negative h = in_digits s.limit 0 (phase.Digits x negative (Value 0)) (λ i. i) (λ d i. next (LeadOf x ⋅ Blanks1 ⋅ Sign negative) (Digits (Value 0)) p l h (digits-one (l.byte - 48) l d i))
+  first_digit x negative h = in_digits s.limit 0 (Phase.Digits x negative (Value 0)) (λ i. i) (λ d i. next (LeadOf x ⋅ Blanks1 ⋅ Sign negative) (Digits (Value 0)) p l h (digits-one (l.byte - 48) l d i))
 
   next_digit : (x : Side) (negative : Bool) (n : ℕ) → (LeadOf x ⋅ Blanks1 ⋅ Sign negative ⋅ Digits n) p → After (digits s.limit x negative n l.byte)
   next_digit x negative n h =
-      in_digits s.limit n (phase.Digits x negative (Value n)) (λ i. i) (λ d i. grown (LeadOf x ⋅ Blanks1 ⋅ Sign negative) (Digits n) (Digits (Value n)) p l (digits-grown n (l.byte - 48) l d i) h)
+      in_digits s.limit n (Phase.Digits x negative (Value n)) (λ i. i) (λ d i. grown (LeadOf x ⋅ Blanks1 ⋅ Sign negative) (Digits n) (Digits (Value n)) p l (digits-grown n (l.byte - 48) l d i) h)
 
   in_begin : (x : Side) → (LeadOf x ⋅ Blanks1) p → After (begin_bound s.limit x l.byte)
   in_begin x h =
@@ -177,40 +164,40 @@ module _ (s : ConclusionState) (l : Letter) (p : List Letter) where
       (λ _. tt))
 
   in_after_bound : (x : Side) (y : Bound) → (LeadOf x ⋅ Blanks1 ⋅ SpellsBound s.limit y) p → After (after_bound x y l.byte)
-  in_after_bound side.Lower y h = in_between y h
-  in_after_bound (side.Upper x id) y h =
-      in_after (concluding.Shows (showing.Bounds x id y)) (gapped (ConclusionOf (concluding.Shows (showing.Bounds x id y))) p (bounds_body s.limit s.top x id y p h))
+  in_after_bound Side.Lower y h = in_between y h
+  in_after_bound (Side.Upper x id) y h =
+      in_after (Concluding.Shows (Showing.Bounds x id y)) (gapped (ConclusionOf (Concluding.Shows (Showing.Bounds x id y))) p (bounds_body s.limit s.top x id y p h))
 
   number_of : (P : Language) (negative : Bool) (n : ℕ) → n ≤ s.limit → (P ⋅ Sign negative ⋅ Digits n) p → (P ⋅ SpellsBound s.limit (Finite (signed negative n))) p
   number_of P negative n i h =
       after_it P (Sign negative ⋅ Digits n) (SpellsBound s.limit (Finite (signed negative n))) p (λ q r. (negative, n, i, refl, r)) (regroup P (Sign negative) (Digits n) p h)
 
   in_number : (x : Side) (negative : Bool) (n : ℕ) → n ≤ s.limit → (LeadOf x ⋅ Blanks1 ⋅ Sign negative ⋅ Digits n) p
-      → After (transition s.limit s.top (phase.Digits x negative n) l.byte)
+      → After (transition s.limit s.top (Phase.Digits x negative n) l.byte)
   in_number x negative n i h =
       cond_both (is_digit l.byte) _ _ After (λ _. next_digit x negative n h) (λ _. in_after_bound x (Finite (signed negative n)) (number_of (LeadOf x ⋅ Blanks1) negative n i h))
 
   in_infinity : (x : Side) (j : ℕ) → j < length inf_word → (LeadOf x ⋅ Blanks1 ⋅ Bytes (take j inf_word)) p
-      → After (spell inf_word j l.byte (phase.Infinity x (j + 1)) (phase_after_bound x Infinite))
-  in_infinity side.Lower j i h = spelled (LeadOf side.Lower ⋅ Blanks1) inf_word j (phase.Infinity side.Lower (j + 1)) (phase_after_bound side.Lower Infinite) (λ n. n) (λ n. n) (λ r. r) (λ r. r) i h
-  in_infinity (side.Upper x id) j i h =
-      spelled (LeadOf (side.Upper x id) ⋅ Blanks1) inf_word j (phase.Infinity (side.Upper x id) (j + 1)) (phase_after_bound (side.Upper x id) Infinite) (λ n. n) (λ n. n) (λ r. r)
-      (λ r. gapped (ConclusionOf (concluding.Shows (showing.Bounds x id Infinite))) (p ++ l ∷ []) (bounds_body s.limit s.top x id Infinite (p ++ l ∷ []) r)) i h
+      → After (spell inf_word j l.byte (Phase.Infinity x (j + 1)) (phase_after_bound x Infinite))
+  in_infinity Side.Lower j i h = spelled (LeadOf Side.Lower ⋅ Blanks1) inf_word j (Phase.Infinity Side.Lower (j + 1)) (phase_after_bound Side.Lower Infinite) (λ n. n) (λ n. n) (λ r. r) (λ r. r) i h
+  in_infinity (Side.Upper x id) j i h =
+      spelled (LeadOf (Side.Upper x id) ⋅ Blanks1) inf_word j (Phase.Infinity (Side.Upper x id) (j + 1)) (phase_after_bound (Side.Upper x id) Infinite) (λ n. n) (λ n. n) (λ r. r)
+      (λ r. gapped (ConclusionOf (Concluding.Shows (Showing.Bounds x id Infinite))) (p ++ l ∷ []) (bounds_body s.limit s.top x id Infinite (p ++ l ∷ []) r)) i h
 
   -- blanks after the lower bound
-  in_spaced : (x : Bound) → (Lower x ⋅ Blanks1) p → After (transition s.limit s.top (phase.Spaced x) l.byte)
+  in_spaced : (x : Bound) → (Lower x ⋅ Blanks1) p → After (transition s.limit s.top (Phase.Spaced x) l.byte)
   in_spaced x h =
       cond_both (is_blank l.byte) _ _ After (λ e u n. blanks_go_on (Lower x) l p e n h) (λ _.
       cond_both (nat_eq l.byte 58) _ _ After
       (λ e u n. gapped (Lower x ⋅ Blanks0 ⋅ Byte 58) (p ++ l ∷ [])
       (next (Lower x ⋅ Blanks0) (Byte 58) p l (gapped_some (Lower x) p h) (byte 58 n e)))
-      (λ _. in_begin (side.Upper x None) (inside (Lower x) (Lower x ⋅ Empty) Blanks1 p (λ q. none_yet (Lower x) Empty q refl) h)))
+      (λ _. in_begin (Side.Upper x None) (inside (Lower x) (Lower x ⋅ Empty) Blanks1 p (λ q. none_yet (Lower x) Empty q refl) h)))
 
   -- ids
   first_id_digit : (x : Owner) (negative : Bool) → (IdRead x ⋅ Minus negative) p → After (id_digits s.top x negative 0 l.byte)
-  first_id_digit x negative h = in_digits s.top 0 (phase.IdDigits x negative (Value 0)) (λ i. i) (λ d i. next (IdRead x ⋅ Minus negative) (Digits (Value 0)) p l h (digits-one (l.byte - 48) l d i))
+  first_id_digit x negative h = in_digits s.top 0 (Phase.IdDigits x negative (Value 0)) (λ i. i) (λ d i. next (IdRead x ⋅ Minus negative) (Digits (Value 0)) p l h (digits-one (l.byte - 48) l d i))
 
-  before_id : (x : Owner) → IdRead x p → After (transition s.limit s.top (phase.BeforeId x) l.byte)
+  before_id : (x : Owner) → IdRead x p → After (transition s.limit s.top (Phase.BeforeId x) l.byte)
   before_id x h =
       cond_both (is_blank l.byte) _ _ After
       (λ e u n. blank_more (Colon s.limit s.top (IdLead s.limit s.top x)) l p e n h) (λ _.
@@ -224,52 +211,52 @@ module _ (s : ConclusionState) (l : Letter) (p : List Letter) where
       (after_it (IdRead x) (Minus negative ⋅ Digits n) (SpellsId s.top (signed negative n)) p (λ q r. (negative, n, z, i, refl, r)) (regroup (IdRead x) (Minus negative) (Digits n) p h))
 
   in_after_id : (x : Owner) (id : ℤ) → (IdLead s.limit s.top x ⋅ IdShown s.limit s.top (Some id)) p → After (after_id x id l.byte)
-  in_after_id owner.Unsat id h =
-      in_after (concluding.Unsat (Some id))
-      (gapped (ConclusionOf (concluding.Unsat (Some id))) p (regroup Blanks1 (Bytes unsat_word) (IdShown s.limit s.top (Some id)) p h))
-  in_after_id (owner.Lower x) id h = cond_both (is_blank l.byte) _ _ After (λ e u n. blanks_begin (LeadOf (side.Upper x (Some id))) l p e n h) (λ _. tt)
+  in_after_id Owner.Unsat id h =
+      in_after (Concluding.Unsat (Some id))
+      (gapped (ConclusionOf (Concluding.Unsat (Some id))) p (regroup Blanks1 (Bytes unsat_word) (IdShown s.limit s.top (Some id)) p h))
+  in_after_id (Owner.Lower x) id h = cond_both (is_blank l.byte) _ _ After (λ e u n. blanks_begin (LeadOf (Side.Upper x (Some id))) l p e n h) (λ _. tt)
 
   in_id : (x : Owner) (negative : Bool) (n : ℕ) → n ≤ s.top → (IdRead x ⋅ Minus negative ⋅ Digits n) p
-      → After (transition s.limit s.top (phase.IdDigits x negative n) l.byte)
+      → After (transition s.limit s.top (Phase.IdDigits x negative n) l.byte)
   in_id x negative n i h =
       cond_both (is_digit l.byte) _ _ After
-      (λ _. in_digits s.top n (phase.IdDigits x negative (Value n)) (λ i. i) (λ d j. grown (IdRead x ⋅ Minus negative) (Digits n) (Digits (Value n)) p l (digits-grown n (l.byte - 48) l d j) h)) (λ _.
+      (λ _. in_digits s.top n (Phase.IdDigits x negative (Value n)) (λ i. i) (λ d j. grown (IdRead x ⋅ Minus negative) (Digits n) (Digits (Value n)) p l (digits-grown n (l.byte - 48) l d j) h)) (λ _.
       cond_both (nat_eq n 0) _ _ After (λ _. tt) (λ z. in_after_id x (signed negative n) (id_of x negative n (positive n z) i h)))
 
   -- literals
-  in_shown : (x : Showing) → s.phase ≡ phase.Shown x → (Colon s.limit s.top (ConclusionOf (concluding.Shows x)) ⋅ Walked s.literals) p
+  in_shown : (x : Showing) → s.phase ≡ Phase.Shown x → (Colon s.limit s.top (ConclusionOf (Concluding.Shows x)) ⋅ Walked s.literals) p
       → (n : Next SolutionState (List Literal)) → solution_automaton.step s.literals l.byte ≡ n → Leaves (over s x n)
   in_shown x at h (Go inner) e = λ u n.
       let m : l.numeral ≡ solution_automaton.in_number inner = n ∙ ap (is_in_number (giving s inner)) at in
       subst (λ q. prefix s.limit s.top inner q (p ++ l ∷ [])) (sym at)
-      (grown (Colon s.limit s.top (ConclusionOf (concluding.Shows x))) (Walked s.literals) (Walked inner) p l
+      (grown (Colon s.limit s.top (ConclusionOf (Concluding.Shows x))) (Walked s.literals) (Walked inner) p l
       (λ q r. walks_more solution_automaton q l (solution_first true) s.literals inner r e (solution_of_one.begins s.literals inner l.byte e) m) h)
   in_shown x at h (End ls inner) e = λ n.
       showing_line s.limit s.top x ls (p ++ l ∷ [])
-      (grown (Colon s.limit s.top (ConclusionOf (concluding.Shows x))) (Walked s.literals) (SpellsJoined true ls) p l
+      (grown (Colon s.limit s.top (ConclusionOf (Concluding.Shows x))) (Walked s.literals) (SpellsJoined true ls) p l
       (λ q r. ((solution_reads true (q ++ l ∷ []) ls inner).0 (ends_walk solution_automaton q l (solution_first true) s.literals inner ls r e n)).0) h)
   in_shown x at h Refuse e = tt
 
   sound : (q : Phase) → s.phase ≡ q → PhaseFits s.limit s.top q → prefix s.limit s.top s.literals q p → After (transition s.limit s.top q l.byte)
-  sound phase.Start at f h =
-      cond_both (is_blank l.byte) _ _ After (λ e u n. first_blank l p e n h) (λ _. tt)
-  sound phase.Before at f h =
-      cond_both (is_blank l.byte) _ _ After (λ e u n. further_blank l p e n h) (λ _. before_word h)
-  sound (phase.Word w k) at f h = in_word w k f h
-  sound (phase.AfterValue c) at f h = in_after c h
-  sound (phase.Semicolon c) at f h = in_semicolon c h
-  sound phase.Bounded at f h = cond_both (is_blank l.byte) _ _ After (λ e u n. blanks_begin (LeadOf side.Lower) l p e n h) (λ _. tt)
-  sound (phase.BeforeBound x) at f h = cond_both (is_blank l.byte) _ _ After (λ e u n. blanks_go_on (LeadOf x) l p e n h) (λ _. in_begin x h)
-  sound (phase.Signed x negative) at f h = first_digit x negative h
-  sound (phase.Digits x negative n) at f h = in_number x negative n f h
-  sound (phase.Infinity x k) at f h = in_infinity x k f h
-  sound (phase.Between x) at f h = in_between x h
-  sound (phase.Spaced x) at f h = in_spaced x h
-  sound (phase.BeforeId x) at f h = before_id x h
-  sound (phase.IdSigned x) at f h = first_id_digit x true h
-  sound (phase.IdDigits x negative n) at f h = in_id x negative n f h
-  sound (phase.Shown x) at f h = in_shown x at h (solution_automaton.step s.literals l.byte) refl
-  sound phase.Done at f h = absurd h
+  sound Phase.Start at f h = cond_both (is_blank l.byte) _ _ After (λ e u n. first_blank l p e n h) (λ _. tt)
+  sound Phase.Before at f h = cond_both (is_blank l.byte) _ _ After (λ e u n. further_blank l p e n h) (λ _. before_word h)
+  sound (Phase.Word w k) at f h = in_word w k f h
+  sound (Phase.AfterValue c) at f h = in_after c h
+  sound (Phase.Semicolon c) at f h =
+      cond_both (is_blank l.byte) _ _ After (λ e u n. blank_closing (ConclusionOf c) l p e n h) (λ _.
+      cond_both (nat_eq l.byte 10) _ _ After (λ e n. conclusion_line s.limit s.top c (p ++ l ∷ []) (line_closing (ConclusionOf c) l p (eqb-true l.byte 10 e) n h)) (λ _. tt))
+  sound Phase.Bounded at f h = cond_both (is_blank l.byte) _ _ After (λ e u n. blanks_begin (LeadOf Side.Lower) l p e n h) (λ _. tt)
+  sound (Phase.BeforeBound x) at f h = cond_both (is_blank l.byte) _ _ After (λ e u n. blanks_go_on (LeadOf x) l p e n h) (λ _. in_begin x h)
+  sound (Phase.Signed x negative) at f h = first_digit x negative h
+  sound (Phase.Digits x negative n) at f h = in_number x negative n f h
+  sound (Phase.Infinity x k) at f h = in_infinity x k f h
+  sound (Phase.Between x) at f h = in_between x h
+  sound (Phase.Spaced x) at f h = in_spaced x h
+  sound (Phase.BeforeId x) at f h = before_id x h
+  sound (Phase.IdSigned x) at f h = first_id_digit x true h
+  sound (Phase.IdDigits x negative n) at f h = in_id x negative n f h
+  sound (Phase.Shown x) at f h = in_shown x at h (solution_automaton.step s.literals l.byte) refl
+  sound Phase.Done at f h = absurd h
 
 -- with what holds of the phase
 abbrev pub Known : ConclusionState → Language

@@ -5,18 +5,10 @@ use Rattle.pb_proof.proofs.Common.{Next, Refuse, is_blank, is_digit, signed, Bou
 use Rattle.pb_proof.proofs.Common.{Showing, Side, Word, after_bound, after_id, begin_bound, between, colon, digits, first_word, id_digits, is_within}
 use Rattle.pb_proof.proofs.Common.{phase_after_bound, phase_after_word, PhaseFits, spell, word_of, conclusion_at, conclusion_automaton}
 use Rattle.pb_proof.proofs.Common.{conclusion_last, ConclusionState, is_in_number, IsConclusionInOrder, spent, solution_automaton, SolutionState}
-use Rattle.pb_proof.proofs.Common.{inf_word}
-use Rattle.pb_proof.specs.engine.line.Conclusion.{next_action, transition, is_done}
-use Rattle.pb_proof.specs.engine.line.ConclusionState.{giving, act, over, Holds}
-use Rattle.pb_proof.specs.declared.line.conclusion.phase.Word.TheVariants as word
-use Rattle.pb_proof.specs.declared.line.conclusion.phase.Owner.TheVariants as owner
-use Rattle.pb_proof.specs.declared.line.conclusion.phase.Side.TheVariants as side
-use Rattle.pb_proof.specs.declared.line.conclusion.phase.Showing.TheVariants as showing
-use Rattle.pb_proof.specs.declared.line.conclusion.phase.Concluding.TheVariants as concluding
-use Rattle.pb_proof.specs.declared.line.conclusion.phase.Phase.{Phase}
-use Rattle.pb_proof.specs.declared.line.conclusion.phase.Phase.TheVariants as phase
-use Rattle.pb_proof.specs.declared.line.conclusion.phase.Action.{Action}
-use Rattle.pb_proof.specs.declared.line.conclusion.phase.Action.TheVariants.{Give}
+use Rattle.pb_proof.proofs.Common.{inf_word, conclusion_next as next_action, conclusion_transition as transition, conclusion_giving as giving}
+use Rattle.pb_proof.proofs.Common.{conclusion_act as act, conclusion_over as over, ConclusionPhase as Phase, ConclusionAction as Action}
+use Rattle.pb_proof.specs.engine.line.Conclusion.{is_done}
+use Rattle.pb_proof.specs.engine.line.ConclusionState.{Holds}
 use Rattle.pb_proof.proofs.lemmas.solution.Theorems.{solution_of_one}
 
 abbrev N : Type 0
@@ -28,7 +20,7 @@ IsNext s p q = (is_within q ≡ true) × (PhaseFits s.limit s.top p → PhaseFit
 
 abbrev pub OnAction : ConclusionState → Phase → Action → Type 0
 OnAction s p (To q) = IsNext s p q
-OnAction s p (Give shows) = p ≡ phase.Shown shows
+OnAction s p (Action.Give shows) = p ≡ Phase.Shown shows
 OnAction s p _ = Unit {0}
 
 module _ (s : ConclusionState) (p : Phase) where
@@ -46,8 +38,7 @@ module _ (s : ConclusionState) (p : Phase) where
 
   on_id_digits : (x : Owner) (negative : Bool) (n b : ℕ) → On (id_digits s.top x negative n b)
   on_id_digits x negative n b = cond_both (is_digit b && nat_le (10 * n + (b - 48)) s.top) _ Stop On
-      (λ e. (refl, λ f. leb-true (10 * n + (b - 48)) s.top (and_parts (is_digit b) (nat_le (10 * n + (b - 48)) s.top) e).1))
-      (λ e. tt)
+      (λ e. (refl, λ f. leb-true (10 * n + (b - 48)) s.top (and_parts (is_digit b) (nat_le (10 * n + (b - 48)) s.top) e).1)) (λ e. tt)
 
   -- a byte of a word
   on_spell : (w : List ℕ) (k b : ℕ) (more whole : Phase) → IsNext s p whole → (nat_eq (k + 1) (length w) ≡ false → IsNext s p more) → On (spell w k b more whole)
@@ -57,87 +48,85 @@ module _ (s : ConclusionState) (p : Phase) where
 
   on_begin : (x : Side) (b : ℕ) → On (begin_bound s.limit x b)
   on_begin x b =
-      on_cond (nat_eq b 43) (To (phase.Signed x false)) _ (refl, λ f. tt)
-      (on_cond (nat_eq b 45) (To (phase.Signed x true)) _ (refl, λ f. tt)
-      (on_cond (nat_eq b 73) (To (phase.Infinity x 1)) _ (refl, λ f. omega arith) (on_digits x false 0 b)))
+      on_cond (nat_eq b 43) (To (Phase.Signed x false)) _ (refl, λ f. tt)
+      (on_cond (nat_eq b 45) (To (Phase.Signed x true)) _ (refl, λ f. tt)
+      (on_cond (nat_eq b 73) (To (Phase.Infinity x 1)) _ (refl, λ f. omega arith) (on_digits x false 0 b)))
 
   on_colon : (c : Concluding) → On (colon c)
-  on_colon concluding.NoClaim = tt
-  on_colon (concluding.Unsat None) = (refl, λ f. tt)
-  on_colon (concluding.Unsat (Some id)) = tt
-  on_colon (concluding.Shows shows) = (refl, λ f. tt)
+  on_colon Concluding.NoClaim = tt
+  on_colon (Concluding.Unsat (Some id)) = tt
+  on_colon _ = (refl, λ f. tt)
 
   on_after : (c : Concluding) (b : ℕ) → On (next_action c b)
   on_after c b =
-      on_cond (is_blank b) (To (phase.AfterValue c)) _ (refl, λ f. tt)
+      on_cond (is_blank b) (To (Phase.AfterValue c)) _ (refl, λ f. tt)
       (on_cond (nat_eq b 10) (Finish c) _ tt
-      (on_cond (nat_eq b 59) (To (phase.Semicolon c)) _ (refl, λ f. tt)
+      (on_cond (nat_eq b 59) (To (Phase.Semicolon c)) _ (refl, λ f. tt)
       (on_cond (nat_eq b 58) (colon c) Stop (on_colon c) tt)))
 
   on_between : (x : Bound) (b : ℕ) → On (between x b)
   on_between x b =
-      on_cond (is_blank b) (To (phase.Spaced x)) _ (refl, λ f. tt)
-      (on_cond (nat_eq b 58) (To (phase.BeforeId (owner.Lower x))) Stop (refl, λ f. tt) tt)
+      on_cond (is_blank b) (To (Phase.Spaced x)) _ (refl, λ f. tt)
+      (on_cond (nat_eq b 58) (To (Phase.BeforeId (Owner.Lower x))) Stop (refl, λ f. tt) tt)
 
   on_after_bound : (x : Side) (y : Bound) (b : ℕ) → On (after_bound x y b)
-  on_after_bound side.Lower y b = on_between y b
-  on_after_bound (side.Upper lower id) y b = on_after (concluding.Shows (showing.Bounds lower id y)) b
+  on_after_bound Side.Lower y b = on_between y b
+  on_after_bound (Side.Upper lower id) y b = on_after (Concluding.Shows (Showing.Bounds lower id y)) b
 
   on_after_id : (x : Owner) (id : ℤ) (b : ℕ) → On (after_id x id b)
-  on_after_id owner.Unsat id b = on_after (concluding.Unsat (Some id)) b
-  on_after_id (owner.Lower x) id b = on_cond (is_blank b) (To (phase.BeforeBound (side.Upper x (Some id)))) Stop (refl, λ f. tt) tt
+  on_after_id Owner.Unsat id b = on_after (Concluding.Unsat (Some id)) b
+  on_after_id (Owner.Lower x) id b = on_cond (is_blank b) (To (Phase.BeforeBound (Side.Upper x (Some id)))) Stop (refl, λ f. tt) tt
 
   on_first : (b : ℕ) → On (first_word b)
   on_first b =
-      on_cond (nat_eq b 78) (To (phase.Word word.NoClaim 1)) _ (refl, λ f. omega arith)
-      (on_cond (nat_eq b 85) (To (phase.Word word.Unsat 1)) _ (refl, λ f. omega arith)
-      (on_cond (nat_eq b 83) (To (phase.Word word.Sat 1)) _ (refl, λ f. omega arith)
-      (on_cond (nat_eq b 66) (To (phase.Word word.Bounds 1)) Stop (refl, λ f. omega arith) tt)))
+      on_cond (nat_eq b 78) (To (Phase.Word Word.NoClaim 1)) _ (refl, λ f. omega arith)
+      (on_cond (nat_eq b 85) (To (Phase.Word Word.Unsat 1)) _ (refl, λ f. omega arith)
+      (on_cond (nat_eq b 83) (To (Phase.Word Word.Sat 1)) _ (refl, λ f. omega arith)
+      (on_cond (nat_eq b 66) (To (Phase.Word Word.Bounds 1)) Stop (refl, λ f. omega arith) tt)))
 
 -- the transitions of each phase
 module _ (s : ConclusionState) where
-  next_word : (w : Word) (k : ℕ) → IsNext s (phase.Word w k) (phase_after_word w)
-  next_word word.NoClaim k = (refl, λ f. tt)
+  next_word : (w : Word) (k : ℕ) → IsNext s (Phase.Word w k) (phase_after_word w)
+  next_word Word.NoClaim k = (refl, λ f. tt)
   next_word _ k = (refl, λ f. tt)
 
-  next_bound : (x : Side) (k : ℕ) → IsNext s (phase.Infinity x k) (phase_after_bound x Infinite)
-  next_bound side.Lower k = (refl, λ f. tt)
-  next_bound (side.Upper lower id) k = (refl, λ f. tt)
+  next_bound : (x : Side) (k : ℕ) → IsNext s (Phase.Infinity x k) (phase_after_bound x Infinite)
+  next_bound Side.Lower k = (refl, λ f. tt)
+  next_bound (Side.Upper lower id) k = (refl, λ f. tt)
 
   pub on_transition : (p : Phase) (b : ℕ) → OnAction s p (transition s.limit s.top p b)
-  on_transition phase.Start b = on_cond s phase.Start (is_blank b) (To phase.Before) Stop (refl, λ f. tt) tt
-  on_transition phase.Before b = on_cond s phase.Before (is_blank b) (To phase.Before) _ (refl, λ f. tt) (on_first s phase.Before b)
-  on_transition (phase.Word w k) b =
-      on_spell s (phase.Word w k) (word_of w) k b (phase.Word w (k + 1)) (phase_after_word w) (next_word w k)
+  on_transition Phase.Start b = on_cond s Phase.Start (is_blank b) (To Phase.Before) Stop (refl, λ f. tt) tt
+  on_transition Phase.Before b = on_cond s Phase.Before (is_blank b) (To Phase.Before) _ (refl, λ f. tt) (on_first s Phase.Before b)
+  on_transition (Phase.Word w k) b =
+      on_spell s (Phase.Word w k) (word_of w) k b (Phase.Word w (k + 1)) (phase_after_word w) (next_word w k)
       (λ e. (refl, λ f. further k (length (word_of w)) f e))
-  on_transition (phase.AfterValue c) b = on_after s (phase.AfterValue c) c b
-  on_transition (phase.Semicolon c) b =
-      on_cond s (phase.Semicolon c) (is_blank b) (To (phase.Semicolon c)) _ (refl, λ f. tt)
-      (on_cond s (phase.Semicolon c) (nat_eq b 10) (Finish c) Stop tt tt)
-  on_transition phase.Bounded b = on_cond s phase.Bounded (is_blank b) (To (phase.BeforeBound side.Lower)) Stop (refl, λ f. tt) tt
-  on_transition (phase.BeforeBound x) b =
-      on_cond s (phase.BeforeBound x) (is_blank b) (To (phase.BeforeBound x)) _ (refl, λ f. tt) (on_begin s (phase.BeforeBound x) x b)
-  on_transition (phase.Signed x negative) b = on_digits s (phase.Signed x negative) x negative 0 b
-  on_transition (phase.Digits x negative n) b =
-      on_cond s (phase.Digits x negative n) (is_digit b) _ _ (on_digits s (phase.Digits x negative n) x negative n b)
-      (on_after_bound s (phase.Digits x negative n) x (Finite (signed negative n)) b)
-  on_transition (phase.Infinity x k) b =
-      on_spell s (phase.Infinity x k) inf_word k b (phase.Infinity x (k + 1)) (phase_after_bound x Infinite)
-      (next_bound x k)
+  on_transition (Phase.AfterValue c) b = on_after s (Phase.AfterValue c) c b
+  on_transition (Phase.Semicolon c) b =
+      on_cond s (Phase.Semicolon c) (is_blank b) (To (Phase.Semicolon c)) _ (refl, λ f. tt)
+      (on_cond s (Phase.Semicolon c) (nat_eq b 10) (Finish c) Stop tt tt)
+  on_transition Phase.Bounded b = on_cond s Phase.Bounded (is_blank b) (To (Phase.BeforeBound Side.Lower)) Stop (refl, λ f. tt) tt
+  on_transition (Phase.BeforeBound x) b =
+      on_cond s (Phase.BeforeBound x) (is_blank b) (To (Phase.BeforeBound x)) _ (refl, λ f. tt) (on_begin s (Phase.BeforeBound x) x b)
+  on_transition (Phase.Signed x negative) b = on_digits s (Phase.Signed x negative) x negative 0 b
+  on_transition (Phase.Digits x negative n) b =
+      on_cond s (Phase.Digits x negative n) (is_digit b) _ _ (on_digits s (Phase.Digits x negative n) x negative n b)
+      (on_after_bound s (Phase.Digits x negative n) x (Finite (signed negative n)) b)
+  on_transition (Phase.Infinity x k) b =
+      on_spell s (Phase.Infinity x k) inf_word k b (Phase.Infinity x (k + 1)) (phase_after_bound x Infinite) (next_bound x k)
       (λ e. (refl, λ f. further k (length inf_word) f e))
-  on_transition (phase.Between x) b = on_between s (phase.Between x) x b
-  on_transition (phase.Spaced x) b =
-      on_cond s (phase.Spaced x) (is_blank b) (To (phase.Spaced x)) _ (refl, λ f. tt)
-      (on_cond s (phase.Spaced x) (nat_eq b 58) (To (phase.BeforeId (owner.Lower x))) _ (refl, λ f. tt) (on_begin s (phase.Spaced x) (side.Upper x None) b))
-  on_transition (phase.BeforeId x) b =
-      on_cond s (phase.BeforeId x) (is_blank b) (To (phase.BeforeId x)) _ (refl, λ f. tt)
-      (on_cond s (phase.BeforeId x) (nat_eq b 45) (To (phase.IdSigned x)) _ (refl, λ f. tt) (on_id_digits s (phase.BeforeId x) x false 0 b))
-  on_transition (phase.IdSigned x) b = on_id_digits s (phase.IdSigned x) x true 0 b
-  on_transition (phase.IdDigits x negative n) b =
-      on_cond s (phase.IdDigits x negative n) (is_digit b) _ _ (on_id_digits s (phase.IdDigits x negative n) x negative n b)
-      (on_cond s (phase.IdDigits x negative n) (nat_eq n 0) Stop _ tt (on_after_id s (phase.IdDigits x negative n) x (signed negative n) b))
-  on_transition (phase.Shown shows) b = refl
-  on_transition phase.Done b = tt
+  on_transition (Phase.Between x) b = on_between s (Phase.Between x) x b
+  on_transition (Phase.Spaced x) b =
+      on_cond s (Phase.Spaced x) (is_blank b) (To (Phase.Spaced x)) _ (refl, λ f. tt)
+      (on_cond s (Phase.Spaced x) (nat_eq b 58) (To (Phase.BeforeId (Owner.Lower x))) _ (refl, λ f. tt) (on_begin s (Phase.Spaced x) (Side.Upper x None) b))
+  on_transition (Phase.BeforeId x) b =
+      on_cond s (Phase.BeforeId x) (is_blank b) (To (Phase.BeforeId x)) _ (refl, λ f. tt)
+      (on_cond s (Phase.BeforeId x) (nat_eq b 45) (To (Phase.IdSigned x)) _ (refl, λ f. tt) (on_id_digits s (Phase.BeforeId x) x false 0 b))
+  on_transition (Phase.IdSigned x) b = on_id_digits s (Phase.IdSigned x) x true 0 b
+  on_transition (Phase.IdDigits x negative n) b =
+      on_cond s (Phase.IdDigits x negative n) (is_digit b) _ _ (on_id_digits s (Phase.IdDigits x negative n) x negative n b)
+      (on_cond s (Phase.IdDigits x negative n) (nat_eq n 0) Stop _ tt (on_after_id s (Phase.IdDigits x negative n) x (signed negative n) b))
+  on_transition (Phase.Shown shows) b = refl
+  on_transition Phase.Done b = tt
 
 -- what holds after a byte
 pub record Continues (s next : ConclusionState) : Type 0 where
@@ -153,7 +142,7 @@ Stepped s (End e next) = next ≡ conclusion_last s.limit s.top
 Stepped s Refuse = Unit {0}
 
 -- a byte that the literals machine takes
-module _ (s : ConclusionState) (shows : Showing) (p : s.phase ≡ phase.Shown shows) (b : ℕ) where
+module _ (s : ConclusionState) (shows : Showing) (p : s.phase ≡ Phase.Shown shows) (b : ℕ) where
   given_order : (inner : SolutionState) → solution_automaton.step s.literals b ≡ Go inner → IsConclusionInOrder s → IsConclusionInOrder (giving s inner)
   given_order inner e h = record {
     limit = h.limit;
@@ -174,11 +163,11 @@ module _ (s : ConclusionState) (shows : Showing) (p : s.phase ≡ phase.Shown sh
 
 -- nothing is stored if no literal is read
 idle_holds : (limit top : ℕ) (p : Phase) → Holds (conclusion_at limit top p) p
-idle_holds limit top phase.Start = refl
+idle_holds limit top Phase.Start = refl
 idle_holds limit top _ = refl
 
 idle_spent : (limit top : ℕ) (p : Phase) → spent (conclusion_at limit top p) p ≤ 1
-idle_spent limit top (phase.Shown x) = omega arith
+idle_spent limit top (Phase.Shown x) = omega arith
 idle_spent limit top _ = omega arith
 
 -- a state in which no literal is read
@@ -194,7 +183,7 @@ acted s b (To p) h = record {
   grows = omega (arith, idle_spent s.limit s.top p);
 }
 acted s b (Finish c) h = refl
-acted s b (Give shows) h = given s shows h b (solution_automaton.step s.literals b) refl
+acted s b (Action.Give shows) h = given s shows h b (solution_automaton.step s.literals b) refl
 acted s b Stop h = tt
 
 pub stepped : (s : ConclusionState) (b : ℕ) → Stepped s (conclusion_automaton.step s b)
@@ -208,24 +197,21 @@ ends s next b c e = subst (Stepped s) e (stepped s b)
 
 -- phases within a conclusion, before it and after it
 pub not_done : (p : Phase) → is_within p ≡ true → is_done p ≡ false
-not_done phase.Start h = absurd (false≢true h)
-not_done phase.Done h = absurd (false≢true h)
-not_done _ h = refl
+not_done Phase.Start h = cc
+not_done _ h = cc
 
 pub done_stops : (limit top : ℕ) (p : Phase) (b : ℕ) → is_done p ≡ true → transition limit top p b ≡ Stop
-done_stops limit top phase.Done b h = refl
+done_stops limit top Phase.Done b h = refl
 done_stops limit top _ b h = absurd (false≢true h)
 
 pub no_number : (s : ConclusionState) (p : Phase) → is_within p ≡ false → is_in_number s p ≡ false
-no_number s phase.Start h = refl
-no_number s phase.Done h = refl
-no_number s _ h = absurd (false≢true (sym h))
+no_number s Phase.Start h = cc
+no_number s _ h = cc
 
 pub nothing_spent : (s : ConclusionState) (p : Phase) → is_within p ≡ false → spent s p ≡ 0
-nothing_spent s phase.Start h = refl
-nothing_spent s phase.Done h = refl
-nothing_spent s _ h = absurd (false≢true (sym h))
+nothing_spent s Phase.Start h = cc
+nothing_spent s _ h = cc
 
 -- bytes are given to the literals machine only where literals are shown
-pub give_phase : (s : ConclusionState) (b : ℕ) (x : Showing) → transition s.limit s.top s.phase b ≡ Give x → s.phase ≡ phase.Shown x
+pub give_phase : (s : ConclusionState) (b : ℕ) (x : Showing) → transition s.limit s.top s.phase b ≡ Action.Give x → s.phase ≡ Phase.Shown x
 give_phase s b x e = subst (OnAction s s.phase) e (on_transition s s.phase b)

@@ -3,10 +3,6 @@ use Rattle.pb_proof.proofs.Common.{ℕ, ℤ, ◌∷◌, [], List, None, Option, 
 use Rattle.pb_proof.proofs.Common.{regroup⁻¹, ◌⋅◌, Blanks0, Blanks1, Byte, Bytes, Empty, Language, Letter, Bound, Concluding, Owner, Showing, Side}
 use Rattle.pb_proof.proofs.Common.{conclusion_value, showing_value, SpellsJoined, bounds_word, IdShown, LineEnd, Listed, none_word, sat_word}
 use Rattle.pb_proof.proofs.Common.{SpellsBound, SpellsConclusion, SpellsConclusionLine, SpellsId, SpellsShown, unsat_word}
-use Rattle.pb_proof.specs.declared.line.conclusion.phase.Owner.TheVariants as owner
-use Rattle.pb_proof.specs.declared.line.conclusion.phase.Side.TheVariants as side
-use Rattle.pb_proof.specs.declared.line.conclusion.phase.Showing.TheVariants as showing
-use Rattle.pb_proof.specs.declared.line.conclusion.phase.Concluding.TheVariants as concluding
 
 -- the part before the last one, split in two
 pub within_last : (B P Q : Language) (R : Language) (p : List Letter) → ((q : List Letter) → P q → (B ⋅ Q) q) → (P ⋅ R) p → (B ⋅ (Q ⋅ R)) p
@@ -15,15 +11,15 @@ within_last B P Q R p f h = regroup B Q R p (inside P (B ⋅ Q) R p f h)
 module _ (limit top : ℕ) where
   -- a conclusion without literals, after the first blanks
   abbrev pub Body : Showing → Language
-  Body showing.Sat = Bytes sat_word
-  Body (showing.Bounds lower id upper) =
+  Body Showing.Sat = Bytes sat_word
+  Body (Showing.Bounds lower id upper) =
       Bytes bounds_word ⋅ Blanks1 ⋅ SpellsBound limit lower ⋅ IdShown limit top id ⋅ Blanks1 ⋅ SpellsBound limit upper
 
   abbrev pub ConclusionBody : Concluding → Language
-  ConclusionBody concluding.NoClaim = Bytes none_word
-  ConclusionBody (concluding.Unsat None) = Bytes unsat_word
-  ConclusionBody (concluding.Unsat (Some id)) = Bytes unsat_word ⋅ IdShown limit top (Some id)
-  ConclusionBody (concluding.Shows shows) = Body shows
+  ConclusionBody Concluding.NoClaim = Bytes none_word
+  ConclusionBody (Concluding.Unsat None) = Bytes unsat_word
+  ConclusionBody (Concluding.Unsat (Some id)) = Bytes unsat_word ⋅ IdShown limit top (Some id)
+  ConclusionBody (Concluding.Shows shows) = Body shows
 
   abbrev pub ConclusionRead : Concluding → Language
   ConclusionRead c = Blanks1 ⋅ ConclusionBody c
@@ -34,13 +30,13 @@ module _ (limit top : ℕ) where
 
   -- the text before the blanks before a bound
   abbrev pub Lead : Side → Language
-  Lead side.Lower = Blanks1 ⋅ Bytes bounds_word
-  Lead (side.Upper x id) = LowerRead x ⋅ IdShown limit top id
+  Lead Side.Lower = Blanks1 ⋅ Bytes bounds_word
+  Lead (Side.Upper x id) = LowerRead x ⋅ IdShown limit top id
 
   -- the text before `:` and an id, and the text before that id
   abbrev pub IdLead : Owner → Language
-  IdLead owner.Unsat = Blanks1 ⋅ Bytes unsat_word
-  IdLead (owner.Lower x) = LowerRead x
+  IdLead Owner.Unsat = Blanks1 ⋅ Bytes unsat_word
+  IdLead (Owner.Lower x) = LowerRead x
 
   abbrev pub Colon : Language → Language
   Colon P = P ⋅ Blanks0 ⋅ Byte 58
@@ -55,7 +51,7 @@ module _ (limit top : ℕ) where
       (λ q. within_last P (Colon P) (Blanks0 ⋅ Byte 58) Blanks0 q (λ r. regroup P Blanks0 (Byte 58) r)) h
 
   -- both bounds
-  pub bounds_body : (x : Bound) (id : Option ℤ) (y : Bound) (p : List Letter) → (Lead (side.Upper x id) ⋅ Blanks1 ⋅ SpellsBound limit y) p → ConclusionRead (concluding.Shows (showing.Bounds x id y)) p
+  pub bounds_body : (x : Bound) (id : Option ℤ) (y : Bound) (p : List Letter) → (Lead (Side.Upper x id) ⋅ Blanks1 ⋅ SpellsBound limit y) p → ConclusionRead (Concluding.Shows (Showing.Bounds x id y)) p
   bounds_body x id y p h =
       let W : Language = Bytes bounds_word in
       let X : Language = SpellsBound limit x in
@@ -69,18 +65,16 @@ module _ (limit top : ℕ) where
 
   -- nothing is shown
   showing_none : (x : Showing) (q : List Letter) → Body x q → SpellsConclusion limit top (showing_value x None) q
-  showing_none showing.Sat q h = none_yet (Body showing.Sat) Empty q refl h
-  showing_none (showing.Bounds lower id upper) q h = none_yet (Body (showing.Bounds lower id upper)) Empty q refl h
+  showing_none Showing.Sat q h = none_yet (Body Showing.Sat) Empty q refl h
+  showing_none (Showing.Bounds lower id upper) q h = none_yet (Body (Showing.Bounds lower id upper)) Empty q refl h
 
-  conclusion_of : (c : Concluding) (q : List Letter) → ConclusionBody c q
-      → SpellsConclusion limit top (conclusion_value c) q
-  conclusion_of concluding.NoClaim q h = h
-  conclusion_of (concluding.Unsat None) q h = none_yet (Bytes unsat_word) Empty q refl h
-  conclusion_of (concluding.Unsat (Some id)) q h = h
-  conclusion_of (concluding.Shows shows) q h = showing_none shows q h
+  conclusion_of : (c : Concluding) (q : List Letter) → ConclusionBody c q → SpellsConclusion limit top (conclusion_value c) q
+  conclusion_of Concluding.NoClaim q h = h
+  conclusion_of (Concluding.Unsat None) q h = none_yet (Bytes unsat_word) Empty q refl h
+  conclusion_of (Concluding.Unsat (Some id)) q h = h
+  conclusion_of (Concluding.Shows shows) q h = showing_none shows q h
 
-  pub conclusion_line : (c : Concluding) (p : List Letter) → (ConclusionRead c ⋅ LineEnd) p
-      → SpellsConclusionLine limit top (conclusion_value c) p
+  pub conclusion_line : (c : Concluding) (p : List Letter) → (ConclusionRead c ⋅ LineEnd) p → SpellsConclusionLine limit top (conclusion_value c) p
   conclusion_line c p h =
       inside (ConclusionRead c) (Blanks1 ⋅ SpellsConclusion limit top (conclusion_value c)) LineEnd p
       (λ q. after_it Blanks1 (ConclusionBody c) (SpellsConclusion limit top (conclusion_value c)) q (conclusion_of c)) h
@@ -105,13 +99,13 @@ module _ (limit top : ℕ) where
       (λ q. within_last (Byte 58) (Byte 58 ⋅ Blanks0 ⋅ L) (Blanks0 ⋅ L) R q (regroup (Byte 58) Blanks0 L)) h)
 
   showing_some : (x : Showing) (ls : List Literal) (q : List Letter) → (Body x ⋅ (Blanks0 ⋅ SpellsShown ls)) q → SpellsConclusion limit top (showing_value x (Some ls)) q
-  showing_some showing.Sat ls q h = h
-  showing_some (showing.Bounds lower id upper) ls q h = h
+  showing_some Showing.Sat ls q h = h
+  showing_some (Showing.Bounds lower id upper) ls q h = h
 
-  pub showing_line : (x : Showing) (ls : List Literal) (p : List Letter) → (Colon (ConclusionRead (concluding.Shows x)) ⋅ SpellsJoined true ls) p
+  pub showing_line : (x : Showing) (ls : List Literal) (p : List Letter) → (Colon (ConclusionRead (Concluding.Shows x)) ⋅ SpellsJoined true ls) p
       → SpellsConclusionLine limit top (showing_value x (Some ls)) p
   showing_line x ls p h =
-      let C : Language = ConclusionRead (concluding.Shows x) in
+      let C : Language = ConclusionRead (Concluding.Shows x) in
       let S : Language = SpellsShown ls in
       inside (C ⋅ Blanks0 ⋅ S) (Blanks1 ⋅ SpellsConclusion limit top (showing_value x (Some ls))) LineEnd p
       (λ q k. after_it Blanks1 (Body x ⋅ (Blanks0 ⋅ S)) (SpellsConclusion limit top (showing_value x (Some ls))) q (showing_some x ls)

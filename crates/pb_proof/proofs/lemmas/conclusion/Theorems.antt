@@ -1,15 +1,15 @@
 -- The laws of the conclusion machine.
-use Rattle.pb_proof.proofs.Common.{ℕ, ℤ, ◌++◌, ◌<◌, ◌↔◌, ◌∷◌, ◌≡◌, ◌≤◌, ◌⊎◌, [], ap, arith, Bool, drop, false, inl, inr, List, None, Option, refl}
-use Rattle.pb_proof.proofs.Common.{Some, subst, suc, sym, true, zero, false≢true, reads_before, ReadsOn, is_state, IsOfOne, reads_after, Walks, Go}
-use Rattle.pb_proof.proofs.Common.{IsState, ReadsStatement, unmarked, signed, Letter, plain, Bound, Infinite, Conclusion, Concluding, Owner, Showing}
-use Rattle.pb_proof.proofs.Common.{Side, Word, is_within, phase_after_bound, phase_after_word, PhaseFits, word_of, conclusion_at}
-use Rattle.pb_proof.proofs.Common.{conclusion_automaton, conclusion_first, conclusion_last, conclusion_value, ConclusionState, IsConclusionInOrder}
-use Rattle.pb_proof.proofs.Common.{kept, showing_value, spent, IsSolutionInOrder, solution_automaton, solution_first, SolutionState, inf_word}
-use Rattle.pb_proof.proofs.Common.{none_word, SpellsConclusionLine, ◌&&◌, ◌-◌, ◌^◌, ◌∙◌, IsTrue, Literal, admits, end_or_refuse, go_or_refuse}
-use Rattle.pb_proof.proofs.Common.{refuses, Admits, End, is_large, Next, Refuse, Limits, is_digit, largest, top_of, asks, is_in_number}
-use Rattle.pb_proof.specs.engine.line.Conclusion.{is_done, transition}
-use Rattle.pb_proof.specs.engine.line.ConclusionState.{act, Holds, giving, over}
-use Rattle.pb_proof.specs.declared.line.conclusion.phase.Phase.{Phase}
+use Rattle.pb_proof.proofs.Common.{ℕ, ℤ, ◌++◌, ◌<◌, ◌↔◌, ◌∷◌, ◌≡◌, ◌≤◌, ◌⊎◌, [], ap, arith, Bool, drop, false, inl, inr, List, None, Option, refl, Some}
+use Rattle.pb_proof.proofs.Common.{subst, suc, sym, true, zero, false≢true, reads_before, ReadsOn, is_state, IsOfOne, reads_after, Walks, Go, IsState}
+use Rattle.pb_proof.proofs.Common.{ReadsStatement, unmarked, signed, Letter, plain, Bound, Infinite, Conclusion, Concluding, Owner, Showing, Side, Word}
+use Rattle.pb_proof.proofs.Common.{is_within, phase_after_bound, phase_after_word, PhaseFits, word_of, conclusion_at, conclusion_automaton, conclusion_first}
+use Rattle.pb_proof.proofs.Common.{conclusion_last, conclusion_value, ConclusionState, IsConclusionInOrder, kept, showing_value, spent, IsSolutionInOrder}
+use Rattle.pb_proof.proofs.Common.{solution_automaton, solution_first, SolutionState, inf_word, none_word, SpellsConclusionLine, ◌&&◌, ◌∙◌, IsTrue, Literal}
+use Rattle.pb_proof.proofs.Common.{admits, end_or_refuse, go_or_refuse, refuses, Admits, End, is_large, Next, Refuse, Limits, is_digit, largest, top_of, asks}
+use Rattle.pb_proof.proofs.Common.{is_in_number, conclusion_transition as transition, conclusion_act as act, conclusion_giving as giving}
+use Rattle.pb_proof.proofs.Common.{conclusion_over as over, ConclusionPhase as Phase, ConclusionAction as Action}
+use Rattle.pb_proof.specs.engine.line.Conclusion.{is_done}
+use Rattle.pb_proof.specs.engine.line.ConclusionState.{Holds}
 use Rattle.pb_proof.proofs.lemmas.conclusion.Each.{conclusion_each, shown_at, shown_reads}
 use Rattle.pb_proof.proofs.lemmas.conclusion.Parts.{before_opens, spaced_opens, infinity_leads, infinity_left, signed_step, id_step, first_id_step}
 use Rattle.pb_proof.proofs.lemmas.conclusion.Parts.{signed_id_step, at, word_left, word_leads, id_steps}
@@ -17,14 +17,6 @@ use Rattle.pb_proof.proofs.lemmas.conclusion.Steps.{continues, ends, not_done, d
 use Rattle.pb_proof.proofs.lemmas.solution.Theorems.{solution_of_one}
 use Rattle.pb_proof.proofs.lemmas.line.Ends.{reads_exactly}
 use Rattle.std.proofs.Math.Pow.{pow_mono}
-use Rattle.pb_proof.specs.declared.line.conclusion.phase.Action.{Action}
-use Rattle.pb_proof.specs.declared.line.conclusion.phase.Action.TheVariants.{Give}
-use Rattle.pb_proof.specs.declared.line.conclusion.phase.Word.TheVariants as word
-use Rattle.pb_proof.specs.declared.line.conclusion.phase.Owner.TheVariants as owner
-use Rattle.pb_proof.specs.declared.line.conclusion.phase.Side.TheVariants as side
-use Rattle.pb_proof.specs.declared.line.conclusion.phase.Showing.TheVariants as showing
-use Rattle.pb_proof.specs.declared.line.conclusion.phase.Concluding.TheVariants as concluding
-use Rattle.pb_proof.specs.declared.line.conclusion.phase.Phase.TheVariants as phase
 use Rattle.pb_proof.proofs.lemmas.conclusion.Prefix as prefixes
 
 abbrev last : ConclusionState → ConclusionState
@@ -38,58 +30,57 @@ module _ (limit top : ℕ) where
   here p = at limit top p
 
   -- letters before a text
-  in_prefix : (t : List Letter) (s new : ConclusionState) → Walks conclusion_automaton s t new → SomeText new
-      → SomeText s
+  in_prefix : (t : List Letter) (s new : ConclusionState) → Walks conclusion_automaton s t new → SomeText new → SomeText s
   in_prefix t s new w (u, e, after, r) = (t ++ u, e, after, reads_after conclusion_automaton t u s new after e w r)
 
   only_prefix : (b : ℕ) (p q : Phase) → conclusion_automaton.step (here p) b ≡ Go (here q) → is_within q ≡ true → SomeText (here q) → SomeText (here p)
   only_prefix b p q g i h = reads_before conclusion_automaton (here p) (here q) b g i h
 
-  after_text : (c : Concluding) → SomeText (here (phase.AfterValue c))
+  after_text : (c : Concluding) → SomeText (here (Phase.AfterValue c))
   after_text c = (unmarked 10 ∷ [], conclusion_value c, conclusion_last limit top, (refl, refl))
 
-  upper_text : (x : Bound) (id : Option ℤ) → SomeText (here (phase.BeforeBound (side.Upper x id)))
+  upper_text : (x : Bound) (id : Option ℤ) → SomeText (here (Phase.BeforeBound (Side.Upper x id)))
   upper_text x id =
-      in_prefix (plain inf_word) (here (phase.BeforeBound (side.Upper x id))) (here (phase_after_bound (side.Upper x id) Infinite))
-      (infinity_leads limit top (side.Upper x id) (here (phase.BeforeBound (side.Upper x id))) (before_opens limit top (side.Upper x id)))
-      (after_text (concluding.Shows (showing.Bounds x id Infinite)))
+      in_prefix (plain inf_word) (here (Phase.BeforeBound (Side.Upper x id))) (here (phase_after_bound (Side.Upper x id) Infinite))
+      (infinity_leads limit top (Side.Upper x id) (here (Phase.BeforeBound (Side.Upper x id))) (before_opens limit top (Side.Upper x id)))
+      (after_text (Concluding.Shows (Showing.Bounds x id Infinite)))
 
-  spaced_text : (x : Bound) → SomeText (here (phase.Spaced x))
+  spaced_text : (x : Bound) → SomeText (here (Phase.Spaced x))
   spaced_text x =
-      in_prefix (plain inf_word) (here (phase.Spaced x)) (here (phase_after_bound (side.Upper x None) Infinite))
-      (infinity_leads limit top (side.Upper x None) (here (phase.Spaced x)) (spaced_opens limit top x)) (after_text (concluding.Shows (showing.Bounds x None Infinite)))
+      in_prefix (plain inf_word) (here (Phase.Spaced x)) (here (phase_after_bound (Side.Upper x None) Infinite))
+      (infinity_leads limit top (Side.Upper x None) (here (Phase.Spaced x)) (spaced_opens limit top x)) (after_text (Concluding.Shows (Showing.Bounds x None Infinite)))
 
-  between_text : (x : Bound) → SomeText (here (phase.Between x))
-  between_text x = only_prefix 32 (phase.Between x) (phase.Spaced x) refl refl (spaced_text x)
+  between_text : (x : Bound) → SomeText (here (Phase.Between x))
+  between_text x = only_prefix 32 (Phase.Between x) (Phase.Spaced x) refl refl (spaced_text x)
 
   bound_text : (x : Side) (y : Bound) → SomeText (here (phase_after_bound x y))
-  bound_text side.Lower y = between_text y
-  bound_text (side.Upper x id) y = after_text (concluding.Shows (showing.Bounds x id y))
+  bound_text Side.Lower y = between_text y
+  bound_text (Side.Upper x id) y = after_text (Concluding.Shows (Showing.Bounds x id y))
 
-  before_text : (x : Side) → SomeText (here (phase.BeforeBound x))
+  before_text : (x : Side) → SomeText (here (Phase.BeforeBound x))
   before_text x =
-      in_prefix (plain inf_word) (here (phase.BeforeBound x)) (here (phase_after_bound x Infinite)) (infinity_leads limit top x (here (phase.BeforeBound x)) (before_opens limit top x)) (bound_text x Infinite)
+      in_prefix (plain inf_word) (here (Phase.BeforeBound x)) (here (phase_after_bound x Infinite)) (infinity_leads limit top x (here (Phase.BeforeBound x)) (before_opens limit top x)) (bound_text x Infinite)
 
   word_text : (w : Word) → SomeText (here (phase_after_word w))
-  word_text word.NoClaim = after_text concluding.NoClaim
-  word_text word.Unsat = after_text (concluding.Unsat None)
-  word_text word.Sat = after_text (concluding.Shows showing.Sat)
-  word_text word.Bounds = only_prefix 32 phase.Bounded (phase.BeforeBound side.Lower) refl refl (before_text side.Lower)
+  word_text Word.NoClaim = after_text Concluding.NoClaim
+  word_text Word.Unsat = after_text (Concluding.Unsat None)
+  word_text Word.Sat = after_text (Concluding.Shows Showing.Sat)
+  word_text Word.Bounds = only_prefix 32 Phase.Bounded (Phase.BeforeBound Side.Lower) refl refl (before_text Side.Lower)
 
-  digits_text : (x : Side) (negative : Bool) (n : ℕ) → SomeText (here (phase.Digits x negative n))
-  digits_text side.Lower negative n = only_prefix 32 (phase.Digits side.Lower negative n) _ refl refl (spaced_text _)
-  digits_text (side.Upper x id) negative n = (unmarked 10 ∷ [], _, conclusion_last limit top, (refl, refl))
+  digits_text : (x : Side) (negative : Bool) (n : ℕ) → SomeText (here (Phase.Digits x negative n))
+  digits_text Side.Lower negative n = only_prefix 32 (Phase.Digits Side.Lower negative n) _ refl refl (spaced_text _)
+  digits_text (Side.Upper x id) negative n = (unmarked 10 ∷ [], _, conclusion_last limit top, (refl, refl))
 
   -- an id that is not 0
-  id_text : (x : Owner) (negative : Bool) (n : ℕ) → 0 < n → SomeText (here (phase.IdDigits x negative n))
-  id_text owner.Unsat negative n z = (unmarked 10 ∷ [], conclusion_value (concluding.Unsat (Some (signed negative n))), conclusion_last limit top, (id_steps limit top owner.Unsat negative n 10 z refl, refl))
-  id_text (owner.Lower x) negative n z =
-      only_prefix 32 (phase.IdDigits (owner.Lower x) negative n) (phase.BeforeBound (side.Upper x (Some (signed negative n)))) (id_steps limit top (owner.Lower x) negative n 32 z refl) refl
+  id_text : (x : Owner) (negative : Bool) (n : ℕ) → 0 < n → SomeText (here (Phase.IdDigits x negative n))
+  id_text Owner.Unsat negative n z = (unmarked 10 ∷ [], conclusion_value (Concluding.Unsat (Some (signed negative n))), conclusion_last limit top, (id_steps limit top Owner.Unsat negative n 10 z refl, refl))
+  id_text (Owner.Lower x) negative n z =
+      only_prefix 32 (Phase.IdDigits (Owner.Lower x) negative n) (Phase.BeforeBound (Side.Upper x (Some (signed negative n)))) (id_steps limit top (Owner.Lower x) negative n 32 z refl) refl
       (upper_text x (Some (signed negative n)))
 
   -- a further digit
-  more_id : (x : Owner) (negative : Bool) (n : ℕ) → 0 < top → SomeText (here (phase.IdDigits x negative n))
-  more_id x negative zero h = only_prefix 49 (phase.IdDigits x negative 0) (phase.IdDigits x negative 1) (id_step limit top x negative 0 1 (omega arith) (omega arith)) refl (id_text x negative 1 (omega arith))
+  more_id : (x : Owner) (negative : Bool) (n : ℕ) → 0 < top → SomeText (here (Phase.IdDigits x negative n))
+  more_id x negative zero h = only_prefix 49 (Phase.IdDigits x negative 0) (Phase.IdDigits x negative 1) (id_step limit top x negative 0 1 (omega arith) (omega arith)) refl (id_text x negative 1 (omega arith))
   more_id x negative (suc n) h = id_text x negative (suc n) (omega arith)
 
   shown_text : (x : Showing) (inner : SolutionState) → IsSolutionInOrder inner → solution_automaton.done inner ≡ false → SomeText (shown_at limit top x inner)
@@ -98,31 +89,31 @@ module _ (limit top : ℕ) where
       (text, showing_value x (Some ls), conclusion_last limit top, shown_reads limit top x text inner ls after r)
 
   some_text : (p : Phase) → 0 < top → PhaseFits limit top p → is_done p ≡ false → SomeText (here p)
-  some_text phase.Start z f d =
-      only_prefix 32 phase.Start phase.Before refl refl (in_prefix (plain none_word) (here phase.Before) (here (phase.AfterValue concluding.NoClaim)) (word_leads limit top word.NoClaim (plain none_word) refl) (after_text concluding.NoClaim))
-  some_text phase.Before z f d = in_prefix (plain none_word) (here phase.Before) (here (phase.AfterValue concluding.NoClaim)) (word_leads limit top word.NoClaim (plain none_word) refl) (after_text concluding.NoClaim)
-  some_text (phase.Word w k) z f d = in_prefix (plain (drop k (word_of w))) (here (phase.Word w k)) (here (phase_after_word w)) (word_left limit top w k f) (word_text w)
-  some_text (phase.AfterValue c) z f d = after_text c
-  some_text (phase.Semicolon c) z f d = (unmarked 10 ∷ [], conclusion_value c, conclusion_last limit top, (refl, refl))
-  some_text phase.Bounded z f d = word_text word.Bounds
-  some_text (phase.BeforeBound x) z f d = before_text x
-  some_text (phase.Signed x negative) z f d = only_prefix 48 (phase.Signed x negative) (phase.Digits x negative 0) (signed_step limit top x negative) refl (digits_text x negative 0)
-  some_text (phase.Digits x negative n) z f d = digits_text x negative n
-  some_text (phase.Infinity x k) z f d = in_prefix (plain (drop k inf_word)) (here (phase.Infinity x k)) (here (phase_after_bound x Infinite)) (infinity_left limit top x k f) (bound_text x Infinite)
-  some_text (phase.Between x) z f d = between_text x
-  some_text (phase.Spaced x) z f d = spaced_text x
-  some_text (phase.BeforeId x) z f d = only_prefix 49 (phase.BeforeId x) (phase.IdDigits x false 1) (first_id_step limit top x 1 (omega arith) (omega arith)) refl (id_text x false 1 (omega arith))
-  some_text (phase.IdSigned x) z f d = only_prefix 49 (phase.IdSigned x) (phase.IdDigits x true 1) (signed_id_step limit top x 1 (omega arith) (omega arith)) refl (id_text x true 1 (omega arith))
-  some_text (phase.IdDigits x negative n) z f d = more_id x negative n z
-  some_text (phase.Shown x) z f d = shown_text x (solution_first true) (λ i. (refl, refl)) refl
-  some_text phase.Done z f d = absurd (false≢true (sym d))
+  some_text Phase.Start z f d =
+      only_prefix 32 Phase.Start Phase.Before refl refl (in_prefix (plain none_word) (here Phase.Before) (here (Phase.AfterValue Concluding.NoClaim)) (word_leads limit top Word.NoClaim (plain none_word) refl) (after_text Concluding.NoClaim))
+  some_text Phase.Before z f d = in_prefix (plain none_word) (here Phase.Before) (here (Phase.AfterValue Concluding.NoClaim)) (word_leads limit top Word.NoClaim (plain none_word) refl) (after_text Concluding.NoClaim)
+  some_text (Phase.Word w k) z f d = in_prefix (plain (drop k (word_of w))) (here (Phase.Word w k)) (here (phase_after_word w)) (word_left limit top w k f) (word_text w)
+  some_text (Phase.AfterValue c) z f d = after_text c
+  some_text (Phase.Semicolon c) z f d = (unmarked 10 ∷ [], conclusion_value c, conclusion_last limit top, (refl, refl))
+  some_text Phase.Bounded z f d = word_text Word.Bounds
+  some_text (Phase.BeforeBound x) z f d = before_text x
+  some_text (Phase.Signed x negative) z f d = only_prefix 48 (Phase.Signed x negative) (Phase.Digits x negative 0) (signed_step limit top x negative) refl (digits_text x negative 0)
+  some_text (Phase.Digits x negative n) z f d = digits_text x negative n
+  some_text (Phase.Infinity x k) z f d = in_prefix (plain (drop k inf_word)) (here (Phase.Infinity x k)) (here (phase_after_bound x Infinite)) (infinity_left limit top x k f) (bound_text x Infinite)
+  some_text (Phase.Between x) z f d = between_text x
+  some_text (Phase.Spaced x) z f d = spaced_text x
+  some_text (Phase.BeforeId x) z f d = only_prefix 49 (Phase.BeforeId x) (Phase.IdDigits x false 1) (first_id_step limit top x 1 (omega arith) (omega arith)) refl (id_text x false 1 (omega arith))
+  some_text (Phase.IdSigned x) z f d = only_prefix 49 (Phase.IdSigned x) (Phase.IdDigits x true 1) (signed_id_step limit top x 1 (omega arith) (omega arith)) refl (id_text x true 1 (omega arith))
+  some_text (Phase.IdDigits x negative n) z f d = more_id x negative n z
+  some_text (Phase.Shown x) z f d = shown_text x (solution_first true) (λ i. (refl, refl)) refl
+  some_text Phase.Done z f d = absurd (false≢true (sym d))
 
 -- literals are shown, or no literal is being read
-shown_or_idle : (s : ConclusionState) (p : Phase) → Holds s p → ((x : Showing) × (p ≡ phase.Shown x)) ⊎ (s.literals ≡ solution_first true)
-shown_or_idle s (phase.Shown x) h = inl (x, refl)
+shown_or_idle : (s : ConclusionState) (p : Phase) → Holds s p → ((x : Showing) × (p ≡ Phase.Shown x)) ⊎ (s.literals ≡ solution_first true)
+shown_or_idle s (Phase.Shown x) h = inl (x, refl)
 shown_or_idle s _ h = inr h
 
-same_shown : (s : ConclusionState) (x : Showing) → s.phase ≡ phase.Shown x → shown_at s.limit s.top x s.literals ≡ s
+same_shown : (s : ConclusionState) (x : Showing) → s.phase ≡ Phase.Shown x → shown_at s.limit s.top x s.literals ≡ s
 same_shown s x e = rw e refl
 
 same_idle : (s : ConclusionState) → s.literals ≡ solution_first true → conclusion_at s.limit s.top s.phase ≡ s
@@ -135,7 +126,7 @@ goes_on s h d = elim (shown_or_idle s s.phase h.holds) [
 ]
 
 bounded : (s : ConclusionState) (p : Phase) → kept s p ≤ spent s p
-bounded s (phase.Shown x) = solution_of_one.bounds s.literals
+bounded s (Phase.Shown x) = solution_of_one.bounds s.literals
 bounded s _ = omega arith
 
 pub conclusion_of_one : IsOfOne conclusion_automaton IsConclusionInOrder last
@@ -161,12 +152,11 @@ conclusion_reads limit top text e after =
     (conclusion_each limit top e text)
 
 pub conclusion_is_state : (s : ConclusionState) → IsConclusionInOrder s → IsState conclusion_automaton s
-conclusion_is_state s h =
-    is_state conclusion_automaton IsConclusionInOrder last conclusion_of_one s h (λ i. nothing_spent s s.phase i)
+conclusion_is_state s h = is_state conclusion_automaton IsConclusionInOrder last conclusion_of_one s h (λ i. nothing_spent s s.phase i)
 
 -- A push of the conclusion machine does what its transition says.
 
-module _ (s : ConclusionState) (h : IsConclusionInOrder s) (b : ℕ) (x : Showing) (planned : transition s.limit s.top s.phase b ≡ Give x) where
+module _ (s : ConclusionState) (h : IsConclusionInOrder s) (b : ℕ) (x : Showing) (planned : transition s.limit s.top s.phase b ≡ Action.Give x) where
   given : (n : Next SolutionState (List Literal)) → solution_automaton.step s.literals b ≡ n → conclusion_automaton.step s b ≡ over s x n
   given n e = ap (act s b) planned ∙ ap (over s x) e
 
@@ -185,8 +175,7 @@ module _ (s : ConclusionState) (h : IsConclusionInOrder s) (b : ℕ) (x : Showin
   give_admits asking a =
       let n : Next SolutionState (List Literal) = solution_automaton.step s.literals b in (
         subst (λ (m : Action). IsTrue (asks s b m)) (sym planned) asking,
-        admits conclusion_automaton IsConclusionInOrder _ conclusion_of_one s b (over s x n) h (given n refl)
-            (taken n refl a),
+        admits conclusion_automaton IsConclusionInOrder _ conclusion_of_one s b (over s x n) h (given n refl) (taken n refl a),
       )
 
 pub same_inner : (s : ConclusionState) (inner : SolutionState) → inner ≡ s.literals → giving s inner ≡ s
@@ -195,7 +184,4 @@ same_inner s inner e = ap (λ i. giving s i) e
 -- a new machine
 pub first_order : (limits : Limits) → IsConclusionInOrder (conclusion_first (largest limits) (top_of limits))
 first_order limits =
-    idle_order (largest limits) (top_of limits) phase.Start (below limits.bits limits.most_bits) limits.most_top (omega (arith, limits.least_top)) tt
-  where
-    below : (k : ℕ) → k ≤ 127 → 2 ^ k - 1 < 2 ^ 127
-    below k h = omega (arith, pow_mono h)
+    idle_order (largest limits) (top_of limits) Phase.Start (omega (arith, pow_mono limits.most_bits)) limits.most_top (omega (arith, limits.least_top)) tt

@@ -4,16 +4,12 @@ use Rattle.pb_proof.proofs.Common.{refl, subst, sym, true, cond_both, leb-true, 
 use Rattle.pb_proof.proofs.Common.{regroup, as_digit, as_unmarked, Next, ◌⋅◌, Blanks1, Empty, Language, signed, Letter, NumberByte, DeletePhase, Between}
 use Rattle.pb_proof.proofs.Common.{Done, Gap, Minus, number_byte, before, delete_automaton, DeleteState, Listed, SpellsId, SpellsIds, ◌∙◌, append_assoc}
 use Rattle.pb_proof.proofs.Common.{cond, IsTrue, le-leb, reads_after, Walks, walks_then, digits_lead, TakesDigits, End, Go, ReadsStatement, is_blank}
-use Rattle.pb_proof.proofs.Common.{DeleteAction, delete_at, delete_first, delete_last, step, LineEnd}
-use Rattle.pb_text.specs.meaning.Numbers.{Digits as DigitsOf}
+use Rattle.pb_proof.proofs.Common.{DeleteAction, delete_at, delete_first, delete_last, step, LineEnd, Digits as DigitsOf, delete_transition as transition}
 use Rattle.pb_proof.specs.meaning.Lines.{Minus as Sign}
-use Rattle.pb_proof.specs.engine.line.Delete.{act, transition, digits, next_action}
-use Rattle.pb_proof.specs.declared.line.delete.phase.DeletePhase.TheVariants.{Start, Digits, Closing}
+use Rattle.pb_proof.specs.engine.line.Delete.{act, digits, next_action}
 use Rattle.pb_proof.proofs.lemmas.line.ByteKinds.{NumberMeans, number_means, number_blank, number_digit}
 use Rattle.pb_proof.proofs.lemmas.NumberTests.{positive, not_zero}
 use Rattle.pb_proof.proofs.lemmas.line.Ends.{TakesBlanks, MayEnd, closing_feeds, blanks1_lead, line_reads, listed_walks}
-use Rattle.pb_proof.specs.declared.line.byte_kind.NumberByte.TheVariants as kind
-use Rattle.pb_proof.specs.declared.line.delete.phase.DeleteAction.TheVariants as action
 use Rattle.pb_proof.proofs.lemmas.line.Ends as ends
 
 module _ (top : ℕ) where
@@ -25,12 +21,12 @@ module _ (top : ℕ) where
   Before ids = Row ids ⋅ Blanks1
 
   abbrev pub prefix : DeletePhase → List ℤ → Language
-  prefix Start ids = λ t. (ids ≡ []) × Empty t
+  prefix DeletePhase.Start ids = λ t. (ids ≡ []) × Empty t
   prefix Gap ids = λ t. (ids ≡ []) × Blanks1 t
   prefix Between ids = λ t. (0 < length ids) × Before ids t
   prefix Minus ids = Before ids ⋅ Sign true
-  prefix (Digits negative n) ids = λ t. (n ≤ top) × (Before ids ⋅ Sign negative ⋅ DigitsOf n) t
-  prefix Closing ids = λ t. (0 < length ids) × ends.Closing (Row ids) t
+  prefix (DeletePhase.Digits negative n) ids = λ t. (n ≤ top) × (Before ids ⋅ Sign negative ⋅ DigitsOf n) t
+  prefix DeletePhase.Closing ids = λ t. (0 < length ids) × ends.Closing (Row ids) t
   prefix Done ids = λ t. ⊥
 
 abbrev pub Prefix : DeleteState → Language
@@ -46,7 +42,7 @@ module _ (limit top : ℕ) where
   digits_sound : (ids : List ℤ) (negative : Bool) (n d : ℕ) (l : Letter) (q : List Letter)
       → (l.numeral ≡ true → (Before top ids ⋅ Sign negative ⋅ DigitsOf (10 * n + d)) q) → OnNext (act top ids (digits top negative n d)) l q
   digits_sound ids negative n d l q h =
-      cond_both (nat_le (10 * n + d) top) (action.To (Digits negative (10 * n + d))) action.Stop (λ m. OnNext (act top ids m) l q) (λ e _ i. (leb-true (10 * n + d) top e, h i)) (λ _. tt)
+      cond_both (nat_le (10 * n + d) top) (DeleteAction.To (DeletePhase.Digits negative (10 * n + d))) DeleteAction.Stop (λ m. OnNext (act top ids m) l q) (λ e _ i. (leb-true (10 * n + d) top e, h i)) (λ _. tt)
 
   -- an id is complete
   id_ends : (ids : List ℤ) (negative : Bool) (n : ℕ) (p : List Letter) → 0 < n → n ≤ top → (Before top ids ⋅ Sign negative ⋅ DigitsOf n) p
@@ -60,40 +56,36 @@ module _ (limit top : ℕ) where
   some_ids ids id = omega (arith, length-append ids (id ∷ []))
 
   after_sound : (ids : List ℤ) (id : ℤ) (k : NumberByte) (l : Letter) (p : List Letter) → NumberMeans k l.byte → Row top (ids ++ id ∷ []) p → OnNext (act top ids (next_action id k)) l (p ++ l ∷ [])
-  after_sound ids id kind.Blank l p m h =
-      λ _ n. (some_ids ids id, ends.blanks_begin (Row top (ids ++ id ∷ [])) l p m n h)
-  after_sound ids id kind.Semicolon l p m h = λ _ n. (some_ids ids id, ends.semicolon_after (Row top (ids ++ id ∷ [])) l p m n h)
-  after_sound ids id kind.Feed l p m h =
-      λ n. (some_ids ids id, ends.line_end_after (Row top (ids ++ id ∷ [])) l p m n h)
+  after_sound ids id NumberByte.Blank l p m h = λ _ n. (some_ids ids id, ends.blanks_begin (Row top (ids ++ id ∷ [])) l p m n h)
+  after_sound ids id NumberByte.Semicolon l p m h = λ _ n. (some_ids ids id, ends.semicolon_after (Row top (ids ++ id ∷ [])) l p m n h)
+  after_sound ids id NumberByte.Feed l p m h = λ n. (some_ids ids id, ends.line_end_after (Row top (ids ++ id ∷ [])) l p m n h)
   after_sound ids id _ l p m h = tt
 
   before_sound : (ids : List ℤ) (k : NumberByte) (l : Letter) (p : List Letter) → NumberMeans k l.byte → Before top ids p → OnNext (act top ids (before top k)) l (p ++ l ∷ [])
-  before_sound ids kind.Minus l p m h = λ _ n. next (Before top ids) (Sign true) p l h (ap (λ x. x ∷ []) (as_unmarked l 45 n m))
-  before_sound ids (kind.Digit d) l p m h =
+  before_sound ids NumberByte.Minus l p m h = λ _ n. next (Before top ids) (Sign true) p l h (ap (λ x. x ∷ []) (as_unmarked l 45 n m))
+  before_sound ids (NumberByte.Digit d) l p m h =
       digits_sound ids false 0 d l (p ++ l ∷ [])
       (λ n. next (Before top ids ⋅ Sign false) (DigitsOf (10 * 0 + d)) p l (none_yet (Before top ids) (Sign false) p refl h) (digits-one d l (as_digit l d m.0 n) m.1))
   before_sound ids _ l p m h = tt
 
   sound : (ph : DeletePhase) (ids : List ℤ) (k : NumberByte) (l : Letter) (p : List Letter) → NumberMeans k l.byte → prefix top ph ids p → OnNext (act top ids (transition top ph k)) l (p ++ l ∷ [])
-  sound Start ids kind.Blank l p m h =
-      λ _ n. (h.0, ends.first_blank l p m n h.1)
-  sound Gap ids kind.Blank l p m h = λ _ n. (h.0, ends.further_blank l p m n h.1)
+  sound DeletePhase.Start ids NumberByte.Blank l p m h = λ _ n. (h.0, ends.first_blank l p m n h.1)
+  sound Gap ids NumberByte.Blank l p m h = λ _ n. (h.0, ends.further_blank l p m n h.1)
   sound Gap ids k l p m h = before_sound ids k l p m (subst (λ y. Before top y p) (sym h.0) ([], p, refl, refl, h.1))
-  sound Between ids kind.Blank l p m h =
-      λ _ n. (h.0, ends.blanks_go_on (Row top ids) l p m n h.1)
-  sound Between ids kind.Semicolon l p m h = λ _ n. (h.0, ends.semicolon_after_blanks (Row top ids) l p m n (ends.gapped_some (Row top ids) p h.1))
-  sound Between ids kind.Feed l p m h = λ n. (h.0, ends.line_after_blanks (Row top ids) l p m n (ends.gapped_some (Row top ids) p h.1))
+  sound Between ids NumberByte.Blank l p m h = λ _ n. (h.0, ends.blanks_go_on (Row top ids) l p m n h.1)
+  sound Between ids NumberByte.Semicolon l p m h = λ _ n. (h.0, ends.semicolon_after_blanks (Row top ids) l p m n (ends.gapped_some (Row top ids) p h.1))
+  sound Between ids NumberByte.Feed l p m h = λ n. (h.0, ends.line_after_blanks (Row top ids) l p m n (ends.gapped_some (Row top ids) p h.1))
   sound Between ids k l p m h = before_sound ids k l p m h.1
-  sound Minus ids (kind.Digit d) l p m h =
+  sound Minus ids (NumberByte.Digit d) l p m h =
       digits_sound ids true 0 d l (p ++ l ∷ []) (λ n. next (Before top ids ⋅ Sign true) (DigitsOf (10 * 0 + d)) p l h (digits-one d l (as_digit l d m.0 n) m.1))
-  sound (Digits negative n) ids (kind.Digit d) l p m h =
+  sound (DeletePhase.Digits negative n) ids (NumberByte.Digit d) l p m h =
       digits_sound ids negative n d l (p ++ l ∷ [])
       (λ i. grown (Before top ids ⋅ Sign negative) (DigitsOf n) (DigitsOf (10 * n + d)) p l (digits-grown n d l (as_digit l d m.0 i) m.1) h.1)
-  sound (Digits negative n) ids k l p m h =
-      cond_both (nat_eq n 0) action.Stop (next_action (signed negative n) k) (λ m. OnNext (act top ids m) l (p ++ l ∷ [])) (λ _. tt)
+  sound (DeletePhase.Digits negative n) ids k l p m h =
+      cond_both (nat_eq n 0) DeleteAction.Stop (next_action (signed negative n) k) (λ m. OnNext (act top ids m) l (p ++ l ∷ [])) (λ _. tt)
       (λ e. after_sound ids (signed negative n) k l p m (id_ends ids negative n p (positive n e) h.0 h.1))
-  sound Closing ids kind.Blank l p m h = λ _ n. (h.0, ends.blank_closing (Row top ids) l p m n h.1)
-  sound Closing ids kind.Feed l p m h = λ n. (h.0, ends.line_closing (Row top ids) l p m n h.1)
+  sound DeletePhase.Closing ids NumberByte.Blank l p m h = λ _ n. (h.0, ends.blank_closing (Row top ids) l p m n h.1)
+  sound DeletePhase.Closing ids NumberByte.Feed l p m h = λ n. (h.0, ends.line_closing (Row top ids) l p m n h.1)
   sound _ ids k l p m h = tt
 
 pub keeps_prefix : (limit : ℕ) → Keeps delete_automaton Prefix (Whole limit)
@@ -114,48 +106,46 @@ module _ (limit top : ℕ) where
   by_kind : (s : S) (b : ℕ) (k : NumberByte) → number_byte b ≡ k → delete_automaton.step s b ≡ step s k
   by_kind s b k e = ap (λ x. step s x) e
 
-  by_blank : (s : S) (b : ℕ) → IsTrue (is_blank b) → delete_automaton.step s b ≡ step s kind.Blank
-  by_blank s b h = by_kind s b kind.Blank (number_blank b h)
+  by_blank : (s : S) (b : ℕ) → IsTrue (is_blank b) → delete_automaton.step s b ≡ step s NumberByte.Blank
+  by_blank s b h = by_kind s b NumberByte.Blank (number_blank b h)
 
-  by_digit : (s : S) (d : ℕ) → d < 10 → delete_automaton.step s (48 + d) ≡ step s (kind.Digit d)
-  by_digit s d h = by_kind s (48 + d) (kind.Digit d) (number_digit d h)
+  by_digit : (s : S) (d : ℕ) → d < 10 → delete_automaton.step s (48 + d) ≡ step s (NumberByte.Digit d)
+  by_digit s d h = by_kind s (48 + d) (NumberByte.Digit d) (number_digit d h)
 
   -- The line may end here with these ids, or a further one may come.
   pub record IsAfter (ids : List ℤ) (s : S) : Type 0 where
     pub blank : (b : ℕ) → IsTrue (is_blank b) → delete_automaton.step s b ≡ Go (at ids Between)
-    pub semicolon : delete_automaton.step s 59 ≡ Go (at ids Closing)
+    pub semicolon : delete_automaton.step s 59 ≡ Go (at ids DeletePhase.Closing)
     pub feed : delete_automaton.step s 10 ≡ End ids last
 
-  whole_id : (ids : List ℤ) (negative : Bool) (n : ℕ) (k : NumberByte) (m : DeleteAction) → 0 < n → m ≡ cond (nat_eq n 0) action.Stop (next_action (signed negative n) k)
+  whole_id : (ids : List ℤ) (negative : Bool) (n : ℕ) (k : NumberByte) (m : DeleteAction) → 0 < n → m ≡ cond (nat_eq n 0) DeleteAction.Stop (next_action (signed negative n) k)
       → act top ids m ≡ act top ids (next_action (signed negative n) k)
-  whole_id ids negative n k m h e = ap (λ x. act top ids x) (e ∙ ap (λ b. cond b action.Stop (next_action (signed negative n) k)) (not_zero n h))
+  whole_id ids negative n k m h e = ap (λ x. act top ids x) (e ∙ ap (λ b. cond b DeleteAction.Stop (next_action (signed negative n) k)) (not_zero n h))
 
-  pub digits_after : (ids : List ℤ) (negative : Bool) (n : ℕ) → 0 < n → IsAfter (ids ++ signed negative n ∷ []) (at ids (Digits negative n))
+  pub digits_after : (ids : List ℤ) (negative : Bool) (n : ℕ) → 0 < n → IsAfter (ids ++ signed negative n ∷ []) (at ids (DeletePhase.Digits negative n))
   digits_after ids negative n h = record {
-    blank = λ b i. by_blank (at ids (Digits negative n)) b i ∙ whole_id ids negative n kind.Blank _ h refl;
-    semicolon = whole_id ids negative n kind.Semicolon _ h refl;
-    feed = whole_id ids negative n kind.Feed _ h refl;
+    blank = λ b i. by_blank (at ids (DeletePhase.Digits negative n)) b i ∙ whole_id ids negative n NumberByte.Blank _ h refl;
+    semicolon = whole_id ids negative n NumberByte.Semicolon _ h refl;
+    feed = whole_id ids negative n NumberByte.Feed _ h refl;
   }
 
   takes_blanks : (ids : List ℤ) (s : S) → IsAfter ids s → TakesBlanks delete_automaton s (at ids Between)
   takes_blanks ids s h = record { enters = h.blank; stays = λ b i. by_blank (at ids Between) b i; begun = refl; plain = refl }
 
-  may_end : (ids : List ℤ) (s : S) → IsAfter ids s → MayEnd delete_automaton s (at ids Between) (at ids Closing) ids last
+  may_end : (ids : List ℤ) (s : S) → IsAfter ids s → MayEnd delete_automaton s (at ids Between) (at ids DeletePhase.Closing) ids last
   may_end ids s h = record {
     feeds = record { blanks = takes_blanks ids s h; ends = h.feed; ends_gap = refl };
     finishes = h.semicolon;
     closes_gap = refl;
-    begun = refl;
-    plain = refl;
-    last = closing_feeds delete_automaton (at ids Closing) last ids (by_blank (at ids Closing)) refl refl refl;
+    last = closing_feeds delete_automaton (at ids DeletePhase.Closing) last ids (by_blank (at ids DeletePhase.Closing)) refl refl refl;
   }
 
-  digit_fits : (ids : List ℤ) (negative : Bool) (n d v : ℕ) → 10 * n + d ≡ v → v ≤ top → act top ids (digits top negative n d) ≡ Go (at ids (Digits negative v))
+  digit_fits : (ids : List ℤ) (negative : Bool) (n d v : ℕ) → 10 * n + d ≡ v → v ≤ top → act top ids (digits top negative n d) ≡ Go (at ids (DeletePhase.Digits negative v))
   digit_fits ids negative n d v e l = rw (e, le-leb v top l) refl
 
-  takes_digits : (ids : List ℤ) (negative : Bool) → TakesDigits delete_automaton (λ n. at ids (Digits negative n)) top
+  takes_digits : (ids : List ℤ) (negative : Bool) → TakesDigits delete_automaton (λ n. at ids (DeletePhase.Digits negative n)) top
   takes_digits ids negative = record {
-    more = λ n d h l. by_digit (at ids (Digits negative n)) d h ∙ digit_fits ids negative n d (10 * n + d) refl l;
+    more = λ n d h l. by_digit (at ids (DeletePhase.Digits negative n)) d h ∙ digit_fits ids negative n d (10 * n + d) refl l;
     begun = λ n. refl;
     number = λ n. refl;
   }
@@ -163,7 +153,7 @@ module _ (limit top : ℕ) where
   -- An id may begin here.
   pub record Opens (ids : List ℤ) (s : S) : Type 0 where
     pub minus : delete_automaton.step s 45 ≡ Go (at ids Minus)
-    pub digit : (d : ℕ) → d < 10 → d ≤ top → delete_automaton.step s (48 + d) ≡ Go (at ids (Digits false d))
+    pub digit : (d : ℕ) → d < 10 → d ≤ top → delete_automaton.step s (48 + d) ≡ Go (at ids (DeletePhase.Digits false d))
 
   gap_opens : (ids : List ℤ) → Opens ids (at ids Gap)
   gap_opens ids = record { minus = refl; digit = λ d h l. by_digit (at ids Gap) d h ∙ digit_fits ids false 0 d d (omega arith) l }
@@ -172,19 +162,19 @@ module _ (limit top : ℕ) where
   between_opens ids = record { minus = refl; digit = λ d h l. by_digit (at ids Between) d h ∙ digit_fits ids false 0 d d (omega arith) l }
 
   number_walks : (ids : List ℤ) (s : S) (negative : Bool) (n : ℕ) (t : List Letter) → Opens ids s → n ≤ top → (Sign negative ⋅ DigitsOf n) t
-      → Walks delete_automaton s t (at ids (Digits negative n))
+      → Walks delete_automaton s t (at ids (DeletePhase.Digits negative n))
   number_walks ids s true n t o l (a, b, e, f, h) =
-      subst (λ x. Walks delete_automaton s x (at ids (Digits true n))) (sym (e ∙ ap (λ x. x ++ b) f)) (
+      subst (λ x. Walks delete_automaton s x (at ids (DeletePhase.Digits true n))) (sym (e ∙ ap (λ x. x ++ b) f)) (
         at ids Minus,
         o.minus,
         refl,
         refl,
-        digits_lead delete_automaton (λ v. at ids (Digits true v)) top (takes_digits ids true) (at ids Minus)
+        digits_lead delete_automaton (λ v. at ids (DeletePhase.Digits true v)) top (takes_digits ids true) (at ids Minus)
             (λ d i j. by_digit (at ids Minus) d i ∙ digit_fits ids true 0 d d (omega arith) j) n l b h,
       )
   number_walks ids s false n t o l (a, b, e, f, h) =
-      subst (λ x. Walks delete_automaton s x (at ids (Digits false n))) (sym (e ∙ ap (λ x. x ++ b) f))
-      (digits_lead delete_automaton (λ v. at ids (Digits false v)) top (takes_digits ids false) s o.digit n l b h)
+      subst (λ x. Walks delete_automaton s x (at ids (DeletePhase.Digits false n))) (sym (e ∙ ap (λ x. x ++ b) f))
+      (digits_lead delete_automaton (λ v. at ids (DeletePhase.Digits false v)) top (takes_digits ids false) s o.digit n l b h)
 
   -- an id leads to a state after which a further one may come
   abbrev Led : S → List ℤ → List Letter → Type 0
@@ -192,9 +182,9 @@ module _ (limit top : ℕ) where
 
   id_walks : (ids : List ℤ) (id : ℤ) (s : S) (t : List Letter) → Opens ids s → SpellsId top id t → Led s (ids ++ id ∷ []) t
   id_walks ids id s t o (negative, n, z, l, e, h) = (
-    at ids (Digits negative n),
+    at ids (DeletePhase.Digits negative n),
     number_walks ids s negative n t o l h,
-    subst (λ x. IsAfter (ids ++ x ∷ []) (at ids (Digits negative n))) (sym e) (digits_after ids negative n z),
+    subst (λ x. IsAfter (ids ++ x ∷ []) (at ids (DeletePhase.Digits negative n))) (sym e) (digits_after ids negative n z),
   )
 
   -- with blanks before it
@@ -206,16 +196,12 @@ module _ (limit top : ℕ) where
         g,
       )
 
-  one_more : (ids : List ℤ) (id : ℤ) (s : S) (t : List Letter) → IsAfter ids s → (Blanks1 ⋅ SpellsId top id) t → Led s (ids ++ id ∷ []) t
-  one_more ids id s t h k = blank_walks ids id s (at ids Between) t (takes_blanks ids s h) (between_opens ids) k
-
   -- further ids, and the end of the line
   row_reads : (ids more : List ℤ) (s : S) (t : List Letter) → IsAfter ids s → (Listed (SpellsId top) more ⋅ LineEnd) t → ReadsStatement delete_automaton s t (ids ++ more) last
   row_reads ids more s t h (a, b, e, i, k) =
-      let (mid, w, g) = listed_walks (SpellsId top) delete_automaton IsAfter one_more ids more s a h i in
-      subst (λ x. ReadsStatement delete_automaton s x (ids ++ more) last) (sym e)
-      (reads_after delete_automaton a b s mid last (ids ++ more) w
-      (line_reads delete_automaton mid (at (ids ++ more) Between) (at (ids ++ more) Closing) last (ids ++ more) (may_end (ids ++ more) mid g) b k))
+      let (mid, w, g) = listed_walks (SpellsId top) delete_automaton IsAfter (λ xs x r u g. blank_walks xs x r (at xs Between) u (takes_blanks xs r g) (between_opens xs)) ids more s a h i in
+      rw e (reads_after delete_automaton a b s mid last (ids ++ more) w
+      (line_reads delete_automaton mid (at (ids ++ more) Between) (at (ids ++ more) DeletePhase.Closing) last (ids ++ more) (may_end (ids ++ more) mid g) b k))
 
   in_gap : TakesBlanks delete_automaton (delete_first top) (at [] Gap)
   in_gap = record { enters = λ b h. by_blank (delete_first top) b h; stays = λ b h. by_blank (at [] Gap) b h; begun = refl; plain = refl }
@@ -225,5 +211,4 @@ module _ (limit top : ℕ) where
   reads_each (id ∷ ids) t (z, (abc, d, e, (ab, c, f, h, i), k)) =
       let g : t ≡ ab ++ (c ++ d) = e ∙ (ap (λ x. x ++ d) f ∙ append_assoc ab c d) in
       let (mid, w, j) = blank_walks [] id (delete_first top) (at [] Gap) ab in_gap (gap_opens []) h in
-      subst (λ x. ReadsStatement delete_automaton (delete_first top) x (id ∷ ids) last) (sym g)
-      (reads_after delete_automaton ab (c ++ d) (delete_first top) mid last (id ∷ ids) w (row_reads (id ∷ []) ids mid (c ++ d) j (c, d, refl, i, k)))
+      rw g (reads_after delete_automaton ab (c ++ d) (delete_first top) mid last (id ∷ ids) w (row_reads (id ∷ []) ids mid (c ++ d) j (c, d, refl, i, k)))

@@ -4,54 +4,51 @@ use Rattle.pb_proof.proofs.Common.{nat_eq, nat_le, refl, subst, suc, sym, true, 
 use Rattle.pb_proof.proofs.Common.{IsOfOne, one_state, never, End, Go, IsState, ReadsStatement, Refuse, reads_before, unmarked, signed, Letter}
 use Rattle.pb_proof.proofs.Common.{NumberByte, DeleteAction, DeletePhase, Between, Done, Gap, Minus, number_byte, before, delete_at, delete_automaton, delete_first}
 use Rattle.pb_proof.proofs.Common.{delete_last, DeleteState, IsDeleteInOrder, SpellsIds, ◌∙◌, IsTrue, admits, end_or_refuse, go_or_refuse, Admits, keeps}
-use Rattle.pb_proof.proofs.Common.{AreDigits, value-grows, Runs, value_from, is_digit, begins_id}
-use Rattle.pb_proof.specs.engine.line.Delete.{act, transition, digits, next_action, is_midway, is_done, is_in_number, ActionFits, PhaseFits}
-use Rattle.pb_proof.specs.declared.line.delete.phase.DeletePhase.TheVariants.{Start, Digits, Closing}
+use Rattle.pb_proof.proofs.Common.{AreDigits, value-grows, Runs, value_from, is_digit, begins_id, delete_transition as transition}
+use Rattle.pb_proof.specs.engine.line.Delete.{act, digits, next_action, is_midway, is_done, is_in_number, ActionFits, PhaseFits}
 use Rattle.pb_proof.proofs.lemmas.delete.Texts.{digits_after, reads_each, Prefix, Whole, keeps_prefix}
 use Rattle.pb_proof.proofs.lemmas.line.Ends.{reads_exactly}
 use Rattle.pb_proof.proofs.lemmas.line.ByteKinds.{number_of_digit}
-use Rattle.pb_proof.specs.declared.line.byte_kind.NumberByte.TheVariants as kind
-use Rattle.pb_proof.specs.declared.line.delete.phase.DeleteAction.TheVariants as action
 
 -- the machine has read the digits of an id, and the byte ends it
 abbrev pub EndsId : DeletePhase → NumberByte → Type 0
-EndsId (Digits negative n) kind.Blank = Unit {0}
-EndsId (Digits negative n) kind.Semicolon = Unit {0}
-EndsId (Digits negative n) kind.Feed = Unit {0}
+EndsId (DeletePhase.Digits negative n) NumberByte.Blank = Unit {0}
+EndsId (DeletePhase.Digits negative n) NumberByte.Semicolon = Unit {0}
+EndsId (DeletePhase.Digits negative n) NumberByte.Feed = Unit {0}
 EndsId _ k = ⊥
 
 -- The phase that a move leads to is midway, an id that is being read is at most top, and one that is stored ends here.
 abbrev pub OnAction : ℕ → DeletePhase → NumberByte → DeleteAction → Type 0
-OnAction top ph k (action.Keep p id) = ActionFits top (action.Keep p id) × EndsId ph k
-OnAction top ph k (action.EndWith id) = EndsId ph k
+OnAction top ph k (DeleteAction.Keep p id) = ActionFits top (DeleteAction.Keep p id) × EndsId ph k
+OnAction top ph k (DeleteAction.EndWith id) = EndsId ph k
 OnAction top ph k m = ActionFits top m
 
 on_digits : (top : ℕ) (ph : DeletePhase) (k : NumberByte) (negative : Bool) (n d : ℕ) → OnAction top ph k (digits top negative n d)
 on_digits top ph k negative n d = cond_both (nat_le (10 * n + d) top) _ _ (OnAction top ph k) (λ e. (leb-true (10 * n + d) top e, refl)) (λ _. tt)
 
 on_before : (top : ℕ) (ph : DeletePhase) (k : NumberByte) → OnAction top ph k (before top k)
-on_before top ph kind.Minus = (tt, refl)
-on_before top ph (kind.Digit d) = on_digits top ph (kind.Digit d) false 0 d
+on_before top ph NumberByte.Minus = (tt, refl)
+on_before top ph (NumberByte.Digit d) = on_digits top ph (NumberByte.Digit d) false 0 d
 on_before top ph _ = tt
 
-on_after : (top : ℕ) (negative : Bool) (n : ℕ) (id : ℤ) (k : NumberByte) → OnAction top (Digits negative n) k (next_action id k)
-on_after top negative n id kind.Blank = ((tt, refl), tt)
-on_after top negative n id kind.Semicolon = ((tt, refl), tt)
+on_after : (top : ℕ) (negative : Bool) (n : ℕ) (id : ℤ) (k : NumberByte) → OnAction top (DeletePhase.Digits negative n) k (next_action id k)
+on_after top negative n id NumberByte.Blank = ((tt, refl), tt)
+on_after top negative n id NumberByte.Semicolon = ((tt, refl), tt)
 on_after top negative n id _ = tt
 
 pub on_transition : (top : ℕ) (ph : DeletePhase) (k : NumberByte) → OnAction top ph k (transition top ph k)
-on_transition top Start kind.Blank = (tt, refl)
-on_transition top Gap kind.Blank = (tt, refl)
+on_transition top DeletePhase.Start NumberByte.Blank = (tt, refl)
+on_transition top Gap NumberByte.Blank = (tt, refl)
 on_transition top Gap k = on_before top Gap k
-on_transition top Between kind.Blank = (tt, refl)
-on_transition top Between kind.Semicolon = (tt, refl)
-on_transition top Between kind.Feed = tt
+on_transition top Between NumberByte.Blank = (tt, refl)
+on_transition top Between NumberByte.Semicolon = (tt, refl)
+on_transition top Between NumberByte.Feed = tt
 on_transition top Between k = on_before top Between k
-on_transition top Minus (kind.Digit d) = on_digits top Minus (kind.Digit d) true 0 d
-on_transition top (Digits negative n) (kind.Digit d) = on_digits top (Digits negative n) (kind.Digit d) negative n d
-on_transition top (Digits negative n) k =
-    cond_both (nat_eq n 0) _ _ (OnAction top (Digits negative n) k) (λ _. tt) (λ _. on_after top negative n (signed negative n) k)
-on_transition top Closing kind.Blank = (tt, refl)
+on_transition top Minus (NumberByte.Digit d) = on_digits top Minus (NumberByte.Digit d) true 0 d
+on_transition top (DeletePhase.Digits negative n) (NumberByte.Digit d) = on_digits top (DeletePhase.Digits negative n) (NumberByte.Digit d) negative n d
+on_transition top (DeletePhase.Digits negative n) k =
+    cond_both (nat_eq n 0) _ _ (OnAction top (DeletePhase.Digits negative n) k) (λ _. tt) (λ _. on_after top negative n (signed negative n) k)
+on_transition top DeletePhase.Closing NumberByte.Blank = (tt, refl)
 on_transition _ _ _ = tt
 
 -- What holds after a step that continues.
@@ -62,9 +59,9 @@ record Steps (top : ℕ) (ids : List ℤ) (next : DeleteState) : Type 0 where
   grows : length next.ids ≤ length ids + 1
 
 acted : (top : ℕ) (ids : List ℤ) (ph : DeletePhase) (k : NumberByte) (m : DeleteAction) (next : DeleteState) → OnAction top ph k m → act top ids m ≡ Go next → Steps top ids next
-acted top ids ph k (action.To p) next h e =
+acted top ids ph k (DeleteAction.To p) next h e =
     subst (λ x. Steps top ids x) (one_state (delete_at top ids p) next e) (record { same_top = refl; fits = h.0; midway = h.1; grows = omega arith })
-acted top ids ph k (action.Keep p id) next h e =
+acted top ids ph k (DeleteAction.Keep p id) next h e =
     subst (λ x. Steps top ids x) (one_state (delete_at top (ids ++ id ∷ []) p) next e)
     (record { same_top = refl; fits = h.0.0; midway = h.0.1; grows = omega (arith, length-append ids (id ∷ [])) })
 acted top ids ph k _ next h e = cc
@@ -74,7 +71,7 @@ continues s next b e =
     acted s.top s.ids s.phase (number_byte b) (transition s.top s.phase (number_byte b)) next (on_transition s.top s.phase (number_byte b)) e
 
 ended : (top : ℕ) (ids : List ℤ) (m : DeleteAction) (next : DeleteState) (e : List ℤ) → act top ids m ≡ End e next → next ≡ delete_last top
-ended top ids (action.To p) next e i = cc
+ended top ids (DeleteAction.To p) next e i = cc
 ended top ids _ next e i = cc
 
 abbrev last : DeleteState → DeleteState
@@ -89,7 +86,7 @@ stops top ids Done k h = refl
 stops top ids _ k h = cc
 
 plain : (ph : DeletePhase) → is_midway ph ≡ false → is_in_number ph ≡ false
-plain (Digits negative n) h = h
+plain (DeletePhase.Digits negative n) h = h
 plain _ h = refl
 
 in_order : (s next : DeleteState) (b : ℕ) → IsDeleteInOrder s → delete_automaton.step s b ≡ Go next → IsDeleteInOrder next
@@ -106,25 +103,24 @@ module _ (top : ℕ) (some : 0 < top) (ids : List ℤ) where
   Some p = ReadsOn delete_automaton (delete_at top ids p)
 
   -- a first digit that is 1
-  one_fits : (negative : Bool) → act top ids (digits top negative 0 1) ≡ Go (delete_at top ids (Digits negative 1))
+  one_fits : (negative : Bool) → act top ids (digits top negative 0 1) ≡ Go (delete_at top ids (DeletePhase.Digits negative 1))
   one_fits negative = rw (le-leb 1 top (omega arith)) refl
 
   -- after digits that are not 0, a line feed
-  some_more : (negative : Bool) (n : ℕ) → Some (Digits negative (suc n))
+  some_more : (negative : Bool) (n : ℕ) → Some (DeletePhase.Digits negative (suc n))
   some_more negative n = (unmarked 10 ∷ [], ids ++ signed negative (suc n) ∷ [], delete_last top, ((digits_after 0 top ids negative (suc n) (omega arith)).feed, refl))
 
-  some_one : (p : DeletePhase) (negative : Bool) → delete_automaton.step (delete_at top ids p) 49 ≡ Go (delete_at top ids (Digits negative 1)) → Some p
-  some_one p negative e = reads_before delete_automaton (delete_at top ids p) (delete_at top ids (Digits negative 1)) 49 e refl (some_more negative 0)
+  some_one : (p : DeletePhase) (negative : Bool) → delete_automaton.step (delete_at top ids p) 49 ≡ Go (delete_at top ids (DeletePhase.Digits negative 1)) → Some p
+  some_one p negative e = reads_before delete_automaton (delete_at top ids p) (delete_at top ids (DeletePhase.Digits negative 1)) 49 e refl (some_more negative 0)
 
   some_text : (p : DeletePhase) → is_done p ≡ false → Some p
-  some_text Start h = reads_before delete_automaton (delete_at top ids Start) (delete_at top ids Gap) 32 refl refl (some_one Gap false (one_fits false))
+  some_text DeletePhase.Start h = reads_before delete_automaton (delete_at top ids DeletePhase.Start) (delete_at top ids Gap) 32 refl refl (some_one Gap false (one_fits false))
   some_text Gap h = some_one Gap false (one_fits false)
-  some_text Between h = (unmarked 10 ∷ [], ids, delete_last top, (refl, refl))
   some_text Minus h = some_one Minus true (one_fits true)
-  some_text (Digits negative zero) h = some_one (Digits negative 0) negative (one_fits negative)
-  some_text (Digits negative (suc n)) h = some_more negative n
-  some_text Closing h = (unmarked 10 ∷ [], ids, delete_last top, (refl, refl))
+  some_text (DeletePhase.Digits negative zero) h = some_one (DeletePhase.Digits negative 0) negative (one_fits negative)
+  some_text (DeletePhase.Digits negative (suc n)) h = some_more negative n
   some_text Done h = cc
+  some_text _ h = (unmarked 10 ∷ [], ids, delete_last top, (refl, refl))
 
 pub delete_of_one : IsOfOne delete_automaton IsDeleteInOrder last
 delete_of_one = record {
@@ -153,8 +149,8 @@ delete_is_state s g = is_state delete_automaton IsDeleteInOrder last delete_of_o
 -- A push of the ids machine does what its transition says.
 
 kept_acts : (top : ℕ) (ids : List ℤ) (m : DeleteAction) → keeps m ≡ true → act top ids m ≡ Refuse → ⊥
-kept_acts top ids (action.Keep p id) h e = go_or_refuse _ e
-kept_acts top ids (action.EndWith id) h e = end_or_refuse _ _ e
+kept_acts top ids (DeleteAction.Keep p id) h e = go_or_refuse _ e
+kept_acts top ids (DeleteAction.EndWith id) h e = end_or_refuse _ _ e
 kept_acts top ids _ h e = cc
 
 -- a push may allocate at a byte that ends an id, and only if the byte is taken
@@ -174,33 +170,32 @@ midway_state top ids p a b f h = delete_is_state (delete_at top ids p) (a, b, f,
 module _ (top : ℕ) (ids : List ℤ) (l : top < 2 ^ 63) (some : 0 < top) where
   -- what a state does with a digit
   abbrev TakesDigits : DeletePhase → ℕ → Type 0
-  TakesDigits p n = (d : ℕ) → transition top p (kind.Digit d) ≡ digits top false n d
+  TakesDigits p n = (d : ℕ) → transition top p (NumberByte.Digit d) ≡ digits top false n d
 
   digit_on : (p : DeletePhase) (n b : ℕ) → TakesDigits p n → IsTrue (is_digit b) → 10 * n + (b - 48) ≤ top
-      → delete_automaton.step (delete_at top ids p) b ≡ Go (delete_at top ids (Digits false (10 * n + (b - 48))))
+      → delete_automaton.step (delete_at top ids p) b ≡ Go (delete_at top ids (DeletePhase.Digits false (10 * n + (b - 48))))
   digit_on p n b s e h =
-      let f : digits top false n (b - 48) ≡ action.To (Digits false (10 * n + (b - 48))) = rw (le-leb (10 * n + (b - 48)) top h) refl in
+      let f : digits top false n (b - 48) ≡ DeleteAction.To (DeletePhase.Digits false (10 * n + (b - 48))) = rw (le-leb (10 * n + (b - 48)) top h) refl in
       ap (act top ids) (ap (transition top p) (number_of_digit b e) ∙ (s (b - 48) ∙ f))
 
   digits_run : (p : DeletePhase) (n b : ℕ) (text : List ℕ) → TakesDigits p n → AreDigits (b ∷ text) → value_from n (b ∷ text) ≤ top
-      → Runs delete_automaton (delete_at top ids p) (b ∷ text) (delete_at top ids (Digits false (value_from n (b ∷ text))))
+      → Runs delete_automaton (delete_at top ids p) (b ∷ text) (delete_at top ids (DeletePhase.Digits false (value_from n (b ∷ text))))
   digits_run p n b [] s h i =
-      (delete_at top ids (Digits false (10 * n + (b - 48))), digit_on p n b s h.0 i, midway_state top ids (Digits false (10 * n + (b - 48))) l some i refl, refl)
+      (delete_at top ids (DeletePhase.Digits false (10 * n + (b - 48))), digit_on p n b s h.0 i, midway_state top ids (DeletePhase.Digits false (10 * n + (b - 48))) l some i refl, refl)
   digits_run p n b (c ∷ text) s h i =
       let fits : 10 * n + (b - 48) ≤ top = omega (arith, value-grows (10 * n + (b - 48)) (c ∷ text)) in (
-        delete_at top ids (Digits false (10 * n + (b - 48))),
+        delete_at top ids (DeletePhase.Digits false (10 * n + (b - 48))),
         digit_on p n b s h.0 fits,
-        midway_state top ids (Digits false (10 * n + (b - 48))) l some fits refl,
-        digits_run (Digits false (10 * n + (b - 48))) (10 * n + (b - 48)) c text (λ d. refl) h.1 i,
+        midway_state top ids (DeletePhase.Digits false (10 * n + (b - 48))) l some fits refl,
+        digits_run (DeletePhase.Digits false (10 * n + (b - 48))) (10 * n + (b - 48)) c text (λ d. refl) h.1 i,
       )
 
   takes_digits : (p : DeletePhase) → begins_id p ≡ true → TakesDigits p 0
   takes_digits Gap e d = refl
-  takes_digits Between e d = refl
   takes_digits _ e d = cc e
 
   -- where an id may begin
   pub id_runs : (p : DeletePhase) (text : List ℕ) (n : ℕ) → begins_id p ≡ true → AreDigits text → 0 < length text → n ≡ value_from 0 text → n ≤ top
-      → Runs delete_automaton (delete_at top ids p) text (delete_at top ids (Digits false n))
+      → Runs delete_automaton (delete_at top ids p) text (delete_at top ids (DeletePhase.Digits false n))
   id_runs p [] n e all h f i = absurd (omega arith)
   id_runs p (b ∷ text) n e all h f i = rw f (digits_run p 0 b text (takes_digits p e) all (subst (λ (m : ℕ). m ≤ top) f i))

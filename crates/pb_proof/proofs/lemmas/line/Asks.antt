@@ -1,32 +1,21 @@
 -- Where the machines of ids, literals and linear texts may allocate.
-use Rattle.pb_proof.proofs.Common.{ℕ, ℤ, ◌++◌, ◌+◌, ◌<◌, ◌||◌, ◌∙◌, ◌∷◌, ◌≡◌, [], ap, Bool, false, inl, IsTrue, List, map, nat_eq, refl, subst}
-use Rattle.pb_proof.proofs.Common.{sym, true, cond_both, false≢true, asks_after, at_name, ends_after, ends_nothing, first_asks_nothing, first_further}
-use Rattle.pb_proof.proofs.Common.{sums_asked, Literal, sums, SumState, AsksLiteral, EndsIn, literal_bytes, prefixes_of, Walks, blank_digit}
-use Rattle.pb_proof.proofs.Common.{digit_byte, letter_name, bytes-append, bytes-plain, is_blank, is_digit, is_letter, is_name_byte, ◌⋅◌, Bytes, digit}
-use Rattle.pb_proof.proofs.Common.{Each, Language, bytes, Letter, NameByte, NumberByte, DeletePhase, RupPhase, SolutionPhase, name_byte, number_byte}
-use Rattle.pb_proof.proofs.Common.{delete_automaton, delete_first, DeleteState, keeps, adds, is_more, solution_automaton, solution_first, SolutionState}
-use Rattle.pb_proof.proofs.Common.{rup_asks, rup_automaton, rup_first, rup_transition, RupState, EndsNumber, DeleteAction}
-use Rattle.pb_text.specs.meaning.Numbers.{Digits as DigitsOf}
-use Rattle.pb_sums.specs.declared.Part as part
-use Rattle.pb_sums.specs.declared.Spaces.TheVariants.{Blank as BlankSpaces}
-use Rattle.pb_proof.specs.engine.line.Delete.{transition}
-use Rattle.pb_proof.specs.engine.line.Solution as literals
-use Rattle.pb_proof.specs.declared.line.rup.phase.RupPhase.TheVariants as rup
-use Rattle.pb_proof.specs.declared.line.delete.phase.DeletePhase.TheVariants.{Digits}
-use Rattle.pb_proof.specs.declared.line.solution.phase.SolutionPhase.TheVariants as at
-use Rattle.pb_proof.specs.declared.line.byte_kind.NumberByte.TheVariants as number
-use Rattle.pb_proof.specs.declared.line.byte_kind.NameByte.TheVariants as name
+use Rattle.pb_proof.proofs.Common.{ℕ, ℤ, ◌++◌, ◌+◌, ◌<◌, ◌||◌, ◌∙◌, ◌∷◌, ◌≡◌, [], ap, Bool, false, inl, IsTrue, List, map, nat_eq, refl, subst, sym, true}
+use Rattle.pb_proof.proofs.Common.{cond_both, false≢true, asks_after, at_name, ends_after, ends_nothing, first_asks_nothing, first_further, sums_asked}
+use Rattle.pb_proof.proofs.Common.{Literal, sums, SumState, AsksLiteral, EndsIn, literal_bytes, prefixes_of, Walks, blank_digit, digit_byte, letter_name}
+use Rattle.pb_proof.proofs.Common.{bytes-append, bytes-plain, is_blank, is_digit, is_letter, is_name_byte, ◌⋅◌, Bytes, digit, Each, Language, bytes, Letter}
+use Rattle.pb_proof.proofs.Common.{NameByte, NumberByte, DeletePhase, RupPhase, SolutionPhase, name_byte, number_byte, delete_automaton, delete_first, DeleteState, keeps}
+use Rattle.pb_proof.proofs.Common.{adds, is_more, solution_automaton, solution_first, SolutionState, rup_asks, rup_automaton, rup_first, rup_transition}
+use Rattle.pb_proof.proofs.Common.{RupState, EndsNumber, DeleteAction, Digits as DigitsOf, delete_transition as transition, Part, Spaces}
+use Rattle.pb_proof.specs.engine.line.Solution as solution
 use Rattle.pb_proof.proofs.lemmas.rup.Reads as reads
 use Rattle.pb_proof.proofs.lemmas.delete.Texts as ids
 use Rattle.pb_proof.proofs.lemmas.solution.Texts as sound
 use Rattle.pb_proof.proofs.lemmas.line.ByteKinds.{NameMeans, name_means, NumberMeans, number_means}
-use Rattle.pb_proof.specs.declared.line.delete.phase.DeleteAction.TheVariants as delete_action
 use Rattle.pb_proof.proofs.lemmas.delete.Theorems as theorems
 
 -- ---- ends of texts
 pub joined_end : (a c t : List Letter) (end : List ℕ) → t ≡ a ++ c → EndsIn (bytes c) end → EndsIn (bytes t) end
-joined_end a c t end e h =
-    subst (λ (x : List ℕ). EndsIn x end) (sym (ap bytes e ∙ bytes-append a c)) (ends_after (bytes a) (bytes c) end h)
+joined_end a c t end e h = subst (λ (x : List ℕ). EndsIn x end) (sym (ap bytes e ∙ bytes-append a c)) (ends_after (bytes a) (bytes c) end h)
 
 digits_last : (d : ℕ) (ds : List ℕ) → Each (λ e. e < 10) (d ∷ ds) → (c : ℕ) × EndsIn (bytes (map digit (d ∷ ds))) (c ∷ []) × IsTrue (is_digit c)
 digits_last d [] h = (48 + d, ([], refl), digit_byte d h.0)
@@ -54,15 +43,15 @@ literal_end P negated bs t (a, c, e, h, k) =
 -- ---- ids
 
 ends_id : (top : ℕ) (ph : DeletePhase) (k : NumberByte) (m : DeleteAction) → theorems.OnAction top ph k m → keeps m ≡ true → theorems.EndsId ph k
-ends_id top ph k (delete_action.Keep p id) f h = f.1
-ends_id top ph k (delete_action.EndWith id) f h = f
+ends_id top ph k (DeleteAction.Keep p id) f h = f.1
+ends_id top ph k (DeleteAction.EndWith id) f h = f
 ends_id top ph k _ f h = absurd (false≢true h)
 
 module _ (limit : ℕ) where
   delete_at : (ph : DeletePhase) (k : NumberByte) (top : ℕ) (held : List ℤ) (t : List Letter) (b : ℕ) → ids.prefix top ph held t → NumberMeans k b → theorems.EndsId ph k → EndsNumber (bytes t) b
-  delete_at (Digits negative n) number.Blank top held t b h m e = number_end _ n t b h.1 (blank_digit b m)
-  delete_at (Digits negative n) number.Semicolon top held t b h m e = number_end _ n t b h.1 (ap is_digit m)
-  delete_at (Digits negative n) number.Feed top held t b h m e = number_end _ n t b h.1 (ap is_digit m)
+  delete_at (DeletePhase.Digits negative n) NumberByte.Blank top held t b h m e = number_end _ n t b h.1 (blank_digit b m)
+  delete_at (DeletePhase.Digits negative n) NumberByte.Semicolon top held t b h m e = number_end _ n t b h.1 (ap is_digit m)
+  delete_at (DeletePhase.Digits negative n) NumberByte.Feed top held t b h m e = number_end _ n t b h.1 (ap is_digit m)
   delete_at _ _ top held t b h m e = absurd e
 
   pub delete_asked : (top : ℕ) (t : List Letter) (s : DeleteState) (b : ℕ) → Walks delete_automaton (delete_first top) t s → delete_automaton.asks s b ≡ true → EndsNumber (bytes t) b
@@ -73,35 +62,35 @@ module _ (limit : ℕ) where
 -- ---- literals
 -- the byte that may allocate: one that may be the next of the name, or any after a complete one
 abbrev Allows : SolutionPhase → ℕ → Type 0
-Allows (at.First negated) b = IsTrue (is_name_byte b)
-Allows (at.More negated) b = Unit {0}
+Allows (SolutionPhase.First negated) b = IsTrue (is_name_byte b)
+Allows (SolutionPhase.More negated) b = Unit {0}
 Allows _ b = IsTrue (is_letter b)
 
 module _ (b : ℕ) where
-  letter : (c : ℕ) → NameMeans (name.Letter c) b → IsTrue (is_letter b)
+  letter : (c : ℕ) → NameMeans (NameByte.Letter c) b → IsTrue (is_letter b)
   letter c m = subst (λ (x : ℕ). IsTrue (is_letter x)) (sym m.0) m.1
 
-  begins : (k : NameByte) → NameMeans k b → (adds (literals.before k) || false) ≡ true → IsTrue (is_letter b)
-  begins (name.Letter c) m h = letter c m
-  begins name.Tilde m h = absurd (false≢true h)
+  begins : (k : NameByte) → NameMeans k b → (adds (solution.before k) || false) ≡ true → IsTrue (is_letter b)
+  begins (NameByte.Letter c) m h = letter c m
+  begins NameByte.Tilde m h = absurd (false≢true h)
   begins _ m h = absurd (false≢true h)
 
-  allows : (joined : Bool) (ph : SolutionPhase) (k : NameByte) → NameMeans k b → (adds (literals.transition joined ph k) || is_more ph) ≡ true → Allows ph b
-  allows true at.Start k m h = begins k m h
-  allows false at.Start name.Blank m h = absurd (false≢true h)
-  allows joined at.Gap k m h = begins k m h
-  allows joined at.Negation (name.Letter c) m h = letter c m
-  allows joined (at.First negated) (name.Letter c) m h = letter_name b (letter c m)
-  allows joined (at.First negated) (name.Inner c) m h = subst (λ (x : ℕ). IsTrue (is_name_byte x)) (sym m.0) m.1
-  allows joined (at.More negated) k m h = tt
-  allows joined at.Closing name.Blank m h = absurd (false≢true h)
+  allows : (joined : Bool) (ph : SolutionPhase) (k : NameByte) → NameMeans k b → (adds (solution.transition joined ph k) || is_more ph) ≡ true → Allows ph b
+  allows true SolutionPhase.Start k m h = begins k m h
+  allows false SolutionPhase.Start NameByte.Blank m h = absurd (false≢true h)
+  allows joined SolutionPhase.Gap k m h = begins k m h
+  allows joined SolutionPhase.Negation (NameByte.Letter c) m h = letter c m
+  allows joined (SolutionPhase.First negated) (NameByte.Letter c) m h = letter_name b (letter c m)
+  allows joined (SolutionPhase.First negated) (NameByte.Inner c) m h = subst (λ (x : ℕ). IsTrue (is_name_byte x)) (sym m.0) m.1
+  allows joined (SolutionPhase.More negated) k m h = tt
+  allows joined SolutionPhase.Closing NameByte.Blank m h = absurd (false≢true h)
   allows joined _ _ m h = absurd (false≢true h)
 
 solution_at : (ph : SolutionPhase) (joined : Bool) (ls : List Literal) (bs : List ℕ) (t : List Letter) (b : ℕ) → sound.prefix joined ph ls bs t → Allows ph b → AsksLiteral (bytes t) b
-solution_at (at.First negated) joined ls bs t b (a, c, e, p, (f, is)) k =
+solution_at (SolutionPhase.First negated) joined ls bs t b (a, c, e, p, (f, is)) k =
     inl (bs, literal_end (sound.Before joined ls) negated bs t (a, c, e, p, is), first_further bs b f k)
-solution_at (at.More negated) joined ls bs t b (a, c, e, p, (f, is)) k = at_name (bytes t) bs b (literal_end (sound.Before joined ls) negated bs t (a, c, e, p, is)) f
-solution_at at.Done joined ls bs t b h k = absurd h
+solution_at (SolutionPhase.More negated) joined ls bs t b (a, c, e, p, (f, is)) k = at_name (bytes t) bs b (literal_end (sound.Before joined ls) negated bs t (a, c, e, p, is)) f
+solution_at SolutionPhase.Done joined ls bs t b h k = absurd h
 solution_at _ joined ls bs t b h k = inl ([], ends_nothing (bytes t), (k, tt))
 
 pub solution_asked : (joined : Bool) (t : List Letter) (s : SolutionState) (b : ℕ) → Walks solution_automaton (solution_first joined) t s → solution_automaton.asks s b ≡ true → AsksLiteral (bytes t) b
@@ -112,17 +101,17 @@ solution_asked joined t s b w h =
 -- ---- linear texts
 module _ (limit top : ℕ) where
   rup_at : (s : RupState) (ph : RupPhase) (t : List Letter) (b : ℕ) → reads.prefix limit top s ph t → rup_asks s b (rup_transition ph b) ≡ true → AsksLiteral (bytes t) b
-  rup_at s rup.Start t b h = cond_both (is_blank b) _ _ (λ m. rup_asks s b m ≡ true → AsksLiteral (bytes t) b) (λ _ k. absurd (false≢true k)) (λ _ k. absurd (false≢true k))
-  rup_at s rup.Gap t b (h, inner, linear) =
+  rup_at s RupPhase.Start t b h = cond_both (is_blank b) _ _ (λ m. rup_asks s b m ≡ true → AsksLiteral (bytes t) b) (λ _ k. absurd (false≢true k)) (λ _ k. absurd (false≢true k))
+  rup_at s RupPhase.Gap t b (h, inner, linear) =
       cond_both (is_blank b) _ _ (λ m. rup_asks s b m ≡ true → AsksLiteral (bytes t) b) (λ _ k. absurd (false≢true k))
-      (λ _ k. absurd (false≢true (sym (ap (λ (x : SumState). sums.asks x b) inner ∙ first_asks_nothing BlankSpaces part.TheVariants.AtLeast limit b) ∙ k)))
-  rup_at s rup.Inside t b (linear, (a, c, e, h, w)) = λ k.
+      (λ _ k. absurd (false≢true (sym (ap (λ (x : SumState). sums.asks x b) inner ∙ first_asks_nothing Spaces.Blank Part.AtLeast limit b) ∙ k)))
+  rup_at s RupPhase.Inside t b (linear, (a, c, e, h, w)) = λ k.
       subst (λ (x : List ℕ). AsksLiteral x b) (sym (ap bytes e ∙ bytes-append a c))
-      (asks_after (bytes a) (bytes c) b (sums_asked BlankSpaces part.TheVariants.AtLeast limit c s.sums b w k))
-  rup_at s rup.Tail t b h =
+      (asks_after (bytes a) (bytes c) b (sums_asked Spaces.Blank Part.AtLeast limit c s.sums b w k))
+  rup_at s RupPhase.Tail t b h =
       cond_both (is_blank b) _ _ (λ m. rup_asks s b m ≡ true → AsksLiteral (bytes t) b) (λ _ k. absurd (false≢true k))
       (λ _. cond_both (nat_eq b 10) _ _ (λ m. rup_asks s b m ≡ true → AsksLiteral (bytes t) b) (λ _ k. absurd (false≢true k)) (λ _ k. absurd (false≢true k)))
-  rup_at s rup.Done t b h = absurd h
+  rup_at s RupPhase.Done t b h = absurd h
 
   pub rup_asked : (t : List Letter) (s : RupState) (b : ℕ) → Walks rup_automaton (rup_first limit) t s → rup_automaton.asks s b ≡ true → AsksLiteral (bytes t) b
   rup_asked t s b w h =

@@ -1,9 +1,8 @@
 -- How a machine reads the end of a line, and what it has read at a position where a line may end.
-use Rattle.pb_proof.proofs.Common.{ℕ, ◌++◌, ◌∙◌, ◌∷◌, ◌≡◌, [], ap, append-nil, append_assoc, false, inl, inr, IsTrue, List, refl, subst, sym, true}
-use Rattle.pb_proof.proofs.Common.{Leads, longer, reads_after, Walks, walks_then, after_it, grown, many-grown, next, none_yet, regroup, regroup3}
-use Rattle.pb_proof.proofs.Common.{some-grown, some-many, some-one, as_unmarked, Automaton, End, Go, ReadsStatement, is_blank, ◌⋅◌, Blanks0, Blanks1}
-use Rattle.pb_proof.proofs.Common.{Byte, Bytes, Each, Empty, Language, unmarked, Letter, Feed, LineEnd, Listed, ◌↔◌, IsOfOne, reads_last, Keeps}
-use Rattle.pb_proof.proofs.Common.{reported}
+use Rattle.pb_proof.proofs.Common.{ℕ, ◌++◌, ◌∙◌, ◌∷◌, ◌≡◌, [], ap, append-nil, append_assoc, false, inl, inr, IsTrue, List, refl, subst, sym, true, Leads}
+use Rattle.pb_proof.proofs.Common.{longer, reads_after, Walks, walks_then, after_it, grown, many-grown, next, none_yet, regroup, regroup3, some-grown}
+use Rattle.pb_proof.proofs.Common.{some-many, some-one, as_unmarked, Automaton, End, Go, ReadsStatement, is_blank, ◌⋅◌, Blanks0, Blanks1, Byte, Bytes, Each}
+use Rattle.pb_proof.proofs.Common.{Empty, Language, unmarked, Letter, Feed, LineEnd, Listed, ◌↔◌, IsOfOne, reads_last, Keeps, reported}
 
 module _ {S E : Type 0} (m : Automaton S E) where
   -- A blank leads from `s` to `gap`, and further blanks stay there.
@@ -40,8 +39,7 @@ module _ {S E : Type 0} (m : Automaton S E) where
   -- blank*, and the text after it, which either state reads
   pub after_blanks : (s gap after : S) (e : E) (t u : List Letter) → TakesBlanks s gap → Blanks0 t → ReadsStatement m s u e after → ReadsStatement m gap u e after → ReadsStatement m s (t ++ u) e after
   after_blanks s gap after e t u h ([], i, f) r q = subst (λ x. ReadsStatement m s (x ++ u) e after) (sym f) r
-  after_blanks s gap after e t u h (b ∷ bs, i, f) r q =
-      reads_after m t u s gap after e (blanks1_lead s gap h t (b, bs, i.0, i.1, f)) q
+  after_blanks s gap after e t u h (b ∷ bs, i, f) r q = reads_after m t u s gap after e (blanks1_lead s gap h t (b, bs, i.0, i.1, f)) q
 
   pub feed_reads : (s gap after : S) (e : E) → Feeds s gap e after → (t : List Letter) → Feed t → ReadsStatement m s t e after
   feed_reads s gap after e h t (a, b, f, i, g) =
@@ -53,25 +51,19 @@ module _ {S E : Type 0} (m : Automaton S E) where
     pub feeds : Feeds s gap e after
     pub finishes : m.step s 59 ≡ Go closing
     pub closes_gap : m.step gap 59 ≡ Go closing
-    pub begun : m.begun closing ≡ true
-    pub plain : m.in_number closing ≡ false
     pub last : Feeds closing closing e after
 
-  semicolon_reads : (s closing after : S) (e : E) (a b : List Letter) → m.step s 59 ≡ Go closing → m.begun closing ≡ true → m.in_number closing ≡ false
-      → Byte 59 a → ReadsStatement m closing b e after → ReadsStatement m s (a ++ b) e after
-  semicolon_reads s closing after e a b g h i f r =
-      subst (λ x. ReadsStatement m s (x ++ b) e after) (sym f) (longer m (unmarked 59) b s closing after e g h (sym i) r)
+  semicolon_reads : (s closing after : S) (e : E) (a b : List Letter) → m.step s 59 ≡ Go closing → Feeds closing closing e after → Byte 59 a → Feed b → ReadsStatement m s (a ++ b) e after
+  semicolon_reads s closing after e a b g h f r =
+      rw f (longer m (unmarked 59) b s closing after e g h.blanks.begun (sym h.blanks.plain) (feed_reads closing closing after e h b r))
 
   pub line_reads : (s gap closing after : S) (e : E) → MayEnd s gap closing e after → (t : List Letter) → LineEnd t → ReadsStatement m s t e after
   line_reads s gap closing after e h t (inl f) = feed_reads s gap after e h.feeds t f
   line_reads s gap closing after e h t (inr k) =
-      let f : (Blanks0 ⋅ (Byte 59 ⋅ Feed)) t = regroup Blanks0 (Byte 59) Feed t k in
-      let (a, b, g, i, (c, d, j, p, q)) = f in
-      let r : ReadsStatement m closing d e after = feed_reads closing closing after e h.last d q in
-      subst (λ x. ReadsStatement m s x e after) (sym (g ∙ ap (λ x. a ++ x) j))
+      let (a, b, g, i, (c, d, j, p, q)) = regroup Blanks0 (Byte 59) Feed t k in
+      rw (g ∙ ap (λ x. a ++ x) j)
       (after_blanks s gap after e a (c ++ d) h.feeds.blanks i
-      (semicolon_reads s closing after e c d h.finishes h.begun h.plain p r)
-      (semicolon_reads gap closing after e c d h.closes_gap h.begun h.plain p r))
+      (semicolon_reads s closing after e c d h.finishes h.last p q) (semicolon_reads gap closing after e c d h.closes_gap h.last p q))
 
 -- What has been read where a line may end, after a text of P: blanks, and then a `;` and blanks.
 abbrev pub Gapped : Language → Language
@@ -122,13 +114,9 @@ module _ (P : Language) (l : Letter) (p : List Letter) where
   pub blank_more : IsTrue (is_blank l.byte) → l.numeral ≡ false → Gapped P p → Gapped P (p ++ l ∷ [])
   blank_more h n k = grown P Blanks0 Blanks0 p l (blank0 h n) k
 
-  semicolon : l.byte ≡ 59 → l.numeral ≡ false → (q : List Letter) → Blanks0 q → (Blanks0 ⋅ Byte 59 ⋅ Blanks0) (q ++ l ∷ [])
-  semicolon h n q k =
-      gapped (Blanks0 ⋅ Byte 59) (q ++ l ∷ [])
-      (next Blanks0 (Byte 59) q l k (ap (λ x. x ∷ []) (as_unmarked l 59 n h)))
-
   pub semicolon_after_blanks : l.byte ≡ 59 → l.numeral ≡ false → Gapped P p → Closing P (p ++ l ∷ [])
-  semicolon_after_blanks h n k = grown P Blanks0 (Blanks0 ⋅ Byte 59 ⋅ Blanks0) p l (semicolon h n) k
+  semicolon_after_blanks h n k = grown P Blanks0 (Blanks0 ⋅ Byte 59 ⋅ Blanks0) p l
+      (λ q i. gapped (Blanks0 ⋅ Byte 59) (q ++ l ∷ []) (next Blanks0 (Byte 59) q l i (ap (λ x. x ∷ []) (as_unmarked l 59 n h)))) k
 
   pub semicolon_after : l.byte ≡ 59 → l.numeral ≡ false → P p → Closing P (p ++ l ∷ [])
   semicolon_after h n k = semicolon_after_blanks h n (gapped P p k)
@@ -151,9 +139,7 @@ module _ (P : Language) (l : Letter) (p : List Letter) where
   line_end_after h n k = line_after_blanks h n (gapped P p k)
 
   pub line_closing : l.byte ≡ 10 → l.numeral ≡ false → Closing P p → (P ⋅ LineEnd) (p ++ l ∷ [])
-  line_closing h n k =
-      grown P (Blanks0 ⋅ Byte 59 ⋅ Blanks0) LineEnd p l
-      (λ q i. inr (grown (Blanks0 ⋅ Byte 59) Blanks0 Feed q l (feed h n) i)) k
+  line_closing h n k = grown P (Blanks0 ⋅ Byte 59 ⋅ Blanks0) LineEnd p l (λ q i. inr (grown (Blanks0 ⋅ Byte 59) Blanks0 Feed q l (feed h n) i)) k
 
 -- One more item of a list, with blanks before it.
 module _ {A : Type 0} (P : A → Language) where
@@ -169,8 +155,7 @@ module _ {A : Type 0} (P : A → Language) where
   pub listed_walks : {S E : Type 0} (m : Automaton S E) (At : List A → S → Type 0)
       → ((xs : List A) (x : A) (s : S) (t : List Letter) → At xs s → (Blanks1 ⋅ P x) t → (next : S) × Walks m s t next × At (xs ++ x ∷ []) next)
       → (xs ys : List A) (s : S) (t : List Letter) → At xs s → Listed P ys t → (next : S) × Walks m s t next × At (xs ++ ys) next
-  listed_walks m At f xs [] s t i e =
-      (s, subst (λ x. Walks m s x s) (sym e) refl, subst (λ x. At x s) (sym (append-nil xs)) i)
+  listed_walks m At f xs [] s t i e = (s, subst (λ x. Walks m s x s) (sym e) refl, subst (λ x. At x s) (sym (append-nil xs)) i)
   listed_walks m At f xs (y ∷ ys) s t i (a, b, e, h, k) =
       let (mid, w, j) = f xs y s a i h in
       let (next, v, g) = listed_walks m At f (xs ++ y ∷ []) ys mid b j k in

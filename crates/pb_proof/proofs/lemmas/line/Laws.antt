@@ -1,13 +1,9 @@
 -- What holds of the machines that read the text after the first word of a statement.
-use Rattle.pb_proof.proofs.Common.{ℕ, ◌<◌, ◌^◌, ◌≡◌, false, List, refl, subst, sym, first_is_state, Blank, IsState, ReadsStatement, Letter}
-use Rattle.pb_proof.proofs.Common.{LineMachine, LineKind, Statement, conclusion_automaton, conclusion_first, conclusion_last, formula_automaton}
-use Rattle.pb_proof.proofs.Common.{formula_last, formula_first, delete_automaton, delete_first, delete_last, solution_automaton, solution_first, solution_last}
-use Rattle.pb_proof.proofs.Common.{line_automaton, line_first, SpellsRest, pol_automaton, pol_first, pol_last, rup_automaton, rup_first, rup_last}
-use Rattle.pb_proof.proofs.Common.{Automaton}
-use Rattle.pb_sums.specs.declared.Part as part
-use Rattle.pb_proof.specs.declared.line.LineMachine as line
+use Rattle.pb_proof.proofs.Common.{ℕ, ◌<◌, ◌^◌, ◌≡◌, false, List, refl, subst, sym, first_is_state, Blank, IsState, ReadsStatement, Letter, LineMachine}
+use Rattle.pb_proof.proofs.Common.{LineKind, Statement, conclusion_automaton, conclusion_first, conclusion_last, formula_automaton, formula_last, formula_first}
+use Rattle.pb_proof.proofs.Common.{delete_automaton, delete_first, delete_last, solution_automaton, solution_first, solution_last, line_automaton, line_first}
+use Rattle.pb_proof.proofs.Common.{SpellsRest, pol_automaton, pol_first, pol_last, rup_automaton, rup_first, rup_last, Automaton, Part}
 use Rattle.pb_proof.specs.declared.machine.phase.LineKind.TheVariants.{Formula, Pol, Rup, Soli, Solx, Delete, Conclusion}
-use Rattle.pb_proof.specs.declared.statement.Statement as statement
 use Rattle.pb_proof.proofs.lemmas.Carried.{Carries, reads_in, reads_out, state_in, begins_in}
 use Rattle.pb_proof.proofs.lemmas.Formula.{formula_reads, formula_is_state, formula_of_one}
 use Rattle.pb_proof.proofs.lemmas.rup.Reads.{rup_reads}
@@ -18,36 +14,36 @@ use Rattle.pb_proof.proofs.lemmas.delete.Theorems.{delete_of_one, delete_reads, 
 use Rattle.pb_proof.proofs.lemmas.conclusion.Theorems.{conclusion_of_one, conclusion_reads, conclusion_is_state}
 use Rattle.pb_text.proofs.lemmas.machine.Living.{BeginsAtOnce}
 
-pub formula_carries : Carries formula_automaton line_automaton line.TheVariants.Formula statement.TheVariants.F
+pub formula_carries : Carries formula_automaton line_automaton LineMachine.Formula Statement.F
 formula_carries = record { step = λ s b. refl; done = λ s. refl; begun = λ s. refl; in_number = λ s. refl; asks = λ s b. refl; kept = λ s. refl; spent = λ s. refl }
 
-pub pol_carries : Carries pol_automaton line_automaton line.TheVariants.Pol statement.TheVariants.Pol
+pub pol_carries : Carries pol_automaton line_automaton LineMachine.Pol Statement.Pol
 pol_carries = record { step = λ s b. refl; done = λ s. refl; begun = λ s. refl; in_number = λ s. refl; asks = λ s b. refl; kept = λ s. refl; spent = λ s. refl }
 
-pub rup_carries : Carries rup_automaton line_automaton line.TheVariants.Rup statement.TheVariants.Rup
+pub rup_carries : Carries rup_automaton line_automaton LineMachine.Rup Statement.Rup
 rup_carries = record { step = λ s b. refl; done = λ s. refl; begun = λ s. refl; in_number = λ s. refl; asks = λ s b. refl; kept = λ s. refl; spent = λ s. refl }
 
-pub soli_carries : Carries solution_automaton line_automaton line.TheVariants.Soli statement.TheVariants.Soli
+pub soli_carries : Carries solution_automaton line_automaton LineMachine.Soli Statement.Soli
 soli_carries = record { step = λ s b. refl; done = λ s. refl; begun = λ s. refl; in_number = λ s. refl; asks = λ s b. refl; kept = λ s. refl; spent = λ s. refl }
 
-pub solx_carries : Carries solution_automaton line_automaton line.TheVariants.Solx statement.TheVariants.Solx
+pub solx_carries : Carries solution_automaton line_automaton LineMachine.Solx Statement.Solx
 solx_carries = record { step = λ s b. refl; done = λ s. refl; begun = λ s. refl; in_number = λ s. refl; asks = λ s b. refl; kept = λ s. refl; spent = λ s. refl }
 
-pub delete_carries : Carries delete_automaton line_automaton line.TheVariants.Delete statement.TheVariants.Delete
+pub delete_carries : Carries delete_automaton line_automaton LineMachine.Delete Statement.Delete
 delete_carries = record { step = λ s b. refl; done = λ s. refl; begun = λ s. refl; in_number = λ s. refl; asks = λ s b. refl; kept = λ s. refl; spent = λ s. refl }
 
-pub conclusion_carries : Carries conclusion_automaton line_automaton line.TheVariants.Conclusion statement.TheVariants.Conclude
+pub conclusion_carries : Carries conclusion_automaton line_automaton LineMachine.Conclusion Statement.Conclude
 conclusion_carries = record { step = λ s b. refl; done = λ s. refl; begun = λ s. refl; in_number = λ s. refl; asks = λ s b. refl; kept = λ s. refl; spent = λ s. refl }
 
 -- Each begins its text with the first byte.
 pub line_begins : BeginsAtOnce line_automaton
-line_begins (line.TheVariants.Formula s) next b e = begins_in _ _ _ _ formula_carries formula_of_one.begins s next b e
-line_begins (line.TheVariants.Pol s) next b e = begins_in _ _ _ _ pol_carries of_one.begins s next b e
-line_begins (line.TheVariants.Rup s) next b e = begins_in _ _ _ _ rup_carries rup_begins s next b e
-line_begins (line.TheVariants.Soli s) next b e = begins_in _ _ _ _ soli_carries solution_of_one.begins s next b e
-line_begins (line.TheVariants.Solx s) next b e = begins_in _ _ _ _ solx_carries solution_of_one.begins s next b e
-line_begins (line.TheVariants.Delete s) next b e = begins_in _ _ _ _ delete_carries delete_of_one.begins s next b e
-line_begins (line.TheVariants.Conclusion s) next b e = begins_in _ _ _ _ conclusion_carries conclusion_of_one.begins s next b e
+line_begins (LineMachine.Formula s) next b e = begins_in _ _ _ _ formula_carries formula_of_one.begins s next b e
+line_begins (LineMachine.Pol s) next b e = begins_in _ _ _ _ pol_carries of_one.begins s next b e
+line_begins (LineMachine.Rup s) next b e = begins_in _ _ _ _ rup_carries rup_begins s next b e
+line_begins (LineMachine.Soli s) next b e = begins_in _ _ _ _ soli_carries solution_of_one.begins s next b e
+line_begins (LineMachine.Solx s) next b e = begins_in _ _ _ _ solx_carries solution_of_one.begins s next b e
+line_begins (LineMachine.Delete s) next b e = begins_in _ _ _ _ delete_carries delete_of_one.begins s next b e
+line_begins (LineMachine.Conclusion s) next b e = begins_in _ _ _ _ conclusion_carries conclusion_of_one.begins s next b e
 
 module _ (limit top : ℕ) where
   -- What a new line machine reads, the machine of the line reads.
@@ -69,13 +65,13 @@ module _ (limit top : ℕ) where
       within _ _ _ conclusion_carries (conclusion_first limit top) Conclusion t e after h (λ c last k. ((conclusion_reads limit top t c last).0 k).0)
 
   pub line_each : (r : LineKind) (t : List Letter) (e : Statement) → SpellsRest limit top r e t → (after : LineMachine) × ReadsStatement line_automaton (line_first limit top r) t e after
-  line_each Formula t (statement.TheVariants.F c) h = (line.TheVariants.Formula (formula_last top), reads_in _ _ _ _ formula_carries t (formula_first top) c (formula_last top) ((formula_reads limit top t c (formula_last top)).1 (h, refl)))
-  line_each Pol t (statement.TheVariants.Pol c) h = (line.TheVariants.Pol (pol_last limit top), reads_in _ _ _ _ pol_carries t (pol_first limit top) c (pol_last limit top) ((pol_reads limit top t c (pol_last limit top)).1 (h, refl)))
-  line_each Rup t (statement.TheVariants.Rup c) h = (line.TheVariants.Rup (rup_last limit), reads_in _ _ _ _ rup_carries t (rup_first limit) c (rup_last limit) ((rup_reads limit top t c (rup_last limit)).1 (h, refl)))
-  line_each Soli t (statement.TheVariants.Soli c) h = (line.TheVariants.Soli (solution_last false), reads_in _ _ _ _ soli_carries t (solution_first false) c (solution_last false) ((solution_reads false t c (solution_last false)).1 (h, refl)))
-  line_each Solx t (statement.TheVariants.Solx c) h = (line.TheVariants.Solx (solution_last false), reads_in _ _ _ _ solx_carries t (solution_first false) c (solution_last false) ((solution_reads false t c (solution_last false)).1 (h, refl)))
-  line_each Delete t (statement.TheVariants.Delete c) h = (line.TheVariants.Delete (delete_last top), reads_in _ _ _ _ delete_carries t (delete_first top) c (delete_last top) ((delete_reads limit top t c (delete_last top)).1 (h, refl)))
-  line_each Conclusion t (statement.TheVariants.Conclude c) h = (line.TheVariants.Conclusion (conclusion_last limit top), reads_in _ _ _ _ conclusion_carries t (conclusion_first limit top) c (conclusion_last limit top) ((conclusion_reads limit top t c (conclusion_last limit top)).1 (h, refl)))
+  line_each Formula t (Statement.F c) h = (LineMachine.Formula (formula_last top), reads_in _ _ _ _ formula_carries t (formula_first top) c (formula_last top) ((formula_reads limit top t c (formula_last top)).1 (h, refl)))
+  line_each Pol t (Statement.Pol c) h = (LineMachine.Pol (pol_last limit top), reads_in _ _ _ _ pol_carries t (pol_first limit top) c (pol_last limit top) ((pol_reads limit top t c (pol_last limit top)).1 (h, refl)))
+  line_each Rup t (Statement.Rup c) h = (LineMachine.Rup (rup_last limit), reads_in _ _ _ _ rup_carries t (rup_first limit) c (rup_last limit) ((rup_reads limit top t c (rup_last limit)).1 (h, refl)))
+  line_each Soli t (Statement.Soli c) h = (LineMachine.Soli (solution_last false), reads_in _ _ _ _ soli_carries t (solution_first false) c (solution_last false) ((solution_reads false t c (solution_last false)).1 (h, refl)))
+  line_each Solx t (Statement.Solx c) h = (LineMachine.Solx (solution_last false), reads_in _ _ _ _ solx_carries t (solution_first false) c (solution_last false) ((solution_reads false t c (solution_last false)).1 (h, refl)))
+  line_each Delete t (Statement.Delete c) h = (LineMachine.Delete (delete_last top), reads_in _ _ _ _ delete_carries t (delete_first top) c (delete_last top) ((delete_reads limit top t c (delete_last top)).1 (h, refl)))
+  line_each Conclusion t (Statement.Conclude c) h = (LineMachine.Conclusion (conclusion_last limit top), reads_in _ _ _ _ conclusion_carries t (conclusion_first limit top) c (conclusion_last limit top) ((conclusion_reads limit top t c (conclusion_last limit top)).1 (h, refl)))
   line_each _ t _ h = absurd h
 
   -- A new one has not begun, has not ended, and reads no number.
@@ -87,7 +83,7 @@ module _ (limit top : ℕ) where
   pub line_first_state : limit < 2 ^ 127 → top < 2 ^ 63 → 0 < top → (r : LineKind) → IsState line_automaton (line_first limit top r)
   line_first_state l t some Formula = state_in _ _ _ _ formula_carries (formula_first top) (formula_is_state (formula_first top) (t, tt))
   line_first_state l t some Pol = state_in _ _ _ _ pol_carries (pol_first limit top) (pol_is_state (pol_first limit top) (pol_first_in_order limit top some))
-  line_first_state l t some Rup = state_in _ _ _ _ rup_carries (rup_first limit) (rup_is_state (rup_first limit) (rup_first_in_order limit (first_is_state Blank part.TheVariants.AtLeast limit)))
+  line_first_state l t some Rup = state_in _ _ _ _ rup_carries (rup_first limit) (rup_is_state (rup_first limit) (rup_first_in_order limit (first_is_state Blank Part.AtLeast limit)))
   line_first_state l t some Soli = state_in _ _ _ _ soli_carries (solution_first false) (solution_is_state (solution_first false) (λ i. (refl, refl)))
   line_first_state l t some Solx = state_in _ _ _ _ solx_carries (solution_first false) (solution_is_state (solution_first false) (λ i. (refl, refl)))
   line_first_state l t some Delete = state_in _ _ _ _ delete_carries (delete_first top) (delete_is_state (delete_first top) (t, some, tt, λ i. refl))

@@ -1,18 +1,16 @@
 -- The letters of canonical text.
 use Rattle.pb_proof.proofs.Common.{ℕ, ℤ, ◌++◌, ◌∙◌, ◌∷◌, ◌≡◌, [], ap, append_assoc, ap₂, List, None, Option, refl, Some, sym, decimal, signed_decimal}
 use Rattle.pb_proof.proofs.Common.{bytes-degree, bytes-linear, degree_text, linear_bytes, linear_text, literal_text, space, Literal, literal_bytes}
-use Rattle.pb_proof.proofs.Common.{bytes-append, bytes-digits, bytes-plain, unmarked, bytes, digits_of, Letter, plain, Bound, Finite, Infinite}
-use Rattle.pb_proof.proofs.Common.{Conclusion, Bounds, NoClaim, Sat, Unsat, Statement, Conclude, Delete, F, Header, Output, Pol, Rup, Soli, Solx}
-use Rattle.pb_proof.proofs.Common.{PolWord, Add, Axiom, Divide, Id, Multiply, Saturate, Weaken, bound_bytes, conclusion_bytes, id_shown_bytes}
-use Rattle.pb_proof.proofs.Common.{listed_bytes, literal_line, shown_bytes, statement_bytes, word_bytes, bounds_word, conclusion_word, del_word}
-use Rattle.pb_proof.proofs.Common.{end_word, f_word, id_word, inf_word, none_word, output_word, pol_word, proof_word, pseudo_word, rup_word, sat_word}
-use Rattle.pb_proof.proofs.Common.{soli_word, solx_word, two_word, unsat_word, version_word, ◌<◌, ◌^◌, ◌≤◌, All, arith, false, pos, suc, true, negsuc}
-use Rattle.pb_proof.proofs.Common.{ints, All-head, All-tail, degree, linear-spelled, Blank, IsName, SpellsLinear, SpellsLiteral, decimal-digits, ◌⋅◌}
-use Rattle.pb_proof.proofs.Common.{Blanks0, Blanks1, Byte, Bytes, Language, Count, AreLiterals, IfGiven, IsBound, IsConclusion, IsFactor, IsId}
-use Rattle.pb_proof.proofs.Common.{IsStatementValue, IsWord, Factor, Feed, IdShown, LineEnd, Listed, LiteralsShown, SpellsBound, SpellsConclusion}
-use Rattle.pb_proof.proofs.Common.{SpellsConclusionLine, SpellsCount, SpellsId, SpellsIds, SpellsLiterals, SpellsRup, SpellsShown, SpellsStatement}
-use Rattle.pb_proof.proofs.Common.{SpellsWord, SpellsWords}
-use Rattle.pb_proof.specs.declared.statement.Statement.TheVariants.{End}
+use Rattle.pb_proof.proofs.Common.{bytes-append, bytes-digits, bytes-plain, unmarked, bytes, digits_of, Letter, plain, Bound, Finite, Infinite, Conclusion}
+use Rattle.pb_proof.proofs.Common.{Bounds, NoClaim, Sat, Unsat, Statement, Conclude, Delete, F, Header, Output, Pol, Rup, Soli, Solx, PolWord, Add, Axiom}
+use Rattle.pb_proof.proofs.Common.{Divide, Id, Multiply, Saturate, Weaken, bound_bytes, conclusion_bytes, id_shown_bytes, listed_bytes, literal_line}
+use Rattle.pb_proof.proofs.Common.{shown_bytes, statement_bytes, word_bytes, bounds_word, conclusion_word, del_word, end_word, f_word, id_word, inf_word}
+use Rattle.pb_proof.proofs.Common.{none_word, output_word, pol_word, proof_word, pseudo_word, rup_word, sat_word, soli_word, solx_word, two_word, unsat_word}
+use Rattle.pb_proof.proofs.Common.{version_word, ◌<◌, ◌^◌, ◌≤◌, All, arith, false, pos, suc, true, negsuc, ints, All-head, All-tail, degree, linear-spelled}
+use Rattle.pb_proof.proofs.Common.{Blank, IsName, SpellsLinear, SpellsLiteral, decimal-digits, ◌⋅◌, Blanks0, Blanks1, Byte, Bytes, Language, Count}
+use Rattle.pb_proof.proofs.Common.{AreLiterals, IfGiven, IsBound, IsConclusion, IsFactor, IsId, IsStatementValue, IsWord, Factor, Feed, IdShown, LineEnd}
+use Rattle.pb_proof.proofs.Common.{Listed, LiteralsShown, SpellsBound, SpellsConclusion, SpellsConclusionLine, SpellsCount, SpellsId, SpellsIds}
+use Rattle.pb_proof.proofs.Common.{SpellsLiterals, SpellsRup, SpellsShown, SpellsStatement, SpellsWord, SpellsWords}
 use Rattle.pb_proof.proofs.lemmas.Written.{listed_none, listed-cons}
 use Rattle.pb_proof.proofs.lemmas.line.Ends.{fed, ended}
 
@@ -75,10 +73,10 @@ line_text (Solx ls) = plain solx_word ++ (listed_text literal_text ls ++ feed)
 line_text (Delete ids) = plain del_word ++ space ++ plain id_word ++ (listed_text degree_text ids ++ feed)
 line_text Output = plain output_word ++ space ++ plain none_word ++ feed
 line_text (Conclude c) = plain conclusion_word ++ (space ++ conclusion_text c ++ feed)
-line_text End = plain end_word ++ space ++ plain pseudo_word ++ space ++ plain proof_word
+line_text Statement.End = plain end_word ++ space ++ plain pseudo_word ++ space ++ plain proof_word
 
 abbrev pub line_bytes : Statement → List ℕ
-line_bytes End = statement_bytes End
+line_bytes Statement.End = statement_bytes Statement.End
 line_bytes s = statement_bytes s ++ (10 ∷ [])
 
 -- The bytes of a text in parts.
@@ -95,11 +93,10 @@ following a x b h = join (a ++ space) (one b) (x ++ (32 ∷ [])) (b ∷ []) (joi
 bytes-word : (w : PolWord) → bytes (word_text w) ≡ word_bytes w
 bytes-word (Id id) = bytes-degree id
 bytes-word (Axiom l) = bytes-literal l
-bytes-word Add = refl
 bytes-word (Multiply k) = following (degree_text k) (signed_decimal k) 42 (bytes-degree k)
 bytes-word (Divide k) = following (degree_text k) (signed_decimal k) 100 (bytes-degree k)
-bytes-word Saturate = refl
 bytes-word (Weaken name) = following (plain name) name 119 (bytes-plain name)
+bytes-word _ = refl
 
 bytes-listed : {A : Type 0} (text : A → List Letter) (line : A → List ℕ) → ((x : A) → bytes (text x) ≡ line x) → (xs : List A) → bytes (listed_text text xs) ≡ listed_bytes line xs
 bytes-listed text line f [] = sym (listed_none line)
@@ -127,10 +124,8 @@ bounds_grouped w l i u s = simp append_assoc
 
 bytes-conclusion : (c : Conclusion) → bytes (conclusion_text c) ≡ conclusion_bytes c
 bytes-conclusion NoClaim = refl
-bytes-conclusion (Unsat id) =
-    join (plain unsat_word) (id_shown_text id) unsat_word (id_shown_bytes id) refl (bytes-id id)
-bytes-conclusion (Sat shown) =
-    join (plain sat_word) (shown_text shown) sat_word (shown_bytes shown) refl (bytes-shown shown)
+bytes-conclusion (Unsat id) = join (plain unsat_word) (id_shown_text id) unsat_word (id_shown_bytes id) refl (bytes-id id)
+bytes-conclusion (Sat shown) = join (plain sat_word) (shown_text shown) sat_word (shown_bytes shown) refl (bytes-shown shown)
 bytes-conclusion (Bounds lower id upper shown) =
     let a : List Letter = plain bounds_word ++ space ++ bound_text lower in
     let b : List Letter = a ++ id_shown_text id ++ space in
@@ -147,7 +142,6 @@ bytes-count None = refl
 bytes-count (Some n) = bytes-fed f_word (space ++ digits_of (decimal n)) (32 ∷ decimal n) (ap (λ y. 32 ∷ y) (bytes-digits (decimal n)))
 
 pub bytes-line : (s : Statement) → bytes (line_text s) ≡ line_bytes s
-bytes-line Header = refl
 bytes-line (F count) = bytes-count count
 bytes-line (Pol ws) = bytes-fed pol_word (listed_text word_text ws) (listed_bytes word_bytes ws) (bytes-listed word_text word_bytes bytes-word ws)
 bytes-line (Rup c) = bytes-fed rup_word (space ++ linear_text c) (32 ∷ linear_bytes c) (ap (λ y. 32 ∷ y) (bytes-linear c))
@@ -155,9 +149,8 @@ bytes-line (Soli ls) = bytes-fed soli_word (listed_text literal_text ls) (listed
 bytes-line (Solx ls) = bytes-fed solx_word (listed_text literal_text ls) (listed_bytes literal_line ls) (bytes-listed literal_text literal_line bytes-literal ls)
 bytes-line (Delete ids) =
     bytes-fed (del_word ++ (32 ∷ []) ++ id_word) (listed_text degree_text ids) (listed_bytes signed_decimal ids) (bytes-listed degree_text signed_decimal bytes-degree ids)
-bytes-line Output = refl
 bytes-line (Conclude c) = bytes-fed conclusion_word (space ++ conclusion_text c) (32 ∷ conclusion_bytes c) (ap (λ y. 32 ∷ y) (bytes-conclusion c))
-bytes-line End = refl
+bytes-line _ = refl
 
 -- The canonical text of a statement that meets the rules is a text of it.
 
@@ -201,9 +194,6 @@ id_spelled : (top : ℕ) → top < 2 ^ 63 → (id : ℤ) → IsId top id → Spe
 id_spelled top t (pos n) h = (false, n, h.0, h.1, refl, ([], digits_of (decimal n), refl, refl, decimal-digits n (omega (arith, h.1))))
 id_spelled top t (negsuc n) h = (true, suc n, h.0, h.1, refl, (one 45, digits_of (decimal (suc n)), refl, refl, decimal-digits (suc n) (omega (arith, h.1))))
 
-count_spelled : (top : ℕ) → top < 2 ^ 63 → (n : ℕ) → n ≤ top → Count top n (digits_of (decimal n))
-count_spelled top t n h = (h, decimal-digits n (omega arith))
-
 module _ (limit : ℕ) (small : limit < 2 ^ 127) where
   factor_spelled : (k : ℤ) → IsFactor limit k → Factor limit k (degree_text k)
   factor_spelled (pos n) h = (n, omega (arith, ints, h.0), omega (arith, ints, h.1), refl, decimal-digits n (omega (arith, ints, h.1)))
@@ -223,11 +213,10 @@ module _ (limit : ℕ) (small : limit < 2 ^ 127) where
     word_spelled : (w : PolWord) → IsWord limit top w → SpellsWord limit top w (word_text w)
     word_spelled (Id id) h = id_spelled top low id h
     word_spelled (Axiom l) h = literal_spelled l h
-    word_spelled Add h = refl
     word_spelled (Multiply k) h = spaced (Factor limit k) (Byte 42) (degree_text k) (one 42) (factor_spelled k h) refl
     word_spelled (Divide k) h = spaced (Factor limit k) (Byte 100) (degree_text k) (one 100) (factor_spelled k h) refl
-    word_spelled Saturate h = refl
     word_spelled (Weaken name) h = (h, spaced (Bytes name) (Byte 119) (plain name) (one 119) refl refl)
+    word_spelled _ h = refl
 
     conclusion_spelled : (c : Conclusion) → IsConclusion limit top c → SpellsConclusion limit top c (conclusion_text c)
     conclusion_spelled NoClaim h = refl
@@ -249,7 +238,7 @@ module _ (limit : ℕ) (small : limit < 2 ^ 127) where
     f_spelled : (count : Option ℕ) → IfGiven (λ n. n ≤ top) count → SpellsCount limit top count (count_text count)
     f_spelled None h = ended
     f_spelled (Some n) h =
-        both (Blanks1 ⋅ Count top n) LineEnd (space ++ digits_of (decimal n)) feed (both Blanks1 (Count top n) space (digits_of (decimal n)) space1 (count_spelled top low n h)) ended
+        both (Blanks1 ⋅ Count top n) LineEnd (space ++ digits_of (decimal n)) feed (both Blanks1 (Count top n) space (digits_of (decimal n)) space1 (h, decimal-digits n (omega (arith, h)))) ended
 
     pub line_spelled : (s : Statement) → IsStatementValue limit top s → SpellsStatement limit top s (line_text s)
     line_spelled Header h =
@@ -281,6 +270,6 @@ module _ (limit : ℕ) (small : limit < 2 ^ 127) where
     line_spelled (Conclude c) h =
         both (Bytes conclusion_word) (SpellsConclusionLine limit top c) (plain conclusion_word) (space ++ conclusion_text c ++ feed) refl
         (both (Blanks1 ⋅ SpellsConclusion limit top c) LineEnd (space ++ conclusion_text c) feed (both Blanks1 (SpellsConclusion limit top c) space (conclusion_text c) space1 (conclusion_spelled c h)) ended)
-    line_spelled End h =
+    line_spelled Statement.End h =
         spaced (Bytes end_word ⋅ Blanks1 ⋅ Bytes pseudo_word) (Bytes proof_word) (plain end_word ++ space ++ plain pseudo_word) (plain proof_word)
         (spaced (Bytes end_word) (Bytes pseudo_word) (plain end_word) (plain pseudo_word) refl refl) refl

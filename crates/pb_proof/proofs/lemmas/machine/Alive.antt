@@ -1,17 +1,10 @@
 -- From each state that the proof machine can be in, some text is accepted.
 use Rattle.pb_proof.proofs.Common.{ℕ, ◌++◌, ◌+◌, ◌<◌, ◌^◌, ◌∙◌, ◌∷◌, ◌≡◌, [], append_assoc, arith, Bool, drop, false, length, length-append, List}
-use Rattle.pb_proof.proofs.Common.{nat_eq, None, refl, Some, subst, suc, sym, take, true, slice_index, split_at, eqb-true, length-take-le, accepted}
-use Rattle.pb_proof.proofs.Common.{final, IsAlive, reads_on, ReadsOn, AcceptsItems, IsState, Blanks1, Byte, unmarked, Item, Letter, plain, NoClaim}
+use Rattle.pb_proof.proofs.Common.{None, refl, Some, subst, suc, sym, take, true, slice_index, split_at, eqb-true, length-take-le, accepted}
+use Rattle.pb_proof.proofs.Common.{final, IsAlive, reads_on, ReadsOn, AcceptsItems, IsState, unmarked, Item, Letter, plain, NoClaim}
 use Rattle.pb_proof.proofs.Common.{LineMachine, Keyword, LineKind, Stage, Closing, Complete, Formula, Opening, Steps, Statement, line_automaton}
 use Rattle.pb_proof.proofs.Common.{line_first, act, at, giving, HasGaps, Holds, idle, IsInOrder, next_stage, proofs, ProofState, next_action}
-use Rattle.pb_proof.proofs.Common.{words_of, conclusion_word, f_word, none_word, IsStaged}
-use Rattle.pb_proof.specs.engine.machine.State.{PhaseFits}
-use Rattle.pb_proof.specs.declared.machine.phase.Keyword.TheVariants as keyword
-use Rattle.pb_proof.specs.declared.machine.phase.Stage.TheVariants.{Concluding}
-use Rattle.pb_proof.specs.declared.machine.phase.LineKind.TheVariants as kind
-use Rattle.pb_proof.specs.declared.machine.phase.Phase.{Phase}
-use Rattle.pb_proof.specs.declared.machine.phase.Phase.TheVariants as phase
-use Rattle.pb_proof.specs.declared.statement.Statement as statement
+use Rattle.pb_proof.proofs.Common.{words_of, conclusion_word, f_word, none_word, IsStaged, ProofPhaseFits as PhaseFits, ProofPhase as Phase}
 use Rattle.pb_proof.proofs.lemmas.line.Laws.{line_begins, line_fresh, line_first_state}
 use Rattle.pb_text.proofs.lemmas.machine.Living.{before}
 use Rattle.pb_proof.proofs.lemmas.machine.Complete.{spelt, header_end, output_end, step_on, step_last, given_reads, meets_any}
@@ -22,11 +15,7 @@ use Rattle.pb_proof.proofs.lemmas.line.Ends.{fed, ended}
 
 -- the words as they are written
 one_plain : (c : ℕ) → One c (unmarked c ∷ [])
-one_plain c = by_test (nat_eq c 32) refl
-  where
-    by_test : (x : Bool) → nat_eq c 32 ≡ x → chooses x Blanks1 (Byte c) (unmarked c ∷ [])
-    by_test true e = let is : c ≡ 32 = eqb-true c 32 e in subst (λ b. Blanks1 (unmarked b ∷ [])) (sym is) (32, [], refl, tt, refl)
-    by_test false e = refl
+one_plain c = grind (arith, chooses, eqb-true)
 
 plain_spaced : (w : List ℕ) → Spaced w (plain w)
 plain_spaced [] = refl
@@ -40,30 +29,30 @@ item text e = record { gap = []; text = text; event = e }
 
 -- an example of what may come at each stage
 abbrev closing_lines : List (Item Statement)
-closing_lines = item (plain (words_of keyword.End)) statement.TheVariants.End ∷ []
+closing_lines = item (plain (words_of Keyword.End)) Statement.End ∷ []
 
 abbrev conclusion_lines : List (Item Statement)
-conclusion_lines = item (plain conclusion_word ++ (plain (32 ∷ none_word) ++ unmarked 10 ∷ [])) (statement.TheVariants.Conclude NoClaim) ∷ closing_lines
+conclusion_lines = item (plain conclusion_word ++ (plain (32 ∷ none_word) ++ unmarked 10 ∷ [])) (Statement.Conclude NoClaim) ∷ closing_lines
 
 abbrev step_lines : List (Item Statement)
-step_lines = item (plain (words_of keyword.Output) ++ unmarked 10 ∷ []) statement.TheVariants.Output ∷ conclusion_lines
+step_lines = item (plain (words_of Keyword.Output) ++ unmarked 10 ∷ []) Statement.Output ∷ conclusion_lines
 
 abbrev formula_lines : List (Item Statement)
-formula_lines = item (plain f_word ++ unmarked 10 ∷ []) (statement.TheVariants.F None) ∷ step_lines
+formula_lines = item (plain f_word ++ unmarked 10 ∷ []) (Statement.F None) ∷ step_lines
 
 abbrev pub example : Stage → List (Item Statement)
 example Complete = []
 example Closing = closing_lines
-example Concluding = conclusion_lines
+example Stage.Concluding = conclusion_lines
 example Steps = step_lines
 example Formula = formula_lines
-example Opening = item (plain (words_of keyword.Header) ++ unmarked 10 ∷ []) statement.TheVariants.Header ∷ formula_lines
+example Opening = item (plain (words_of Keyword.Header) ++ unmarked 10 ∷ []) Statement.Header ∷ formula_lines
 
 module _ (limit top : ℕ) where
   closing_ordered : IsStaged limit top Closing closing_lines
-  closing_ordered = (no_gap, refl, written keyword.End, refl)
+  closing_ordered = (no_gap, refl, written Keyword.End, refl)
 
-  conclusion_ordered : IsStaged limit top Concluding conclusion_lines
+  conclusion_ordered : IsStaged limit top Stage.Concluding conclusion_lines
   conclusion_ordered = (
     no_gap,
     refl,
@@ -78,7 +67,7 @@ module _ (limit top : ℕ) where
   )
 
   steps_ordered : IsStaged limit top Steps step_lines
-  steps_ordered = (no_gap, refl, (plain (words_of keyword.Output), unmarked 10 ∷ [], refl, written keyword.Output, ended), conclusion_ordered)
+  steps_ordered = (no_gap, refl, (plain (words_of Keyword.Output), unmarked 10 ∷ [], refl, written Keyword.Output, ended), conclusion_ordered)
 
   formula_ordered : IsStaged limit top Formula formula_lines
   formula_ordered = (no_gap, refl, (plain f_word, unmarked 10 ∷ [], refl, refl, ended), steps_ordered)
@@ -86,19 +75,19 @@ module _ (limit top : ℕ) where
   example_ordered : (s : Stage) → IsStaged limit top s (example s)
   example_ordered Complete = refl
   example_ordered Closing = closing_ordered
-  example_ordered Concluding = conclusion_ordered
+  example_ordered Stage.Concluding = conclusion_ordered
   example_ordered Steps = steps_ordered
   example_ordered Formula = formula_ordered
-  example_ordered Opening = (refl, refl, (plain (words_of keyword.Header), unmarked 10 ∷ [], refl, written keyword.Header, fed), formula_ordered)
+  example_ordered Opening = (refl, refl, (plain (words_of Keyword.Header), unmarked 10 ∷ [], refl, written Keyword.Header, fed), formula_ordered)
 
   pub stage_accepts : (s : Stage) → AcceptsItems proofs (idle limit top s) (example s)
   stage_accepts s = ordered_each limit top (example s) s (example_ordered s)
 
   pub header_end_alive : IsAlive proofs (header_end limit top)
-  header_end_alive = final proofs (header_end limit top) (idle limit top Formula) 10 statement.TheVariants.Header refl (example Formula) (stage_accepts Formula)
+  header_end_alive = final proofs (header_end limit top) (idle limit top Formula) 10 Statement.Header refl (example Formula) (stage_accepts Formula)
 
   pub output_end_alive : (may : Bool) → IsAlive proofs (output_end limit top may)
-  output_end_alive may = final proofs (output_end limit top may) (idle limit top Concluding) 10 statement.TheVariants.Output refl (example Concluding) (stage_accepts Concluding)
+  output_end_alive may = final proofs (output_end limit top may) (idle limit top Stage.Concluding) 10 Statement.Output refl (example Stage.Concluding) (stage_accepts Stage.Concluding)
 
   pub reading_alive : (r : LineKind) (i : LineMachine) → ReadsOn line_automaton i → IsAlive proofs (giving limit top r i)
   reading_alive r i (text, e, last, h) = record {
@@ -117,19 +106,19 @@ module _ (limit top : ℕ) where
     pub first_alive : (r : LineKind) → IsAlive proofs (giving limit top r (line_first limit top r))
     first_alive r = inside_alive r (line_first limit top r) (line_first_state limit top l t some r) (line_fresh limit top r).0
 
-    pub solution_alive : IsAlive proofs (at limit top phase.Solution)
-    solution_alive = before proofs (at limit top phase.Solution) (giving limit top kind.Soli (line_first limit top kind.Soli)) 105 refl refl (first_alive kind.Soli)
+    pub solution_alive : IsAlive proofs (at limit top Phase.Solution)
+    solution_alive = before proofs (at limit top Phase.Solution) (giving limit top LineKind.Soli (line_first limit top LineKind.Soli)) 105 refl refl (first_alive LineKind.Soli)
 
     after_alive : (f : Keyword) (k c : ℕ) → proofs.step (spelt limit top f k) c ≡ act (spelt limit top f k) c (next_action f) → IsAlive proofs (spelt limit top f k)
-    after_alive keyword.Header k c e = before proofs (spelt limit top keyword.Header k) (header_end limit top) c e refl header_end_alive
-    after_alive keyword.Formula k c e = before proofs (spelt limit top keyword.Formula k) (giving limit top kind.Formula (line_first limit top kind.Formula)) c e refl (first_alive kind.Formula)
-    after_alive keyword.Pol k c e = before proofs (spelt limit top keyword.Pol k) (giving limit top kind.Pol (line_first limit top kind.Pol)) c e refl (first_alive kind.Pol)
-    after_alive keyword.Rup k c e = before proofs (spelt limit top keyword.Rup k) (giving limit top kind.Rup (line_first limit top kind.Rup)) c e refl (first_alive kind.Rup)
-    after_alive keyword.Solution k c e = before proofs (spelt limit top keyword.Solution k) (at limit top phase.Solution) c e refl solution_alive
-    after_alive keyword.Delete k c e = before proofs (spelt limit top keyword.Delete k) (giving limit top kind.Delete (line_first limit top kind.Delete)) c e refl (first_alive kind.Delete)
-    after_alive keyword.Output k c e = before proofs (spelt limit top keyword.Output k) (output_end limit top true) c e refl (output_end_alive true)
-    after_alive keyword.Conclusion k c e = before proofs (spelt limit top keyword.Conclusion k) (giving limit top kind.Conclusion (line_first limit top kind.Conclusion)) c e refl (first_alive kind.Conclusion)
-    after_alive keyword.End k c e = final proofs (spelt limit top keyword.End k) (idle limit top Complete) c statement.TheVariants.End e [] refl
+    after_alive Keyword.Header k c e = before proofs (spelt limit top Keyword.Header k) (header_end limit top) c e refl header_end_alive
+    after_alive Keyword.Formula k c e = before proofs (spelt limit top Keyword.Formula k) (giving limit top LineKind.Formula (line_first limit top LineKind.Formula)) c e refl (first_alive LineKind.Formula)
+    after_alive Keyword.Pol k c e = before proofs (spelt limit top Keyword.Pol k) (giving limit top LineKind.Pol (line_first limit top LineKind.Pol)) c e refl (first_alive LineKind.Pol)
+    after_alive Keyword.Rup k c e = before proofs (spelt limit top Keyword.Rup k) (giving limit top LineKind.Rup (line_first limit top LineKind.Rup)) c e refl (first_alive LineKind.Rup)
+    after_alive Keyword.Solution k c e = before proofs (spelt limit top Keyword.Solution k) (at limit top Phase.Solution) c e refl solution_alive
+    after_alive Keyword.Delete k c e = before proofs (spelt limit top Keyword.Delete k) (giving limit top LineKind.Delete (line_first limit top LineKind.Delete)) c e refl (first_alive LineKind.Delete)
+    after_alive Keyword.Output k c e = before proofs (spelt limit top Keyword.Output k) (output_end limit top true) c e refl (output_end_alive true)
+    after_alive Keyword.Conclusion k c e = before proofs (spelt limit top Keyword.Conclusion k) (giving limit top LineKind.Conclusion (line_first limit top LineKind.Conclusion)) c e refl (first_alive LineKind.Conclusion)
+    after_alive Keyword.End k c e = final proofs (spelt limit top Keyword.End k) (idle limit top Complete) c Statement.End e [] refl
 
     spelling_on : (f : Keyword) (before_it left : List ℕ) (c : ℕ) → words_of f ≡ before_it ++ c ∷ left → IsAlive proofs (spelt limit top f (length before_it))
     spelling_on f before_it [] c e = after_alive f (length before_it) c (step_last limit top f before_it c c e (meets_any c))
@@ -151,33 +140,28 @@ at_accepts : (s : ProofState) (p : Phase) → s.phase ≡ p → s.line ≡ None 
 at_accepts s p e h alive = accepted proofs s (subst (IsAlive proofs) (sym (is_at s p e h)) alive)
 
 -- after the line feed of a comment
-comment_accepts : (limit top : ℕ) (s : Stage) → HasGaps s → (items : List (Item Statement)) → AcceptsItems proofs (idle limit top s) items → (items' : List (Item Statement)) × AcceptsItems proofs (at limit top (phase.Comment s)) items'
+comment_accepts : (limit top : ℕ) (s : Stage) → HasGaps s → (items : List (Item Statement)) → AcceptsItems proofs (idle limit top s) items → (items' : List (Item Statement)) × AcceptsItems proofs (at limit top (Phase.Comment s)) items'
 comment_accepts limit top Opening h items a = absurd h
 comment_accepts limit top Complete h items a = absurd h
-comment_accepts limit top s h [] a = absurd (none s h a)
-  where
-    none : (s : Stage) → HasGaps s → AcceptsItems proofs (idle limit top s) [] → ⊥
-    none Opening h a = h
-    none Complete h a = h
-    none _ h a = cc
+comment_accepts limit top s h [] a = absurd (let f : ⊥ = cc in f)
 comment_accepts limit top s h (i ∷ items) (mid, after, g, r, a) =
     (record { gap = 10 ∷ i.gap; text = i.text; event = i.event } ∷ items, (mid, after, (idle limit top s, refl, refl, g), r, a))
 
 -- what a state accepts, by its phase
 by_phase : (s : ProofState) → IsInOrder s → (p : Phase) → s.phase ≡ p → PhaseFits p → Holds s p → (items : List (Item Statement)) × AcceptsItems proofs s items
-by_phase s order (phase.Between here) e fits h =
-    (example here, subst (λ x. AcceptsItems proofs x (example here)) (sym (is_at s (phase.Between here) e h)) (stage_accepts s.limit s.top here))
-by_phase s order (phase.Comment here) e fits h =
+by_phase s order (Phase.Between here) e fits h =
+    (example here, subst (λ x. AcceptsItems proofs x (example here)) (sym (is_at s (Phase.Between here) e h)) (stage_accepts s.limit s.top here))
+by_phase s order (Phase.Comment here) e fits h =
     let (items, a) = comment_accepts s.limit s.top here fits (example here) (stage_accepts s.limit s.top here) in
-    (items, subst (λ x. AcceptsItems proofs x items) (sym (is_at s (phase.Comment here) e h)) a)
-by_phase s order (phase.Spelling f k) e fits h = at_accepts s (phase.Spelling f k) e h (spelling_alive s.limit s.top order.limit order.top order.some f k fits.1)
-by_phase s order phase.Solution e fits h = at_accepts s phase.Solution e h (solution_alive s.limit s.top order.limit order.top order.some)
-by_phase s order phase.HeaderEnd e fits h = at_accepts s phase.HeaderEnd e h (header_end_alive s.limit s.top)
-by_phase s order (phase.OutputEnd may) e fits h = at_accepts s (phase.OutputEnd may) e h (output_end_alive s.limit s.top may)
-by_phase s order (phase.Inside r) e fits (i, g, d, state) =
+    (items, subst (λ x. AcceptsItems proofs x items) (sym (is_at s (Phase.Comment here) e h)) a)
+by_phase s order (Phase.Spelling f k) e fits h = at_accepts s (Phase.Spelling f k) e h (spelling_alive s.limit s.top order.limit order.top order.some f k fits.1)
+by_phase s order Phase.Solution e fits h = at_accepts s Phase.Solution e h (solution_alive s.limit s.top order.limit order.top order.some)
+by_phase s order Phase.HeaderEnd e fits h = at_accepts s Phase.HeaderEnd e h (header_end_alive s.limit s.top)
+by_phase s order (Phase.OutputEnd may) e fits h = at_accepts s (Phase.OutputEnd may) e h (output_end_alive s.limit s.top may)
+by_phase s order (Phase.Inside r) e fits (i, g, d, state) =
     accepted proofs s (subst (IsAlive proofs) (sym (is_giving s r i e g)) (inside_alive s.limit s.top r i state d))
   where
-    is_giving : (s : ProofState) (r : LineKind) (i : LineMachine) → s.phase ≡ phase.Inside r → s.line ≡ Some i → s ≡ giving s.limit s.top r i
+    is_giving : (s : ProofState) (r : LineKind) (i : LineMachine) → s.phase ≡ Phase.Inside r → s.line ≡ Some i → s ≡ giving s.limit s.top r i
     is_giving s r i e h = rw (e, h) refl
 
 -- each state in order accepts something

@@ -3,18 +3,12 @@ use Rattle.pb_proof.proofs.Common.{ℕ, ◌++◌, ◌∙◌, ◌∷◌, ◌≡�
 use Rattle.pb_proof.proofs.Common.{prefixes_of, reads_after, Walks, never, bytes-append, End, Go, MayAsk, Next, ReadsStatement, Refuse, bytes, Letter}
 use Rattle.pb_proof.proofs.Common.{LineMachine, LineKind, Stage, Opening, Statement, conclusion_first, formula_first, delete_first, solution_first}
 use Rattle.pb_proof.proofs.Common.{line_automaton, line_first, SpellsRest, pol_first, rup_first, act, at, begin, giving, idle, proofs, ProofState}
-use Rattle.pb_proof.proofs.Common.{step_line, Asks, AsksAfter, FirstWord, stage_after, IsProof, Automaton}
+use Rattle.pb_proof.proofs.Common.{step_line, Asks, AsksAfter, FirstWord, stage_after, IsProof, Automaton, proof_transition as transition}
+use Rattle.pb_proof.proofs.Common.{proof_over as over, proof_within as is_within, ProofAction as Action, ProofPhase as Phase}
 use Rattle.pb_text.specs.meaning.Asking.{AsksOnly}
 use Rattle.pb_text.proofs.lemmas.machine.Asked as asked
-use Rattle.pb_proof.specs.engine.machine.Transition.{transition}
 use Rattle.pb_proof.specs.engine.machine.State as state
-use Rattle.pb_proof.specs.engine.machine.State.{over, asks, is_within}
-use Rattle.pb_proof.specs.declared.machine.phase.Action.{Action}
-use Rattle.pb_proof.specs.declared.machine.phase.Action.TheVariants.{To, Begin, Give}
-use Rattle.pb_proof.specs.declared.machine.phase.Phase.{Phase}
-use Rattle.pb_proof.specs.declared.machine.phase.Phase.TheVariants as phase
-use Rattle.pb_proof.specs.declared.machine.phase.LineKind.TheVariants as kind
-use Rattle.pb_proof.specs.declared.statement.Statement.TheVariants as statement
+use Rattle.pb_proof.specs.engine.machine.State.{asks}
 use Rattle.pb_proof.proofs.lemmas.Carried.{Carries, walks_out, reads_out}
 use Rattle.pb_proof.proofs.lemmas.conclusion.Asks.{conclusion_asked}
 use Rattle.pb_proof.proofs.lemmas.line.Laws.{formula_carries, pol_carries, rup_carries, soli_carries, solx_carries, delete_carries, conclusion_carries, line_begins, line_only}
@@ -38,41 +32,39 @@ module _ (limit top : ℕ) where
   -- after the first word
   line_asks : (r : LineKind) (q more : List Letter) (l : Letter) (i last : LineMachine) (e : Statement) → Walks line_automaton (line_first limit top r) q i → ReadsStatement line_automaton i (l ∷ more) e last
       → line_automaton.asks i l.byte ≡ true → AsksAfter e (bytes q) l.byte
-  line_asks kind.Formula q more l i last e w r h = within _ _ _ formula_carries (formula_first top) q more l i last e w r h (λ s after v k j a. absurd (false≢true a))
-  line_asks kind.Pol q more l i last e w r h = within _ _ _ pol_carries (pol_first limit top) q more l i last e w r h (λ s after v k j a. pol_asked limit top q s l.byte k a)
-  line_asks kind.Rup q more l i last e w r h = within _ _ _ rup_carries (rup_first limit) q more l i last e w r h (λ s after v k j a. rup_asked limit top q s l.byte k a)
-  line_asks kind.Soli q more l i last e w r h = within _ _ _ soli_carries (solution_first false) q more l i last e w r h (λ s after v k j a. solution_asked false q s l.byte k a)
-  line_asks kind.Solx q more l i last e w r h = within _ _ _ solx_carries (solution_first false) q more l i last e w r h (λ s after v k j a. solution_asked false q s l.byte k a)
-  line_asks kind.Delete q more l i last e w r h = within _ _ _ delete_carries (delete_first top) q more l i last e w r h (λ s after v k j a. delete_asked limit top q s l.byte k a)
-  line_asks kind.Conclusion q more l i last e w r h =
+  line_asks LineKind.Formula q more l i last e w r h = within _ _ _ formula_carries (formula_first top) q more l i last e w r h (λ s after v k j a. absurd (false≢true a))
+  line_asks LineKind.Pol q more l i last e w r h = within _ _ _ pol_carries (pol_first limit top) q more l i last e w r h (λ s after v k j a. pol_asked limit top q s l.byte k a)
+  line_asks LineKind.Rup q more l i last e w r h = within _ _ _ rup_carries (rup_first limit) q more l i last e w r h (λ s after v k j a. rup_asked limit top q s l.byte k a)
+  line_asks LineKind.Soli q more l i last e w r h = within _ _ _ soli_carries (solution_first false) q more l i last e w r h (λ s after v k j a. solution_asked false q s l.byte k a)
+  line_asks LineKind.Solx q more l i last e w r h = within _ _ _ solx_carries (solution_first false) q more l i last e w r h (λ s after v k j a. solution_asked false q s l.byte k a)
+  line_asks LineKind.Delete q more l i last e w r h = within _ _ _ delete_carries (delete_first top) q more l i last e w r h (λ s after v k j a. delete_asked limit top q s l.byte k a)
+  line_asks LineKind.Conclusion q more l i last e w r h =
       within _ _ _ conclusion_carries (conclusion_first limit top) q more l i last e w r h (λ s after v k j a. conclusion_asked limit top q more l s after v k j a)
 
   -- the first word of a statement that may allocate
   first_word : (r : LineKind) (e : Statement) (t word : List Letter) (text : List ℕ) (b : ℕ) → SpellsRest limit top r e t → sound.Before r word → AsksAfter e text b → FirstWord e word
-  first_word kind.Formula (statement.F c) t word text b h k a = absurd a
-  first_word kind.Pol (statement.Pol c) t word text b h k a = k
-  first_word kind.Rup (statement.Rup c) t word text b h k a = k
-  first_word kind.Soli (statement.Soli c) t word text b h k a = k
-  first_word kind.Solx (statement.Solx c) t word text b h k a = k
-  first_word kind.Delete (statement.Delete c) t word text b h k a = k
-  first_word kind.Conclusion (statement.Conclude c) t word text b h k a = k
+  first_word LineKind.Formula (Statement.F c) t word text b h k a = absurd a
+  first_word LineKind.Pol (Statement.Pol c) t word text b h k a = k
+  first_word LineKind.Rup (Statement.Rup c) t word text b h k a = k
+  first_word LineKind.Soli (Statement.Soli c) t word text b h k a = k
+  first_word LineKind.Solx (Statement.Solx c) t word text b h k a = k
+  first_word LineKind.Delete (Statement.Delete c) t word text b h k a = k
+  first_word LineKind.Conclusion (Statement.Conclude c) t word text b h k a = k
   first_word _ _ t word text b h k a = absurd h
 
   -- After the first word, the line machine reads.
-  line_step : (s : ProofState) (b : ℕ) (r : LineKind) (i : LineMachine) → s.phase ≡ phase.Inside r → s.line ≡ Some i → proofs.step s b ≡ over s r (line_automaton.step i b)
+  line_step : (s : ProofState) (b : ℕ) (r : LineKind) (i : LineMachine) → s.phase ≡ Phase.Inside r → s.line ≡ Some i → proofs.step s b ≡ over s r (line_automaton.step i b)
   line_step s b r i e f = ap (λ q. act s b (transition q b)) e ∙ ap (λ x. over s r (step_line x b)) f
 
   went : (s next : ProofState) (r : LineKind) (x : Next LineMachine Statement) → ◌≡◌ {A = Next ProofState Statement} (over s r x) (Go next) → (i : LineMachine) × (x ≡ Go i) × (next ≡ giving s.limit s.top r i)
   went s next r (Go i) e = (i, refl, (let f : next ≡ giving s.limit s.top r i = cc in f))
-  went s next r (End v i) e = absurd (let f : ⊥ = cc in f)
-  went s next r Refuse e = absurd (let f : ⊥ = cc in f)
+  went s next r _ e = absurd (let f : ⊥ = cc in f)
 
   ended : (s next : ProofState) (r : LineKind) (e : Statement) (x : Next LineMachine Statement) → ◌≡◌ {A = Next ProofState Statement} (over s r x) (End e next) → (i : LineMachine) × (x ≡ End e i)
-  ended s next r e (Go i) h = absurd (let f : ⊥ = cc in f)
   ended s next r e (End v i) h = (i, (let f : v ≡ e = cc in ap (λ (y : Statement). let z : Next LineMachine Statement = End y i in z) f))
-  ended s next r e Refuse h = absurd (let f : ⊥ = cc in f)
+  ended s next r e _ h = absurd (let f : ⊥ = cc in f)
 
-  inside_reads : (t : List Letter) (s : ProofState) (r : LineKind) (i : LineMachine) (e : Statement) (next : ProofState) → s.phase ≡ phase.Inside r → s.line ≡ Some i → ReadsStatement proofs s t e next
+  inside_reads : (t : List Letter) (s : ProofState) (r : LineKind) (i : LineMachine) (e : Statement) (next : ProofState) → s.phase ≡ Phase.Inside r → s.line ≡ Some i → ReadsStatement proofs s t e next
       → (last : LineMachine) × ReadsStatement line_automaton i t e last
   inside_reads [] s r i e next p o h = absurd h
   inside_reads (l ∷ []) s r i e next p o (h, n) =
@@ -92,8 +84,8 @@ module _ (limit top : ℕ) where
   InGap Refuse x = Unit {0}
 
   gap_action : (p : Phase) (b : ℕ) (m : Action) → InGap (act (at limit top p) b m) (asks (at limit top p) b m)
-  gap_action p b (To q) = λ o. ((q, refl, o), refl)
-  gap_action p b (Begin r) = λ o. never true refl o
+  gap_action p b (Action.To q) = λ o. ((q, refl, o), refl)
+  gap_action p b (Action.Begin r) = λ o. never true refl o
   gap_action p b _ = tt
 
   gaps : (s next : ProofState) (b : ℕ) → Idle s → proofs.step s b ≡ Go next → proofs.begun next ≡ false → Idle next × (proofs.asks s b ≡ false)
@@ -102,22 +94,20 @@ module _ (limit top : ℕ) where
       (subst (λ x. InGap x (proofs.asks s b)) g k) o
 
   from_idle : (A : Type 0) (p : Phase) (t : List Letter) (e : Statement) (next : ProofState) → is_within p ≡ false → ReadsStatement proofs (at limit top p) t e next
-      → ((st : Stage) → p ≡ phase.Between st → A) → A
-  from_idle A (phase.Between st) t e next i r f = f st refl
-  from_idle A (phase.Comment st) t e next i r f = absurd (comment_reads limit top st t e next r)
+      → ((st : Stage) → p ≡ Phase.Between st → A) → A
+  from_idle A (Phase.Between st) t e next i r f = f st refl
+  from_idle A (Phase.Comment st) t e next i r f = absurd (comment_reads limit top st t e next r)
   from_idle A _ t e next i r f = never true refl i
 
   ends : (s next : ProofState) (t : List Letter) (e : Statement) → Idle s → ReadsStatement proofs s t e next → Idle next
   ends s next t e (p, same, i) r =
       let h : ReadsStatement proofs (at limit top p) t e next = subst (λ x. ReadsStatement proofs x t e next) same r in
       from_idle (Idle next) p t e next i h
-      (λ st is. (phase.Between (stage_after e), (sound.statement_only limit top st t e next (subst (λ q. ReadsStatement proofs (at limit top q) t e next) is h)).2, refl))
+      (λ st is. (Phase.Between (stage_after e), (sound.statement_only limit top st t e next (subst (λ q. ReadsStatement proofs (at limit top q) t e next) is h)).2, refl))
 
   -- without a line machine, no byte may allocate
   quiet : (s : ProofState) (b : ℕ) (m : Action) → s.line ≡ None → asks s b m ≡ false
-  quiet s b (To p) e = refl
-  quiet s b (Begin r) e = refl
-  quiet s b (Give r) e = ap (state.asked false (λ i. line_automaton.asks i b)) e
+  quiet s b (Action.Give r) e = ap (state.asked false (λ i. line_automaton.asks i b)) e
   quiet s b _ e = refl
 
   module _ (st : Stage) (s next : ProofState) (p more : List Letter) (l : Letter) (e : Statement) (r : ReadsStatement proofs s (l ∷ more) e next) where
@@ -125,19 +115,16 @@ module _ (limit top : ℕ) where
     silent q o h = absurd (false≢true (sym (quiet s l.byte (transition q l.byte) o) ∙ h))
 
     by_phase : (q : Phase) → s.phase ≡ q → sound.prefix_in limit top st s q p → asks s l.byte (transition q l.byte) ≡ true → Asks e (bytes p) l.byte
-    by_phase (phase.Between x) f k h = silent (phase.Between x) k.2 h
-    by_phase (phase.Comment x) f k h = absurd k
-    by_phase (phase.Spelling w j) f k h = silent (phase.Spelling w j) k.4 h
-    by_phase phase.Solution f k h = silent phase.Solution k.2 h
-    by_phase phase.HeaderEnd f k h = silent phase.HeaderEnd k.2 h
-    by_phase (phase.OutputEnd true) f k h = silent (phase.OutputEnd true) k.2 h
-    by_phase (phase.OutputEnd false) f k h = silent (phase.OutputEnd false) k.2 h
-    by_phase (phase.Inside x) f (same, (i, o, (word, c, is, before, w))) h =
+    by_phase (Phase.Comment x) f k h = absurd k
+    by_phase (Phase.Spelling w j) f k h = silent (Phase.Spelling w j) k.4 h
+    by_phase (Phase.OutputEnd true) f k h = silent (Phase.OutputEnd true) k.2 h
+    by_phase (Phase.Inside x) f (same, (i, o, (word, c, is, before, w))) h =
         let (last, v) = inside_reads (l ∷ more) s x i e next f o r in
         let a : line_automaton.asks i l.byte ≡ true = sym (ap (state.asked false (λ j. line_automaton.asks j l.byte)) o) ∙ h in
         let b : AsksAfter e (bytes c) l.byte = line_asks x c more l i last e w v a in
         let spelled : SpellsRest limit top x e (c ++ l ∷ more) = line_only limit top x (c ++ l ∷ more) e last (reads_after line_automaton c (l ∷ more) (line_first limit top x) i last e w v) in
         (word, bytes c, first_word x e (c ++ l ∷ more) word (bytes c) l.byte spelled before b, ap bytes is ∙ bytes-append word c, b)
+    by_phase q f k h = silent q k.2 h
 
   texts : (start s next : ProofState) (prefix more : List Letter) (l : Letter) (e : Statement) → Idle start → Walks proofs start prefix s → ReadsStatement proofs s (l ∷ more) e next
       → IsTrue (proofs.asks s l.byte) → Asks e (bytes prefix) l.byte
@@ -152,4 +139,4 @@ module _ (limit top : ℕ) where
   -- after these bytes of a proof
   pub asks_only : (used : List ℕ) (b : ℕ) → MayAsk proofs (begin limit top) used b → AsksOnly (IsProof limit top) Asks used b
   asks_only used b (s, lead, a) items more h e =
-      asked.asks_within proofs Idle Asks (record { gaps = gaps; ends = ends; texts = texts }) (begin limit top) used b (phase.Between Opening, refl, refl) s lead a items more ((reads_proofs limit top items).1 h) e
+      asked.asks_within proofs Idle Asks (record { gaps = gaps; ends = ends; texts = texts }) (begin limit top) used b (Phase.Between Opening, refl, refl) s lead a items more ((reads_proofs limit top items).1 h) e

@@ -1,23 +1,15 @@
 -- The proof machine reads each statement from its stage.
-use Rattle.pb_proof.proofs.Common.{ℕ, ◌&&◌, ◌++◌, ◌+◌, ◌-◌, ◌||◌, ◌∙◌, ◌∷◌, ◌≡◌, [], ap, append-nil, append_assoc, ap₂, arith, Bool, cond, false}
+use Rattle.pb_proof.proofs.Common.{or-false, cond_both, ℕ, ◌&&◌, ◌++◌, ◌+◌, ◌-◌, ◌||◌, ◌∙◌, ◌∷◌, ◌≡◌, [], ap, append-nil, append_assoc, ap₂, arith, Bool, cond, false}
 use Rattle.pb_proof.proofs.Common.{IsTrue, length, length-append, List, nat_eq, not, refl, subst, sym, true, slice_index, get_or-append_seam}
-use Rattle.pb_proof.proofs.Common.{and_parts, eq-eqb, eqb-true, false_from_ne_true, not-true, nat_tests, ends_walk, longer, reads_after, same_first}
-use Rattle.pb_proof.proofs.Common.{Walks, walks_more, walks_then, never, Go, ReadsStatement, is_blank, ◌⋅◌, Blanks1, Byte, Each, Language, unmarked}
+use Rattle.pb_proof.proofs.Common.{and_parts, eq-eqb, eqb-true, not-true, nat_tests, ends_walk, longer, reads_after, same_first}
+use Rattle.pb_proof.proofs.Common.{Walks, walks_more, walks_then, Go, ReadsStatement, is_blank, ◌⋅◌, Blanks1, Byte, Each, Language, unmarked, Bytes}
 use Rattle.pb_proof.proofs.Common.{Letter, plain, LineMachine, Keyword, LineKind, Closing, Complete, Formula, Opening, Steps, Statement}
 use Rattle.pb_proof.proofs.Common.{line_automaton, line_first, SpellsRest, act, at, giving, idle, next_stage, proofs, ProofState, meets, next_action}
-use Rattle.pb_proof.proofs.Common.{sol_word, words_of, Feed, LineEnd, SpellsStatement, stage_after, stage_of}
-use Rattle.pb_proof.specs.engine.machine.Transition.{spell, transition}
-use Rattle.pb_proof.specs.engine.machine.State.{over}
-use Rattle.pb_proof.specs.declared.machine.phase.Keyword.TheVariants as keyword
-use Rattle.pb_proof.specs.declared.machine.phase.Stage.TheVariants.{Concluding}
-use Rattle.pb_proof.specs.declared.machine.phase.LineKind.TheVariants as kind
-use Rattle.pb_proof.specs.declared.machine.phase.Phase.TheVariants as phase
-use Rattle.pb_proof.specs.declared.machine.phase.Action.{Action}
-use Rattle.pb_proof.specs.declared.machine.phase.Action.TheVariants as action
-use Rattle.pb_proof.specs.declared.statement.Statement as statement
+use Rattle.pb_proof.proofs.Common.{sol_word, words_of, Feed, LineEnd, SpellsStatement, stage_after, stage_of, proof_spell as spell}
+use Rattle.pb_proof.proofs.Common.{proof_transition as transition, proof_over as over, ProofAction as Action, ProofPhase as Phase, Stage}
 use Rattle.pb_proof.proofs.lemmas.line.Laws.{line_each, line_fresh}
 use Rattle.pb_proof.proofs.lemmas.line.Ends.{Feeds, feed_reads, MayEnd, line_reads}
-use Rattle.pb_proof.proofs.lemmas.machine.Sound.{stage_keyword, Before}
+use Rattle.pb_proof.proofs.lemmas.machine.Sound.{stage_keyword}
 use Rattle.pb_proof.proofs.lemmas.Spaced.{Spaced, One, chooses, KeywordWords, keyword_each}
 
 -- In the words, the byte after a space is not a blank.
@@ -30,52 +22,41 @@ is_laid [] = true
 is_laid (c ∷ cs) = (not (nat_eq c 32) || dark_first cs) && is_laid cs
 
 words_laid : (f : Keyword) → is_laid (words_of f) ≡ true
-words_laid keyword.Header = refl
+words_laid Keyword.Header = refl
 words_laid _ = refl
 
 laid_later : (prefix more : List ℕ) → is_laid (prefix ++ more) ≡ true → is_laid more ≡ true
 laid_later [] more h = h
 laid_later (c ∷ prefix) more h = laid_later prefix more (and_parts (not (nat_eq c 32) || dark_first (prefix ++ more)) (is_laid (prefix ++ more)) h).1
 
-laid_dark : (x : ℕ) (more : List ℕ) → is_laid (32 ∷ x ∷ more) ≡ true → is_blank x ≡ false
-laid_dark x more h = not-true (is_blank x) (and_parts (not (is_blank x)) (is_laid (x ∷ more)) h).0
-
 -- a blank does not match a byte that is not blank
 dark_blank : (x b : ℕ) → is_blank x ≡ false → is_blank b ≡ true → meets x b ≡ false
-dark_blank x b d h = by_test (nat_eq x 32) refl
-  where
-    by_test : (t : Bool) → nat_eq x 32 ≡ t → cond t (is_blank b) (nat_eq b x) ≡ false
-    by_test true e = absurd (never (is_blank x) (subst (λ y. is_blank y ≡ true) (sym (eqb-true x 32 e)) refl) d)
-    by_test false e = false_from_ne_true (nat_eq b x) (λ k. never (is_blank b) h (subst (λ y. is_blank y ≡ false) (sym (eqb-true b x k)) d))
+dark_blank x b d h = grind (arith, eqb-true)
 
 -- a byte of the words matches itself
-
 meets_self : (c : ℕ) → nat_eq c 32 ≡ false → meets c c ≡ true
 meets_self c e = rw (e, eq-eqb c c refl) refl
 
 -- and so does a space
 pub meets_any : (c : ℕ) → meets c c ≡ true
-meets_any c = by_test (nat_eq c 32) refl
-  where
-    by_test : (x : Bool) → nat_eq c 32 ≡ x → meets c c ≡ true
-    by_test true e = let is : c ≡ 32 = eqb-true c 32 e in subst (λ b. meets b b ≡ true) (sym is) refl
-    by_test false e = meets_self c e
+meets_any c = cond_both (nat_eq c 32) (is_blank c) (nat_eq c c) (λ x. x ≡ true)
+    (λ e. subst (λ b. is_blank b ≡ true) (sym (eqb-true c 32 e)) refl) (λ _. eq-eqb c c refl)
 
 module _ (limit top : ℕ) where
   -- after `k` bytes of the words
   abbrev pub spelt : Keyword → ℕ → ProofState
-  spelt f k = at limit top (phase.Spelling f k)
+  spelt f k = at limit top (Phase.Spelling f k)
 
   at_seam : (f : Keyword) (prefix left : List ℕ) (c : ℕ) → words_of f ≡ prefix ++ c ∷ left → slice_index (words_of f) (length prefix) ≡ c
   at_seam f prefix left c e = ap (λ y. slice_index y (length prefix)) e ∙ get_or-append_seam prefix c left 0
 
   -- the next byte matches; `x` says whether it is the last
   spell_next : (f : Keyword) (prefix left : List ℕ) (c b : ℕ) (x : Bool) (other : Action) → words_of f ≡ prefix ++ c ∷ left → meets c b ≡ true → nat_eq (length prefix + 1) (length (words_of f)) ≡ x
-      → spell f (length prefix) b other ≡ cond x (next_action f) (action.To (phase.Spelling f (length prefix + 1)))
+      → spell f (length prefix) b other ≡ cond x (next_action f) (Action.To (Phase.Spelling f (length prefix + 1)))
   spell_next f prefix left c b x other e m n =
-      ap (λ y. cond (meets y b) (cond (nat_eq (length prefix + 1) (length (words_of f))) (next_action f) (action.To (phase.Spelling f (length prefix + 1)))) other) (at_seam f prefix left c e)
-      ∙ (ap (λ y. cond y (cond (nat_eq (length prefix + 1) (length (words_of f))) (next_action f) (action.To (phase.Spelling f (length prefix + 1)))) other) m
-      ∙ ap (λ y. cond y (next_action f) (action.To (phase.Spelling f (length prefix + 1)))) n)
+      ap (λ y. cond (meets y b) (cond (nat_eq (length prefix + 1) (length (words_of f))) (next_action f) (Action.To (Phase.Spelling f (length prefix + 1)))) other) (at_seam f prefix left c e)
+      ∙ (ap (λ y. cond y (cond (nat_eq (length prefix + 1) (length (words_of f))) (next_action f) (Action.To (Phase.Spelling f (length prefix + 1)))) other) m
+      ∙ ap (λ y. cond y (next_action f) (Action.To (Phase.Spelling f (length prefix + 1)))) n)
 
   more_left : (f : Keyword) (prefix left : List ℕ) (c d : ℕ) → words_of f ≡ prefix ++ c ∷ d ∷ left → nat_eq (length prefix + 1) (length (words_of f)) ≡ false
   more_left f prefix left c d e =
@@ -100,10 +81,10 @@ module _ (limit top : ℕ) where
       let g : words_of f ≡ (prefix ++ 32 ∷ []) ++ d ∷ left = e ∙ sym (append_assoc prefix (32 ∷ []) (d ∷ left)) in
       let here : slice_index (words_of f) (length prefix + 1) ≡ d = ap (λ k. slice_index (words_of f) k) j ∙ at_seam f (prefix ++ 32 ∷ []) left d g in
       let after_it : slice_index (words_of f) (length prefix + 1 - 1) ≡ 32 = ap (λ k. slice_index (words_of f) k) (let q : length prefix + 1 - 1 ≡ length prefix = omega arith in q) ∙ at_seam f prefix (d ∷ left) 32 e in
-      let dark : is_blank d ≡ false = laid_dark d left (laid_later prefix (32 ∷ d ∷ left) (subst (λ x. is_laid x ≡ true) e (words_laid f))) in
+      let dark : is_blank d ≡ false = not-true (is_blank d) (and_parts (not (is_blank d)) (is_laid (d ∷ left)) (laid_later prefix (32 ∷ d ∷ left) (subst (λ x. is_laid x ≡ true) e (words_laid f)))).0 in
       let away : meets (slice_index (words_of f) (length prefix + 1)) b ≡ false = ap (λ x. meets x b) here ∙ dark_blank d b dark h in
-      ap (λ x. act (spelt f (length prefix + 1)) b (cond x (cond (nat_eq (length prefix + 1 + 1) (length (words_of f))) (next_action f) (action.To (phase.Spelling f (length prefix + 1 + 1)))) (cond (is_blank b && nat_eq (slice_index (words_of f) (length prefix + 1 - 1)) 32) (action.To (phase.Spelling f (length prefix + 1))) action.Stop))) away
-      ∙ ap (λ x. act (spelt f (length prefix + 1)) b (cond x (action.To (phase.Spelling f (length prefix + 1))) action.Stop)) (ap₂ (λ x y. x && nat_eq y 32) h after_it)
+      ap (λ x. act (spelt f (length prefix + 1)) b (cond x (cond (nat_eq (length prefix + 1 + 1) (length (words_of f))) (next_action f) (Action.To (Phase.Spelling f (length prefix + 1 + 1)))) (cond (is_blank b && nat_eq (slice_index (words_of f) (length prefix + 1 - 1)) 32) (Action.To (Phase.Spelling f (length prefix + 1))) Action.Stop))) away
+      ∙ ap (λ x. act (spelt f (length prefix + 1)) b (cond x (Action.To (Phase.Spelling f (length prefix + 1))) Action.Stop)) (ap₂ (λ x y. x && nat_eq y 32) h after_it)
 
   blanks_stay : (f : Keyword) (prefix left : List ℕ) (d : ℕ) → words_of f ≡ prefix ++ 32 ∷ d ∷ left → (bs : List ℕ) → Each (λ b. IsTrue (is_blank b)) bs
       → Walks proofs (spelt f (length prefix + 1)) (plain bs) (spelt f (length prefix + 1))
@@ -124,91 +105,61 @@ module _ (limit top : ℕ) where
             refl,
             blanks_stay f prefix left d (e ∙ ap (λ x. prefix ++ x ∷ d ∷ left) is) bs j,
           )
-      by_test false s g =
-          subst (λ x. Walks proofs (spelt f (length prefix)) x (spelt f (length prefix + 1))) (sym g)
-          (spelt f (length prefix + 1), step_on f prefix left c d c e (meets_self c s), refl, refl, refl)
-
-  -- The words without their last byte, which is not a space.
-  record Split (f : Keyword) (prefix : List ℕ) (c : ℕ) (left : List ℕ) (t : List Letter) : Type 0 where
-    pub init : List ℕ
-    pub final : ℕ
-    pub is : words_of f ≡ init ++ final ∷ []
-    pub text : List Letter
-    pub letter : List Letter
-    pub text_is : t ≡ text ++ letter
-    pub walks : Walks proofs (spelt f (length prefix)) text (spelt f (length init))
-    pub last : One final letter
-
-  splits : (f : Keyword) (prefix left : List ℕ) (c : ℕ) (t : List Letter) → words_of f ≡ prefix ++ c ∷ left → Spaced (c ∷ left) t → Split f prefix c left t
-  splits f prefix [] c t e (a, b, g, h, i) = record {
-    init = prefix;
-    final = c;
-    is = e;
-    text = [];
-    letter = a;
-    text_is = g ∙ (ap (λ x. a ++ x) i ∙ append-nil a);
-    walks = refl;
-    last = h;
-  }
-  splits f prefix (d ∷ left) c t e (a, b, g, h, i) =
-      let size : length (prefix ++ c ∷ []) ≡ length prefix + 1 = length-append prefix (c ∷ []) in
-      let s : Split f (prefix ++ c ∷ []) d left b = splits f (prefix ++ c ∷ []) left d b (e ∙ sym (append_assoc prefix (c ∷ []) (d ∷ left))) i in
-      record {
-        init = s.init;
-        final = s.final;
-        is = s.is;
-        text = a ++ s.text;
-        letter = s.letter;
-        text_is = g ∙ (ap (λ x. a ++ x) s.text_is ∙ sym (append_assoc a s.text s.letter));
-        walks = walks_then proofs a s.text (spelt f (length prefix)) (spelt f (length prefix + 1)) (spelt f (length s.init)) (one_walks f prefix left c d a e h)
-            (subst (λ k. Walks proofs (spelt f k) s.text (spelt f (length s.init))) size s.walks);
-        last = s.last;
-      }
+      by_test false s g = rw g (spelt f (length prefix + 1), step_on f prefix left c d c e (meets_self c s), refl, refl, refl)
 
   -- The last byte of the words is not a space.
   last_dark : (f : Keyword) (init : List ℕ) (c : ℕ) → words_of f ≡ init ++ c ∷ [] → nat_eq c 32 ≡ false
-  last_dark f init c e = by_test (nat_eq c 32) (and_parts (not (nat_eq c 32) || false) true (laid_later init (c ∷ []) (subst (λ x. is_laid x ≡ true) e (words_laid f)))).0
-    where
-      by_test : (x : Bool) → (not x || false) ≡ true → x ≡ false
-      by_test true g = sym g
-      by_test false g = refl
+  last_dark f init c e =
+      let laid : (not (nat_eq c 32) || false) ≡ true = (and_parts (not (nat_eq c 32) || false) true (laid_later init (c ∷ []) (subst (λ x. is_laid x ≡ true) e (words_laid f)))).0 in
+      not-true (nat_eq c 32) (sym (or-false (not (nat_eq c 32))) ∙ laid)
 
-  -- a text of the words: the walk to its last letter, and the step at that letter
-  record Spelled (f : Keyword) (t : List Letter) : Type 0 where
+  -- a text of the words after so many bytes of them: the walk to its last letter, and the step at that letter
+  record Spelled (f : Keyword) (from : ℕ) (t : List Letter) : Type 0 where
     pub count : ℕ
     pub text : List Letter
     pub final : ℕ
     pub text_is : t ≡ text ++ unmarked final ∷ []
-    pub walks : Walks proofs (spelt f 0) text (spelt f count)
+    pub walks : Walks proofs (spelt f from) text (spelt f count)
     pub last : proofs.step (spelt f count) final ≡ act (spelt f count) final (next_action f)
 
-  to_spelled : (f : Keyword) (c : ℕ) (left : List ℕ) (t : List Letter) → words_of f ≡ c ∷ left → Split f [] c left t → Spelled f t
-  to_spelled f c left t e s =
-      let dark = last_dark f s.init s.final s.is in
-      let is : s.letter ≡ unmarked s.final ∷ [] = subst (λ x. chooses x Blanks1 (Byte s.final) s.letter) dark s.last in
+  spelled : (f : Keyword) (prefix left : List ℕ) (c : ℕ) (t : List Letter) → words_of f ≡ prefix ++ c ∷ left → Spaced (c ∷ left) t → Spelled f (length prefix) t
+  spelled f prefix [] c t e (a, b, g, h, i) =
+      let dark = last_dark f prefix c e in
+      let is : a ≡ unmarked c ∷ [] = subst (λ x. chooses x Blanks1 (Byte c) a) dark h in
       record {
-        count = length s.init;
-        text = s.text;
+        count = length prefix;
+        text = [];
+        final = c;
+        text_is = g ∙ (ap (λ x. a ++ x) i ∙ (append-nil a ∙ is));
+        walks = refl;
+        last = step_last f prefix c c e (meets_self c dark);
+      }
+  spelled f prefix (d ∷ left) c t e (a, b, g, h, i) =
+      let s : Spelled f (length (prefix ++ c ∷ [])) b = spelled f (prefix ++ c ∷ []) left d b (e ∙ sym (append_assoc prefix (c ∷ []) (d ∷ left))) i in
+      record {
+        count = s.count;
+        text = a ++ s.text;
         final = s.final;
-        text_is = s.text_is ∙ ap (λ x. s.text ++ x) is;
-        walks = s.walks;
-        last = step_last f s.init s.final s.final s.is (meets_self s.final dark);
+        text_is = g ∙ (ap (λ x. a ++ x) s.text_is ∙ sym (append_assoc a s.text (unmarked s.final ∷ [])));
+        walks = walks_then proofs a s.text (spelt f (length prefix)) (spelt f (length prefix + 1)) (spelt f s.count) (one_walks f prefix left c d a e h)
+            (subst (λ k. Walks proofs (spelt f k) s.text (spelt f s.count)) (length-append prefix (c ∷ [])) s.walks);
+        last = s.last;
       }
 
-  spelled_words : (f : Keyword) (t : List Letter) → Spaced (words_of f) t → Spelled f t
-  spelled_words keyword.Header t h = to_spelled keyword.Header _ _ t refl (splits keyword.Header [] _ _ t refl h)
-  spelled_words f t h = to_spelled f _ _ t refl (splits f [] _ _ t refl h)
+  spelled_words : (f : Keyword) (t : List Letter) → Spaced (words_of f) t → Spelled f 0 t
+  spelled_words Keyword.Header t h = spelled Keyword.Header [] _ _ t refl h
+  spelled_words f t h = spelled f [] _ _ t refl h
 
   -- From the stage, the first byte of the words has the same step as within the words.
   abbrev first_byte : Keyword → ℕ
   first_byte f = slice_index (words_of f) 0
 
   pub enters : (f : Keyword) → proofs.step (idle limit top (stage_keyword f)) (first_byte f) ≡ proofs.step (spelt f 0) (first_byte f)
-  enters keyword.Header = refl
+  enters Keyword.Header = refl
   enters _ = refl
 
   begins_with : (f : Keyword) (t : List Letter) → Spaced (words_of f) t → (u : List Letter) × (t ≡ unmarked (first_byte f) ∷ u)
-  begins_with keyword.Header t (a, b, e, h, k) = (b, e ∙ ap (λ x. x ++ b) h)
+  begins_with Keyword.Header t (a, b, e, h, k) = (b, e ∙ ap (λ x. x ++ b) h)
   begins_with _ t (a, b, e, h, k) = (b, e ∙ ap (λ x. x ++ b) h)
 
   -- From the stage, the words and the text after them are read.
@@ -216,61 +167,53 @@ module _ (limit top : ℕ) where
       → ReadsStatement proofs (idle limit top (stage_keyword f)) (t ++ u) e after
   entered f t u e after h r =
       let (v, g) = begins_with f t h in
-      subst (λ x. ReadsStatement proofs (idle limit top (stage_keyword f)) (x ++ u) e after) (sym g)
-      (same_first proofs (unmarked (first_byte f)) (v ++ u) (idle limit top (stage_keyword f)) (spelt f 0) after e (enters f)
+      rw g (same_first proofs (unmarked (first_byte f)) (v ++ u) (idle limit top (stage_keyword f)) (spelt f 0) after e (enters f)
       (subst (λ x. ReadsStatement proofs (spelt f 0) (x ++ u) e after) g r))
 
   words_then : (f : Keyword) (next : ProofState) → ((k b : ℕ) → act (spelt f k) b (next_action f) ≡ Go next) → proofs.begun next ≡ true → proofs.in_number next ≡ false
       → (t u : List Letter) (e : Statement) (after : ProofState) → KeywordWords f t → ReadsStatement proofs next u e after → ReadsStatement proofs (idle limit top (stage_keyword f)) (t ++ u) e after
   words_then f next g w n t u e after h r =
       let spaced : Spaced (words_of f) t = keyword_each f t h in
-      let s : Spelled f t = spelled_words f t spaced in
+      let s : Spelled f 0 t = spelled_words f t spaced in
       entered f t u e after spaced
       (reads_after proofs t u (spelt f 0) next after e
       (subst (λ x. Walks proofs (spelt f 0) x next) (sym s.text_is)
       (walks_more proofs s.text (unmarked s.final) (spelt f 0) (spelt f s.count) next s.walks (s.last ∙ g s.count s.final) w (sym n))) r)
 
-  words_end : (t : List Letter) → KeywordWords keyword.End t → ReadsStatement proofs (idle limit top Closing) t statement.TheVariants.End (idle limit top Complete)
+  words_end : (t : List Letter) → KeywordWords Keyword.End t → ReadsStatement proofs (idle limit top Closing) t Statement.End (idle limit top Complete)
   words_end t h =
-      let spaced : Spaced (words_of keyword.End) t = keyword_each keyword.End t h in
-      let s : Spelled keyword.End t = spelled_words keyword.End t spaced in
-      let r : ReadsStatement proofs (spelt keyword.End 0) t statement.TheVariants.End (idle limit top Complete) =
-      subst (λ x. ReadsStatement proofs (spelt keyword.End 0) x statement.TheVariants.End (idle limit top Complete)) (sym s.text_is)
-      (ends_walk proofs s.text (unmarked s.final) (spelt keyword.End 0) (spelt keyword.End s.count) (idle limit top Complete) statement.TheVariants.End s.walks s.last refl) in
-      subst (λ x. ReadsStatement proofs (idle limit top Closing) x statement.TheVariants.End (idle limit top Complete)) (append-nil t)
-      (entered keyword.End t [] statement.TheVariants.End (idle limit top Complete) spaced
-      (subst (λ x. ReadsStatement proofs (spelt keyword.End 0) x statement.TheVariants.End (idle limit top Complete)) (sym (append-nil t)) r))
+      let spaced : Spaced (words_of Keyword.End) t = keyword_each Keyword.End t h in
+      let s : Spelled Keyword.End 0 t = spelled_words Keyword.End t spaced in
+      let r : ReadsStatement proofs (spelt Keyword.End 0) t Statement.End (idle limit top Complete) =
+      rw s.text_is
+      (ends_walk proofs s.text (unmarked s.final) (spelt Keyword.End 0) (spelt Keyword.End s.count) (idle limit top Complete) Statement.End s.walks s.last refl) in
+      subst (λ x. ReadsStatement proofs (idle limit top Closing) x Statement.End (idle limit top Complete)) (append-nil t)
+      (entered Keyword.End t [] Statement.End (idle limit top Complete) spaced
+      (subst (λ x. ReadsStatement proofs (spelt Keyword.End 0) x Statement.End (idle limit top Complete)) (sym (append-nil t)) r))
 
   -- the states at the ends of lines
   abbrev pub header_end : ProofState
-  header_end = at limit top phase.HeaderEnd
+  header_end = at limit top Phase.HeaderEnd
 
   abbrev pub output_end : Bool → ProofState
-  output_end may = at limit top (phase.OutputEnd may)
+  output_end may = at limit top (Phase.OutputEnd may)
 
-  header_feeds : Feeds proofs header_end header_end statement.TheVariants.Header (idle limit top Formula)
+  header_feeds : Feeds proofs header_end header_end Statement.Header (idle limit top Formula)
   header_feeds = record {
     blanks = record { enters = λ b h. rw h refl; stays = λ b h. rw h refl; begun = refl; plain = refl };
     ends = refl;
     ends_gap = refl;
   }
 
-  output_feeds : (may : Bool) → Feeds proofs (output_end may) (output_end may) statement.TheVariants.Output (idle limit top Concluding)
+  output_feeds : (may : Bool) → Feeds proofs (output_end may) (output_end may) Statement.Output (idle limit top Stage.Concluding)
   output_feeds may = record {
     blanks = record { enters = λ b h. rw h refl; stays = λ b h. rw h refl; begun = refl; plain = refl };
     ends = refl;
     ends_gap = refl;
   }
 
-  output_may : MayEnd proofs (output_end true) (output_end true) (output_end false) statement.TheVariants.Output (idle limit top Concluding)
-  output_may = record {
-    feeds = output_feeds true;
-    finishes = refl;
-    closes_gap = refl;
-    begun = refl;
-    plain = refl;
-    last = output_feeds false;
-  }
+  output_may : MayEnd proofs (output_end true) (output_end true) (output_end false) Statement.Output (idle limit top Stage.Concluding)
+  output_may = record { feeds = output_feeds true; finishes = refl; closes_gap = refl; last = output_feeds false }
 
   -- what the line machine reads, the proof machine reads
   pub given_reads : (r : LineKind) (t : List Letter) (i last : LineMachine) (e : Statement) → ReadsStatement line_automaton i t e last → ReadsStatement proofs (giving limit top r i) t e (idle limit top (next_stage r))
@@ -288,46 +231,39 @@ module _ (limit top : ℕ) where
   abbrev begun_rest : LineKind → ProofState
   begun_rest r = giving limit top r (line_first limit top r)
 
-  -- after `soli` and `solx`
-  solution_then : (b : ℕ) (r : LineKind) (t u : List Letter) (e : Statement) (after : ProofState) → transition phase.Solution b ≡ action.Begin r → t ≡ plain sol_word ++ unmarked b ∷ []
-      → ReadsStatement proofs (begun_rest r) u e after → ReadsStatement proofs (idle limit top Steps) (t ++ u) e after
-  solution_then b r t u e after g f h =
-      subst (λ x. ReadsStatement proofs (idle limit top Steps) x e after) (sym (ap (λ x. x ++ u) f ∙ append_assoc (plain sol_word) (unmarked b ∷ []) u))
-      (words_then keyword.Solution (at limit top phase.Solution) (λ k c. refl) refl refl (plain sol_word) (unmarked b ∷ u) e after refl
-      (longer proofs (unmarked b) u (at limit top phase.Solution) (begun_rest r) after e (ap (act (at limit top phase.Solution) b) g) refl (sym (plain_first r)) h))
-
   by_parts : (P Q : Language) (t : List Letter) (e : Statement) (s after : ProofState) → ((a b : List Letter) → P a → Q b → ReadsStatement proofs s (a ++ b) e after) → (P ⋅ Q) t → ReadsStatement proofs s t e after
-  by_parts P Q t e s after f (a, b, g, h, k) = subst (λ x. ReadsStatement proofs s x e after) (sym g) (f a b h k)
+  by_parts P Q t e s after f (a, b, g, h, k) = rw g (f a b h k)
+
+  -- words, and the line that begins after them
+  line_then : (f : Keyword) (r : LineKind) (t : List Letter) (e : Statement) → next_action f ≡ Action.Begin r → (KeywordWords f ⋅ SpellsRest limit top r e) t
+      → ReadsStatement proofs (idle limit top (stage_keyword f)) t e (idle limit top (next_stage r))
+  line_then f r t e g =
+      by_parts (KeywordWords f) (SpellsRest limit top r e) t e (idle limit top (stage_keyword f)) (idle limit top (next_stage r))
+      (λ a b i k. words_then f (begun_rest r) (λ j d. ap (act (spelt f j) d) g) refl (plain_first r) a b e (idle limit top (next_stage r)) i (rest_reads r b e k))
+
+  -- `soli` and `solx`
+  solution_then : (b : ℕ) (r : LineKind) (t : List Letter) (e : Statement) → transition Phase.Solution b ≡ Action.Begin r → (Bytes (sol_word ++ b ∷ []) ⋅ SpellsRest limit top r e) t
+      → ReadsStatement proofs (idle limit top Steps) t e (idle limit top (next_stage r))
+  solution_then b r t e g =
+      by_parts (Bytes (sol_word ++ b ∷ [])) (SpellsRest limit top r e) t e (idle limit top Steps) (idle limit top (next_stage r)) (λ a u f k. rw f
+      (words_then Keyword.Solution (at limit top Phase.Solution) (λ j c. refl) refl refl (plain sol_word) (unmarked b ∷ u) e (idle limit top (next_stage r)) refl
+      (longer proofs (unmarked b) u (at limit top Phase.Solution) (begun_rest r) (idle limit top (next_stage r)) e (ap (act (at limit top Phase.Solution) b) g) refl (sym (plain_first r)) (rest_reads r u e k))))
 
   -- The machine reads each statement.
   pub statement_each : (t : List Letter) (e : Statement) → SpellsStatement limit top e t → ReadsStatement proofs (idle limit top (stage_of e)) t e (idle limit top (stage_after e))
-  statement_each t statement.TheVariants.Header h =
-      by_parts (KeywordWords keyword.Header) Feed t statement.TheVariants.Header (idle limit top Opening) (idle limit top Formula)
-      (λ a b i k. words_then keyword.Header header_end (λ j c. refl) refl refl a b statement.TheVariants.Header (idle limit top Formula) i
-      (feed_reads proofs header_end header_end (idle limit top Formula) statement.TheVariants.Header header_feeds b k)) h
-  statement_each t (statement.TheVariants.F c) h =
-      by_parts (KeywordWords keyword.Formula) (SpellsRest limit top kind.Formula (statement.TheVariants.F c)) t (statement.TheVariants.F c) (idle limit top Formula) (idle limit top Steps)
-      (λ a b i k. words_then keyword.Formula (begun_rest kind.Formula) (λ j d. refl) refl (plain_first kind.Formula) a b (statement.TheVariants.F c) (idle limit top Steps) i (rest_reads kind.Formula b (statement.TheVariants.F c) k)) h
-  statement_each t (statement.TheVariants.Pol c) h =
-      by_parts (KeywordWords keyword.Pol) (SpellsRest limit top kind.Pol (statement.TheVariants.Pol c)) t (statement.TheVariants.Pol c) (idle limit top Steps) (idle limit top Steps)
-      (λ a b i k. words_then keyword.Pol (begun_rest kind.Pol) (λ j d. refl) refl (plain_first kind.Pol) a b (statement.TheVariants.Pol c) (idle limit top Steps) i (rest_reads kind.Pol b (statement.TheVariants.Pol c) k)) h
-  statement_each t (statement.TheVariants.Rup c) h =
-      by_parts (KeywordWords keyword.Rup) (SpellsRest limit top kind.Rup (statement.TheVariants.Rup c)) t (statement.TheVariants.Rup c) (idle limit top Steps) (idle limit top Steps)
-      (λ a b i k. words_then keyword.Rup (begun_rest kind.Rup) (λ j d. refl) refl (plain_first kind.Rup) a b (statement.TheVariants.Rup c) (idle limit top Steps) i (rest_reads kind.Rup b (statement.TheVariants.Rup c) k)) h
-  statement_each t (statement.TheVariants.Soli c) h =
-      by_parts (Before kind.Soli) (SpellsRest limit top kind.Soli (statement.TheVariants.Soli c)) t (statement.TheVariants.Soli c) (idle limit top Steps) (idle limit top Steps)
-      (λ a b i k. solution_then 105 kind.Soli a b (statement.TheVariants.Soli c) (idle limit top Steps) refl i (rest_reads kind.Soli b (statement.TheVariants.Soli c) k)) h
-  statement_each t (statement.TheVariants.Solx c) h =
-      by_parts (Before kind.Solx) (SpellsRest limit top kind.Solx (statement.TheVariants.Solx c)) t (statement.TheVariants.Solx c) (idle limit top Steps) (idle limit top Steps)
-      (λ a b i k. solution_then 120 kind.Solx a b (statement.TheVariants.Solx c) (idle limit top Steps) refl i (rest_reads kind.Solx b (statement.TheVariants.Solx c) k)) h
-  statement_each t (statement.TheVariants.Delete c) h =
-      by_parts (KeywordWords keyword.Delete) (SpellsRest limit top kind.Delete (statement.TheVariants.Delete c)) t (statement.TheVariants.Delete c) (idle limit top Steps) (idle limit top Steps)
-      (λ a b i k. words_then keyword.Delete (begun_rest kind.Delete) (λ j d. refl) refl (plain_first kind.Delete) a b (statement.TheVariants.Delete c) (idle limit top Steps) i (rest_reads kind.Delete b (statement.TheVariants.Delete c) k)) h
-  statement_each t statement.TheVariants.Output h =
-      by_parts (KeywordWords keyword.Output) LineEnd t statement.TheVariants.Output (idle limit top Steps) (idle limit top Concluding)
-      (λ a b i k. words_then keyword.Output (output_end true) (λ j d. refl) refl refl a b statement.TheVariants.Output (idle limit top Concluding) i
-      (line_reads proofs (output_end true) (output_end true) (output_end false) (idle limit top Concluding) statement.TheVariants.Output output_may b k)) h
-  statement_each t (statement.TheVariants.Conclude c) h =
-      by_parts (KeywordWords keyword.Conclusion) (SpellsRest limit top kind.Conclusion (statement.TheVariants.Conclude c)) t (statement.TheVariants.Conclude c) (idle limit top Concluding) (idle limit top Closing)
-      (λ a b i k. words_then keyword.Conclusion (begun_rest kind.Conclusion) (λ j d. refl) refl (plain_first kind.Conclusion) a b (statement.TheVariants.Conclude c) (idle limit top Closing) i (rest_reads kind.Conclusion b (statement.TheVariants.Conclude c) k)) h
-  statement_each t statement.TheVariants.End h = words_end t h
+  statement_each t Statement.Header h =
+      by_parts (KeywordWords Keyword.Header) Feed t Statement.Header (idle limit top Opening) (idle limit top Formula)
+      (λ a b i k. words_then Keyword.Header header_end (λ j c. refl) refl refl a b Statement.Header (idle limit top Formula) i
+      (feed_reads proofs header_end header_end (idle limit top Formula) Statement.Header header_feeds b k)) h
+  statement_each t (Statement.F c) h = line_then Keyword.Formula LineKind.Formula t (Statement.F c) refl h
+  statement_each t (Statement.Pol c) h = line_then Keyword.Pol LineKind.Pol t (Statement.Pol c) refl h
+  statement_each t (Statement.Rup c) h = line_then Keyword.Rup LineKind.Rup t (Statement.Rup c) refl h
+  statement_each t (Statement.Soli c) h = solution_then 105 LineKind.Soli t (Statement.Soli c) refl h
+  statement_each t (Statement.Solx c) h = solution_then 120 LineKind.Solx t (Statement.Solx c) refl h
+  statement_each t (Statement.Delete c) h = line_then Keyword.Delete LineKind.Delete t (Statement.Delete c) refl h
+  statement_each t Statement.Output h =
+      by_parts (KeywordWords Keyword.Output) LineEnd t Statement.Output (idle limit top Steps) (idle limit top Stage.Concluding)
+      (λ a b i k. words_then Keyword.Output (output_end true) (λ j d. refl) refl refl a b Statement.Output (idle limit top Stage.Concluding) i
+      (line_reads proofs (output_end true) (output_end true) (output_end false) (idle limit top Stage.Concluding) Statement.Output output_may b k)) h
+  statement_each t (Statement.Conclude c) h = line_then Keyword.Conclusion LineKind.Conclusion t (Statement.Conclude c) refl h
+  statement_each t Statement.End h = words_end t h

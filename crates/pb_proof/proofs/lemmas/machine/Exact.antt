@@ -3,14 +3,9 @@ use Rattle.pb_proof.proofs.Common.{ℕ, ◌++◌, ◌↔◌, ◌∷◌, ◌≡�
 use Rattle.pb_proof.proofs.Common.{All-tail, never, one_spelling, AcceptsItems, Refuse, Nothing, Item, events_of, Conclusion, Stage, Closing}
 use Rattle.pb_proof.proofs.Common.{Complete, Formula, Opening, Steps, Proof, Statement, Conclude, Delete, F, Header, Output, Pol, Rup, Soli, Solx}
 use Rattle.pb_proof.proofs.Common.{act, begin, proofs, ProofState, SpellsStatement, GapAt, IsStaged, stage_after, stage_of, AreSpelled, BeginsAtOnce}
-use Rattle.pb_proof.proofs.Common.{IsGap, IsProof, IsStep, statements_of}
-use Rattle.pb_proof.specs.engine.machine.Transition.{transition}
+use Rattle.pb_proof.proofs.Common.{IsGap, IsProof, IsStep, statements_of, proof_transition as transition, ProofPhase as Phase}
 use Rattle.pb_proof.specs.contract.Formats.{OneProof}
 use Rattle.pb_proof.specs.engine.machine.State.{is_done}
-use Rattle.pb_proof.specs.declared.machine.phase.Stage.TheVariants.{Concluding}
-use Rattle.pb_proof.specs.declared.machine.phase.Phase.{Phase}
-use Rattle.pb_proof.specs.declared.machine.phase.Phase.TheVariants as phase
-use Rattle.pb_proof.specs.declared.statement.Statement.TheVariants.{End}
 use Rattle.pb_proof.proofs.lemmas.machine.Orders.{ordered_only, ordered_each}
 
 -- statements in order
@@ -20,7 +15,7 @@ InOrder at (e ∷ es) = (stage_of e ≡ at) × InOrder (stage_after e) es
 
 -- the statements that end a proof
 abbrev ending : Conclusion → List Statement
-ending c = Output ∷ Conclude c ∷ End ∷ []
+ending c = Output ∷ Conclude c ∷ Statement.End ∷ []
 
 abbrev Ends : List Statement → Type 0
 Ends es = (steps : List Statement) × (c : Conclusion) × All IsStep steps × (es ≡ steps ++ ending c)
@@ -30,12 +25,12 @@ at_complete [] h = refl
 at_complete (Header ∷ es) h = cc
 at_complete (_ ∷ es) h = cc
 
-at_closing : (es : List Statement) → InOrder Closing es → es ≡ End ∷ []
+at_closing : (es : List Statement) → InOrder Closing es → es ≡ Statement.End ∷ []
 at_closing [] h = cc
-at_closing (End ∷ es) h = ap (λ x. End ∷ x) (at_complete es h.1)
+at_closing (Statement.End ∷ es) h = ap (λ x. Statement.End ∷ x) (at_complete es h.1)
 at_closing (_ ∷ es) h = cc
 
-at_conclusion : (es : List Statement) → InOrder Concluding es → (c : Conclusion) × (es ≡ Conclude c ∷ End ∷ [])
+at_conclusion : (es : List Statement) → InOrder Stage.Concluding es → (c : Conclusion) × (es ≡ Conclude c ∷ Statement.End ∷ [])
 at_conclusion [] h = cc
 at_conclusion (Conclude c ∷ es) h = (c, ap (λ x. Conclude c ∷ x) (at_closing es h.1))
 at_conclusion (_ ∷ es) h = cc
@@ -137,7 +132,7 @@ module _ (limit top : ℕ) where
 
 -- No byte is taken after a complete proof.
 pub done_stops : (s : ProofState) (p : Phase) (b : ℕ) → is_done p ≡ true → act s b (transition p b) ≡ Refuse
-done_stops s (phase.Between Complete) b h = refl
+done_stops s (Phase.Between Complete) b h = refl
 done_stops s _ b h = never false h refl
 
 pub finishes : (s : ProofState) → IsTrue (proofs.done s) → (b : ℕ) → proofs.step s b ≡ Refuse

@@ -4,18 +4,11 @@ use Rattle.pb_proof.proofs.Common.{nat_eq, not, refl, subst, sym, true, slice_in
 use Rattle.pb_proof.proofs.Common.{ReadsStatement, Refuse, SkipsGap, in_comment, IsBlank, Nothing, is_white, Letter, Keyword, Stage, Closing}
 use Rattle.pb_proof.proofs.Common.{Complete, Formula, Opening, Steps, Statement, act, at, HasGaps, idle, proofs, ProofState, enter, meets}
 use Rattle.pb_proof.proofs.Common.{next_action, pass, step_keyword, words_of, IsGap, go_or_end, one_state, refuse_or_end, refuse_or_go, AcceptsItems}
-use Rattle.pb_proof.proofs.Common.{Item, is_complete, GapAt, IsStaged, stage_after, stage_of}
+use Rattle.pb_proof.proofs.Common.{Item, is_complete, GapAt, IsStaged, stage_after, stage_of, proof_between as between, proof_spell as spell}
+use Rattle.pb_proof.proofs.Common.{proof_within as is_within, ProofAction as Action, ProofPhase as Phase}
 use Rattle.pb_text.proofs.lemmas.text.Blanks.{blank_passes, in_comment-snoc, IsBlank-snoc, passes_at}
-use Rattle.pb_proof.specs.engine.machine.Transition.{between, spell}
-use Rattle.pb_proof.specs.engine.machine.State.{is_within}
-use Rattle.pb_proof.specs.declared.machine.phase.Stage.TheVariants.{Concluding}
-use Rattle.pb_proof.specs.declared.machine.phase.Action.{Action}
 use Rattle.pb_proof.proofs.lemmas.machine.Complete.{statement_each}
 use Rattle.pb_proof.proofs.lemmas.machine.Sound.{statement_only}
-use Rattle.pb_proof.specs.declared.machine.phase.Keyword.TheVariants as keyword
-use Rattle.pb_proof.specs.declared.machine.phase.Phase.TheVariants as phase
-use Rattle.pb_proof.specs.declared.machine.phase.Action.TheVariants as action
-use Rattle.pb_proof.specs.declared.statement.Statement as statement
 
 passing : (s : Stage) (b : ℕ) → HasGaps s → between s b ≡ pass s b
 passing Opening b h = absurd h
@@ -23,13 +16,13 @@ passing Complete b h = absurd h
 passing _ b h = refl
 
 abbrev pub Inside : Action → Type 0
-Inside (action.To p) = is_within p ≡ true
+Inside (Action.To p) = is_within p ≡ true
 Inside _ = Unit {0}
 
 after_inside : (f : Keyword) → Inside (next_action f)
-after_inside keyword.Header = refl
-after_inside keyword.Solution = refl
-after_inside keyword.Output = refl
+after_inside Keyword.Header = refl
+after_inside Keyword.Solution = refl
+after_inside Keyword.Output = refl
 after_inside _ = tt
 
 pub spell_inside : (f : Keyword) (k b : ℕ) (other : Action) → Inside other → Inside (spell f k b other)
@@ -37,26 +30,26 @@ spell_inside f k b other h = cond_both (meets (slice_index (words_of f) k) b) _ 
     (λ _. cond_both (nat_eq (k + 1) (length (words_of f))) _ _ Inside (λ _. after_inside f) (λ _. refl)) (λ _. h)
 
 pub enter_inside : (s : Stage) (b : ℕ) → Inside (enter s b)
-enter_inside Opening b = spell_inside keyword.Header 0 b action.Stop tt
-enter_inside Formula b = spell_inside keyword.Formula 0 b action.Stop tt
-enter_inside Steps b = spell_inside (step_keyword b) 0 b action.Stop tt
-enter_inside Concluding b = spell_inside keyword.Conclusion 0 b action.Stop tt
-enter_inside Closing b = spell_inside keyword.End 0 b action.Stop tt
+enter_inside Opening b = spell_inside Keyword.Header 0 b Action.Stop tt
+enter_inside Formula b = spell_inside Keyword.Formula 0 b Action.Stop tt
+enter_inside Steps b = spell_inside (step_keyword b) 0 b Action.Stop tt
+enter_inside Stage.Concluding b = spell_inside Keyword.Conclusion 0 b Action.Stop tt
+enter_inside Closing b = spell_inside Keyword.End 0 b Action.Stop tt
 enter_inside Complete b = tt
 
 -- no statement begins in a comment
-pub comment_reads : (limit top : ℕ) (s : Stage) (t : List Letter) (e : Statement) (after : ProofState) → ReadsStatement proofs (at limit top (phase.Comment s)) t e after → ⊥
+pub comment_reads : (limit top : ℕ) (s : Stage) (t : List Letter) (e : Statement) (after : ProofState) → ReadsStatement proofs (at limit top (Phase.Comment s)) t e after → ⊥
 comment_reads limit top s [] e after r = r
 comment_reads limit top s (l ∷ []) e after (h, n) = go_or_end _ e after h
 comment_reads limit top s (l ∷ k ∷ t) e after (mid, h, o, n, r) = never (proofs.begun mid) o (
     ap proofs.begun (sym (one_state _ mid h))
-    ∙ cond_both (nat_eq l.byte 10) (phase.Between s) (phase.Comment s) (λ q. is_within q ≡ false) (λ _. refl) (λ _. refl)
+    ∙ cond_both (nat_eq l.byte 10) (Phase.Between s) (Phase.Comment s) (λ q. is_within q ≡ false) (λ _. refl) (λ _. refl)
     )
 
 module _ (limit top : ℕ) (s : Stage) (gaps : HasGaps s) where
   -- the state within a comment, or outside one
   abbrev pub gap_state : Bool → ProofState
-  gap_state commented = at limit top (cond commented (phase.Comment s) (phase.Between s))
+  gap_state commented = at limit top (cond commented (Phase.Comment s) (Phase.Between s))
 
   -- the outcome of a byte of white space and comments
   abbrev InGap : (ProofState → Type 0) → Next ProofState Statement → Type 0
@@ -65,8 +58,8 @@ module _ (limit top : ℕ) (s : Stage) (gaps : HasGaps s) where
   InGap P Refuse = Unit {0}
 
   entered : (P : ProofState → Type 0) (b : ℕ) (m : Action) → Inside m → InGap P (act (idle limit top s) b m)
-  entered P b (action.To p) h = λ o. never (is_within p) h o
-  entered P b (action.Begin r) h = λ o. never true refl o
+  entered P b (Action.To p) h = λ o. never (is_within p) h o
+  entered P b (Action.Begin r) h = λ o. never true refl o
   entered P b _ h = tt
 
   abbrev next_mode : ℕ → Bool → Bool
@@ -85,49 +78,35 @@ module _ (limit top : ℕ) (s : Stage) (gaps : HasGaps s) where
   star_mode b h = subst (λ x. next_mode x false ≡ true) (sym (eqb-true b 42 h)) refl
 
   gap_step : (commented : Bool) (b : ℕ) → passed b commented ≡ true → proofs.step (gap_state commented) b ≡ Go (gap_state (next_mode b commented))
-  gap_step true b h = by_feed (nat_eq b 10) refl
-    where
-      by_feed : (x : Bool) → nat_eq b 10 ≡ x → act (gap_state true) b (action.To (cond x (phase.Between s) (phase.Comment s))) ≡ Go (gap_state (next_mode b true))
-      by_feed true e = ap (λ y. Go (gap_state y)) (sym (ap (λ y. not y && (nat_eq b 42 || true)) e))
-      by_feed false e = ap (λ y. Go (gap_state y)) (sym (ap (λ y. not y && (nat_eq b 42 || true)) e ∙ or-true (nat_eq b 42)))
+  gap_step true b h = cond_both (nat_eq b 10) (Phase.Between s) (Phase.Comment s) (λ q. act (gap_state true) b (Action.To q) ≡ Go (gap_state (next_mode b true)))
+      (λ e. ap (λ y. Go (gap_state y)) (sym (ap (λ y. not y && (nat_eq b 42 || true)) e)))
+      (λ e. ap (λ y. Go (gap_state y)) (sym (ap (λ y. not y && (nat_eq b 42 || true)) e ∙ or-true (nat_eq b 42))))
   gap_step false b h =
-      ap (act (gap_state false) b) (passing s b gaps)
-      ∙ by_white (is_white b) refl
-    where
-      by_star : is_white b ≡ false → (x : Bool) → nat_eq b 42 ≡ x
-          → act (gap_state false) b (cond x (action.To (phase.Comment s)) (enter s b)) ≡ Go (gap_state (next_mode b false))
-      by_star w true e = ap (λ y. Go (gap_state y)) (sym (star_mode b e))
-      by_star w false e = never false (sym (ap₂ (λ y z. y || z || false) w e) ∙ h) refl
-
-      by_white : (x : Bool) → is_white b ≡ x
-          → act (gap_state false) b (cond x (action.To (phase.Between s)) (cond (nat_eq b 42) (action.To (phase.Comment s)) (enter s b))) ≡ Go (gap_state (next_mode b false))
-      by_white true e = ap (λ y. Go (gap_state y)) (sym (white_mode b e))
-      by_white false e = by_star e (nat_eq b 42) refl
+      let P : Action → Type 0 = λ m. act (gap_state false) b m ≡ Go (gap_state (next_mode b false)) in
+      subst P (sym (passing s b gaps))
+      (cond_both (is_white b) _ _ P (λ e. ap (λ y. Go (gap_state y)) (sym (white_mode b e)))
+      (λ w. cond_both (nat_eq b 42) _ _ P (λ e. ap (λ y. Go (gap_state y)) (sym (star_mode b e)))
+      (λ e. never false (sym (ap₂ (λ y z. y || z || false) w e) ∙ h) refl)))
 
   gap_byte : (commented : Bool) (b : ℕ) → InGap (Leads b commented) (proofs.step (gap_state commented) b)
   gap_byte true b =
       let p : passed b true ≡ true = or-true (is_white b || nat_eq b 42) in
       subst (InGap (Leads b true)) (sym (gap_step true b p)) (λ o. (p, refl))
   gap_byte false b =
-      subst (λ m. InGap (Leads b false) (act (gap_state false) b m)) (sym (passing s b gaps))
+      let Q : Action → Type 0 = λ m. InGap (Leads b false) (act (gap_state false) b m) in
+      subst Q (sym (passing s b gaps))
       (cond_both (is_white b) _ _ Q
       (λ e o. (ap (λ x. x || nat_eq b 42 || false) e, ap gap_state (sym (white_mode b e))))
       (λ f. cond_both (nat_eq b 42) _ _ Q
       (λ e o. (ap₂ (λ x y. x || y || false) f e, ap gap_state (sym (star_mode b e))))
       (λ _. entered (Leads b false) b (enter s b) (enter_inside s b))))
-    where
-      Q : Action → Type 0
-      Q m = InGap (Leads b false) (act (gap_state false) b m)
 
   mode_after : (before : List ℕ) (b : ℕ) → next_mode b (in_comment before) ≡ in_comment (before ++ b ∷ [])
   mode_after before b = sym (in_comment-snoc before b)
 
   gap_only : (gap before : List ℕ) (mid : ProofState) → SkipsGap proofs (gap_state (in_comment before)) gap mid → IsBlank before
       → IsBlank (before ++ gap) × (mid ≡ gap_state (in_comment (before ++ gap)))
-  gap_only [] before mid h blank = (
-    subst IsBlank (sym (append-nil before)) blank,
-    h ∙ ap (λ x. gap_state (in_comment x)) (sym (append-nil before)),
-  )
+  gap_only [] before mid h blank = (subst IsBlank (sym (append-nil before)) blank, h ∙ ap (λ x. gap_state (in_comment x)) (sym (append-nil before)))
   gap_only (b ∷ gap) before mid (next, g, o, h) blank =
       let on : InGap (Leads b (in_comment before)) (Go next) = subst (λ x. InGap (Leads b (in_comment before)) x) g (gap_byte (in_comment before) b) in
       let f : Leads b (in_comment before) next = on o in
@@ -179,8 +158,8 @@ module _ (limit top : ℕ) where
   OnGo Refuse = Unit {0}
 
   went_inside : (b : ℕ) (m : Action) → Inside m → OnGo (act (idle limit top Opening) b m)
-  went_inside b (action.To p) h = h
-  went_inside b (action.Begin r) h = refl
+  went_inside b (Action.To p) h = h
+  went_inside b (Action.Begin r) h = refl
   went_inside b _ h = tt
 
   opening_gap : (gap : List ℕ) (mid : ProofState) → SkipsGap proofs (idle limit top Opening) gap mid → (gap ≡ []) × (mid ≡ idle limit top Opening)
@@ -197,10 +176,7 @@ module _ (limit top : ℕ) where
       → GapAt at gap × (mid ≡ idle limit top at)
   gap_at Opening gap mid after t e h r = opening_gap gap mid h
   gap_at Complete gap mid after t e h r = absurd (complete_reads gap mid after t e h r)
-  gap_at Formula gap mid after t e h r = gap_before limit top Formula tt gap mid after t e h r
-  gap_at Steps gap mid after t e h r = gap_before limit top Steps tt gap mid after t e h r
-  gap_at Concluding gap mid after t e h r = gap_before limit top Concluding tt gap mid after t e h r
-  gap_at Closing gap mid after t e h r = gap_before limit top Closing tt gap mid after t e h r
+  gap_at at gap mid after t e h r = gap_before limit top at tt gap mid after t e h r
 
   pub ordered_only : (items : List (Item Statement)) (at : Stage) → AcceptsItems proofs (idle limit top at) items → IsStaged limit top at items
   ordered_only [] at h = complete at h
@@ -211,16 +187,13 @@ module _ (limit top : ℕ) where
 
   -- no statement comes after the last one
   stage_some : (e : Statement) → stage_of e ≡ Complete → ⊥
-  stage_some statement.TheVariants.Header h = cc
+  stage_some Statement.Header h = cc
   stage_some _ h = cc
 
   skips_at : (at : Stage) (gap : List ℕ) → (at ≡ Complete → ⊥) → GapAt at gap → SkipsGap proofs (idle limit top at) gap (idle limit top at)
   skips_at Opening gap n h = subst (λ x. SkipsGap proofs (idle limit top Opening) x (idle limit top Opening)) (sym h) refl
   skips_at Complete gap n h = absurd (n refl)
-  skips_at Formula gap n h = gap_skips limit top Formula tt gap h
-  skips_at Steps gap n h = gap_skips limit top Steps tt gap h
-  skips_at Concluding gap n h = gap_skips limit top Concluding tt gap h
-  skips_at Closing gap n h = gap_skips limit top Closing tt gap h
+  skips_at at gap n h = gap_skips limit top at tt gap h
 
   pub ordered_each : (items : List (Item Statement)) (at : Stage) → IsStaged limit top at items → AcceptsItems proofs (idle limit top at) items
   ordered_each [] at h = ap is_complete h

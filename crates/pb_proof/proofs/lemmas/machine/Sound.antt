@@ -1,47 +1,38 @@
 -- What the proof machine reads from a stage is a statement of that stage.
-use Rattle.pb_proof.proofs.Common.{ℕ, ◌&&◌, ◌++◌, ◌+◌, ◌-◌, ◌<◌, ◌∙◌, ◌∷◌, ◌≡◌, [], add-one, ap, arith, Bool, false, length, List, nat_eq, None, refl}
-use Rattle.pb_proof.proofs.Common.{Some, subst, sym, take, true, slice_index, take-suc, and_parts, cond_both, eqb-true, take_all, ends_walk, Keeps}
-use Rattle.pb_proof.proofs.Common.{On, reported, Walks, walks_more, never, grown, none_yet, as_unmarked, further, End, Go, Next, ReadsStatement}
-use Rattle.pb_proof.proofs.Common.{Refuse, is_blank, is_white, ◌⋅◌, Bytes, Language, Letter, plain, LineMachine, Keyword, LineKind, Stage, Closing}
-use Rattle.pb_proof.proofs.Common.{Complete, Formula, Opening, Steps, Statement, line_automaton, line_first, SpellsRest, act, asked, idle, next_stage}
-use Rattle.pb_proof.proofs.Common.{proofs, ProofState, step_line, enter, meets, next_action, pass, sol_word, step_keyword, words_of, conclusion_word}
-use Rattle.pb_proof.proofs.Common.{f_word, pol_word, rup_word, soli_word, solx_word, SpellsStatement, stage_after, stage_of}
-use Rattle.pb_proof.specs.engine.machine.Transition.{spell, between, transition}
-use Rattle.pb_proof.specs.engine.machine.State.{over}
-use Rattle.pb_proof.specs.declared.machine.phase.Keyword.TheVariants as keyword
-use Rattle.pb_proof.specs.declared.machine.phase.Stage.TheVariants.{Concluding}
-use Rattle.pb_proof.specs.declared.machine.phase.LineKind.TheVariants as kind
-use Rattle.pb_proof.specs.declared.machine.phase.Phase.{Phase}
-use Rattle.pb_proof.specs.declared.machine.phase.Phase.TheVariants as phase
-use Rattle.pb_proof.specs.declared.machine.phase.Action.{Action}
-use Rattle.pb_proof.specs.declared.machine.phase.Action.TheVariants as action
-use Rattle.pb_proof.specs.declared.statement.Statement as statement
+use Rattle.pb_proof.proofs.Common.{ℕ, ◌&&◌, ◌++◌, ◌+◌, ◌-◌, ◌<◌, ◌∙◌, ◌∷◌, ◌≡◌, [], add-one, ap, arith, Bool, false, length, List, nat_eq, None, refl, Some}
+use Rattle.pb_proof.proofs.Common.{subst, sym, take, true, slice_index, take-suc, and_parts, cond_both, eqb-true, take_all, ends_walk, Keeps, On, reported}
+use Rattle.pb_proof.proofs.Common.{Walks, walks_more, never, grown, none_yet, as_unmarked, further, End, Go, Next, ReadsStatement, Refuse, is_blank, is_white}
+use Rattle.pb_proof.proofs.Common.{◌⋅◌, Bytes, Language, Letter, plain, LineMachine, Keyword, LineKind, Stage, Closing, Complete, Formula, Opening, Steps}
+use Rattle.pb_proof.proofs.Common.{Statement, line_automaton, line_first, SpellsRest, act, asked, idle, next_stage, proofs, ProofState, step_line, enter}
+use Rattle.pb_proof.proofs.Common.{meets, next_action, sol_word, step_keyword, words_of, conclusion_word, f_word, pol_word, rup_word, soli_word}
+use Rattle.pb_proof.proofs.Common.{solx_word, SpellsStatement, stage_after, stage_of, proof_spell as spell, proof_between as between}
+use Rattle.pb_proof.proofs.Common.{proof_transition as transition, proof_over as over, ProofPhase as Phase, ProofAction as Action}
 use Rattle.pb_proof.proofs.lemmas.line.Laws.{line_only, line_begins, line_fresh}
 use Rattle.pb_proof.proofs.lemmas.line.Ends.{Gapped, Closing as Closed, blank_more, semicolon_after_blanks, blank_closing, line_after_blanks, line_closing, feed_after_blanks, gapped}
 use Rattle.pb_proof.proofs.lemmas.Spaced.{Spaced, one_met, spaced_more, spaced_blank, KeywordWords, keyword_only, some_byte}
 
 -- the stage of a statement, by its first words and by the kind of its line
 abbrev pub stage_keyword : Keyword → Stage
-stage_keyword keyword.Header = Opening
-stage_keyword keyword.Formula = Formula
-stage_keyword keyword.Conclusion = Concluding
-stage_keyword keyword.End = Closing
+stage_keyword Keyword.Header = Opening
+stage_keyword Keyword.Formula = Formula
+stage_keyword Keyword.Conclusion = Stage.Concluding
+stage_keyword Keyword.End = Closing
 stage_keyword _ = Steps
 
 abbrev pub stage_rest : LineKind → Stage
-stage_rest kind.Formula = Formula
-stage_rest kind.Conclusion = Concluding
+stage_rest LineKind.Formula = Formula
+stage_rest LineKind.Conclusion = Stage.Concluding
 stage_rest _ = Steps
 
 -- the words before the text that a line machine reads
 abbrev pub Before : LineKind → Language
-Before kind.Formula = Bytes f_word
-Before kind.Pol = Bytes pol_word
-Before kind.Rup = Bytes rup_word
-Before kind.Soli = Bytes soli_word
-Before kind.Solx = Bytes solx_word
-Before kind.Delete = KeywordWords keyword.Delete
-Before kind.Conclusion = Bytes conclusion_word
+Before LineKind.Formula = Bytes f_word
+Before LineKind.Pol = Bytes pol_word
+Before LineKind.Rup = Bytes rup_word
+Before LineKind.Soli = Bytes soli_word
+Before LineKind.Solx = Bytes solx_word
+Before LineKind.Delete = KeywordWords Keyword.Delete
+Before LineKind.Conclusion = Bytes conclusion_word
 
 -- words, one letter at a time
 word_further : (w : List ℕ) (k : ℕ) (l : Letter) (p : List Letter) → k < length w → meets (slice_index w k) l.byte ≡ true → l.numeral ≡ false
@@ -56,20 +47,19 @@ word_blank w k l p some h e b n s =
     let j : (k - 1) + 1 ≡ k = omega arith in
     let same : take k w ≡ take (k - 1) w ++ 32 ∷ [] =
     ap (λ i. take i w) (sym j ∙ add-one (k - 1)) ∙ (take-suc w (k - 1) 0 (omega arith) ∙ ap (λ x. take (k - 1) w ++ x ∷ []) (eqb-true (slice_index w (k - 1)) 32 e)) in
-    subst (λ x. Spaced x (p ++ l ∷ [])) (sym same)
-    (spaced_blank (take (k - 1) w) p l b n (subst (λ x. Spaced x p) same s))
+    rw same (spaced_blank (take (k - 1) w) p l b n (subst (λ x. Spaced x p) same s))
 
 module _ (limit top : ℕ) (here : Stage) where
   -- What has been read, by phase.
   abbrev pub prefix_in : ProofState → Phase → Language
-  prefix_in s (phase.Between at) = λ p. (at ≡ here) × (p ≡ []) × (s.line ≡ None)
-  prefix_in s (phase.Comment at) = λ p. ⊥
-  prefix_in s (phase.Spelling f k) = λ p. (stage_keyword f ≡ here) × (0 < k) × (k < length (words_of f)) × Spaced (take k (words_of f)) p × (s.line ≡ None)
-  prefix_in s phase.Solution = λ p. (Steps ≡ here) × Bytes sol_word p × (s.line ≡ None)
-  prefix_in s phase.HeaderEnd = λ p. (Opening ≡ here) × Gapped (KeywordWords keyword.Header) p × (s.line ≡ None)
-  prefix_in s (phase.OutputEnd true) = λ p. (Steps ≡ here) × Gapped (KeywordWords keyword.Output) p × (s.line ≡ None)
-  prefix_in s (phase.OutputEnd false) = λ p. (Steps ≡ here) × Closed (KeywordWords keyword.Output) p × (s.line ≡ None)
-  prefix_in s (phase.Inside r) = λ p. (stage_rest r ≡ here) × ((i : LineMachine) × (s.line ≡ Some i) × (Before r ⋅ (λ q. Walks line_automaton (line_first limit top r) q i)) p)
+  prefix_in s (Phase.Between at) = λ p. (at ≡ here) × (p ≡ []) × (s.line ≡ None)
+  prefix_in s (Phase.Comment at) = λ p. ⊥
+  prefix_in s (Phase.Spelling f k) = λ p. (stage_keyword f ≡ here) × (0 < k) × (k < length (words_of f)) × Spaced (take k (words_of f)) p × (s.line ≡ None)
+  prefix_in s Phase.Solution = λ p. (Steps ≡ here) × Bytes sol_word p × (s.line ≡ None)
+  prefix_in s Phase.HeaderEnd = λ p. (Opening ≡ here) × Gapped (KeywordWords Keyword.Header) p × (s.line ≡ None)
+  prefix_in s (Phase.OutputEnd true) = λ p. (Steps ≡ here) × Gapped (KeywordWords Keyword.Output) p × (s.line ≡ None)
+  prefix_in s (Phase.OutputEnd false) = λ p. (Steps ≡ here) × Closed (KeywordWords Keyword.Output) p × (s.line ≡ None)
+  prefix_in s (Phase.Inside r) = λ p. (stage_rest r ≡ here) × ((i : LineMachine) × (s.line ≡ Some i) × (Before r ⋅ (λ q. Walks line_automaton (line_first limit top r) q i)) p)
 
   abbrev pub Known : ProofState → Type 0
   Known s = (s.limit ≡ limit) × (s.top ≡ top)
@@ -87,13 +77,13 @@ module _ (limit top : ℕ) (here : Stage) where
   -- The words and the rest of the line make a statement.
   rest_statement : (r : LineKind) (e : Statement) (t : List Letter) → (Before r ⋅ SpellsRest limit top r e) t
       → (stage_of e ≡ stage_rest r) × SpellsStatement limit top e t × (next_stage r ≡ stage_after e)
-  rest_statement kind.Formula (statement.TheVariants.F c) t h = (refl, h, refl)
-  rest_statement kind.Pol (statement.TheVariants.Pol c) t h = (refl, h, refl)
-  rest_statement kind.Rup (statement.TheVariants.Rup c) t h = (refl, h, refl)
-  rest_statement kind.Soli (statement.TheVariants.Soli c) t h = (refl, h, refl)
-  rest_statement kind.Solx (statement.TheVariants.Solx c) t h = (refl, h, refl)
-  rest_statement kind.Delete (statement.TheVariants.Delete c) t h = (refl, h, refl)
-  rest_statement kind.Conclusion (statement.TheVariants.Conclude c) t h = (refl, h, refl)
+  rest_statement LineKind.Formula (Statement.F c) t h = (refl, h, refl)
+  rest_statement LineKind.Pol (Statement.Pol c) t h = (refl, h, refl)
+  rest_statement LineKind.Rup (Statement.Rup c) t h = (refl, h, refl)
+  rest_statement LineKind.Soli (Statement.Soli c) t h = (refl, h, refl)
+  rest_statement LineKind.Solx (Statement.Solx c) t h = (refl, h, refl)
+  rest_statement LineKind.Delete (Statement.Delete c) t h = (refl, h, refl)
+  rest_statement LineKind.Conclusion (Statement.Conclude c) t h = (refl, h, refl)
   rest_statement _ _ t h = absurd h.4
 
   module _ (s : ProofState) (l : Letter) (p : List Letter) (k : Known s) where
@@ -108,8 +98,7 @@ module _ (limit top : ℕ) (here : Stage) where
     plain_letter e n = n ∙ ap (asked false line_automaton.in_number) e
 
     -- a line machine begins
-    begins : (r : LineKind) → stage_rest r ≡ here → (l.numeral ≡ false → Before r (p ++ l ∷ []))
-        → After (action.Begin r)
+    begins : (r : LineKind) → stage_rest r ≡ here → (l.numeral ≡ false → Before r (p ++ l ∷ [])) → After (Action.Begin r)
     begins r at h = λ w n.
         let m : LineMachine = line_first s.limit s.top r in (
           k,
@@ -126,15 +115,15 @@ module _ (limit top : ℕ) (here : Stage) where
 
     -- all words have been read
     whole : s.line ≡ None → (f : Keyword) → stage_keyword f ≡ here → (l.numeral ≡ false → KeywordWords f (p ++ l ∷ [])) → After (next_action f)
-    whole o keyword.Header at h = λ w n. (k, (at, gapped (KeywordWords keyword.Header) (p ++ l ∷ []) (h (plain_letter o n)), o))
-    whole o keyword.Formula at h = begins kind.Formula at h
-    whole o keyword.Pol at h = begins kind.Pol at h
-    whole o keyword.Rup at h = begins kind.Rup at h
-    whole o keyword.Solution at h = λ w n. (k, (at, h (plain_letter o n), o))
-    whole o keyword.Delete at h = begins kind.Delete at h
-    whole o keyword.Output at h = λ w n. (k, (at, gapped (KeywordWords keyword.Output) (p ++ l ∷ []) (h (plain_letter o n)), o))
-    whole o keyword.Conclusion at h = begins kind.Conclusion at h
-    whole o keyword.End at h = λ n. (at, h n, same_idle s.limit s.top Complete Complete k.0 k.1 refl)
+    whole o Keyword.Header at h = λ w n. (k, (at, gapped (KeywordWords Keyword.Header) (p ++ l ∷ []) (h (plain_letter o n)), o))
+    whole o Keyword.Formula at h = begins LineKind.Formula at h
+    whole o Keyword.Pol at h = begins LineKind.Pol at h
+    whole o Keyword.Rup at h = begins LineKind.Rup at h
+    whole o Keyword.Solution at h = λ w n. (k, (at, h (plain_letter o n), o))
+    whole o Keyword.Delete at h = begins LineKind.Delete at h
+    whole o Keyword.Output at h = λ w n. (k, (at, gapped (KeywordWords Keyword.Output) (p ++ l ∷ []) (h (plain_letter o n)), o))
+    whole o Keyword.Conclusion at h = begins LineKind.Conclusion at h
+    whole o Keyword.End at h = λ n. (at, h n, same_idle s.limit s.top Complete Complete k.0 k.1 refl)
 
     -- the next byte of the words
     spells : s.line ≡ None → (f : Keyword) → stage_keyword f ≡ here → (j : ℕ) → j < length (words_of f) → Spaced (take j (words_of f)) p → (other : Action) → After other
@@ -147,7 +136,7 @@ module _ (limit top : ℕ) (here : Stage) where
         (λ _. else)
 
     spelling : (f : Keyword) (j : ℕ) → stage_keyword f ≡ here → 0 < j → j < length (words_of f) → Spaced (take j (words_of f)) p → s.line ≡ None
-        → After (transition (phase.Spelling f j) l.byte)
+        → After (transition (Phase.Spelling f j) l.byte)
     spelling f j at some h q o = spells o f at j h q _
         (cond_both (is_blank l.byte && nat_eq (slice_index (words_of f) (j - 1)) 32) _ _ After
         (λ e w n.
@@ -155,63 +144,54 @@ module _ (limit top : ℕ) (here : Stage) where
         (k, (at, some, h, word_blank (words_of f) j l p some h g.1 g.0 (plain_letter o n) q, o)))
         (λ _. tt))
 
-    first : s.line ≡ None → p ≡ [] → (f : Keyword) → stage_keyword f ≡ here → After (spell f 0 l.byte action.Stop)
-    first o e f at = spells o f at 0 (some_byte f) e action.Stop tt
+    first : s.line ≡ None → p ≡ [] → (f : Keyword) → stage_keyword f ≡ here → After (spell f 0 l.byte Action.Stop)
+    first o e f at = spells o f at 0 (some_byte f) e Action.Stop tt
 
     step_stage : (b : ℕ) → stage_keyword (step_keyword b) ≡ Steps
-    step_stage b = cond_both (nat_eq b 112) _ _ P (λ _. refl) (λ _. cond_both (nat_eq b 114) _ _ P (λ _. refl) (λ _. cond_both (nat_eq b 115) _ _ P (λ _. refl) (λ _. cond_both (nat_eq b 100) _ _ P (λ _. refl) (λ _. refl))))
-      where
-        P : Keyword → Type 0
-        P f = stage_keyword f ≡ Steps
+    step_stage b = let P : Keyword → Type 0 = λ f. stage_keyword f ≡ Steps in
+        cond_both (nat_eq b 112) _ _ P (λ _. refl) (λ _. cond_both (nat_eq b 114) _ _ P (λ _. refl) (λ _. cond_both (nat_eq b 115) _ _ P (λ _. refl) (λ _. cond_both (nat_eq b 100) _ _ P (λ _. refl) (λ _. refl))))
 
     enters : (at : Stage) → at ≡ here → p ≡ [] → s.line ≡ None → After (enter at l.byte)
-    enters Opening at e o = first o e keyword.Header at
-    enters Formula at e o = first o e keyword.Formula at
+    enters Opening at e o = first o e Keyword.Header at
+    enters Formula at e o = first o e Keyword.Formula at
     enters Steps at e o = first o e (step_keyword l.byte) (step_stage l.byte ∙ at)
-    enters Concluding at e o = first o e keyword.Conclusion at
-    enters Closing at e o = first o e keyword.End at
+    enters Stage.Concluding at e o = first o e Keyword.Conclusion at
+    enters Closing at e o = first o e Keyword.End at
     enters Complete at e o = tt
-
-    passes : (at : Stage) → at ≡ here → p ≡ [] → s.line ≡ None → After (pass at l.byte)
-    passes at same e o = cond_both (is_white l.byte) _ _ After
-        (λ _ w. never false w refl)
-        (λ _. cond_both (nat_eq l.byte 42) _ _ After (λ _ w. never false w refl) (λ _. enters at same e o))
 
     between_two : (at : Stage) → at ≡ here → p ≡ [] → s.line ≡ None → After (between at l.byte)
     between_two Opening at e o = enters Opening at e o
-    between_two Formula at e o = passes Formula at e o
-    between_two Steps at e o = passes Steps at e o
-    between_two Concluding at e o = passes Concluding at e o
-    between_two Closing at e o = passes Closing at e o
     between_two Complete at e o = tt
+    between_two at same e o = cond_both (is_white l.byte) _ _ After (λ _ w. never false w refl)
+        (λ _. cond_both (nat_eq l.byte 42) _ _ After (λ _ w. never false w refl) (λ _. enters at same e o))
 
     -- `i` or `x` after `sol`
-    logged : Steps ≡ here → Bytes sol_word p → After (transition phase.Solution l.byte)
+    logged : Steps ≡ here → Bytes sol_word p → After (transition Phase.Solution l.byte)
     logged at e = cond_both (nat_eq l.byte 105) _ _ After
-        (λ h. begins kind.Soli at (λ n. ap (λ x. x ++ l ∷ []) e ∙ ap (λ x. plain sol_word ++ x ∷ []) (as_unmarked l 105 n (eqb-true l.byte 105 h))))
+        (λ h. begins LineKind.Soli at (λ n. ap (λ x. x ++ l ∷ []) e ∙ ap (λ x. plain sol_word ++ x ∷ []) (as_unmarked l 105 n (eqb-true l.byte 105 h))))
         (λ _. cond_both (nat_eq l.byte 120) _ _ After
-        (λ h. begins kind.Solx at (λ n. ap (λ x. x ++ l ∷ []) e ∙ ap (λ x. plain sol_word ++ x ∷ []) (as_unmarked l 120 n (eqb-true l.byte 120 h))))
+        (λ h. begins LineKind.Solx at (λ n. ap (λ x. x ++ l ∷ []) e ∙ ap (λ x. plain sol_word ++ x ∷ []) (as_unmarked l 120 n (eqb-true l.byte 120 h))))
         (λ _. tt))
 
-    header_ends : Opening ≡ here → Gapped (KeywordWords keyword.Header) p → s.line ≡ None → After (transition phase.HeaderEnd l.byte)
+    header_ends : Opening ≡ here → Gapped (KeywordWords Keyword.Header) p → s.line ≡ None → After (transition Phase.HeaderEnd l.byte)
     header_ends at h o = cond_both (is_blank l.byte) _ _ After
-        (λ e w n. (k, (at, blank_more (KeywordWords keyword.Header) l p e (plain_letter o n) h, o)))
+        (λ e w n. (k, (at, blank_more (KeywordWords Keyword.Header) l p e (plain_letter o n) h, o)))
         (λ _. cond_both (nat_eq l.byte 10) _ _ After
-        (λ e n. (at, feed_after_blanks (KeywordWords keyword.Header) l p (eqb-true l.byte 10 e) n h, same_idle s.limit s.top Formula Formula k.0 k.1 refl))
+        (λ e n. (at, feed_after_blanks (KeywordWords Keyword.Header) l p (eqb-true l.byte 10 e) n h, same_idle s.limit s.top Formula Formula k.0 k.1 refl))
         (λ _. tt))
 
-    output_ends : (may : Bool) → prefix_in s (phase.OutputEnd may) p → After (transition (phase.OutputEnd may) l.byte)
+    output_ends : (may : Bool) → prefix_in s (Phase.OutputEnd may) p → After (transition (Phase.OutputEnd may) l.byte)
     output_ends true (at, h, o) = cond_both (is_blank l.byte) _ _ After
-        (λ e w n. (k, (at, blank_more (KeywordWords keyword.Output) l p e (plain_letter o n) h, o)))
+        (λ e w n. (k, (at, blank_more (KeywordWords Keyword.Output) l p e (plain_letter o n) h, o)))
         (λ _. cond_both (nat_eq l.byte 10) _ _ After
-        (λ e n. (at, line_after_blanks (KeywordWords keyword.Output) l p (eqb-true l.byte 10 e) n h, same_idle s.limit s.top Concluding Concluding k.0 k.1 refl))
+        (λ e n. (at, line_after_blanks (KeywordWords Keyword.Output) l p (eqb-true l.byte 10 e) n h, same_idle s.limit s.top Stage.Concluding Stage.Concluding k.0 k.1 refl))
         (λ _. cond_both (nat_eq l.byte 59 && true) _ _ After
-        (λ e w n. (k, (at, semicolon_after_blanks (KeywordWords keyword.Output) l p (eqb-true l.byte 59 (and_parts (nat_eq l.byte 59) true e).0) (plain_letter o n) h, o)))
+        (λ e w n. (k, (at, semicolon_after_blanks (KeywordWords Keyword.Output) l p (eqb-true l.byte 59 (and_parts (nat_eq l.byte 59) true e).0) (plain_letter o n) h, o)))
         (λ _. tt)))
     output_ends false (at, h, o) = cond_both (is_blank l.byte) _ _ After
-        (λ e w n. (k, (at, blank_closing (KeywordWords keyword.Output) l p e (plain_letter o n) h, o)))
+        (λ e w n. (k, (at, blank_closing (KeywordWords Keyword.Output) l p e (plain_letter o n) h, o)))
         (λ _. cond_both (nat_eq l.byte 10) _ _ After
-        (λ e n. (at, line_closing (KeywordWords keyword.Output) l p (eqb-true l.byte 10 e) n h, same_idle s.limit s.top Concluding Concluding k.0 k.1 refl))
+        (λ e n. (at, line_closing (KeywordWords Keyword.Output) l p (eqb-true l.byte 10 e) n h, same_idle s.limit s.top Stage.Concluding Stage.Concluding k.0 k.1 refl))
         (λ _. cond_both (nat_eq l.byte 59 && false) _ _ After
         (λ e. never false (and_parts (nat_eq l.byte 59) false e).1 refl)
         (λ _. tt)))
@@ -239,22 +219,17 @@ module _ (limit top : ℕ) (here : Stage) where
         (z.0 ∙ at, z.1, same_idle s.limit s.top (next_stage r) (stage_after e) k.0 k.1 z.2)
     given r at i h Refuse e = tt
 
-    inside : (r : LineKind) → stage_rest r ≡ here → (i : LineMachine) → s.line ≡ Some i → (Before r ⋅ (λ q. Walks line_automaton (line_first limit top r) q i)) p → After (transition (phase.Inside r) l.byte)
-    inside r at i e h =
-        subst (λ x. Leaves (over s r (step_line x l.byte))) (sym e) (given r at i h (line_automaton.step i l.byte) refl)
-
     sound : (q : Phase) → prefix_in s q p → After (transition q l.byte)
-    sound (phase.Between at) h = between_two at h.0 h.1 h.2
-    sound (phase.Comment at) h = absurd h
-    sound (phase.Spelling f j) h = spelling f j h.0 h.1 h.2 h.3 h.4
-    sound phase.Solution h = logged h.0 h.1
-    sound phase.HeaderEnd h = header_ends h.0 h.1 h.2
-    sound (phase.OutputEnd may) h = output_ends may h
-    sound (phase.Inside r) h = inside r h.0 h.1.0 h.1.1 h.1.2
+    sound (Phase.Between at) h = between_two at h.0 h.1 h.2
+    sound (Phase.Comment at) h = absurd h
+    sound (Phase.Spelling f j) h = spelling f j h.0 h.1 h.2 h.3 h.4
+    sound Phase.Solution h = logged h.0 h.1
+    sound Phase.HeaderEnd h = header_ends h.0 h.1 h.2
+    sound (Phase.OutputEnd may) h = output_ends may h
+    sound (Phase.Inside r) (at, (i, e, h)) = subst (λ x. Leaves (over s r (step_line x l.byte))) (sym e) (given r at i h (line_automaton.step i l.byte) refl)
 
   pub keeps : Keeps proofs Read IsStatement
   keeps s l p f = sound s l p f.0 s.phase f.1
 
   pub statement_only : (t : List Letter) (e : Statement) (after : ProofState) → ReadsStatement proofs (idle limit top here) t e after → IsStatement e after t
-  statement_only t e after r =
-      reported proofs Read IsStatement keeps t (idle limit top here) [] e after r ((refl, refl), (refl, refl, refl))
+  statement_only t e after r = reported proofs Read IsStatement keeps t (idle limit top here) [] e after r ((refl, refl), (refl, refl, refl))

@@ -1,18 +1,12 @@
 -- What holds of each state that the proof machine can be in.
 use Rattle.pb_proof.proofs.Common.{ℕ, ◌&&◌, ◌+◌, ◌-◌, ◌<◌, ◌∙◌, ◌≡◌, ◌≤◌, ap, arith, false, IsTrue, length, nat_eq, None, Option, refl, Some, subst}
 use Rattle.pb_proof.proofs.Common.{sym, true, slice_index, cond_both, same_Some, admits_before, admits_final, admitted_on, refuses, never, further}
-use Rattle.pb_proof.proofs.Common.{Admits, End, Go, IsState, Next, Refuse, is_blank, is_white, LineMachine, Keyword, LineKind, Stage, Closing}
+use Rattle.pb_proof.proofs.Common.{Admits, End, Go, IsState, Next, Refuse, is_blank, LineMachine, Keyword, LineKind, Stage, Closing}
 use Rattle.pb_proof.proofs.Common.{Complete, Formula, Opening, Steps, Statement, line_automaton, line_first, act, asked, giving, HasGaps, Holds, idle}
 use Rattle.pb_proof.proofs.Common.{is_complete, IsInOrder, next_stage, proofs, ProofState, step_line, enter, meets, next_action, pass, step_keyword}
-use Rattle.pb_proof.proofs.Common.{words_of}
-use Rattle.pb_proof.specs.engine.machine.Transition.{spell, between, transition}
-use Rattle.pb_proof.specs.engine.machine.State.{over, asks, is_within, is_done, PhaseFits}
-use Rattle.pb_proof.specs.declared.machine.phase.Keyword.TheVariants as keyword
-use Rattle.pb_proof.specs.declared.machine.phase.Stage.TheVariants.{Concluding}
-use Rattle.pb_proof.specs.declared.machine.phase.Phase.{Phase}
-use Rattle.pb_proof.specs.declared.machine.phase.Phase.TheVariants as phase
-use Rattle.pb_proof.specs.declared.machine.phase.Action.{Action}
-use Rattle.pb_proof.specs.declared.machine.phase.Action.TheVariants as action
+use Rattle.pb_proof.proofs.Common.{words_of, proof_spell as spell, proof_between as between, proof_transition as transition, proof_over as over}
+use Rattle.pb_proof.proofs.Common.{proof_within as is_within, ProofPhaseFits as PhaseFits, ProofPhase as Phase, ProofAction as Action}
+use Rattle.pb_proof.specs.engine.machine.State.{asks, is_done}
 use Rattle.pb_proof.proofs.lemmas.line.Laws.{line_begins, line_fresh, line_first_state}
 use Rattle.pb_proof.proofs.lemmas.machine.Alive.{live, reading_alive, stage_accepts, example}
 use Rattle.pb_proof.proofs.lemmas.machine.Exact.{finishes}
@@ -20,7 +14,7 @@ use Rattle.pb_proof.proofs.lemmas.Spaced.{some_byte}
 
 -- the phase has no line machine
 abbrev pub IsPlain : Phase → Type 0
-IsPlain (phase.Inside r) = ⊥
+IsPlain (Phase.Inside r) = ⊥
 IsPlain _ = Unit {0}
 
 -- the proof is not complete at `q`, and a statement that has begun continues
@@ -32,32 +26,32 @@ pub record GoesOn (p q : Phase) : Type 0 where
 
 -- What holds of a move from a phase.
 abbrev pub OnAction : Phase → Action → Type 0
-OnAction p (action.To q) = IsPlain p × GoesOn p q
-OnAction p (action.Give r) = p ≡ phase.Inside r
+OnAction p (Action.To q) = IsPlain p × GoesOn p q
+OnAction p (Action.Give r) = p ≡ Phase.Inside r
 OnAction p _ = IsPlain p
 
-within_on : (p q : Phase) → IsPlain p → is_done q ≡ false → is_within q ≡ true → PhaseFits q → IsPlain q → OnAction p (action.To q)
+within_on : (p q : Phase) → IsPlain p → is_done q ≡ false → is_within q ≡ true → PhaseFits q → IsPlain q → OnAction p (Action.To q)
 within_on p q o d w f n = (o, record { owes = d; stays = λ _. w; fits = f; plain = n })
 
 pub on_after : (p : Phase) → IsPlain p → (f : Keyword) → OnAction p (next_action f)
-on_after p o keyword.Header = within_on p phase.HeaderEnd o refl refl tt tt
-on_after p o keyword.Solution = within_on p phase.Solution o refl refl tt tt
-on_after p o keyword.Output = within_on p (phase.OutputEnd true) o refl refl tt tt
+on_after p o Keyword.Header = within_on p Phase.HeaderEnd o refl refl tt tt
+on_after p o Keyword.Solution = within_on p Phase.Solution o refl refl tt tt
+on_after p o Keyword.Output = within_on p (Phase.OutputEnd true) o refl refl tt tt
 on_after p o _ = o
 
 on_spell : (p : Phase) → IsPlain p → (f : Keyword) (k b : ℕ) (other : Action) → k < length (words_of f) → OnAction p other → OnAction p (spell f k b other)
 on_spell p o f k b other h i = cond_both (meets (slice_index (words_of f) k) b) _ _ (OnAction p)
     (λ _. cond_both (nat_eq (k + 1) (length (words_of f))) _ _ (OnAction p)
     (λ _. on_after p o f)
-    (λ e. within_on p (phase.Spelling f (k + 1)) o refl refl (omega arith, further k (length (words_of f)) h e) tt))
+    (λ e. within_on p (Phase.Spelling f (k + 1)) o refl refl (omega arith, further k (length (words_of f)) h e) tt))
     (λ _. i)
 
 on_enter : (p : Phase) → IsPlain p → (s : Stage) (b : ℕ) → OnAction p (enter s b)
-on_enter p o Opening b = on_spell p o keyword.Header 0 b action.Stop (some_byte keyword.Header) o
-on_enter p o Formula b = on_spell p o keyword.Formula 0 b action.Stop (some_byte keyword.Formula) o
-on_enter p o Steps b = on_spell p o (step_keyword b) 0 b action.Stop (some_byte (step_keyword b)) o
-on_enter p o Concluding b = on_spell p o keyword.Conclusion 0 b action.Stop (some_byte keyword.Conclusion) o
-on_enter p o Closing b = on_spell p o keyword.End 0 b action.Stop (some_byte keyword.End) o
+on_enter p o Opening b = on_spell p o Keyword.Header 0 b Action.Stop (some_byte Keyword.Header) o
+on_enter p o Formula b = on_spell p o Keyword.Formula 0 b Action.Stop (some_byte Keyword.Formula) o
+on_enter p o Steps b = on_spell p o (step_keyword b) 0 b Action.Stop (some_byte (step_keyword b)) o
+on_enter p o Stage.Concluding b = on_spell p o Keyword.Conclusion 0 b Action.Stop (some_byte Keyword.Conclusion) o
+on_enter p o Closing b = on_spell p o Keyword.End 0 b Action.Stop (some_byte Keyword.End) o
 on_enter p o Complete b = o
 
 gaps_incomplete : (s : Stage) → HasGaps s → is_complete s ≡ false
@@ -65,52 +59,45 @@ gaps_incomplete Opening h = absurd h
 gaps_incomplete Complete h = absurd h
 gaps_incomplete _ h = refl
 
-on_pass : (s : Stage) (b : ℕ) → HasGaps s → OnAction (phase.Between s) (pass s b)
-on_pass s b h = cond_both (is_white b) _ _ (OnAction (phase.Between s))
-    (λ _. (tt, record { owes = gaps_incomplete s h; stays = λ w. w; fits = tt; plain = tt }))
-    (λ _. cond_both (nat_eq b 42) _ _ (OnAction (phase.Between s))
-    (λ _. (tt, record { owes = refl; stays = λ w. w; fits = h; plain = tt }))
-    (λ _. on_enter (phase.Between s) tt s b))
+on_pass : (s : Stage) (b : ℕ) → HasGaps s → OnAction (Phase.Between s) (pass s b)
+on_pass s b h = grind (arith, gaps_incomplete, on_enter)
 
-on_between : (s : Stage) (b : ℕ) → OnAction (phase.Between s) (between s b)
-on_between Opening b = on_enter (phase.Between Opening) tt Opening b
+on_between : (s : Stage) (b : ℕ) → OnAction (Phase.Between s) (between s b)
+on_between Opening b = on_enter (Phase.Between Opening) tt Opening b
 on_between Complete b = tt
-on_between Formula b = on_pass Formula b tt
-on_between Steps b = on_pass Steps b tt
-on_between Concluding b = on_pass Concluding b tt
-on_between Closing b = on_pass Closing b tt
+on_between s b = on_pass s b tt
 
 -- the transitions of each phase
 pub on_transition : (p : Phase) (b : ℕ) → PhaseFits p → OnAction p (transition p b)
-on_transition (phase.Between s) b h = on_between s b
-on_transition (phase.Comment s) b h = cond_both (nat_eq b 10) (phase.Between s) (phase.Comment s) (λ q. OnAction (phase.Comment s) (action.To q))
+on_transition (Phase.Between s) b h = on_between s b
+on_transition (Phase.Comment s) b h = cond_both (nat_eq b 10) (Phase.Between s) (Phase.Comment s) (λ q. OnAction (Phase.Comment s) (Action.To q))
     (λ _. (tt, record { owes = gaps_incomplete s h; stays = λ w. w; fits = tt; plain = tt }))
     (λ _. (tt, record { owes = refl; stays = λ w. w; fits = h; plain = tt }))
-on_transition (phase.Spelling f k) b h = on_spell (phase.Spelling f k) tt f k b _ h.1
-    (cond_both (is_blank b && nat_eq (slice_index (words_of f) (k - 1)) 32) _ _ (OnAction (phase.Spelling f k))
-    (λ _. within_on (phase.Spelling f k) (phase.Spelling f k) tt refl refl h tt) (λ _. tt))
-on_transition phase.Solution b h = cond_both (nat_eq b 105) _ _ (OnAction phase.Solution) (λ _. tt) (λ _. cond_both (nat_eq b 120) _ _ (OnAction phase.Solution) (λ _. tt) (λ _. tt))
-on_transition phase.HeaderEnd b h = cond_both (is_blank b) _ _ (OnAction phase.HeaderEnd)
-    (λ _. within_on phase.HeaderEnd phase.HeaderEnd tt refl refl tt tt)
-    (λ _. cond_both (nat_eq b 10) _ _ (OnAction phase.HeaderEnd) (λ _. tt) (λ _. tt))
-on_transition (phase.OutputEnd may) b h = cond_both (is_blank b) _ _ (OnAction (phase.OutputEnd may))
-    (λ _. within_on (phase.OutputEnd may) (phase.OutputEnd may) tt refl refl tt tt)
-    (λ _. cond_both (nat_eq b 10) _ _ (OnAction (phase.OutputEnd may)) (λ _. tt)
-    (λ _. cond_both (nat_eq b 59 && may) _ _ (OnAction (phase.OutputEnd may))
-    (λ _. within_on (phase.OutputEnd may) (phase.OutputEnd false) tt refl refl tt tt) (λ _. tt)))
-on_transition (phase.Inside r) b h = refl
+on_transition (Phase.Spelling f k) b h = on_spell (Phase.Spelling f k) tt f k b _ h.1
+    (cond_both (is_blank b && nat_eq (slice_index (words_of f) (k - 1)) 32) _ _ (OnAction (Phase.Spelling f k))
+    (λ _. within_on (Phase.Spelling f k) (Phase.Spelling f k) tt refl refl h tt) (λ _. tt))
+on_transition Phase.Solution b h = cond_both (nat_eq b 105) _ _ (OnAction Phase.Solution) (λ _. tt) (λ _. cond_both (nat_eq b 120) _ _ (OnAction Phase.Solution) (λ _. tt) (λ _. tt))
+on_transition Phase.HeaderEnd b h = cond_both (is_blank b) _ _ (OnAction Phase.HeaderEnd)
+    (λ _. within_on Phase.HeaderEnd Phase.HeaderEnd tt refl refl tt tt)
+    (λ _. cond_both (nat_eq b 10) _ _ (OnAction Phase.HeaderEnd) (λ _. tt) (λ _. tt))
+on_transition (Phase.OutputEnd may) b h = cond_both (is_blank b) _ _ (OnAction (Phase.OutputEnd may))
+    (λ _. within_on (Phase.OutputEnd may) (Phase.OutputEnd may) tt refl refl tt tt)
+    (λ _. cond_both (nat_eq b 10) _ _ (OnAction (Phase.OutputEnd may)) (λ _. tt)
+    (λ _. cond_both (nat_eq b 59 && may) _ _ (OnAction (Phase.OutputEnd may))
+    (λ _. within_on (Phase.OutputEnd may) (Phase.OutputEnd false) tt refl refl tt tt) (λ _. tt)))
+on_transition (Phase.Inside r) b h = refl
 
 -- without a line machine nothing is stored, and no number is read
 pub plain_holds : (s : ProofState) (p : Phase) → IsPlain p → Holds s p → s.line ≡ None
-plain_holds s (phase.Inside r) o h = absurd o
+plain_holds s (Phase.Inside r) o h = absurd o
 plain_holds s _ o h = h
 
 holds_plain : (s : ProofState) (p : Phase) → IsPlain p → s.line ≡ None → Holds s p
-holds_plain s (phase.Inside r) o h = absurd o
+holds_plain s (Phase.Inside r) o h = absurd o
 holds_plain s _ o h = h
 
 outside_plain : (p : Phase) → is_within p ≡ false → IsPlain p
-outside_plain (phase.Inside r) h = never true refl h
+outside_plain (Phase.Inside r) h = never true refl h
 outside_plain _ h = tt
 
 -- what holds after a byte
@@ -124,25 +111,22 @@ On s (Go next) = Continues s next
 On s (End e next) = proofs.begun next ≡ false
 On s Refuse = Unit {0}
 
-first_spent : (s : ProofState) → IsInOrder s → (r : LineKind) → line_automaton.spent (line_first s.limit s.top r) ≡ 0
-first_spent s h r = (line_first_state s.limit s.top h.limit h.top h.some r).empties (line_fresh s.limit s.top r).1
-
 on_given : (s : ProofState) (r : LineKind) (b : ℕ) (i : LineMachine) → s.line ≡ Some i → IsState line_automaton i → (n : Next LineMachine Statement) → line_automaton.step i b ≡ n → On s (over s r n)
 on_given s r b i h state (Go line) e = record { owes = refl; stays = λ w. refl; grows = rw h (state.grows b line e) }
 on_given s r b i h state (End x last) e = refl
 on_given s r b i h state Refuse e = tt
 
 -- the line machine that is given a byte
-pub inside_of : (s : ProofState) (p : Phase) (r : LineKind) → p ≡ phase.Inside r → Holds s p → (i : LineMachine) × (s.line ≡ Some i) × (line_automaton.done i ≡ false) × IsState line_automaton i
+pub inside_of : (s : ProofState) (p : Phase) (r : LineKind) → p ≡ Phase.Inside r → Holds s p → (i : LineMachine) × (s.line ≡ Some i) × (line_automaton.done i ≡ false) × IsState line_automaton i
 inside_of s p r e h = subst (Holds s) e h
 
 on_act : (s : ProofState) → IsInOrder s → (b : ℕ) (m : Action) → OnAction s.phase m → On s (act s b m)
-on_act s h b (action.To q) k = record { owes = k.1.owes; stays = k.1.stays; grows = omega arith }
-on_act s h b (action.Begin r) k = record { owes = refl; stays = λ w. refl; grows = omega (arith, first_spent s h r) }
-on_act s h b (action.Give r) k =
+on_act s h b (Action.To q) k = record { owes = k.1.owes; stays = k.1.stays; grows = omega arith }
+on_act s h b (Action.Begin r) k = record { owes = refl; stays = λ w. refl; grows = omega (arith, (line_first_state s.limit s.top h.limit h.top h.some r).empties (line_fresh s.limit s.top r).1) }
+on_act s h b (Action.Give r) k =
     let (i, e, d, state) = inside_of s s.phase r k h.holds in
     subst (λ x. On s (over s r (step_line x b))) (sym e) (on_given s r b i e state (line_automaton.step i b) refl)
-on_act s h b action.Stop k = tt
+on_act s h b Action.Stop k = tt
 on_act s h b _ k = refl
 
 steps : (s : ProofState) → IsInOrder s → (b : ℕ) → On s (proofs.step s b)
@@ -152,21 +136,11 @@ continues : (s next : ProofState) (b : ℕ) → IsInOrder s → proofs.step s b 
 continues s next b h e = subst (On s) e (steps s h b)
 
 kept_within : (s : ProofState) (p : Phase) → Holds s p → proofs.kept s ≤ proofs.spent s
-kept_within s (phase.Inside r) (i, e, d, state) = rw e state.bounds
+kept_within s (Phase.Inside r) (i, e, d, state) = rw e state.bounds
 kept_within s _ h = rw h (omega arith)
 
 pub is_state : (s : ProofState) → IsInOrder s → IsState proofs s
-is_state s h = record {
-  live = live s h;
-  ends = λ d b. finishes s d b;
-  owes = λ b next e. (continues s next b h e).owes;
-  stays = λ i b next e. (continues s next b h e).stays i;
-  finishes = λ b x next e. subst (On s) e (steps s h b);
-  plain = λ o. ap (asked false line_automaton.in_number) (plain_holds s s.phase (outside_plain s.phase o) h.holds);
-  grows = λ b next e. (continues s next b h e).grows;
-  bounds = kept_within s s.phase h.holds;
-  empties = λ o. ap (asked 0 line_automaton.spent) (plain_holds s s.phase (outside_plain s.phase o) h.holds);
-}
+is_state s h = grind (arith, live, finishes, continues, steps, plain_holds, s.phase, outside_plain, h.holds, kept_within)
 
 -- What holds of the machine after a byte.
 module _ (s : ProofState) (h : IsInOrder s) (b : ℕ) where
@@ -177,9 +151,9 @@ module _ (s : ProofState) (h : IsInOrder s) (b : ℕ) where
   pub at_order : (p : Phase) → IsPlain p → PhaseFits p → (i : Option LineMachine) → i ≡ None → IsInOrder (record { limit = s.limit; top = s.top; phase = p; line = i })
   at_order p o f i e = record { limit = h.limit; top = h.top; some = h.some; fits = f; holds = holds_plain (record { limit = s.limit; top = s.top; phase = p; line = i }) p o e }
 
-  pub to_order : (p : Phase) → transition s.phase b ≡ action.To p → IsInOrder (record s { phase = p })
+  pub to_order : (p : Phase) → transition s.phase b ≡ Action.To p → IsInOrder (record s { phase = p })
   to_order p e =
-      let k = known (action.To p) e in
+      let k = known (Action.To p) e in
       at_order p k.1.plain k.1.fits s.line (plain_holds s s.phase k.0 h.holds)
 
   pub begin_order : (r : LineKind) → IsInOrder (giving s.limit s.top r (line_first s.limit s.top r))
@@ -191,9 +165,9 @@ module _ (s : ProofState) (h : IsInOrder s) (b : ℕ) where
     holds = (line_first s.limit s.top r, refl, (line_fresh s.limit s.top r).0, line_first_state s.limit s.top h.limit h.top h.some r);
   }
 
-  module _ (r : LineKind) (planned : transition s.phase b ≡ action.Give r) where
+  module _ (r : LineKind) (planned : transition s.phase b ≡ Action.Give r) where
     pub given : (i : LineMachine) × (s.line ≡ Some i) × (line_automaton.done i ≡ false) × IsState line_automaton i
-    given = inside_of s s.phase r (known (action.Give r) planned) h.holds
+    given = inside_of s s.phase r (known (Action.Give r) planned) h.holds
 
     pub give_order : (i line : LineMachine) → s.line ≡ Some i → line_automaton.step i b ≡ Go line → IsState line_automaton line → IsInOrder (giving s.limit s.top r line)
     give_order i line e g state =

@@ -1,20 +1,14 @@
 -- A run of the line machine is a run of the proof machine.
-use Rattle.pb_proof.proofs.Common.{ℕ, ◌<◌, ◌∙◌, ◌∷◌, ◌≡◌, ◌≤◌, [], ap, ap₂, arith, false, get_or, length, List, Option, refl, Some, subst, suc, sym}
-use Rattle.pb_proof.proofs.Common.{take, zero, Linear, SumEvent, sums, SumState, End, Go, Next, Pushes, Runs, Push, is_blank, LineMachine, Give}
-use Rattle.pb_proof.proofs.Common.{LineKind, line_automaton, IsRupInOrder, rup_act, rup_automaton, rup_over, rup_transition, RupState, giving, Holds}
-use Rattle.pb_proof.proofs.Common.{IsInOrder, proofs, ProofState, ◌++◌, ◌+◌, ◌-◌, ◌==◌, append_assoc, drop, length-append, length-drop, None}
-use Rattle.pb_proof.proofs.Common.{take-append-drop, drop-cons, take-length, length-take-le, bytes_decides, pointwise, never, IsState, Keyword}
-use Rattle.pb_proof.proofs.Common.{line_first, act, at, next_action, words_of, IsRest, LacksRest}
-use Rattle.pb_proof.specs.engine.machine.State.{over, PhaseFits}
-use Rattle.pb_proof.specs.declared.line.rup.phase.RupPhase.TheVariants.{Gap as GapRup, Inside as InsideRup}
-use Rattle.pb_proof.specs.declared.machine.phase.Phase.{Phase}
+use Rattle.pb_proof.proofs.Common.{ℕ, ◌<◌, ◌∙◌, ◌∷◌, ◌≡◌, ◌≤◌, [], ap, ap₂, arith, false, get_or, length, List, Option, refl, Some, subst, suc, sym, take}
+use Rattle.pb_proof.proofs.Common.{zero, Linear, SumEvent, sums, SumState, End, Go, Next, Runs, is_blank, LineMachine, Give, LineKind}
+use Rattle.pb_proof.proofs.Common.{line_automaton, IsRupInOrder, rup_act, rup_automaton, rup_over, rup_transition, RupState, giving, Holds, IsInOrder, proofs}
+use Rattle.pb_proof.proofs.Common.{ProofState, ◌++◌, ◌+◌, ◌-◌, ◌==◌, append_assoc, drop, length-append, length-drop, None, take-append-drop, drop-cons}
+use Rattle.pb_proof.proofs.Common.{take-length, length-take-le, bytes_decides, pointwise, never, IsState, Keyword, line_first, act, at, next_action, words_of}
+use Rattle.pb_proof.proofs.Common.{IsRest, LacksRest, proof_over as over, ProofPhaseFits as PhaseFits, ProofPhase as Phase, ProofAction as Action, RupPhase}
 use Rattle.pb_proof.proofs.lemmas.machine.Complete.{meets_any, spelt, step_on, step_last}
 use Rattle.pb_proof.proofs.lemmas.machine.States.{OnAction, on_after, plain_holds, at_order, begin_order, is_state}
-use Rattle.pb_text.specs.declared.machine.Push.TheVariants as push
-use Rattle.pb_proof.specs.declared.machine.phase.Phase.TheVariants as phase
 use Rattle.pb_proof.proofs.lemmas.rup.States as rup_states
 use Rattle.pb_proof.proofs.lemmas.machine.States as states
-use Rattle.pb_proof.specs.declared.machine.phase.Action.TheVariants as action
 
 -- A run of the sum machine is a run of the `rup` machine.
 
@@ -29,8 +23,8 @@ within limit top r old h (b ∷ text) new (mid, continues, state, rest) =
     ((giving limit top r mid, ap (over s r) continues, states.is_state (giving limit top r mid) k, runs), order)
 
 -- if a line machine is stored, the phase is `Inside`
-reading : (s : ProofState) (p : Phase) → Holds s p → (i : LineMachine) → s.line ≡ Some i → (r : LineKind) × (p ≡ phase.Inside r)
-reading s (phase.Inside r) h i e = (r, refl)
+reading : (s : ProofState) (p : Phase) → Holds s p → (i : LineMachine) → s.line ≡ Some i → (r : LineKind) × (p ≡ Phase.Inside r)
+reading s (Phase.Inside r) h i e = (r, refl)
 reading s _ h i e = absurd (let f : ⊥ = cc in f)
 
 abbrev put : ProofState → Phase → Option LineMachine → ProofState
@@ -52,46 +46,40 @@ goes_on : (s new : RupState) (e : Linear) (n : Next SumState SumEvent) → rup_o
 goes_on s new e (Go inner) h = cc
 goes_on s new e _ h = cc
 
--- if a byte is given and not taken, nothing changes
-pub unmoved : (s new : RupState) (b : ℕ) (answer : Push Linear) → rup_transition s.phase b ≡ Give → Pushes rup_automaton s b answer new → (answer ≡ push.Go → ⊥) → new ≡ s
-unmoved s new b push.Go planned h k = absurd (k refl)
-unmoved s new b (push.Event e) planned h k = absurd (goes_on s new e (sums.step s.sums b) (sym (ap (rup_act s b) planned) ∙ h))
-unmoved s new b _ planned h k = h.2
-
 -- within a constraint
-within_rup : (o : Option Linear) (old : SumState) → IsRupInOrder (record { phase = InsideRup; sums = old; linear = o }) → (text : List ℕ) (new : SumState) → Runs sums old text new
-    → Runs rup_automaton (record { phase = InsideRup; sums = old; linear = o }) text (record { phase = InsideRup; sums = new; linear = o })
-    × IsRupInOrder (record { phase = InsideRup; sums = new; linear = o })
+within_rup : (o : Option Linear) (old : SumState) → IsRupInOrder (record { phase = RupPhase.Inside; sums = old; linear = o }) → (text : List ℕ) (new : SumState) → Runs sums old text new
+    → Runs rup_automaton (record { phase = RupPhase.Inside; sums = old; linear = o }) text (record { phase = RupPhase.Inside; sums = new; linear = o })
+    × IsRupInOrder (record { phase = RupPhase.Inside; sums = new; linear = o })
 within_rup o old h [] new same = (
-  ap (λ i. let s : RupState = record { phase = InsideRup; sums = i; linear = o } in s) same,
-  subst (λ i. IsRupInOrder (record { phase = InsideRup; sums = i; linear = o })) (sym same) h,
+  ap (λ i. let s : RupState = record { phase = RupPhase.Inside; sums = i; linear = o } in s) same,
+  subst (λ i. IsRupInOrder (record { phase = RupPhase.Inside; sums = i; linear = o })) (sym same) h,
 )
 within_rup o old h (b ∷ text) new (mid, continues, state, rest) =
-    let s : RupState = record { phase = InsideRup; sums = old; linear = o } in
-    let next : RupState = record { phase = InsideRup; sums = mid; linear = o } in
+    let s : RupState = record { phase = RupPhase.Inside; sums = old; linear = o } in
+    let next : RupState = record { phase = RupPhase.Inside; sums = mid; linear = o } in
     let k = rup_states.give_order s h b mid refl continues state in
     let (runs, order) = within_rup o mid k text new rest in
     ((next, ap (rup_over s) continues, rup_states.rup_is_state next k, runs), order)
 
-pub rup_runs_given : (s : RupState) → IsRupInOrder s → s.phase ≡ InsideRup → (text : List ℕ) (new : SumState) → Runs sums s.sums text new
+pub rup_runs_given : (s : RupState) → IsRupInOrder s → s.phase ≡ RupPhase.Inside → (text : List ℕ) (new : SumState) → Runs sums s.sums text new
     → Runs rup_automaton s text (record s { sums = new }) × IsRupInOrder (record s { sums = new })
 rup_runs_given s h at text new runs =
-    let same : s ≡ record s { phase = InsideRup } = ap (λ p. let x : RupState = record s { phase = p } in x) at in
-    let further : (let x : RupState = record s { phase = InsideRup; sums = new } in x) ≡ record s { sums = new } = ap (λ p. let x : RupState = record s { phase = p; sums = new } in x) (sym at) in
+    let same : s ≡ record s { phase = RupPhase.Inside } = ap (λ p. let x : RupState = record s { phase = p } in x) at in
+    let further : (let x : RupState = record s { phase = RupPhase.Inside; sums = new } in x) ≡ record s { sums = new } = ap (λ p. let x : RupState = record s { phase = p; sums = new } in x) (sym at) in
     let k = within_rup s.linear s.sums (subst IsRupInOrder same h) text new runs in (
-      subst (λ x. Runs rup_automaton x text (record s { sums = new })) (sym same) (subst (λ x. Runs rup_automaton (record s { phase = InsideRup }) text x) further k.0),
+      subst (λ x. Runs rup_automaton x text (record s { sums = new })) (sym same) (subst (λ x. Runs rup_automaton (record s { phase = RupPhase.Inside }) text x) further k.0),
       subst IsRupInOrder further k.1,
     )
 
 -- the first bytes of a constraint, after blanks
-pub rup_runs_begun : (s : RupState) → IsRupInOrder s → s.phase ≡ GapRup → (n : ℕ) (text : List ℕ) (new : SumState) → 0 < n → n ≤ length text → is_blank (get_or text 0 0) ≡ false
+pub rup_runs_begun : (s : RupState) → IsRupInOrder s → s.phase ≡ RupPhase.Gap → (n : ℕ) (text : List ℕ) (new : SumState) → 0 < n → n ≤ length text → is_blank (get_or text 0 0) ≡ false
     → Runs sums s.sums (take n text) new
-    → Runs rup_automaton s (take n text) (record s { phase = InsideRup; sums = new }) × IsRupInOrder (record s { phase = InsideRup; sums = new })
+    → Runs rup_automaton s (take n text) (record s { phase = RupPhase.Inside; sums = new }) × IsRupInOrder (record s { phase = RupPhase.Inside; sums = new })
 rup_runs_begun s h at n [] new some fits begins runs = absurd (omega arith)
 rup_runs_begun s h at zero (b ∷ text) new some fits begins runs = absurd (omega arith)
 rup_runs_begun s h at (suc n) (b ∷ text) new some fits begins (mid, continues, state, rest) =
     let planned : rup_transition s.phase b ≡ Give = rw (at, begins) refl in
-    let next : RupState = record { phase = InsideRup; sums = mid; linear = s.linear } in
+    let next : RupState = record { phase = RupPhase.Inside; sums = mid; linear = s.linear } in
     let k = rup_states.give_order s h b mid planned continues state in
     let (runs, order) = within_rup s.linear mid k (take n text) new rest in
     ((next, ap (rup_act s b) planned ∙ ap (rup_over s) continues, rup_states.rup_is_state next k, runs), order)
@@ -106,16 +94,9 @@ rest_is f k words e = ap (λ n. take n (drop k words)) (sym (length-drop k words
 abbrev pub LacksPrefix : List ℕ → List ℕ → Type 0
 LacksPrefix text rest = pointwise ◌==◌ rest (take (length rest) text) ≡ false
 
-keyword_same : (f g : Keyword) (k n : ℕ) → ◌≡◌ {A = Phase} (phase.Spelling f k) (phase.Spelling g n) → f ≡ g
-keyword_same f g k n e = cc
-
-read_same : (f g : Keyword) (k n : ℕ) → ◌≡◌ {A = Phase} (phase.Spelling f k) (phase.Spelling g n) → k ≡ n
-read_same f g k n e = cc
-
-pub lacks_rest : (p : Phase) (f : Keyword) (k : ℕ) (text : List ℕ) → p ≡ phase.Spelling f k → LacksPrefix text (drop k (words_of f)) → LacksRest p text
+pub lacks_rest : (p : Phase) (f : Keyword) (k : ℕ) (text : List ℕ) → p ≡ Phase.Spelling f k → LacksPrefix text (drop k (words_of f)) → LacksRest p text
 lacks_rest p f k text is lacks g n at met =
-    let same : drop n (words_of g) ≡ drop k (words_of f) =
-    rw (keyword_same f g k n (sym is ∙ at), read_same f g k n (sym is ∙ at)) refl in
+    let same : drop n (words_of g) ≡ drop k (words_of f) = cc in
     let there : take (length (drop k (words_of f))) text ≡ drop k (words_of f) = subst (λ (r : List ℕ). take (length r) text ≡ r) same met in
     never (pointwise ◌==◌ (drop k (words_of f)) (take (length (drop k (words_of f))) text)) ((bytes_decides _ _).1 (sym there)) lacks
 
@@ -149,23 +130,22 @@ module _ (s : ProofState) (h : IsInOrder s) where
       sym (take-append-drop k (words_of f)) ∙ ap (λ (x : List ℕ). take k (words_of f) ++ x) cut in
       let prefix : length (take k (words_of f)) ≡ k = length-take-le k (words_of f) (omega arith) in
       let runs = left_run f next state acts (drop (suc k) (words_of f)) (take k (words_of f)) (get_or (words_of f) k 0) whole in
-      subst (λ (x : List ℕ). Runs proofs (spelling f k) x next) (sym cut)
-      (subst (λ (n : ℕ). Runs proofs (spelling f n) (get_or (words_of f) k 0 ∷ drop (suc k) (words_of f)) next) prefix runs)
+      rw cut (subst (λ (n : ℕ). Runs proofs (spelling f n) (get_or (words_of f) k 0 ∷ drop (suc k) (words_of f)) next) prefix runs)
 
-  module _ (f : Keyword) (k : ℕ) (is : s.phase ≡ phase.Spelling f k) where
-    fits : PhaseFits (phase.Spelling f k)
+  module _ (f : Keyword) (k : ℕ) (is : s.phase ≡ Phase.Spelling f k) where
+    fits : PhaseFits (Phase.Spelling f k)
     fits = subst PhaseFits is h.fits
 
     none : s.line ≡ None
-    none = plain_holds s (phase.Spelling f k) tt (subst (λ p. Holds s p) is h.holds)
+    none = plain_holds s (Phase.Spelling f k) tt (subst (λ p. Holds s p) is h.holds)
 
     same : s ≡ spelling f k
     same = ap₂ (put s) is none
 
   -- if a phase follows the words
-  pub words_to : (text : List ℕ) (q : Phase) → IsRest s.phase text (action.To q) → Runs proofs s text (record s { phase = q }) × IsInOrder (record s { phase = q })
+  pub words_to : (text : List ℕ) (q : Phase) → IsRest s.phase text (Action.To q) → Runs proofs s text (record s { phase = q }) × IsInOrder (record s { phase = q })
   words_to text q (f, k, is, e, g) =
-      let on : OnAction (phase.Spelling f k) (action.To q) = subst (OnAction (phase.Spelling f k)) (sym g) (on_after (phase.Spelling f k) tt f) in
+      let on : OnAction (Phase.Spelling f k) (Action.To q) = subst (OnAction (Phase.Spelling f k)) (sym g) (on_after (Phase.Spelling f k) tt f) in
       let order : IsInOrder (record s { phase = q }) = at_order s h 0 q on.1.plain on.1.fits s.line (none f k is) in
       let there : (let x : ProofState = record s { phase = q } in x) ≡ at s.limit s.top q = ap (put s q) (none f k is) in
       let state : IsState proofs (at s.limit s.top q) = is_state (at s.limit s.top q) (subst IsInOrder there order) in
@@ -175,7 +155,7 @@ module _ (s : ProofState) (h : IsInOrder s) where
       )
 
   -- if a line machine begins after the words
-  pub words_begin : (text : List ℕ) (r : LineKind) → IsRest s.phase text (action.Begin r)
+  pub words_begin : (text : List ℕ) (r : LineKind) → IsRest s.phase text (Action.Begin r)
       → Runs proofs s text (giving s.limit s.top r (line_first s.limit s.top r)) × IsInOrder (giving s.limit s.top r (line_first s.limit s.top r))
   words_begin text r (f, k, is, e, g) =
       let next : ProofState = giving s.limit s.top r (line_first s.limit s.top r) in

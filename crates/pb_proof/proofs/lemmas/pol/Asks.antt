@@ -1,17 +1,11 @@
 -- Where the `pol` machine may allocate.
-use Rattle.pb_proof.proofs.Common.{ℕ, ◌&&◌, ◌*◌, ◌+◌, ◌∙◌, ◌∷◌, ◌≡◌, [], ap, arith, Bool, cond, false, inl, inr, IsTrue, List, nat_eq, nat_le, None}
-use Rattle.pb_proof.proofs.Common.{refl, Some, subst, true, and_parts, cond_both, false≢true, nat_tests, at_name, ends_nothing, first_further}
-use Rattle.pb_proof.proofs.Common.{name_further, FirstOf, LiteralOf, EndsIn, prefixes_of, Walks, is_blank, is_digit, is_letter, is_name_byte, ◌⋅◌}
-use Rattle.pb_proof.proofs.Common.{Blanks1, Language, bytes, Letter, Action, Change, Held, Kind, Phase, PolWord, blank, bound, close, counted, feed}
-use Rattle.pb_proof.proofs.Common.{is_letter_kind, is_name_kind, kind_of, late, may_be_name, next_large, next_word, number, read, role_of, semicolon}
-use Rattle.pb_proof.proofs.Common.{star, transition, wants, pol_automaton, pol_first, PolState, AsksWord}
-use Rattle.pb_proof.specs.engine.line.Pol.{next, signed, adds, Closing}
-use Rattle.pb_proof.specs.declared.line.pol.phase.Kind.TheVariants as kind
-use Rattle.pb_proof.specs.declared.line.pol.phase.Held.TheVariants as held
-use Rattle.pb_proof.specs.declared.line.pol.phase.Role.TheVariants as role
-use Rattle.pb_proof.specs.declared.line.pol.phase.Phase.TheVariants as phase
-use Rattle.pb_proof.specs.declared.line.pol.phase.Change.TheVariants as change
-use Rattle.pb_proof.specs.declared.line.pol.phase.Action.TheVariants as action
+use Rattle.pb_proof.proofs.Common.{ℕ, ◌&&◌, ◌*◌, ◌+◌, ◌∙◌, ◌∷◌, ◌≡◌, [], ap, arith, Bool, cond, false, inl, inr, IsTrue, List, nat_eq, nat_le, None, refl}
+use Rattle.pb_proof.proofs.Common.{Some, subst, true, and_parts, cond_both, false≢true, nat_tests, at_name, ends_nothing, first_further, name_further}
+use Rattle.pb_proof.proofs.Common.{FirstOf, LiteralOf, EndsIn, prefixes_of, Walks, is_blank, is_digit, is_letter, is_name_byte, ◌⋅◌, Blanks1, Language, bytes}
+use Rattle.pb_proof.proofs.Common.{Letter, Action, Change, Held, Kind, Phase, PolWord, blank, bound, close, counted, feed, is_letter_kind, is_name_kind}
+use Rattle.pb_proof.proofs.Common.{kind_of, late, may_be_name, next_large, next_word, number, read, role_of, semicolon, star, transition, wants}
+use Rattle.pb_proof.proofs.Common.{pol_automaton, pol_first, PolState, AsksWord, pol_next as next, pol_signed as signed, Role}
+use Rattle.pb_proof.specs.engine.line.Pol.{adds, Closing}
 use Rattle.pb_proof.proofs.lemmas.line.Asks.{number_end, literal_end}
 use Rattle.pb_proof.proofs.lemmas.pol.Prefixes.{Settled, Before, prefix, Prefix, Whole}
 use Rattle.pb_proof.proofs.lemmas.pol.Kinds.{Says, kind_says, letter_kind, name_kind}
@@ -22,7 +16,7 @@ blank_dark b e = (grind (arith, nat_tests), grind (arith, nat_tests))
 
 -- what the end of a word does, and whether it may end
 abbrev change_of : Closing → Change
-change_of None = change.Keep
+change_of None = Change.Keep
 change_of (Some (c, h)) = c
 
 abbrev is_there : Closing → Bool
@@ -46,23 +40,23 @@ module _ (limit top depth b : ℕ) (t : List Letter) where
   -- a word that ends here, at a byte that is not part of a word
   finishes : (ws : List PolWord) (name : List ℕ) (ph : Phase) → prefix limit top ph ws depth name t → is_digit b ≡ false → is_name_byte b ≡ false
       → (c : Change) (h : Held) → close limit top depth ph ≡ Some (c, h) → adds c ≡ true → AsksWord (bytes t) b
-  finishes ws name phase.Start f dark plain c h e k = absurd (false≢true (ap adds (ap change_of e) ∙ k))
-  finishes ws name phase.After f dark plain c h e k = absurd (false≢true (ap adds (ap change_of e) ∙ k))
-  finishes ws name (phase.Gap g) f dark plain c h e k = absurd (false≢true (ap adds (ap change_of e) ∙ k))
-  finishes ws name (phase.Signed n) f dark plain c h e k = inr (inl (number_end _ n t b f.1 dark))
-  finishes ws name (phase.Number n) f dark plain c h e k = inr (inl (number_end _ n t b f.1 dark))
-  finishes ws name (phase.Lone role.Name) f dark plain c h e k = absurd (false≢true (ap is_there e))
-  finishes ws name (phase.Lone role.Saturate) (is, f) dark plain c h e k = inr (inr (inr (saturates f, plain)))
+  finishes ws name Phase.Start f dark plain c h e k = absurd (false≢true (ap adds (ap change_of e) ∙ k))
+  finishes ws name Phase.After f dark plain c h e k = absurd (false≢true (ap adds (ap change_of e) ∙ k))
+  finishes ws name (Phase.Gap g) f dark plain c h e k = absurd (false≢true (ap adds (ap change_of e) ∙ k))
+  finishes ws name (Phase.Signed n) f dark plain c h e k = inr (inl (number_end _ n t b f.1 dark))
+  finishes ws name (Phase.Number n) f dark plain c h e k = inr (inl (number_end _ n t b f.1 dark))
+  finishes ws name (Phase.Lone Role.Name) f dark plain c h e k = absurd (false≢true (ap is_there e))
+  finishes ws name (Phase.Lone Role.Saturate) (is, f) dark plain c h e k = inr (inr (inr (saturates f, plain)))
     where
-      saturates : (Before limit top role.Saturate ws depth ⋅ Blanks1 ⋅ FirstOf false name) t → EndsIn (bytes t) (115 ∷ [])
+      saturates : (Before limit top Role.Saturate ws depth ⋅ Blanks1 ⋅ FirstOf false name) t → EndsIn (bytes t) (115 ∷ [])
       saturates (x, y, z, u, (v, w)) =
-          subst (λ (n : List ℕ). EndsIn (bytes t) n) is (literal_end (Before limit top role.Saturate ws depth ⋅ Blanks1) false name t (x, y, z, u, w))
-  finishes ws name (phase.Lone role.Divide) f dark plain c h e k = absurd (false≢true (ap adds (ap change_of e) ∙ k))
-  finishes ws name (phase.Lone role.DivideLarge) f dark plain c h e k = absurd (false≢true (ap adds (ap change_of e) ∙ k))
-  finishes ws name (phase.Lone role.Weaken) f dark plain c h e k = absurd (false≢true (ap adds (ap change_of e) ∙ k))
-  finishes ws name (phase.Name negated) (x, y, z, u, (v, w)) dark plain c h e k =
+          subst (λ (n : List ℕ). EndsIn (bytes t) n) is (literal_end (Before limit top Role.Saturate ws depth ⋅ Blanks1) false name t (x, y, z, u, w))
+  finishes ws name (Phase.Lone Role.Divide) f dark plain c h e k = absurd (false≢true (ap adds (ap change_of e) ∙ k))
+  finishes ws name (Phase.Lone Role.DivideLarge) f dark plain c h e k = absurd (false≢true (ap adds (ap change_of e) ∙ k))
+  finishes ws name (Phase.Lone Role.Weaken) f dark plain c h e k = absurd (false≢true (ap adds (ap change_of e) ∙ k))
+  finishes ws name (Phase.Name negated) (x, y, z, u, (v, w)) dark plain c h e k =
       inl (at_name (bytes t) name b (literal_end (Settled limit top ws depth ⋅ Blanks1) negated name t (x, y, z, u, w)) v)
-  finishes ws name phase.Done f dark plain c h e k = absurd f
+  finishes ws name Phase.Done f dark plain c h e k = absurd f
   finishes ws name _ f dark plain c h e k = absurd (false≢true (ap is_there e))
 
   -- what ends a word
@@ -81,48 +75,45 @@ module _ (limit top depth b : ℕ) (t : List Letter) where
 
   -- the first byte of a word
   star_quiet : (h : Held) → Then (star h)
-  star_quiet held.Number = λ k. absurd (false≢true k)
+  star_quiet Held.Number = λ k. absurd (false≢true k)
   star_quiet _ = λ k. absurd (false≢true k)
 
-  letters : (h : Held) (k : Kind) → Says k b → Then (cond (is_letter_kind k) (action.Begin (phase.Lone (role_of depth h k))) action.Stop)
+  letters : (h : Held) (k : Kind) → Says k b → Then (cond (is_letter_kind k) (Action.Begin (Phase.Lone (role_of depth h k))) Action.Stop)
   letters h k e = cond_both (is_letter_kind k) _ _ Then (λ i _. letter_begins (letter_kind k b e i)) (λ _ j. absurd (false≢true j))
 
   words_next : (h : Held) (k : Kind) → Says k b → Then (next_word limit top depth h k)
-  words_next h (kind.Digit d) e = number_quiet 0 d
-  words_next h kind.Minus e = λ k. absurd (false≢true k)
-  words_next h kind.Tilde e = λ k. absurd (false≢true k)
-  words_next h kind.Plus e = λ k. inr (inr (inl e))
-  words_next h kind.Star e = star_quiet h
+  words_next h (Kind.Digit d) e = number_quiet 0 d
+  words_next h Kind.Minus e = λ k. absurd (false≢true k)
+  words_next h Kind.Tilde e = λ k. absurd (false≢true k)
+  words_next h Kind.Plus e = λ k. inr (inr (inl e))
+  words_next h Kind.Star e = star_quiet h
   words_next h k e = letters h k e
 
   large_next : (k : Kind) → Says k b → Then (next_large k)
-  large_next kind.Star e = λ k. absurd (false≢true k)
-  large_next kind.D e = λ k. letter_begins (letter_kind kind.D b e refl)
+  large_next Kind.Star e = λ k. absurd (false≢true k)
+  large_next Kind.D e = λ k. letter_begins (letter_kind Kind.D b e refl)
   large_next _ e = λ k. absurd (false≢true k)
 
   gap_next : (h : Held) (k : Kind) → Says k b → Then (next limit top depth h k)
-  gap_next held.Large k e = large_next k e
-  gap_next held.Nothing k e = words_next held.Nothing k e
-  gap_next held.Number k e = words_next held.Number k e
-  gap_next held.Name k e = words_next held.Name k e
+  gap_next Held.Large k e = large_next k e
+  gap_next h k e = words_next h k e
 
   -- a further byte of a name
   more_of : (P : Language) (negated : Bool) (name : List ℕ) → (P ⋅ FirstOf negated name) t → IsTrue (is_name_byte b) → AsksWord (bytes t) b
   more_of P negated name (x, y, z, u, (v, w)) k = inl (inl (name, literal_end P negated name t (x, y, z, u, w), first_further name b v k))
 
   reads : (ws : List PolWord) (name : List ℕ) (ph : Phase) → prefix limit top ph ws depth name t → (k : Kind) → Says k b → Then (read limit top depth ph k)
-  reads ws name (phase.Gap h) f k e = gap_next h k e
-  reads ws name phase.Minus f (kind.Digit d) e = signed_quiet 0 d
-  reads ws name (phase.Signed n) f (kind.Digit d) e = signed_quiet n d
-  reads ws name (phase.Number n) f (kind.Digit d) e = number_quiet n d
-  reads ws name phase.Tilde f k e = cond_both (is_letter_kind k) _ _ Then (λ i _. letter_begins (letter_kind k b e i)) (λ _ j. absurd (false≢true j))
-  reads ws name phase.First f k e =
+  reads ws name (Phase.Gap h) f k e = gap_next h k e
+  reads ws name Phase.Minus f (Kind.Digit d) e = signed_quiet 0 d
+  reads ws name (Phase.Signed n) f (Kind.Digit d) e = signed_quiet n d
+  reads ws name (Phase.Number n) f (Kind.Digit d) e = number_quiet n d
+  reads ws name Phase.Tilde f k e = cond_both (is_letter_kind k) _ _ Then (λ i _. letter_begins (letter_kind k b e i)) (λ _ j. absurd (false≢true j))
+  reads ws name Phase.First f k e =
       cond_both (is_name_kind k) _ _ Then (λ i _. more_of (Settled limit top ws depth ⋅ Blanks1) true name f (name_kind k b e i)) (λ _ j. absurd (false≢true j))
-  reads ws name (phase.Lone r) f k e =
+  reads ws name (Phase.Lone r) f k e =
       cond_both (may_be_name r && is_name_kind k) _ _ Then
       (λ i _. more_of (Before limit top r ws depth ⋅ Blanks1) false name f.1 (name_kind k b e (and_parts (may_be_name r) (is_name_kind k) i).1)) (λ _ j. absurd (false≢true j))
-  reads ws name (phase.Name negated) f k e =
-      cond_both (is_name_kind k) _ _ Then (λ i _. further f (name_kind k b e i)) (λ _ j. absurd (false≢true j))
+  reads ws name (Phase.Name negated) f k e = cond_both (is_name_kind k) _ _ Then (λ i _. further f (name_kind k b e i)) (λ _ j. absurd (false≢true j))
     where
       further : (Settled limit top ws depth ⋅ Blanks1 ⋅ LiteralOf negated name) t → IsTrue (is_name_byte b) → AsksWord (bytes t) b
       further (x, y, z, u, (v, w)) i =
@@ -130,14 +121,14 @@ module _ (limit top depth b : ℕ) (t : List Letter) where
   reads ws name _ f k e = λ h. absurd (false≢true h)
 
   lates : (k : Kind) → Then (late k)
-  lates kind.Blank = λ h. absurd (false≢true h)
+  lates Kind.Blank = λ h. absurd (false≢true h)
   lates _ = λ h. absurd (false≢true h)
 
   plans : (ws : List PolWord) (name : List ℕ) (ph : Phase) → prefix limit top ph ws depth name t → (k : Kind) → Says k b → Then (transition limit top depth ph k)
-  plans ws name phase.Ending f k e = lates k
-  plans ws name ph f kind.Blank e = let d = blank_dark b e in blanks (close limit top depth ph) (finishes ws name ph f d.0 d.1) (close limit top depth ph) refl
-  plans ws name ph f kind.Semicolon e = semicolons (close limit top depth ph) (finishes ws name ph f (rw e refl) (rw e refl)) (close limit top depth ph) refl
-  plans ws name ph f kind.Feed e = feeds (close limit top depth ph) (finishes ws name ph f (rw e refl) (rw e refl)) (close limit top depth ph) refl
+  plans ws name Phase.Ending f k e = lates k
+  plans ws name ph f Kind.Blank e = let d = blank_dark b e in blanks (close limit top depth ph) (finishes ws name ph f d.0 d.1) (close limit top depth ph) refl
+  plans ws name ph f Kind.Semicolon e = semicolons (close limit top depth ph) (finishes ws name ph f (rw e refl) (rw e refl)) (close limit top depth ph) refl
+  plans ws name ph f Kind.Feed e = feeds (close limit top depth ph) (finishes ws name ph f (rw e refl) (rw e refl)) (close limit top depth ph) refl
   plans ws name ph f k e = reads ws name ph f k e
 
 pub pol_asked : (limit top : ℕ) (t : List Letter) (s : PolState) (b : ℕ) → Walks pol_automaton (pol_first limit top) t s → pol_automaton.asks s b ≡ true → AsksWord (bytes t) b

@@ -1,24 +1,13 @@
 -- A state that reads everything that another one reads.
-use Rattle.pb_proof.proofs.Common.{ℕ, ◌&&◌, ◌∙◌, ◌∷◌, ◌≡◌, [], Bool, cond, false, List, nat_eq, nat_le, suc, zero, refl, Some, subst, sym, true, Automaton, End, Go}
-use Rattle.pb_proof.proofs.Common.{Next, ReadsStatement, Refuse, Letter, Action, Change, Held, Kind, Phase, Role, PolWord, blank, changed, close}
-use Rattle.pb_proof.proofs.Common.{counted, feed, held_name, held_number, is_name_kind, kind_of, may_be_name, semicolon, transition, work, over, pol_automaton, PolState}
-use Rattle.pb_proof.specs.engine.line.PolWhole.{IsFree}
-use Rattle.pb_proof.specs.engine.line.Pol.{act}
-use Rattle.pb_proof.specs.declared.line.pol.phase.Kind.TheVariants as kind
-use Rattle.pb_proof.specs.declared.line.pol.phase.Held.TheVariants as held
-use Rattle.pb_proof.specs.declared.line.pol.phase.Role.TheVariants as role
-use Rattle.pb_proof.specs.declared.line.pol.phase.Phase.TheVariants as phase
-use Rattle.pb_proof.specs.declared.line.pol.phase.Change.TheVariants as change
-use Rattle.pb_proof.specs.declared.line.pol.phase.Action.TheVariants as action
+use Rattle.pb_proof.proofs.Common.{cond_both, ℕ, ◌&&◌, ◌∙◌, ◌∷◌, ◌≡◌, [], Bool, cond, false, List, nat_eq, nat_le, suc, zero, refl, Some, subst, sym, true}
+use Rattle.pb_proof.proofs.Common.{Automaton, End, Go, Next, ReadsStatement, Refuse, Letter, Action, Change, Held, Kind, Phase, Role, PolWord, blank}
+use Rattle.pb_proof.proofs.Common.{changed, close, counted, feed, held_name, held_number, is_name_kind, kind_of, may_be_name, semicolon, transition}
+use Rattle.pb_proof.proofs.Common.{work, over, pol_automaton, PolState, IsFree, pol_act as act}
 
 -- an operator need not follow a number or a name
 pub free_number : (limit d n : ℕ) → IsFree (held_number limit d n)
 free_number limit zero n = tt
-free_number limit (suc d) n = go (nat_le n limit)
-  where
-    go : (b : Bool) → IsFree (cond b held.Number held.Nothing)
-    go true = tt
-    go false = tt
+free_number limit (suc d) n = cond_both (nat_le n limit) Held.Number Held.Nothing IsFree (λ _. tt) (λ _. tt)
 
 pub free_name : (negated : Bool) (d : ℕ) → IsFree (held_name negated d)
 free_name true d = tt
@@ -73,43 +62,42 @@ module _ (limit top : ℕ) (e : List PolWord) (after : PolState) where
 
   -- a letter that may be an operator may begin a name
   as_letter : (r : Role) → may_be_name r ≡ true → (ws : List PolWord) (d : ℕ) (name : List ℕ) (t : List Letter)
-      → R (st ws d name (phase.Lone role.Name)) t → R (st ws d name (phase.Lone r)) t
+      → R (st ws d name (Phase.Lone Role.Name)) t → R (st ws d name (Phase.Lone r)) t
   as_letter r h ws d name [] x = absurd x
-  as_letter r h ws d name (l ∷ t) x = at_kind (st ws d name (phase.Lone role.Name)) (st ws d name (phase.Lone r)) l t go x
+  as_letter r h ws d name (l ∷ t) x = at_kind (st ws d name (Phase.Lone Role.Name)) (st ws d name (Phase.Lone r)) l t go x
     where
-      further : (b : Bool) → C t (by (st ws d name (phase.Lone role.Name)) l.byte (cond b (action.Add (phase.Name false)) action.Stop))
-          (by (st ws d name (phase.Lone r)) l.byte (cond (may_be_name r && b) (action.Add (phase.Name false))
-          action.Stop))
-      further b =
-          rw h (same t (st ws d name (phase.Lone r)) l.byte (cond b (action.Add (phase.Name false)) action.Stop))
+      further : (b : Bool) → C t (by (st ws d name (Phase.Lone Role.Name)) l.byte (cond b (Action.Add (Phase.Name false)) Action.Stop))
+          (by (st ws d name (Phase.Lone r)) l.byte (cond (may_be_name r && b) (Action.Add (Phase.Name false))
+          Action.Stop))
+      further b = rw h (same t (st ws d name (Phase.Lone r)) l.byte (cond b (Action.Add (Phase.Name false)) Action.Stop))
 
-      go : (k : Kind) → C t (by (st ws d name (phase.Lone role.Name)) l.byte (transition limit top d (phase.Lone role.Name) k))
-          (by (st ws d name (phase.Lone r)) l.byte (transition limit top d (phase.Lone r) k))
-      go kind.Blank = tt
-      go kind.Semicolon = tt
-      go kind.Feed = tt
+      go : (k : Kind) → C t (by (st ws d name (Phase.Lone Role.Name)) l.byte (transition limit top d (Phase.Lone Role.Name) k))
+          (by (st ws d name (Phase.Lone r)) l.byte (transition limit top d (Phase.Lone r) k))
+      go Kind.Blank = tt
+      go Kind.Semicolon = tt
+      go Kind.Feed = tt
       go k = further (is_name_kind k)
 
   -- after a word that may still change, everything is read that is read after one that may not
-  pub as_gap : (h : Held) → IsFree h → (ws : List PolWord) (d : ℕ) (t : List Letter) → R (st ws d [] (phase.Gap held.Nothing)) t → R (st ws d [] (phase.Gap h)) t
+  pub as_gap : (h : Held) → IsFree h → (ws : List PolWord) (d : ℕ) (t : List Letter) → R (st ws d [] (Phase.Gap Held.Nothing)) t → R (st ws d [] (Phase.Gap h)) t
   as_gap h i ws d [] x = absurd x
-  as_gap h i ws d (l ∷ t) x = at_kind (st ws d [] (phase.Gap held.Nothing)) (st ws d [] (phase.Gap h)) l t (go h i (as_gap h i ws d t)) x
+  as_gap h i ws d (l ∷ t) x = at_kind (st ws d [] (Phase.Gap Held.Nothing)) (st ws d [] (Phase.Gap h)) l t (go h i (as_gap h i ws d t)) x
     where
-      go : (h : Held) → IsFree h → (R (st ws d [] (phase.Gap held.Nothing)) t → R (st ws d [] (phase.Gap h)) t) → (k : Kind)
-          → C t (by (st ws d [] (phase.Gap held.Nothing)) l.byte (transition limit top d (phase.Gap held.Nothing) k))
-          (by (st ws d [] (phase.Gap h)) l.byte (transition limit top d (phase.Gap h) k))
-      go held.Large i more k = absurd i
-      go held.Nothing i more k = same t (st ws d [] (phase.Gap held.Nothing)) l.byte (transition limit top d (phase.Gap held.Nothing) k)
-      go h i more kind.Blank = (st ws d [] (phase.Gap h), refl, (λ b. b), refl, more)
-      go held.Number i more kind.Star = tt
-      go held.Name i more kind.Star = tt
-      go held.Number i more kind.D = (st ws d (l.byte ∷ []) (phase.Lone role.Divide), refl, (λ b. b), refl, as_letter role.Divide refl ws d (l.byte ∷ []) t)
-      go held.Name i more kind.W = (st ws d (l.byte ∷ []) (phase.Lone role.Weaken), refl, (λ b. b), refl, as_letter role.Weaken refl ws d (l.byte ∷ []) t)
-      go h i more k = same t (st ws d [] (phase.Gap h)) l.byte (transition limit top d (phase.Gap h) k)
+      go : (h : Held) → IsFree h → (R (st ws d [] (Phase.Gap Held.Nothing)) t → R (st ws d [] (Phase.Gap h)) t) → (k : Kind)
+          → C t (by (st ws d [] (Phase.Gap Held.Nothing)) l.byte (transition limit top d (Phase.Gap Held.Nothing) k))
+          (by (st ws d [] (Phase.Gap h)) l.byte (transition limit top d (Phase.Gap h) k))
+      go Held.Large i more k = absurd i
+      go Held.Nothing i more k = same t (st ws d [] (Phase.Gap Held.Nothing)) l.byte (transition limit top d (Phase.Gap Held.Nothing) k)
+      go h i more Kind.Blank = (st ws d [] (Phase.Gap h), refl, (λ b. b), refl, more)
+      go Held.Number i more Kind.Star = tt
+      go Held.Name i more Kind.Star = tt
+      go Held.Number i more Kind.D = (st ws d (l.byte ∷ []) (Phase.Lone Role.Divide), refl, (λ b. b), refl, as_letter Role.Divide refl ws d (l.byte ∷ []) t)
+      go Held.Name i more Kind.W = (st ws d (l.byte ∷ []) (Phase.Lone Role.Weaken), refl, (λ b. b), refl, as_letter Role.Weaken refl ws d (l.byte ∷ []) t)
+      go h i more k = same t (st ws d [] (Phase.Gap h)) l.byte (transition limit top d (Phase.Gap h) k)
 
   -- the state after a word that has ended
   abbrev pub following : Change → List PolWord → ℕ → List ℕ → PolState
-  following c ws d name = st (changed c ws name) (counted c d) [] phase.After
+  following c ws d name = st (changed c ws name) (counted c d) [] Phase.After
 
   -- a state in which a word may end reads what may follow the word, unless an operator has to follow
   pub as_after : (ph : Phase) (c : Change) (h : Held) → IsFree h → (ws : List PolWord) (d : ℕ) (name : List ℕ) (t : List Letter) → close limit top d ph ≡ Some (c, h)
@@ -117,24 +105,24 @@ module _ (limit top : ℕ) (e : List PolWord) (after : PolState) where
   as_after ph c h i ws d name [] q x = absurd x
   as_after ph c h i ws d name (l ∷ t) q x = at_kind (following c ws d name) (st ws d name ph) l t (go ph q) x
     where
-      ends : (b : Bool) → C t (by (following c ws d name) l.byte (cond b (action.Turn change.Keep phase.Ending) action.Stop)) (by (st ws d name phase.Start) l.byte (cond b (action.Turn c phase.Ending) action.Stop))
-      ends true = (st (changed c ws name) (counted c d) [] phase.Ending, refl, (λ b. b), refl, (λ r. r))
+      ends : (b : Bool) → C t (by (following c ws d name) l.byte (cond b (Action.Turn Change.Keep Phase.Ending) Action.Stop)) (by (st ws d name Phase.Start) l.byte (cond b (Action.Turn c Phase.Ending) Action.Stop))
+      ends true = (st (changed c ws name) (counted c d) [] Phase.Ending, refl, (λ b. b), refl, (λ r. r))
       ends false = tt
 
-      feeds : (b : Bool) → C t (by (following c ws d name) l.byte (cond b (action.End change.Keep) action.Stop)) (by (st ws d name phase.Start) l.byte (cond b (action.End c) action.Stop))
+      feeds : (b : Bool) → C t (by (following c ws d name) l.byte (cond b (Action.End Change.Keep) Action.Stop)) (by (st ws d name Phase.Start) l.byte (cond b (Action.End c) Action.Stop))
       feeds true = refl
       feeds false = tt
 
       go : (ph : Phase) → close limit top d ph ≡ Some (c, h) → (k : Kind)
-          → C t (by (following c ws d name) l.byte (transition limit top (counted c d) phase.After k)) (by (st ws d name ph) l.byte (transition limit top d ph k))
-      go phase.Ending q k = absurd (cc)
-      go ph q kind.Blank =
-          subst (λ o. C t (by (following c ws d name) l.byte (blank (Some (change.Keep, held.Nothing)))) (by (st ws d name phase.Start) l.byte (blank o))) (sym q)
-          (st (changed c ws name) (counted c d) [] (phase.Gap h), refl, (λ b. b), refl, as_gap h i (changed c ws name) (counted c d) t)
-      go ph q kind.Semicolon =
-          subst (λ o. C t (by (following c ws d name) l.byte (semicolon (counted c d) (Some (change.Keep, held.Nothing)))) (by (st ws d name phase.Start) l.byte (semicolon d o))) (sym q)
+          → C t (by (following c ws d name) l.byte (transition limit top (counted c d) Phase.After k)) (by (st ws d name ph) l.byte (transition limit top d ph k))
+      go Phase.Ending q k = absurd (cc)
+      go ph q Kind.Blank =
+          subst (λ o. C t (by (following c ws d name) l.byte (blank (Some (Change.Keep, Held.Nothing)))) (by (st ws d name Phase.Start) l.byte (blank o))) (sym q)
+          (st (changed c ws name) (counted c d) [] (Phase.Gap h), refl, (λ b. b), refl, as_gap h i (changed c ws name) (counted c d) t)
+      go ph q Kind.Semicolon =
+          subst (λ o. C t (by (following c ws d name) l.byte (semicolon (counted c d) (Some (Change.Keep, Held.Nothing)))) (by (st ws d name Phase.Start) l.byte (semicolon d o))) (sym q)
           (ends (nat_eq (counted c d) 1))
-      go ph q kind.Feed =
-          subst (λ o. C t (by (following c ws d name) l.byte (feed (counted c d) (Some (change.Keep, held.Nothing)))) (by (st ws d name phase.Start) l.byte (feed d o))) (sym q)
+      go ph q Kind.Feed =
+          subst (λ o. C t (by (following c ws d name) l.byte (feed (counted c d) (Some (Change.Keep, Held.Nothing)))) (by (st ws d name Phase.Start) l.byte (feed d o))) (sym q)
           (feeds (nat_eq (counted c d) 1))
       go ph q k = tt

@@ -1,6 +1,6 @@
 -- What the kind of a byte says of the byte, and the converse.
-use Rattle.pb_proof.proofs.Common.{ℕ, ◌+◌, ◌-◌, ◌<◌, ◌≡◌, ap, arith, Bool, cond, false, IsTrue, nat_eq, refl, true, cond_both, eqb-true, false≢true}
-use Rattle.pb_proof.proofs.Common.{nat_tests, blank_digit, digit_byte, digit_of, letter_name, is_blank, is_digit, is_letter, is_name_byte, Kind}
+use Rattle.pb_proof.proofs.Common.{ℕ, ◌+◌, ◌-◌, ◌<◌, ◌≡◌, arith, Bool, cond, false, IsTrue, refl, true, cond_both, eqb-true, false≢true}
+use Rattle.pb_proof.proofs.Common.{nat_tests, digit_of, letter_name, is_blank, is_digit, is_letter, is_name_byte, Kind}
 use Rattle.pb_proof.proofs.Common.{is_letter_kind, is_name_kind, kind_of, letter, symbol}
 use Rattle.pb_proof.specs.declared.line.pol.phase.Kind.TheVariants.{Digit, D, S, W, Letter, Mark, Blank, Feed, Semicolon, Plus, Star, Minus, Tilde, Other}
 
@@ -21,21 +21,10 @@ Says Tilde b = b ≡ 126
 Says Other b = Unit {0}
 
 letter_says : (b : ℕ) → IsTrue (is_letter b) → Says (letter b) b
-letter_says b h =
-    let P : Kind → Type 0 = λ k. Says k b in
-    cond_both (nat_eq b 100) D _ P (eqb-true b 100) (λ _.
-    cond_both (nat_eq b 115) S _ P (eqb-true b 115) (λ _.
-    cond_both (nat_eq b 119) W _ P (eqb-true b 119) (λ _. h)))
+letter_says b h = grind (arith, eqb-true)
 
 symbol_says : (b : ℕ) → Says (symbol b) b
-symbol_says b =
-    let P : Kind → Type 0 = λ k. Says k b in
-    cond_both (nat_eq b 10) Feed _ P (eqb-true b 10) (λ _.
-    cond_both (nat_eq b 59) Semicolon _ P (eqb-true b 59) (λ _.
-    cond_both (nat_eq b 43) Plus _ P (eqb-true b 43) (λ _.
-    cond_both (nat_eq b 42) Star _ P (eqb-true b 42) (λ _.
-    cond_both (nat_eq b 45) Minus _ P (eqb-true b 45) (λ _.
-    cond_both (nat_eq b 126) Tilde _ P (eqb-true b 126) (λ _. tt))))))
+symbol_says b = grind (arith, eqb-true)
 
 pub kind_says : (b : ℕ) → Says (kind_of b) b
 kind_says b =
@@ -67,15 +56,10 @@ name_kind _ b h e = absurd (false≢true e)
 
 -- the kinds of bytes
 pub of_digit : (d : ℕ) → d < 10 → kind_of (48 + d) ≡ Digit d
-of_digit d h =
-    let f : (48 + d) - 48 ≡ d = omega arith in
-    rw (digit_byte d h) (ap Digit f)
+of_digit d h = grind (arith)
 
 pub of_blank : (b : ℕ) → IsTrue (is_blank b) → kind_of b ≡ Blank
-of_blank b h =
-    let f : is_letter b ≡ false = grind (arith, nat_tests) in
-    let g : is_name_byte b ≡ false = grind (arith, nat_tests) in
-    rw (g, blank_digit b h, f, h) refl
+of_blank b h = grind (arith, nat_tests)
 
 letter_kinds : (b : ℕ) → (x y z : Bool) → is_letter_kind (cond x D (cond y S (cond z W Letter))) ≡ true
 letter_kinds b true y z = refl
@@ -84,21 +68,11 @@ letter_kinds b false false true = refl
 letter_kinds b false false false = refl
 
 pub of_letter : (b : ℕ) → IsTrue (is_letter b) → is_letter_kind (kind_of b) ≡ true
-of_letter b h =
-    let e : is_digit b ≡ false = grind (arith, nat_tests) in
-    rw (e, h) (letter_kinds b (nat_eq b 100) (nat_eq b 115) (nat_eq b 119))
+of_letter b h = grind (arith, nat_tests, letter_kinds)
 
 pub letter_is_name : (k : Kind) → is_letter_kind k ≡ true → is_name_kind k ≡ true
-letter_is_name D e = refl
-letter_is_name S e = refl
-letter_is_name W e = refl
-letter_is_name Letter e = refl
-letter_is_name _ e = absurd (false≢true e)
+letter_is_name D e = cc
+letter_is_name _ e = cc
 
 pub of_name : (b : ℕ) → IsTrue (is_name_byte b) → is_name_kind (kind_of b) ≡ true
-of_name b h = go (is_digit b) (is_letter b) refl refl
-  where
-    go : (x y : Bool) → is_digit b ≡ x → is_letter b ≡ y → is_name_kind (kind_of b) ≡ true
-    go true y e f = rw e refl
-    go false true e f = letter_is_name (kind_of b) (of_letter b f)
-    go false false e f = rw (h, e, f) refl
+of_name b h = grind (arith, letter_is_name, of_letter)

@@ -56,16 +56,11 @@ pub one_word : PolWord → List Tree → List Tree
 one_word (Id id) ts = Constraint id ∷ ts
 one_word (Axiom l) ts = LiteralAxiom l ∷ ts
 one_word Add (b ∷ a ∷ ts) = Sum a b ∷ ts
-one_word Add (b ∷ []) = []
-one_word Add [] = []
 one_word (Multiply k) (a ∷ ts) = Product a k ∷ ts
-one_word (Multiply k) [] = []
 one_word (Divide k) (a ∷ ts) = Quotient a k ∷ ts
-one_word (Divide k) [] = []
 one_word Saturate (a ∷ ts) = Saturation a ∷ ts
-one_word Saturate [] = []
 one_word (Weaken name) (a ∷ ts) = Weakening a name ∷ ts
-one_word (Weaken name) [] = []
+one_word _ _ = []
 
 pub built : List PolWord → List Tree → List Tree
 built [] ts = ts
@@ -78,8 +73,6 @@ built_then (x ∷ xs) ys ts = built_then xs ys (one_word x ts)
 
 pub built_words : (t : Tree) (ts : List Tree) → built (words t) ts ≡ t ∷ ts
 unfolding built one_word
-built_words (Constraint id) ts = refl
-built_words (LiteralAxiom l) ts = refl
 built_words (Sum a b) ts =
     built_then (words a ++ words b) (Add ∷ []) ts
     ∙ ap (built (Add ∷ [])) (built_then (words a) (words b) ts ∙ ap (built (words b)) (built_words a ts) ∙ built_words b (a ∷ ts))
@@ -87,6 +80,7 @@ built_words (Product a k) ts = built_then (words a) (Multiply k ∷ []) ts ∙ a
 built_words (Quotient a k) ts = built_then (words a) (Divide k ∷ []) ts ∙ ap (built (Divide k ∷ [])) (built_words a ts)
 built_words (Saturation a) ts = built_then (words a) (Saturate ∷ []) ts ∙ ap (built (Saturate ∷ [])) (built_words a ts)
 built_words (Weakening a name) ts = built_then (words a) (Weaken name ∷ []) ts ∙ ap (built (Weaken name ∷ [])) (built_words a ts)
+built_words _ ts = refl
 
 pub words_report : WordsReport
 words_report t u e =

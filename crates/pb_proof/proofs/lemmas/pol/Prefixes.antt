@@ -1,12 +1,7 @@
 -- What the `pol` machine has read.
-use Rattle.pb_proof.proofs.Common.{ℕ, ◌++◌, ◌-◌, ◌<◌, ◌∙◌, ◌∷◌, ◌≡◌, ◌≤◌, [], ap, append_assoc, arith, false, List, pos, refl, subst, suc, sym, true}
-use Rattle.pb_proof.proofs.Common.{zero, le-max_left, le-max_right, FirstOf, LiteralOf, IsName, regroup3, ◌⋅◌, Blanks1, Byte, Bytes, Language, Digits}
-use Rattle.pb_proof.proofs.Common.{Letter, Held, Phase, Role, PolWord, Axiom, Id, Multiply, bound, with_last, PolState, Listed, SpellsWord}
-use Rattle.pb_proof.proofs.Common.{SpellsWords}
-use Rattle.pb_proof.specs.engine.line.PolWhole.{IsFree}
-use Rattle.pb_proof.specs.declared.line.pol.phase.Held.TheVariants as held
-use Rattle.pb_proof.specs.declared.line.pol.phase.Role.TheVariants as role
-use Rattle.pb_proof.specs.declared.line.pol.phase.Phase.TheVariants as phase
+use Rattle.pb_proof.proofs.Common.{ℕ, ◌++◌, ◌-◌, ◌<◌, ◌∙◌, ◌∷◌, ◌≡◌, ◌≤◌, [], ap, append_assoc, arith, false, List, pos, refl, subst, suc, sym, true, zero}
+use Rattle.pb_proof.proofs.Common.{le-max_left, le-max_right, FirstOf, LiteralOf, IsName, regroup3, ◌⋅◌, Blanks1, Byte, Bytes, Language, Digits, Letter, Held}
+use Rattle.pb_proof.proofs.Common.{Phase, Role, PolWord, Axiom, Id, Multiply, bound, with_last, PolState, Listed, SpellsWord, SpellsWords, IsFree}
 use Rattle.pb_proof.proofs.lemmas.line.Ends.{Closing, listed_append}
 use Rattle.pb_proof.proofs.lemmas.pol.Postfix.{Counts}
 
@@ -56,21 +51,18 @@ module _ (limit top : ℕ) where
       × (d ≡ suc (suc e)) × IsName name × Leads vs (suc e) × (Words vs ⋅ Blanks1 ⋅ Bytes name) t
 
   abbrev pub Holds : Held → List PolWord → ℕ → Language
-  Holds held.Nothing = Settled
-  Holds held.Number = Numbered (λ n. Id (pos n)) (λ n. n ≤ top)
-  Holds held.Large = Numbered (λ n. Multiply (pos n)) (λ n. Unit {0})
-  Holds held.Name = Named
-
-  id-word : (n : ℕ) (p : List Letter) → 0 < n → n ≤ top → Digits n p → SpellsWord limit top (Id (pos n)) p
-  id-word n p h i k = (false, n, h, i, refl, ([], p, refl, refl, k))
+  Holds Held.Nothing = Settled
+  Holds Held.Number = Numbered (λ n. Id (pos n)) (λ n. n ≤ top)
+  Holds Held.Large = Numbered (λ n. Multiply (pos n)) (λ n. Unit {0})
+  Holds Held.Name = Named
 
   pub at : (ws vs : List PolWord) (d e : ℕ) (p : List Letter) → ws ≡ vs → d ≡ e → Settled vs e p → Settled ws d p
   at ws vs d e p f g h = subst (λ x. Settled x d p) (sym f) (subst (λ x. Settled vs x p) (sym g) h)
 
   -- the last word is a word on its own
   pub released : (h : Held) (ws : List PolWord) (d : ℕ) (p : List Letter) → IsFree h → Holds h ws d p → Settled ws d p
-  released held.Nothing ws d p i k = k
-  released held.Number ws d p i (vs, e, n, f, g, pos_n, le, fits, leads, t) =
+  released Held.Nothing ws d p i k = k
+  released Held.Number ws d p i (vs, e, n, f, g, pos_n, le, fits, leads, t) =
       at ws (vs ++ Id (pos n) ∷ []) d (suc (suc e)) p f g
       (settle vs (suc e) (suc (suc e)) (Id (pos n)) p (λ rest r. r)
       (lead vs (suc e) Blanks1 (SpellsId n) p leads (last n pos_n fits vs p t)))
@@ -79,9 +71,9 @@ module _ (limit top : ℕ) where
       SpellsId n = SpellsWord limit top (Id (pos n))
 
       last : (n : ℕ) → 0 < n → n ≤ top → (vs : List PolWord) (p : List Letter) → (Words vs ⋅ Blanks1 ⋅ Digits n) p → (Words vs ⋅ Blanks1 ⋅ SpellsId n) p
-      last n h i vs p (ab, c, g, r, m) = (ab, c, g, r, id-word n c h i m)
-  released held.Large ws d p i k = absurd i
-  released held.Name ws d p i (vs, e, name, f, g, h, leads, t) =
+      last n h i vs p (ab, c, g, r, m) = (ab, c, g, r, (false, n, h, i, refl, ([], c, refl, refl, m)))
+  released Held.Large ws d p i k = absurd i
+  released Held.Name ws d p i (vs, e, name, f, g, h, leads, t) =
       let w : PolWord = Axiom (record { negated = false; name = name }) in
       let (ab, c, j, r, m) = t in
       at ws (vs ++ w ∷ []) d (suc (suc e)) p f g
@@ -90,10 +82,10 @@ module _ (limit top : ℕ) where
 
   -- after one expression alone the last word cannot change
   pub whole : (h : Held) (ws : List PolWord) (d : ℕ) (p : List Letter) → d ≡ 1 → Holds h ws d p → Settled ws d p
-  whole held.Nothing ws d p i k = k
-  whole held.Number ws d p i (vs, e, n, f, g, r, u, v, x, y) = absurd (omega arith)
-  whole held.Large ws d p i (vs, e, n, f, g, r, u, v, x, y) = absurd (omega arith)
-  whole held.Name ws d p i (vs, e, name, f, g, r, u, v) = absurd (omega arith)
+  whole Held.Nothing ws d p i k = k
+  whole Held.Number ws d p i (vs, e, n, f, g, r, u, v, x, y) = absurd (omega arith)
+  whole Held.Large ws d p i (vs, e, n, f, g, r, u, v, x, y) = absurd (omega arith)
+  whole Held.Name ws d p i (vs, e, name, f, g, r, u, v) = absurd (omega arith)
 
   -- an operator that takes the number or the name before it
   pub takes_number : (word result : ℕ → PolWord) (Fits : ℕ → Type 0) (f : PolWord → PolWord) (b : ℕ) → ((n : ℕ) → f (word n) ≡ result n)
@@ -113,32 +105,32 @@ module _ (limit top : ℕ) where
 
   -- the text that has been read in each state
   abbrev pub IsRole : Role → List ℕ → Type 0
-  IsRole role.Name name = Unit {0}
-  IsRole role.Saturate name = name ≡ 115 ∷ []
-  IsRole role.Divide name = name ≡ 100 ∷ []
-  IsRole role.DivideLarge name = name ≡ 100 ∷ []
-  IsRole role.Weaken name = name ≡ 119 ∷ []
+  IsRole Role.Name name = Unit {0}
+  IsRole Role.Saturate name = name ≡ 115 ∷ []
+  IsRole Role.Divide name = name ≡ 100 ∷ []
+  IsRole Role.DivideLarge name = name ≡ 100 ∷ []
+  IsRole Role.Weaken name = name ≡ 119 ∷ []
 
   abbrev pub Before : Role → List PolWord → ℕ → Language
-  Before role.Name ws d = Settled ws d
-  Before role.Saturate ws d = λ t. (0 < d) × Settled ws d t
-  Before role.Divide ws d = Holds held.Number ws d
-  Before role.DivideLarge ws d = Holds held.Large ws d
-  Before role.Weaken ws d = Holds held.Name ws d
+  Before Role.Name ws d = Settled ws d
+  Before Role.Saturate ws d = λ t. (0 < d) × Settled ws d t
+  Before Role.Divide ws d = Holds Held.Number ws d
+  Before Role.DivideLarge ws d = Holds Held.Large ws d
+  Before Role.Weaken ws d = Holds Held.Name ws d
 
   abbrev pub prefix : Phase → List PolWord → ℕ → List ℕ → Language
-  prefix phase.Start ws d name = λ t. (ws ≡ []) × (d ≡ 0) × (t ≡ [])
-  prefix phase.After ws d name = Settled ws d
-  prefix (phase.Gap h) ws d name = Holds h ws d ⋅ Blanks1
-  prefix phase.Minus ws d name = Settled ws d ⋅ Blanks1 ⋅ Byte 45
-  prefix (phase.Signed n) ws d name = λ t. (n ≤ top) × (Settled ws d ⋅ Blanks1 ⋅ Byte 45 ⋅ Digits n) t
-  prefix (phase.Number n) ws d name = λ t. (n ≤ bound limit top d) × (Settled ws d ⋅ Blanks1 ⋅ Digits n) t
-  prefix phase.Tilde ws d name = Settled ws d ⋅ Blanks1 ⋅ Byte 126
-  prefix phase.First ws d name = Settled ws d ⋅ Blanks1 ⋅ FirstOf true name
-  prefix (phase.Lone r) ws d name = λ t. IsRole r name × (Before r ws d ⋅ Blanks1 ⋅ FirstOf false name) t
-  prefix (phase.Name negated) ws d name = Settled ws d ⋅ Blanks1 ⋅ LiteralOf negated name
-  prefix phase.Ending ws d name = λ t. (d ≡ 1) × Closing (Settled ws d) t
-  prefix phase.Done ws d name = λ t. ⊥
+  prefix Phase.Start ws d name = λ t. (ws ≡ []) × (d ≡ 0) × (t ≡ [])
+  prefix Phase.After ws d name = Settled ws d
+  prefix (Phase.Gap h) ws d name = Holds h ws d ⋅ Blanks1
+  prefix Phase.Minus ws d name = Settled ws d ⋅ Blanks1 ⋅ Byte 45
+  prefix (Phase.Signed n) ws d name = λ t. (n ≤ top) × (Settled ws d ⋅ Blanks1 ⋅ Byte 45 ⋅ Digits n) t
+  prefix (Phase.Number n) ws d name = λ t. (n ≤ bound limit top d) × (Settled ws d ⋅ Blanks1 ⋅ Digits n) t
+  prefix Phase.Tilde ws d name = Settled ws d ⋅ Blanks1 ⋅ Byte 126
+  prefix Phase.First ws d name = Settled ws d ⋅ Blanks1 ⋅ FirstOf true name
+  prefix (Phase.Lone r) ws d name = λ t. IsRole r name × (Before r ws d ⋅ Blanks1 ⋅ FirstOf false name) t
+  prefix (Phase.Name negated) ws d name = Settled ws d ⋅ Blanks1 ⋅ LiteralOf negated name
+  prefix Phase.Ending ws d name = λ t. (d ≡ 1) × Closing (Settled ws d) t
+  prefix Phase.Done ws d name = λ t. ⊥
 
 abbrev pub Prefix : PolState → Language
 Prefix s = prefix s.limit s.top s.work.phase s.work.words s.work.depth s.work.name

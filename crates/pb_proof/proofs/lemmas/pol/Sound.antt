@@ -1,23 +1,13 @@
 -- The `pol` machine has read a prefix of a line of postfix words: one lemma for each step that continues.
-use Rattle.pb_proof.proofs.Common.{ℕ, ◌&&◌, ◌*◌, ◌++◌, ◌+◌, ◌-◌, ◌<◌, ◌∙◌, ◌∷◌, ◌≡◌, ◌≤◌, [], ap, append-nil, arith, Bool, cond, false, IsTrue, List}
-use Rattle.pb_proof.proofs.Common.{nat_eq, nat_le, None, pos, refl, Some, subst, suc, sym, true, zero, neg_ℤ, and_parts, eqb-true, false≢true}
-use Rattle.pb_proof.proofs.Common.{leb-true, nat_tests, FirstOf, LiteralOf, Keeps, On, reported, digits-grown, digits-one, grown, inside, regroup}
-use Rattle.pb_proof.proofs.Common.{regroup3, as_digit, as_unmarked, Next, ReadsStatement, is_blank, is_name_byte, ◌⋅◌, Blanks0, Blanks1, Byte, Bytes}
-use Rattle.pb_proof.proofs.Common.{Language, unmarked, Digits, Letter, plain, Action, Held, Kind, Phase, Role, PolWord, blank, bound, changed, close}
-use Rattle.pb_proof.proofs.Common.{close_lone, close_number, counted, feed, held_name, held_number, is_letter_kind, is_name_kind, kind_of, late}
-use Rattle.pb_proof.proofs.Common.{may_be_name, next_large, next_word, number, read, role_of, semicolon, star, transition, turned, with_last, work}
-use Rattle.pb_proof.proofs.Common.{over, pol_automaton, pol_first, PolState, LineEnd, SpellsWord, SpellsWords}
-use Rattle.pb_proof.specs.engine.line.PolWhole.{IsFree}
-use Rattle.pb_text.proofs.lemmas.text.Languages.{next as next_part}
-use Rattle.pb_proof.specs.engine.line.Pol.{act, next, signed}
+use Rattle.pb_proof.proofs.Common.{cond_both, ℕ, ◌&&◌, ◌*◌, ◌++◌, ◌+◌, ◌-◌, ◌<◌, ◌∙◌, ◌∷◌, ◌≡◌, ◌≤◌, [], ap, append-nil, arith, Bool, cond, false, IsTrue, List, nat_eq}
+use Rattle.pb_proof.proofs.Common.{nat_le, None, pos, refl, Some, subst, suc, sym, true, zero, neg_ℤ, and_parts, eqb-true, false≢true, leb-true, nat_tests}
+use Rattle.pb_proof.proofs.Common.{FirstOf, LiteralOf, Keeps, On, reported, digits-grown, digits-one, grown, inside, regroup, regroup3, as_digit, as_unmarked}
+use Rattle.pb_proof.proofs.Common.{Next, ReadsStatement, is_blank, is_name_byte, ◌⋅◌, Blanks0, Blanks1, Byte, Bytes, Language, unmarked, Digits, Letter}
+use Rattle.pb_proof.proofs.Common.{plain, Action, Held, Kind, Phase, Role, PolWord, blank, bound, changed, close, close_lone, close_number, counted, feed}
+use Rattle.pb_proof.proofs.Common.{held_name, held_number, is_letter_kind, is_name_kind, kind_of, late, may_be_name, next_large, next_word, number, read}
+use Rattle.pb_proof.proofs.Common.{role_of, semicolon, star, transition, turned, with_last, work, over, pol_automaton, pol_first, PolState, LineEnd}
+use Rattle.pb_proof.proofs.Common.{SpellsWord, SpellsWords, IsFree, next as next_part, pol_act as act, pol_next as next, pol_signed as signed, Change}
 use Rattle.pb_proof.specs.engine.line.Pol as pol
-use Rattle.pb_proof.specs.declared.word.PolWord.TheVariants as word
-use Rattle.pb_proof.specs.declared.line.pol.phase.Kind.TheVariants as kind
-use Rattle.pb_proof.specs.declared.line.pol.phase.Held.TheVariants as held
-use Rattle.pb_proof.specs.declared.line.pol.phase.Role.TheVariants as role
-use Rattle.pb_proof.specs.declared.line.pol.phase.Phase.TheVariants as phase
-use Rattle.pb_proof.specs.declared.line.pol.phase.Change.TheVariants as change
-use Rattle.pb_proof.specs.declared.line.pol.phase.Action.TheVariants as action
 use Rattle.pb_proof.proofs.lemmas.line.Ends.{semicolon_after_blanks, blank_closing, line_after_blanks, line_closing, gapped, first_blank, further_blank, gapped_some}
 use Rattle.pb_proof.proofs.lemmas.pol.Kinds.{Says, kind_says, letter_kind, name_kind}
 use Rattle.pb_proof.proofs.lemmas.pol.Postfix.{Counts, counts_postfix}
@@ -35,12 +25,12 @@ blanks_more l h f q ([], i, e) = first_blank l q h f e
 blanks_more l h f q (b ∷ bs, i, e) = further_blank l q h f (b, bs, i.0, i.1, e)
 
 -- counts
-sum_counts : (d : ℕ) (rest : List PolWord) → 2 ≤ d → Counts (d - 1) rest → Counts d (word.Add ∷ rest)
+sum_counts : (d : ℕ) (rest : List PolWord) → 2 ≤ d → Counts (d - 1) rest → Counts d (PolWord.Add ∷ rest)
 sum_counts zero rest h c = absurd (omega arith)
 sum_counts (suc zero) rest h c = absurd (omega arith)
 sum_counts (suc (suc d)) rest h c = let e : suc (suc d) - 1 ≡ suc d = omega arith in subst (λ n. Counts n rest) e c
 
-saturate_counts : (d : ℕ) (rest : List PolWord) → 0 < d → Counts d rest → Counts d (word.Saturate ∷ rest)
+saturate_counts : (d : ℕ) (rest : List PolWord) → 0 < d → Counts d rest → Counts d (PolWord.Saturate ∷ rest)
 saturate_counts zero rest h c = absurd (omega arith)
 saturate_counts (suc d) rest h c = c
 
@@ -60,14 +50,11 @@ module _ (limit top : ℕ) (ws : List PolWord) (d : ℕ) (name : List ℕ) where
   closed_test true c p h = tt
   closed_test false c p h = h refl
 
-  closes_number : (n : ℕ) (p : List Letter) → 0 < n → before (phase.Number n) p → Closed (close_number limit top d n) p
+  closes_number : (n : ℕ) (p : List Letter) → 0 < n → before (Phase.Number n) p → Closed (close_number limit top d n) p
   closes_number n p h (le, t) = go d refl (nat_le n top) refl (nat_le n limit) refl
     where
-      id_text : n ≤ top → (Has ws d ⋅ Blanks1 ⋅ SpellsWord limit top (word.Id (pos n))) p
-      id_text i = let (a, b, g, r, k) = t in (a, b, g, r, (false, n, h, i, refl, ([], b, refl, refl, k)))
-
-      as_id : n ≤ top → Has (ws ++ word.Id (pos n) ∷ []) (suc d) p
-      as_id i = settle limit top ws d (suc d) (word.Id (pos n)) p (λ rest r. r) (id_text i)
+      as_id : n ≤ top → Has (ws ++ PolWord.Id (pos n) ∷ []) (suc d) p
+      as_id i = let (a, b, g, r, k) = t in settle limit top ws d (suc d) (PolWord.Id (pos n)) p (λ rest r. r) (a, b, g, r, (false, n, h, i, refl, ([], b, refl, refl, k)))
 
       large_fits : (e : ℕ) → d ≡ suc e → nat_le n top ≡ false → n ≤ limit
       large_fits e f g = let k : n ≤ bound limit top (suc e) = subst (λ x. n ≤ bound limit top x) f le in grind (arith, nat_tests)
@@ -76,84 +63,84 @@ module _ (limit top : ℕ) (ws : List PolWord) (d : ℕ) (name : List ℕ) where
       leads_of e f = let (a, b, g, (u, v, i, (m, o), j), k) = t in ((a, b, g, (u, v, i, o, j), k), λ rest r. m rest (subst (λ x. Counts x rest) (sym f) r))
 
       go : (e : ℕ) → d ≡ e → (x : Bool) → nat_le n top ≡ x → (y : Bool) → nat_le n limit ≡ y →
-          Closed (cond x (Some (change.Id (pos n), held_number limit e n)) (Some (change.Large (pos n), held.Large))) p
-      go zero f true i y j = gapped (Has (ws ++ word.Id (pos n) ∷ []) (suc d)) p (as_id (leb-true n top i))
+          Closed (cond x (Some (Change.Id (pos n), held_number limit e n)) (Some (Change.Large (pos n), Held.Large))) p
+      go zero f true i y j = gapped (Has (ws ++ PolWord.Id (pos n) ∷ []) (suc d)) p (as_id (leb-true n top i))
       go (suc e) f true i true j = rw j (
           let (m, o) = leads_of e f in
-          gapped (Holds limit top held.Number (ws ++ word.Id (pos n) ∷ []) (suc d)) p
+          gapped (Holds limit top Held.Number (ws ++ PolWord.Id (pos n) ∷ []) (suc d)) p
           (ws, e, n, refl, ap suc f, h, leb-true n limit j, leb-true n top i, o, m)
           )
-      go (suc e) f true i false j = rw j (gapped (Has (ws ++ word.Id (pos n) ∷ []) (suc d)) p (as_id (leb-true n top i)))
+      go (suc e) f true i false j = rw j (gapped (Has (ws ++ PolWord.Id (pos n) ∷ []) (suc d)) p (as_id (leb-true n top i)))
       go zero f false i y j = absurd (too_large (subst (λ x. n ≤ bound limit top x) f le))
         where
           too_large : n ≤ top → ⊥
           too_large k = grind (arith, nat_tests)
       go (suc e) f false i y j =
           let (m, o) = leads_of e f in
-          gapped (Holds limit top held.Large (ws ++ word.Multiply (pos n) ∷ []) (suc d)) p
+          gapped (Holds limit top Held.Large (ws ++ PolWord.Multiply (pos n) ∷ []) (suc d)) p
           (ws, e, n, refl, ap suc f, h, large_fits e f i, tt, o, m)
 
   -- a letter that is an operator
   operator : (b : ℕ) (P : Language) (p : List Letter) → name ≡ b ∷ [] → (P ⋅ Blanks1 ⋅ FirstOf false name) p → (P ⋅ Blanks1 ⋅ Byte b) p
   operator b P p e (x, y, f, r, (k, g)) = (x, y, f, r, g ∙ ap plain e)
 
-  divides : (n : ℕ) (q : List Letter) → 0 < n → n ≤ limit → (Digits n ⋅ Blanks1 ⋅ Byte 100) q → SpellsWord limit top (word.Divide (pos n)) q
+  divides : (n : ℕ) (q : List Letter) → 0 < n → n ≤ limit → (Digits n ⋅ Blanks1 ⋅ Byte 100) q → SpellsWord limit top (PolWord.Divide (pos n)) q
   divides n q i l (a, b, g, (u, v, k, o, j), m) = (a, b, g, (u, v, k, (n, i, l, refl, o), j), m)
 
-  closes_lone : (r : Role) (p : List Letter) → before (phase.Lone r) p → Closed (close_lone r) p
-  closes_lone role.Name p h = tt
-  closes_lone role.Saturate p (e, t) =
-      gapped (Has (ws ++ word.Saturate ∷ []) d) p
-      (let (a, b, g, (u, v, i, (m, o), j), k) = operator 115 (Before limit top role.Saturate ws d) p e t in
-      settle limit top ws d d word.Saturate p (λ rest r. saturate_counts d rest m r) (a, b, g, (u, v, i, o, j), k))
-  closes_lone role.Divide p (e, t) =
-      gapped (Has (changed change.Divide ws name) (d - 1)) p
-      (takes_number limit top (λ n. word.Id (pos n)) (λ n. word.Divide (pos n)) (λ n. n ≤ top) (turned change.Divide) 100 (λ n. refl)
-      divides (λ n e rest r. r) ws d p (operator 100 (Holds limit top held.Number ws d) p e t))
-  closes_lone role.DivideLarge p (e, t) =
-      gapped (Has (changed change.Divide ws name) (d - 1)) p
-      (takes_number limit top (λ n. word.Multiply (pos n)) (λ n. word.Divide (pos n)) (λ n. Unit {0}) (turned change.Divide) 100 (λ n. refl)
-      divides (λ n e rest r. r) ws d p (operator 100 (Holds limit top held.Large ws d) p e t))
-  closes_lone role.Weaken p (e, t) =
-      gapped (Has (changed change.Weaken ws name) (d - 1)) p (weakens (operator 119 (Holds limit top held.Name ws d) p e t))
+  closes_lone : (r : Role) (p : List Letter) → before (Phase.Lone r) p → Closed (close_lone r) p
+  closes_lone Role.Name p h = tt
+  closes_lone Role.Saturate p (e, t) =
+      gapped (Has (ws ++ PolWord.Saturate ∷ []) d) p
+      (let (a, b, g, (u, v, i, (m, o), j), k) = operator 115 (Before limit top Role.Saturate ws d) p e t in
+      settle limit top ws d d PolWord.Saturate p (λ rest r. saturate_counts d rest m r) (a, b, g, (u, v, i, o, j), k))
+  closes_lone Role.Divide p (e, t) =
+      gapped (Has (changed Change.Divide ws name) (d - 1)) p
+      (takes_number limit top (λ n. PolWord.Id (pos n)) (λ n. PolWord.Divide (pos n)) (λ n. n ≤ top) (turned Change.Divide) 100 (λ n. refl)
+      divides (λ n e rest r. r) ws d p (operator 100 (Holds limit top Held.Number ws d) p e t))
+  closes_lone Role.DivideLarge p (e, t) =
+      gapped (Has (changed Change.Divide ws name) (d - 1)) p
+      (takes_number limit top (λ n. PolWord.Multiply (pos n)) (λ n. PolWord.Divide (pos n)) (λ n. Unit {0}) (turned Change.Divide) 100 (λ n. refl)
+      divides (λ n e rest r. r) ws d p (operator 100 (Holds limit top Held.Large ws d) p e t))
+  closes_lone Role.Weaken p (e, t) =
+      gapped (Has (changed Change.Weaken ws name) (d - 1)) p (weakens (operator 119 (Holds limit top Held.Name ws d) p e t))
     where
-      weakens : (Named limit top ws d ⋅ Blanks1 ⋅ Byte 119) p → Has (changed change.Weaken ws name) (d - 1) p
+      weakens : (Named limit top ws d ⋅ Blanks1 ⋅ Byte 119) p → Has (changed Change.Weaken ws name) (d - 1) p
       weakens (ab, c, i, (a, s, j, (vs, e, x, k, m, is, leads, t), u), v) =
           let g : d - 1 ≡ suc e = omega arith in
-          let w : PolWord = word.Weaken x in
+          let w : PolWord = PolWord.Weaken x in
           let (y, z, r, o, q) = regroup3 (Words limit top vs ⋅ Blanks1) (Bytes x) Blanks1 (Byte 119) p (ab, c, i, (a, s, j, t, u), v) in
-          at limit top (changed change.Weaken ws name) (vs ++ w ∷ []) (d - 1) (suc e) p
-          (ap (with_last (turned change.Weaken)) k ∙ with_last_append (turned change.Weaken) vs _) g
+          at limit top (changed Change.Weaken ws name) (vs ++ w ∷ []) (d - 1) (suc e) p
+          (ap (with_last (turned Change.Weaken)) k ∙ with_last_append (turned Change.Weaken) vs _) g
           (settle limit top vs (suc e) (suc e) w p (λ rest r. r)
           (lead limit top vs (suc e) Blanks1 (SpellsWord limit top w) p leads (y, z, r, o, (is, q))))
 
-  closes_name : (negated : Bool) (p : List Letter) → before (phase.Name negated) p → Closed (Some (change.Axiom negated, held_name negated d)) p
+  closes_name : (negated : Bool) (p : List Letter) → before (Phase.Name negated) p → Closed (Some (Change.Axiom negated, held_name negated d)) p
   closes_name negated p h = go negated d refl h
     where
       literal : Bool → PolWord
-      literal n = word.Axiom (record { negated = n; name = name })
+      literal n = PolWord.Axiom (record { negated = n; name = name })
 
-      as_literal : (n : Bool) → before (phase.Name n) p → (Has (ws ++ literal n ∷ []) (suc d) ⋅ Blanks0) p
+      as_literal : (n : Bool) → before (Phase.Name n) p → (Has (ws ++ literal n ∷ []) (suc d) ⋅ Blanks0) p
       as_literal n k = gapped (Has (ws ++ literal n ∷ []) (suc d)) p (settle limit top ws d (suc d) (literal n) p (λ rest r. r) k)
 
-      go : (n : Bool) (e : ℕ) → d ≡ e → before (phase.Name n) p → (Holds limit top (held_name n e) (ws ++ literal n ∷ []) (suc d) ⋅ Blanks0) p
+      go : (n : Bool) (e : ℕ) → d ≡ e → before (Phase.Name n) p → (Holds limit top (held_name n e) (ws ++ literal n ∷ []) (suc d) ⋅ Blanks0) p
       go true e f k = as_literal true k
       go false zero f k = as_literal false k
       go false (suc e) f (a, b, g, (u, v, i, (m, o), j), k) =
-          gapped (Holds limit top held.Name (ws ++ literal false ∷ []) (suc d)) p
+          gapped (Holds limit top Held.Name (ws ++ literal false ∷ []) (suc d)) p
           (ws, e, name, refl, ap suc f, k.0, (λ rest r. m rest (subst (λ x. Counts x rest) (sym f) r)), (a, b, g, (u, v, i, o, j), k.1))
 
   finishes : (ph : Phase) (p : List Letter) → before ph p → Closed (close limit top d ph) p
-  finishes phase.Start p (e, f, g) = gapped (Has ws d) p (at limit top ws [] d 0 p e f (λ rest r. r, g))
-  finishes phase.After p h = gapped (Has ws d) p h
-  finishes (phase.Gap h) p k = gapped_some (Holds limit top h ws d) p k
-  finishes (phase.Signed n) p (le, t) = closed_test (nat_eq n 0) (Some (change.Id (neg_ℤ (pos n)), held.Nothing)) p (λ e.
+  finishes Phase.Start p (e, f, g) = gapped (Has ws d) p (at limit top ws [] d 0 p e f (λ rest r. r, g))
+  finishes Phase.After p h = gapped (Has ws d) p h
+  finishes (Phase.Gap h) p k = gapped_some (Holds limit top h ws d) p k
+  finishes (Phase.Signed n) p (le, t) = closed_test (nat_eq n 0) (Some (Change.Id (neg_ℤ (pos n)), Held.Nothing)) p (λ e.
       let (a, b, g, r, k) = regroup (Has ws d ⋅ Blanks1) (Byte 45) (Digits n) p t in
-      gapped (Has (ws ++ word.Id (neg_ℤ (pos n)) ∷ []) (suc d)) p
-      (settle limit top ws d (suc d) (word.Id (neg_ℤ (pos n))) p (λ rest r. r) (a, b, g, r, (true, n, positive n e, le, refl, k))))
-  finishes (phase.Number n) p h = closed_test (nat_eq n 0) (close_number limit top d n) p (λ e. closes_number n p (positive n e) h)
-  finishes (phase.Lone r) p h = closes_lone r p h
-  finishes (phase.Name negated) p h = closes_name negated p h
+      gapped (Has (ws ++ PolWord.Id (neg_ℤ (pos n)) ∷ []) (suc d)) p
+      (settle limit top ws d (suc d) (PolWord.Id (neg_ℤ (pos n))) p (λ rest r. r) (a, b, g, r, (true, n, positive n e, le, refl, k))))
+  finishes (Phase.Number n) p h = closed_test (nat_eq n 0) (close_number limit top d n) p (λ e. closes_number n p (positive n e) h)
+  finishes (Phase.Lone r) p h = closes_lone r p h
+  finishes (Phase.Name negated) p h = closes_name negated p h
   finishes _ p h = tt
 
 -- What one byte adds.
@@ -165,34 +152,34 @@ module _ (limit top : ℕ) (ws : List PolWord) (d : ℕ) (name : List ℕ) (l : 
   After n = On pol_automaton Prefix Whole n l (p ++ l ∷ [])
 
   abbrev OnAction : Action → Type 0
-  OnAction m = After (over (pol_first limit top) (act (work ws d name phase.Start) l.byte m))
+  OnAction m = After (over (pol_first limit top) (act (work ws d name Phase.Start) l.byte m))
 
-  test : (b : Bool) (m : Action) → (b ≡ true → OnAction m) → OnAction (cond b m action.Stop)
+  test : (b : Bool) (m : Action) → (b ≡ true → OnAction m) → OnAction (cond b m Action.Stop)
   test true m h = h refl
   test false m h = tt
 
   -- digits
   number_one : (k : ℕ) → l.byte ≡ 48 + k → k < 10 → (Settled limit top ws d ⋅ Blanks1) p → OnAction (number limit top d 0 k)
   number_one k e h t =
-      test (nat_le (10 * 0 + k) (bound limit top d)) (action.To (phase.Number (10 * 0 + k))) (λ i g f. (
+      test (nat_le (10 * 0 + k) (bound limit top d)) (Action.To (Phase.Number (10 * 0 + k))) (λ i g f. (
         leb-true (10 * 0 + k) (bound limit top d) i,
         next_part (Settled limit top ws d ⋅ Blanks1) (Digits (10 * 0 + k)) p l t (digits-one k l (as_digit l k e f) h),
       ))
 
   number_more : (n k : ℕ) → l.byte ≡ 48 + k → k < 10 → (Settled limit top ws d ⋅ Blanks1 ⋅ Digits n) p → OnAction (number limit top d n k)
-  number_more n k e h t = test (nat_le (10 * n + k) (bound limit top d)) (action.To (phase.Number (10 * n + k))) (λ i g f. (
+  number_more n k e h t = test (nat_le (10 * n + k) (bound limit top d)) (Action.To (Phase.Number (10 * n + k))) (λ i g f. (
     leb-true (10 * n + k) (bound limit top d) i,
     grown (Settled limit top ws d ⋅ Blanks1) (Digits n) (Digits (10 * n + k)) p l (digits-grown n k l (as_digit l k e f) h) t,
   ))
 
   signed_one : (k : ℕ) → l.byte ≡ 48 + k → k < 10 → (Settled limit top ws d ⋅ Blanks1 ⋅ Byte 45) p → OnAction (signed top 0 k)
-  signed_one k e h t = test (nat_le (10 * 0 + k) top) (action.To (phase.Signed (10 * 0 + k))) (λ i g f. (
+  signed_one k e h t = test (nat_le (10 * 0 + k) top) (Action.To (Phase.Signed (10 * 0 + k))) (λ i g f. (
     leb-true (10 * 0 + k) top i,
     next_part (Settled limit top ws d ⋅ Blanks1 ⋅ Byte 45) (Digits (10 * 0 + k)) p l t (digits-one k l (as_digit l k e f) h),
   ))
 
   signed_more : (n k : ℕ) → l.byte ≡ 48 + k → k < 10 → (Settled limit top ws d ⋅ Blanks1 ⋅ Byte 45 ⋅ Digits n) p → OnAction (signed top n k)
-  signed_more n k e h t = test (nat_le (10 * n + k) top) (action.To (phase.Signed (10 * n + k))) (λ i g f. (
+  signed_more n k e h t = test (nat_le (10 * n + k) top) (Action.To (Phase.Signed (10 * n + k))) (λ i g f. (
     leb-true (10 * n + k) top i,
     grown (Settled limit top ws d ⋅ Blanks1 ⋅ Byte 45) (Digits n) (Digits (10 * n + k)) p l (digits-grown n k l (as_digit l k e f) h) t,
   ))
@@ -207,7 +194,7 @@ module _ (limit top : ℕ) (ws : List PolWord) (d : ℕ) (name : List ℕ) (l : 
 
   semicolons : (c : pol.Closing) → l.byte ≡ 59 → Closed limit top ws d name c p → OnAction (semicolon d c)
   semicolons None e k = tt
-  semicolons (Some (c, h)) e k = test (nat_eq (counted c d) 1) (action.Turn c phase.Ending) (λ i g f.
+  semicolons (Some (c, h)) e k = test (nat_eq (counted c d) 1) (Action.Turn c Phase.Ending) (λ i g f.
       let j : counted c d ≡ 1 = eqb-true (counted c d) 1 i in
       (j, semicolon_after_blanks (Settled limit top (changed c ws name) (counted c d)) l p e f (settled h (changed c ws name) (counted c d) j k)))
 
@@ -218,64 +205,63 @@ module _ (limit top : ℕ) (ws : List PolWord) (d : ℕ) (name : List ℕ) (l : 
 
   feeds : (c : pol.Closing) → l.byte ≡ 10 → Closed limit top ws d name c p → OnAction (feed d c)
   feeds None e k = tt
-  feeds (Some (c, h)) e k = test (nat_eq (counted c d) 1) (action.End c) (λ i f.
+  feeds (Some (c, h)) e k = test (nat_eq (counted c d) 1) (Action.End c) (λ i f.
       let j : counted c d ≡ 1 = eqb-true (counted c d) 1 i in
       line (changed c ws name) (counted c d) j
       (line_after_blanks (Settled limit top (changed c ws name) (counted c d)) l p e f (settled h (changed c ws name) (counted c d) j k)))
 
-  lates : (k : Kind) → Says k l.byte → Was phase.Ending p → OnAction (late k)
-  lates kind.Blank e (i, t) = λ g f. (i, blank_closing (Settled limit top ws d) l p e f t)
-  lates kind.Feed e (i, t) = λ f. line ws d i (line_closing (Settled limit top ws d) l p e f t)
+  lates : (k : Kind) → Says k l.byte → Was Phase.Ending p → OnAction (late k)
+  lates Kind.Blank e (i, t) = λ g f. (i, blank_closing (Settled limit top ws d) l p e f t)
+  lates Kind.Feed e (i, t) = λ f. line ws d i (line_closing (Settled limit top ws d) l p e f t)
   lates _ e h = tt
 
   -- names
   first_of : (k : Kind) → Says k l.byte → is_letter_kind k ≡ true → l.numeral ≡ false → FirstOf false (l.byte ∷ []) (l ∷ [])
   first_of k e i f = (letter_kind k l.byte e i, one l l.byte refl f)
 
-  tildes : (k : Kind) → Says k l.byte → Was phase.Tilde p → OnAction (cond (is_letter_kind k) (action.Begin phase.First) action.Stop)
-  tildes k e t = test (is_letter_kind k) (action.Begin phase.First) (λ i g f.
+  tildes : (k : Kind) → Says k l.byte → Was Phase.Tilde p → OnAction (cond (is_letter_kind k) (Action.Begin Phase.First) Action.Stop)
+  tildes k e t = test (is_letter_kind k) (Action.Begin Phase.First) (λ i g f.
       grown (Settled limit top ws d ⋅ Blanks1) (Byte 126) (FirstOf true (l.byte ∷ [])) p l
       (λ q r. (letter_kind k l.byte e i, ap (λ x. x ++ l ∷ []) r ∙ ap (λ y. unmarked 126 ∷ y ∷ []) (as_unmarked l l.byte f refl))) t)
 
   seconds : (P : Language) (negated : Bool) → IsTrue (is_name_byte l.byte) → l.numeral ≡ false → (P ⋅ FirstOf negated name) p
       → (P ⋅ LiteralOf negated (name ++ l.byte ∷ [])) (p ++ l ∷ [])
-  seconds P negated i f t =
-      first_grown P negated name l.byte l p (as_unmarked l l.byte f refl) i t
+  seconds P negated i f t = first_grown P negated name l.byte l p (as_unmarked l l.byte f refl) i t
 
-  names : (negated : Bool) (k : Kind) → Says k l.byte → Was (phase.Name negated) p → OnAction (cond (is_name_kind k) (action.Add (phase.Name negated)) action.Stop)
-  names negated k e t = test (is_name_kind k) (action.Add (phase.Name negated)) (λ i g f.
+  names : (negated : Bool) (k : Kind) → Says k l.byte → Was (Phase.Name negated) p → OnAction (cond (is_name_kind k) (Action.Add (Phase.Name negated)) Action.Stop)
+  names negated k e t = test (is_name_kind k) (Action.Add (Phase.Name negated)) (λ i g f.
       more_grown (Settled limit top ws d ⋅ Blanks1) negated name l.byte l p (as_unmarked l l.byte f refl) (name_kind k l.byte e i) t)
 
   as_before : (r : Role) → may_be_name r ≡ true → (q : List Letter) → Before limit top r ws d q → Settled limit top ws d q
-  as_before role.Name e q h = h
-  as_before role.Saturate e q h = h.1
-  as_before role.Divide e q h = released limit top held.Number ws d q tt h
-  as_before role.DivideLarge e q h = absurd (false≢true e)
-  as_before role.Weaken e q h = released limit top held.Name ws d q tt h
+  as_before Role.Name e q h = h
+  as_before Role.Saturate e q h = h.1
+  as_before Role.Divide e q h = released limit top Held.Number ws d q tt h
+  as_before Role.DivideLarge e q h = absurd (false≢true e)
+  as_before Role.Weaken e q h = released limit top Held.Name ws d q tt h
 
-  lones : (r : Role) (k : Kind) → Says k l.byte → Was (phase.Lone r) p → OnAction (cond (may_be_name r && is_name_kind k) (action.Add (phase.Name false)) action.Stop)
-  lones r k e (j, t) = test (may_be_name r && is_name_kind k) (action.Add (phase.Name false)) (λ i g f.
+  lones : (r : Role) (k : Kind) → Says k l.byte → Was (Phase.Lone r) p → OnAction (cond (may_be_name r && is_name_kind k) (Action.Add (Phase.Name false)) Action.Stop)
+  lones r k e (j, t) = test (may_be_name r && is_name_kind k) (Action.Add (Phase.Name false)) (λ i g f.
       let (m, n) = and_parts (may_be_name r) (is_name_kind k) i in
       seconds (Settled limit top ws d ⋅ Blanks1) false (name_kind k l.byte e n) f
       (inside (Before limit top r ws d ⋅ Blanks1) (Settled limit top ws d ⋅ Blanks1) (FirstOf false name) p
       (λ q. inside (Before limit top r ws d) (Settled limit top ws d) Blanks1 q (as_before r m)) t))
 
   -- the first byte of a word
-  multiplies : (n : ℕ) (q : List Letter) → 0 < n → n ≤ limit → (Digits n ⋅ Blanks1 ⋅ Byte 42) q → SpellsWord limit top (word.Multiply (pos n)) q
+  multiplies : (n : ℕ) (q : List Letter) → 0 < n → n ≤ limit → (Digits n ⋅ Blanks1 ⋅ Byte 42) q → SpellsWord limit top (PolWord.Multiply (pos n)) q
   multiplies n q i j (a, b, g, (u, v, k, o, r), m) = (a, b, g, (u, v, k, (n, i, j, refl, o), r), m)
 
-  nexts_large : (k : Kind) → Says k l.byte → (Holds limit top held.Large ws d ⋅ Blanks1) p → OnAction (next_large k)
-  nexts_large kind.Star e t = λ g f.
-      takes_number limit top (λ n. word.Multiply (pos n)) (λ n. word.Multiply (pos n)) (λ n. Unit {0}) (turned change.Multiply) 42 (λ n. refl)
-      multiplies (λ n e rest r. r) ws d (p ++ l ∷ []) (next_part (Holds limit top held.Large ws d ⋅ Blanks1) (Byte 42) p l t (one l 42 e f))
-  nexts_large kind.D e t = λ g f.
-      (ap (λ x. x ∷ []) e, next_part (Holds limit top held.Large ws d ⋅ Blanks1) (FirstOf false (l.byte ∷ [])) p l t (first_of kind.D e refl f))
+  nexts_large : (k : Kind) → Says k l.byte → (Holds limit top Held.Large ws d ⋅ Blanks1) p → OnAction (next_large k)
+  nexts_large Kind.Star e t = λ g f.
+      takes_number limit top (λ n. PolWord.Multiply (pos n)) (λ n. PolWord.Multiply (pos n)) (λ n. Unit {0}) (turned Change.Multiply) 42 (λ n. refl)
+      multiplies (λ n e rest r. r) ws d (p ++ l ∷ []) (next_part (Holds limit top Held.Large ws d ⋅ Blanks1) (Byte 42) p l t (one l 42 e f))
+  nexts_large Kind.D e t = λ g f.
+      (ap (λ x. x ∷ []) e, next_part (Holds limit top Held.Large ws d ⋅ Blanks1) (FirstOf false (l.byte ∷ [])) p l t (first_of Kind.D e refl f))
   nexts_large _ e t = tt
 
   stars : (h : Held) → l.byte ≡ 42 → (Holds limit top h ws d ⋅ Blanks1) p → OnAction (star h)
-  stars held.Number e t = λ g f.
-      takes_number limit top (λ n. word.Id (pos n)) (λ n. word.Multiply (pos n)) (λ n. n ≤ top) (turned change.Multiply) 42 (λ n. refl)
-      multiplies (λ n e rest r. r) ws d (p ++ l ∷ []) (next_part (Holds limit top held.Number ws d ⋅ Blanks1) (Byte 42) p l t (one l 42 e f))
+  stars Held.Number e t = λ g f.
+      takes_number limit top (λ n. PolWord.Id (pos n)) (λ n. PolWord.Multiply (pos n)) (λ n. n ≤ top) (turned Change.Multiply) 42 (λ n. refl)
+      multiplies (λ n e rest r. r) ws d (p ++ l ∷ []) (next_part (Holds limit top Held.Number ws d ⋅ Blanks1) (Byte 42) p l t (one l 42 e f))
   stars _ e t = tt
 
   freed : (h : Held) → IsFree h → (Holds limit top h ws d ⋅ Blanks1) p → (Settled limit top ws d ⋅ Blanks1) p
@@ -283,54 +269,50 @@ module _ (limit top : ℕ) (ws : List PolWord) (d : ℕ) (name : List ℕ) (l : 
 
   roles : (h : Held) → IsFree h → (k : Kind) → Says k l.byte → (Holds limit top h ws d ⋅ Blanks1) p
       → IsRole limit top (role_of d h k) (l.byte ∷ []) × (Before limit top (role_of d h k) ws d ⋅ Blanks1) p
-  roles held.Number i kind.D e t = (ap (λ x. x ∷ []) e, t)
-  roles held.Name i kind.W e t = (ap (λ x. x ∷ []) e, t)
-  roles h i kind.S e t = go (nat_le 1 d) refl
-    where
-      go : (x : Bool) → nat_le 1 d ≡ x → IsRole limit top (cond x role.Saturate role.Name) (l.byte ∷ []) × (Before limit top (cond x role.Saturate role.Name) ws d ⋅ Blanks1) p
-      go true f = (ap (λ x. x ∷ []) e, let (a, b, g, u, v) = freed h i t in (a, b, g, (leb-true 1 d f, u), v))
-      go false f = (tt, freed h i t)
+  roles Held.Number i Kind.D e t = (ap (λ x. x ∷ []) e, t)
+  roles Held.Name i Kind.W e t = (ap (λ x. x ∷ []) e, t)
+  roles h i Kind.S e t =
+      cond_both (nat_le 1 d) Role.Saturate Role.Name (λ r. IsRole limit top r (l.byte ∷ []) × (Before limit top r ws d ⋅ Blanks1) p)
+      (λ f. (ap (λ x. x ∷ []) e, let (a, b, g, u, v) = freed h i t in (a, b, g, (leb-true 1 d f, u), v))) (λ _. (tt, freed h i t))
   roles h i k e t = (tt, freed h i t)
 
   letters : (h : Held) → IsFree h → (k : Kind) → Says k l.byte → (Holds limit top h ws d ⋅ Blanks1) p
-      → OnAction (cond (is_letter_kind k) (action.Begin (phase.Lone (role_of d h k))) action.Stop)
-  letters h i k e t = test (is_letter_kind k) (action.Begin (phase.Lone (role_of d h k))) (λ j g f.
+      → OnAction (cond (is_letter_kind k) (Action.Begin (Phase.Lone (role_of d h k))) Action.Stop)
+  letters h i k e t = test (is_letter_kind k) (Action.Begin (Phase.Lone (role_of d h k))) (λ j g f.
       let (r, u) = roles h i k e t in
       (r, next_part (Before limit top (role_of d h k) ws d ⋅ Blanks1) (FirstOf false (l.byte ∷ [])) p l u (first_of k e j f)))
 
   nexts_word : (h : Held) → IsFree h → (k : Kind) → Says k l.byte → (Holds limit top h ws d ⋅ Blanks1) p → OnAction (next_word limit top d h k)
-  nexts_word h i (kind.Digit k) e t = number_one k e.0 e.1 (freed h i t)
-  nexts_word h i kind.Minus e t = λ g f. next_part (Settled limit top ws d ⋅ Blanks1) (Byte 45) p l (freed h i t) (one l 45 e f)
-  nexts_word h i kind.Tilde e t = λ g f. next_part (Settled limit top ws d ⋅ Blanks1) (Byte 126) p l (freed h i t) (one l 126 e f)
-  nexts_word h i kind.Plus e t = test (nat_le 2 d) (action.Turn change.Sum phase.After) (λ j g f.
-      settle limit top ws d (d - 1) word.Add (p ++ l ∷ []) (λ rest r. sum_counts d rest (leb-true 2 d j) r)
+  nexts_word h i (Kind.Digit k) e t = number_one k e.0 e.1 (freed h i t)
+  nexts_word h i Kind.Minus e t = λ g f. next_part (Settled limit top ws d ⋅ Blanks1) (Byte 45) p l (freed h i t) (one l 45 e f)
+  nexts_word h i Kind.Tilde e t = λ g f. next_part (Settled limit top ws d ⋅ Blanks1) (Byte 126) p l (freed h i t) (one l 126 e f)
+  nexts_word h i Kind.Plus e t = test (nat_le 2 d) (Action.Turn Change.Sum Phase.After) (λ j g f.
+      settle limit top ws d (d - 1) PolWord.Add (p ++ l ∷ []) (λ rest r. sum_counts d rest (leb-true 2 d j) r)
       (next_part (Settled limit top ws d ⋅ Blanks1) (Byte 43) p l (freed h i t) (one l 43 e f)))
-  nexts_word h i kind.Star e t = stars h e t
+  nexts_word h i Kind.Star e t = stars h e t
   nexts_word h i k e t = letters h i k e t
 
   nexts : (h : Held) (k : Kind) → Says k l.byte → (Holds limit top h ws d ⋅ Blanks1) p → OnAction (next limit top d h k)
-  nexts held.Large k e t = nexts_large k e t
-  nexts held.Nothing k e t = nexts_word held.Nothing tt k e t
-  nexts held.Number k e t = nexts_word held.Number tt k e t
-  nexts held.Name k e t = nexts_word held.Name tt k e t
+  nexts Held.Large k e t = nexts_large k e t
+  nexts h k e t = nexts_word h tt k e t
 
   reads : (ph : Phase) (k : Kind) → Says k l.byte → Was ph p → OnAction (read limit top d ph k)
-  reads (phase.Gap h) k e t = nexts h k e t
-  reads phase.Minus (kind.Digit k) e t = signed_one k e.0 e.1 t
-  reads (phase.Signed n) (kind.Digit k) e t = signed_more n k e.0 e.1 t.1
-  reads (phase.Number n) (kind.Digit k) e t = number_more n k e.0 e.1 t.1
-  reads phase.Tilde k e t = tildes k e t
-  reads phase.First k e t = test (is_name_kind k) (action.Add (phase.Name true)) (λ i g f.
+  reads (Phase.Gap h) k e t = nexts h k e t
+  reads Phase.Minus (Kind.Digit k) e t = signed_one k e.0 e.1 t
+  reads (Phase.Signed n) (Kind.Digit k) e t = signed_more n k e.0 e.1 t.1
+  reads (Phase.Number n) (Kind.Digit k) e t = number_more n k e.0 e.1 t.1
+  reads Phase.Tilde k e t = tildes k e t
+  reads Phase.First k e t = test (is_name_kind k) (Action.Add (Phase.Name true)) (λ i g f.
       seconds (Settled limit top ws d ⋅ Blanks1) true (name_kind k l.byte e i) f t)
-  reads (phase.Lone r) k e t = lones r k e t
-  reads (phase.Name negated) k e t = names negated k e t
+  reads (Phase.Lone r) k e t = lones r k e t
+  reads (Phase.Name negated) k e t = names negated k e t
   reads _ _ e t = tt
 
   sound : (ph : Phase) (k : Kind) → Says k l.byte → Was ph p → OnAction (transition limit top d ph k)
-  sound phase.Ending k e t = lates k e t
-  sound ph kind.Blank e t = blanks (close limit top d ph) e (finishes limit top ws d name ph p t)
-  sound ph kind.Semicolon e t = semicolons (close limit top d ph) e (finishes limit top ws d name ph p t)
-  sound ph kind.Feed e t = feeds (close limit top d ph) e (finishes limit top ws d name ph p t)
+  sound Phase.Ending k e t = lates k e t
+  sound ph Kind.Blank e t = blanks (close limit top d ph) e (finishes limit top ws d name ph p t)
+  sound ph Kind.Semicolon e t = semicolons (close limit top d ph) e (finishes limit top ws d name ph p t)
+  sound ph Kind.Feed e t = feeds (close limit top d ph) e (finishes limit top ws d name ph p t)
   sound ph k e t = reads ph k e t
 
 pub keeps : Keeps pol_automaton Prefix Whole

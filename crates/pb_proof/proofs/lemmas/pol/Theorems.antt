@@ -1,19 +1,17 @@
 -- The automaton of postfix words reads one line and has then ended.
 use Rattle.pb_proof.proofs.Common.{ℕ, ◌+◌, ◌-◌, ◌<◌, ◌^◌, ◌∙◌, ◌≡◌, ◌≤◌, ap, arith, false, length, List, refl, subst, sym, true, min-le_left}
-use Rattle.pb_proof.proofs.Common.{false≢true, true≢false, IsOfOne, end_or_go, go_or_end, one_end, one_state, refuse_or_end, refuse_or_go, End, Go}
+use Rattle.pb_proof.proofs.Common.{false≢true, IsOfOne, end_or_go, go_or_end, one_end, one_state, refuse_or_end, refuse_or_go, End, Go}
 use Rattle.pb_proof.proofs.Common.{Refuse, Phase, PolWord, finished, is_done, is_midway, kind_of, Outcome, transition, Work, all_units, in_hand}
 use Rattle.pb_proof.proofs.Common.{IsPolInOrder, over, pol_automaton, pol_with, PolState, ready, units, ◌↔◌, admits, is_state, reads_last, Admits}
-use Rattle.pb_proof.proofs.Common.{IsState, Next, ReadsStatement, Letter, pol_first, pol_last, SpellsWords, IsTrue, end_or_refuse, go_or_refuse}
-use Rattle.pb_proof.proofs.Common.{never, Pushes, Push, Action, Change, Kind, wants, work, get_or, min, take, take_more, word_units}
-use Rattle.pb_proof.specs.engine.line.Pol.{act, step, is_in_number}
+use Rattle.pb_proof.proofs.Common.{IsState, ReadsStatement, Letter, pol_first, pol_last, SpellsWords, IsTrue, end_or_refuse, go_or_refuse}
+use Rattle.pb_proof.proofs.Common.{never, Pushes, Push, Action, Change, Kind, wants, work, get_or, min, take, take_more, word_units, pol_act as act}
+use Rattle.pb_proof.specs.declared.line.pol.phase.Action.TheVariants.{End as EndLine, Stop}
+use Rattle.pb_proof.specs.engine.line.Pol.{step, is_in_number}
 use Rattle.pb_proof.proofs.lemmas.pol.Alive.{alive}
 use Rattle.pb_proof.proofs.lemmas.pol.Sane.{transition-sane, potential, IsNext, continues, ends, stops, units_append}
 use Rattle.pb_proof.proofs.lemmas.pol.Complete.{reads_each}
 use Rattle.pb_proof.proofs.lemmas.pol.Sound.{reads_only}
-use Rattle.pb_proof.specs.declared.line.pol.phase.Action.TheVariants.{To, Begin, Add, Turn, End as EndLine, Stop}
 use Rattle.pb_proof.proofs.lemmas.pol.Covers.{state}
-use Rattle.pb_proof.specs.declared.line.pol.phase.Phase.TheVariants as phase
-use Rattle.pb_text.specs.declared.machine.Push.TheVariants as push
 
 -- Where the automaton continues, and where it ends.
 went : (s next : PolState) (b : ℕ) (n : Outcome) → step s.limit s.top s.work b ≡ n → over s n ≡ Go next → (v : Work) × (next ≡ pol_with s v) × IsNext s.work v
@@ -36,18 +34,16 @@ closed s next b f (End g v) e h =
 closed s next b f Refuse e h = refuse_or_end f next h
 
 midway_owes : (ph : Phase) → is_midway ph ≡ true → is_done ph ≡ false
-midway_owes phase.Done h = absurd (false≢true h)
+midway_owes Phase.Done h = absurd (false≢true h)
 midway_owes _ h = refl
 
 plain_number : (ph : Phase) → is_midway ph ≡ false → is_in_number ph ≡ false
-plain_number (phase.Signed n) h = absurd (true≢false h)
-plain_number (phase.Number n) h = absurd (true≢false h)
-plain_number _ h = refl
+plain_number (Phase.Signed n) h = cc
+plain_number _ h = cc
 
 nothing_kept : (ph : Phase) → is_midway ph ≡ false → 0 + in_hand ph + 0 + ready ph ≡ 0
-nothing_kept phase.Start h = refl
-nothing_kept phase.Done h = refl
-nothing_kept _ h = absurd (true≢false h)
+nothing_kept Phase.Start h = cc
+nothing_kept _ h = cc
 
 abbrev pub HasIds : PolState → Type 0
 HasIds s = 0 < s.top
@@ -72,10 +68,7 @@ of_one = record {
 
 -- before a line and after it nothing is stored
 pub empties : (s : PolState) → IsPolInOrder s → pol_automaton.begun s ≡ false → pol_automaton.spent s ≡ 0
-empties s h i =
-    let (e, f) = h.1 i in
-    ap (λ ws. units ws + in_hand s.work.phase + length s.work.name + ready s.work.phase) e
-    ∙ (ap (λ (n : List ℕ). 0 + in_hand s.work.phase + length n + ready s.work.phase) f ∙ nothing_kept s.work.phase i)
+empties s h i = grind (arith, h.1, s.work.phase, s.work.name, nothing_kept)
 
 -- The laws of the `pol` machine.
 
@@ -93,10 +86,6 @@ pol_reads limit top text e after = (one, λ h. subst (λ x. ReadsStatement pol_a
 pub pol_is_state : (s : PolState) → IsPolInOrder s → IsState pol_automaton s
 pol_is_state s h = is_state pol_automaton HasIds last_of of_one s h.0 (empties s h)
 
--- A byte that is taken begins a text that is accepted.
-pub pol_admits : (s : PolState) (b : ℕ) (n : Next PolState (List PolWord)) → IsPolInOrder s → pol_automaton.step s b ≡ n → (n ≡ Refuse → ⊥) → Admits pol_automaton s b
-pol_admits s b n h e f = admits pol_automaton HasIds last_of of_one s b n h.0 e f
-
 -- The first state is in order.
 pub pol_first_in_order : (limit top : ℕ) → 0 < top → IsPolInOrder (pol_first limit top)
 pol_first_in_order limit top h = (h, λ i. (refl, refl))
@@ -104,12 +93,9 @@ pol_first_in_order limit top h = (h, λ i. (refl, refl))
 -- A push does what its transition says.
 
 taken : (s : PolState) (b : ℕ) (m : Action) → wants m ≡ true → over s (act s.work b m) ≡ Refuse → ⊥
-taken s b (To q) h e = go_or_refuse _ e
-taken s b (Begin q) h e = go_or_refuse _ e
-taken s b (Add q) h e = go_or_refuse _ e
-taken s b (Turn c q) h e = go_or_refuse _ e
 taken s b (EndLine c) h e = end_or_refuse _ _ e
 taken s b Stop h e = cc
+taken s b _ h e = go_or_refuse _ e
 
 pub moved : (limit top : ℕ) (ws : List PolWord) (d : ℕ) (name : List ℕ) (ph : Phase) (b : ℕ) (k : Kind) (m : Action) → k ≡ kind_of b → m ≡ transition limit top d ph k
     → pol_automaton.step (state limit top ws d name ph) b ≡ over (state limit top ws d name ph) (act (work ws d name ph) b m)
@@ -119,32 +105,25 @@ moved limit top ws d name ph b k m e f =
 -- a push allocates only at a byte that is taken
 pub asks_for : (s : PolState) (b : ℕ) (m : Action) → m ≡ transition s.limit s.top s.work.depth s.work.phase (kind_of b) → IsPolInOrder s → wants m ≡ true
     → IsTrue (pol_automaton.asks s b) × Admits pol_automaton s b
-asks_for s b m f g w = (ap wants (sym f) ∙ w, pol_admits s b (over s (act s.work b m)) g (ap (λ x. over s (act s.work b x)) (sym f)) (taken s b m w))
+asks_for s b m f g w = (ap wants (sym f) ∙ w, admits pol_automaton HasIds last_of of_one s b (over s (act s.work b m)) g.0 (ap (λ x. over s (act s.work b x)) (sym f)) (taken s b m w))
 
 no_end : (s new : PolState) (b : ℕ) (m : Action) (e : List PolWord) → ((x : Change) → m ≡ EndLine x → ⊥) → over s (act s.work b m) ≡ End e new → ⊥
 no_end s new b (EndLine x) e n h = n x refl
 no_end s new b Stop e n h = refuse_or_end e new h
-no_end s new b (To q) e n h = go_or_end _ e new h
-no_end s new b (Begin q) e n h = go_or_end _ e new h
-no_end s new b (Add q) e n h = go_or_end _ e new h
-no_end s new b (Turn c q) e n h = go_or_end _ e new h
+no_end s new b _ e n h = go_or_end _ e new h
 
 module _ (s new : PolState) (b : ℕ) (m : Action) (f : m ≡ transition s.limit s.top s.work.depth s.work.phase (kind_of b)) where
   -- A byte with an action that does not end the line, and that is not taken, changes nothing.
-  pub stays : (r : Push (List PolWord)) → ((x : Change) → m ≡ EndLine x → ⊥) → (r ≡ push.Go → ⊥) → Pushes pol_automaton s b r new → new ≡ s
-  stays push.Go n g p = absurd (g refl)
-  stays (push.Event e) n g p = absurd (no_end s new b m e n (ap (λ x. over s (act s.work b x)) f ∙ p))
-  stays push.No n g p = p.2
-  stays push.Large n g p = p.2
-  stays push.Memory n g p = p.2
+  pub stays : (r : Push (List PolWord)) → ((x : Change) → m ≡ EndLine x → ⊥) → (r ≡ Push.Go → ⊥) → Pushes pol_automaton s b r new → new ≡ s
+  stays Push.Go n g p = absurd (g refl)
+  stays (Push.Event e) n g p = absurd (no_end s new b m e n (ap (λ x. over s (act s.work b x)) f ∙ p))
+  stays _ n g p = p.2
 
   -- Nor does one with an action that ends it.
-  pub waits : (r : Push (List PolWord)) (x : Change) → m ≡ EndLine x → ((e : List PolWord) → r ≡ push.Event e → ⊥) → Pushes pol_automaton s b r new → new ≡ s
-  waits push.Go x i g p = end_or_go _ _ new (ap (λ y. over s (act s.work b y)) (sym i ∙ f) ∙ p)
-  waits (push.Event e) x i g p = absurd (g e refl)
-  waits push.No x i g p = p.2
-  waits push.Large x i g p = p.2
-  waits push.Memory x i g p = p.2
+  pub waits : (r : Push (List PolWord)) (x : Change) → m ≡ EndLine x → ((e : List PolWord) → r ≡ Push.Event e → ⊥) → Pushes pol_automaton s b r new → new ≡ s
+  waits Push.Go x i g p = end_or_go _ _ new (ap (λ y. over s (act s.work b y)) (sym i ∙ f) ∙ p)
+  waits (Push.Event e) x i g p = absurd (g e refl)
+  waits _ x i g p = p.2
 
 pub same_state : (limit top : ℕ) (ws vs : List PolWord) (d n : ℕ) (name new : List ℕ) (ph q : Phase) → ws ≡ vs → d ≡ n → name ≡ new → ph ≡ q
     → state limit top ws d name ph ≡ state limit top vs n new q

@@ -1,37 +1,24 @@
 -- Postfix words that are taken in one call are a run of the automaton.
-use Rattle.pb_proof.proofs.Common.{ℕ, ◌&&◌, ◌*◌, ◌++◌, ◌+◌, ◌-◌, ◌<◌, ◌∙◌, ◌∷◌, ◌≡◌, ◌≤◌, [], ap, arith, Bool, cond, false, get_or, IsTrue, length}
-use Rattle.pb_proof.proofs.Common.{List, nat_eq, nat_le, Option, pos, refl, Some, subst, sym, take, true, and_parts, eqb-true, le-leb, same_Some}
+use Rattle.pb_proof.proofs.Common.{ℕ, ◌&&◌, ◌*◌, ◌++◌, ◌+◌, ◌-◌, ◌<◌, ◌∙◌, ◌∷◌, ◌≡◌, ◌≤◌, [], ap, arith, Bool, cond, get_or, IsTrue, length}
+use Rattle.pb_proof.proofs.Common.{List, nat_eq, nat_le, Option, pos, refl, Some, subst, sym, take, true, eqb-true, le-leb, same_Some}
 use Rattle.pb_proof.proofs.Common.{runs_more, AreDigits, value-grows, Go, IsState, Runs, value_from, is_digit, Change, Held, Kind, Phase, Role}
 use Rattle.pb_proof.proofs.Common.{PolWord, bound, close, close_lone, changed, counted, held_number, kind_of, number, transition, pol_automaton}
 use Rattle.pb_proof.proofs.Common.{PolState, drop, append-nil, inl, inr, runs_on, runs_further, End, blank, feed, semicolon, pol_first, pol_last}
+use Rattle.pb_proof.proofs.Common.{IsFree, EndsAs, AreWords, IsExpression, IsClosing, standing, no_words, Action}
 use Rattle.pb_proof.specs.engine.line.PolFast.{held_operator, operator, held_before}
-use Rattle.pb_proof.specs.engine.line.PolWhole.{IsFree, EndsAs, IsWord, AreWords, IsExpression, IsClosing, standing, no_words}
+use Rattle.pb_proof.specs.engine.line.PolWhole.{IsWord}
 use Rattle.pb_proof.proofs.lemmas.pol.Covers.{free_number, state}
 use Rattle.pb_proof.proofs.lemmas.pol.Theorems.{moved, midway_state}
 use Rattle.pb_proof.proofs.lemmas.pol.Prefixes.{bound_of_id}
 use Rattle.pb_proof.proofs.lemmas.NumberTests.{not_zero}
-use Rattle.pb_proof.specs.declared.line.pol.phase.Kind.TheVariants as kind
-use Rattle.pb_proof.specs.declared.line.pol.phase.Held.TheVariants as held
-use Rattle.pb_proof.specs.declared.line.pol.phase.Phase.TheVariants as phase
-use Rattle.pb_proof.specs.declared.line.pol.phase.Role.TheVariants as role
-use Rattle.pb_proof.specs.declared.line.pol.phase.Change.TheVariants as change
-use Rattle.pb_proof.specs.declared.line.pol.phase.Action.TheVariants as action
 
 -- the outcomes of a test of a byte, alone and with another test
 by_byte : (P : ℕ → Change → Type 0) (b n : ℕ) (c k : Change) (rest : Option Change) → P n k → (Some c ≡ rest → P b c) → Some c ≡ cond (nat_eq b n) (Some k) rest → P b c
-by_byte P b n c k rest met other = go (nat_eq b n) refl
-  where
-    go : (x : Bool) → nat_eq b n ≡ x → Some c ≡ cond x (Some k) rest → P b c
-    go true f e = rw (eqb-true b n f, same_Some c k e) met
-    go false f e = other e
+by_byte P b n c k rest met other = grind (arith, eqb-true)
 
 by_test : (P : ℕ → Change → Type 0) (b n : ℕ) (t : Bool) (c k : Change) (rest : Option Change) → (t ≡ true → P n k) → (Some c ≡ rest → P b c) → Some c ≡ cond (nat_eq b n && t) (Some k) rest
     → P b c
-by_test P b n t c k rest met other = go (nat_eq b n && t) refl
-  where
-    go : (x : Bool) → (nat_eq b n && t) ≡ x → Some c ≡ cond x (Some k) rest → P b c
-    go true f e = let (g, h) = and_parts (nat_eq b n) t f in rw (eqb-true b n g, same_Some c k e) (met h)
-    go false f e = other e
+by_test P b n t c k rest met other = grind (arith, eqb-true)
 
 module _ (limit top d : ℕ) (ws : List PolWord) (name : List ℕ) (some : 0 < top) where
   abbrev at : Phase → PolState
@@ -39,157 +26,147 @@ module _ (limit top d : ℕ) (ws : List PolWord) (name : List ℕ) (some : 0 < t
 
   -- what a state does with a digit
   abbrev TakesDigits : Phase → ℕ → Type 0
-  TakesDigits p n = (e : ℕ) → transition limit top d p (kind.Digit e) ≡ number limit top d n e
+  TakesDigits p n = (e : ℕ) → transition limit top d p (Kind.Digit e) ≡ number limit top d n e
 
   digit_on : (p : Phase) (n b : ℕ) → TakesDigits p n → IsTrue (is_digit b) → 10 * n + (b - 48) ≤ bound limit top d
-      → pol_automaton.step (at p) b ≡ Go (at (phase.Number (10 * n + (b - 48))))
+      → pol_automaton.step (at p) b ≡ Go (at (Phase.Number (10 * n + (b - 48))))
   digit_on p n b s e h =
-      let k : kind_of b ≡ kind.Digit (b - 48) = rw e refl in
-      let f : number limit top d n (b - 48) ≡ action.To (phase.Number (10 * n + (b - 48))) = rw (le-leb (10 * n + (b - 48)) (bound limit top d) h) refl in
-      moved limit top ws d name p b (kind.Digit (b - 48)) (action.To (phase.Number (10 * n + (b - 48)))) (sym k) (sym (s (b - 48) ∙ f))
+      let k : kind_of b ≡ Kind.Digit (b - 48) = rw e refl in
+      let f : number limit top d n (b - 48) ≡ Action.To (Phase.Number (10 * n + (b - 48))) = rw (le-leb (10 * n + (b - 48)) (bound limit top d) h) refl in
+      moved limit top ws d name p b (Kind.Digit (b - 48)) (Action.To (Phase.Number (10 * n + (b - 48)))) (sym k) (sym (s (b - 48) ∙ f))
 
-  numbered : (n : ℕ) → IsState pol_automaton (at (phase.Number n))
-  numbered n = midway_state limit top ws d name (phase.Number n) some refl
+  numbered : (n : ℕ) → IsState pol_automaton (at (Phase.Number n))
+  numbered n = midway_state limit top ws d name (Phase.Number n) some refl
 
   digits_run : (p : Phase) (n b : ℕ) (text : List ℕ) → TakesDigits p n → AreDigits (b ∷ text) → value_from n (b ∷ text) ≤ bound limit top d
-      → Runs pol_automaton (at p) (b ∷ text) (at (phase.Number (value_from n (b ∷ text))))
-  digits_run p n b [] s h l = (at (phase.Number (10 * n + (b - 48))), digit_on p n b s h.0 l, numbered (10 * n + (b - 48)), refl)
+      → Runs pol_automaton (at p) (b ∷ text) (at (Phase.Number (value_from n (b ∷ text))))
+  digits_run p n b [] s h l = (at (Phase.Number (10 * n + (b - 48))), digit_on p n b s h.0 l, numbered (10 * n + (b - 48)), refl)
   digits_run p n b (c ∷ text) s h l =
       let fits : 10 * n + (b - 48) ≤ bound limit top d = omega (arith, value-grows (10 * n + (b - 48)) (c ∷ text)) in (
-        at (phase.Number (10 * n + (b - 48))),
+        at (Phase.Number (10 * n + (b - 48))),
         digit_on p n b s h.0 fits,
         numbered (10 * n + (b - 48)),
-        digits_run (phase.Number (10 * n + (b - 48))) (10 * n + (b - 48)) c text (λ e. refl) h.1 l,
+        digits_run (Phase.Number (10 * n + (b - 48))) (10 * n + (b - 48)) c text (λ e. refl) h.1 l,
       )
 
-  takes_digits : (h : Held) → IsFree h → TakesDigits (phase.Gap h) 0
-  takes_digits held.Nothing f e = refl
-  takes_digits held.Number f e = refl
-  takes_digits held.Name f e = refl
-  takes_digits held.Large f e = absurd f
+  takes_digits : (h : Held) → IsFree h → TakesDigits (Phase.Gap h) 0
+  takes_digits Held.Large f e = absurd f
+  takes_digits _ f e = refl
 
   id_digits : (h : Held) (ds : List ℕ) → IsFree h → AreDigits ds → 0 < value_from 0 ds → value_from 0 ds ≤ bound limit top d
-      → Runs pol_automaton (at (phase.Gap h)) ds (at (phase.Number (value_from 0 ds)))
+      → Runs pol_automaton (at (Phase.Gap h)) ds (at (Phase.Number (value_from 0 ds)))
   id_digits h [] f all i l = absurd (omega arith)
-  id_digits h (b ∷ ds) f all i l = digits_run (phase.Gap h) 0 b ds (takes_digits h f) all l
+  id_digits h (b ∷ ds) f all i l = digits_run (Phase.Gap h) 0 b ds (takes_digits h f) all l
 
-  plus_planned : (h : Held) → IsFree h → nat_le 2 d ≡ true → action.Turn change.Sum phase.After ≡ transition limit top d (phase.Gap h) kind.Plus
-  plus_planned held.Nothing e t = rw t refl
-  plus_planned held.Number e t = rw t refl
-  plus_planned held.Name e t = rw t refl
-  plus_planned held.Large e t = absurd e
+  plus_planned : (h : Held) → IsFree h → nat_le 2 d ≡ true → Action.Turn Change.Sum Phase.After ≡ transition limit top d (Phase.Gap h) Kind.Plus
+  plus_planned Held.Large e t = absurd e
+  plus_planned _ e t = rw t refl
 
-  saturate_planned : (h : Held) → IsFree h → nat_le 1 d ≡ true → action.Begin (phase.Lone role.Saturate) ≡ transition limit top d (phase.Gap h) kind.S
-  saturate_planned held.Nothing e t = rw t refl
-  saturate_planned held.Number e t = rw t refl
-  saturate_planned held.Name e t = rw t refl
-  saturate_planned held.Large e t = absurd e
+  saturate_planned : (h : Held) → IsFree h → nat_le 1 d ≡ true → Action.Begin (Phase.Lone Role.Saturate) ≡ transition limit top d (Phase.Gap h) Kind.S
+  saturate_planned Held.Large e t = absurd e
+  saturate_planned _ e t = rw t refl
 
   -- with the name that a literal has
   module _ (n : List ℕ) where
     -- a state after text in which the word ends by a change
     abbrev Stands : Held → List ℕ → Change → Held → Type 0
-    Stands h text c next = EndsAs limit top (at (phase.Gap h)) text (changed c ws n) (counted c d) next × IsFree next
+    Stands h text c next = EndsAs limit top (at (Phase.Gap h)) text (changed c ws n) (counted c d) next × IsFree next
 
-    id_stands : (h : Held) (ds : List ℕ) (v : ℕ) → IsFree h → AreDigits ds → v ≡ value_from 0 ds → 0 < v → v ≤ top → Stands h ds (change.Id (pos v)) (held_number limit d v)
+    id_stands : (h : Held) (ds : List ℕ) (v : ℕ) → IsFree h → AreDigits ds → v ≡ value_from 0 ds → 0 < v → v ≤ top → Stands h ds (Change.Id (pos v)) (held_number limit d v)
     id_stands h ds v f all same i l =
         let fits : nat_le v top ≡ true = le-leb v top l in
-        let closes : close limit top d (phase.Number v) ≡ Some (change.Id (pos v), held_number limit d v) = rw (not_zero v i, fits) refl in
-        let runs : Runs pol_automaton (at (phase.Gap h)) ds (at (phase.Number v)) =
-        subst (λ (m : ℕ). Runs pol_automaton (at (phase.Gap h)) ds (at (phase.Number m))) (sym same)
+        let closes : close limit top d (Phase.Number v) ≡ Some (Change.Id (pos v), held_number limit d v) = rw (not_zero v i, fits) refl in
+        let runs : Runs pol_automaton (at (Phase.Gap h)) ds (at (Phase.Number v)) =
+        rw same
         (id_digits h ds f all (subst (λ (m : ℕ). 0 < m) same i) (subst (λ (m : ℕ). m ≤ bound limit top d) same (bound_of_id limit top d v l))) in
-        ((ws, d, name, phase.Number v, change.Id (pos v), runs, closes, refl, refl), free_number limit d v)
+        ((ws, d, name, Phase.Number v, Change.Id (pos v), runs, closes, refl, refl), free_number limit d v)
 
     -- an operator that takes effect at its own byte
-    turned_first : (h : Held) (b : ℕ) (k : Kind) (c : Change) → k ≡ kind_of b → action.Turn c phase.After ≡ transition limit top d (phase.Gap h) k → changed c ws name ≡ changed c ws n → Stands h (b ∷ []) c held.Nothing
+    turned_first : (h : Held) (b : ℕ) (k : Kind) (c : Change) → k ≡ kind_of b → Action.Turn c Phase.After ≡ transition limit top d (Phase.Gap h) k → changed c ws name ≡ changed c ws n → Stands h (b ∷ []) c Held.Nothing
     turned_first h b k c e f i =
-        let next : PolState = state limit top (changed c ws name) (counted c d) [] phase.After in
-        let goes = moved limit top ws d name (phase.Gap h) b k (action.Turn c phase.After) e f in
-        let there = midway_state limit top (changed c ws name) (counted c d) [] phase.After some refl in
-        ((changed c ws name, counted c d, [], phase.After, change.Keep, (next, goes, there, refl), refl, i, refl), tt)
+        let next : PolState = state limit top (changed c ws name) (counted c d) [] Phase.After in
+        let goes = moved limit top ws d name (Phase.Gap h) b k (Action.Turn c Phase.After) e f in
+        let there = midway_state limit top (changed c ws name) (counted c d) [] Phase.After some refl in
+        ((changed c ws name, counted c d, [], Phase.After, Change.Keep, (next, goes, there, refl), refl, i, refl), tt)
 
     -- and one that is a letter
-    turned_last : (h : Held) (b : ℕ) (k : Kind) (r : Role) (c : Change) → k ≡ kind_of b → action.Begin (phase.Lone r) ≡ transition limit top d (phase.Gap h) k
-        → close_lone r ≡ Some (c, held.Nothing) → changed c ws (b ∷ []) ≡ changed c ws n → Stands h (b ∷ []) c held.Nothing
+    turned_last : (h : Held) (b : ℕ) (k : Kind) (r : Role) (c : Change) → k ≡ kind_of b → Action.Begin (Phase.Lone r) ≡ transition limit top d (Phase.Gap h) k
+        → close_lone r ≡ Some (c, Held.Nothing) → changed c ws (b ∷ []) ≡ changed c ws n → Stands h (b ∷ []) c Held.Nothing
     turned_last h b k r c e f g i =
-        let next : PolState = state limit top ws d (b ∷ []) (phase.Lone r) in
-        let goes = moved limit top ws d name (phase.Gap h) b k (action.Begin (phase.Lone r)) e f in
-        ((ws, d, b ∷ [], phase.Lone r, c, (next, goes, midway_state limit top ws d (b ∷ []) (phase.Lone r) some refl, refl), g, i, refl), tt)
+        let next : PolState = state limit top ws d (b ∷ []) (Phase.Lone r) in
+        let goes = moved limit top ws d name (Phase.Gap h) b k (Action.Begin (Phase.Lone r)) e f in
+        ((ws, d, b ∷ [], Phase.Lone r, c, (next, goes, midway_state limit top ws d (b ∷ []) (Phase.Lone r) some refl, refl), g, i, refl), tt)
 
     abbrev Operates : Held → ℕ → Change → Type 0
-    Operates h b c = Stands h (b ∷ []) c held.Nothing
+    Operates h b c = Stands h (b ∷ []) c Held.Nothing
 
     held_stands : (h : Held) (b : ℕ) (c : Change) → Some c ≡ held_operator h b → Operates h b c
-    held_stands held.Number b c e =
-        by_byte (Operates held.Number) b 42 c change.Multiply _ (turned_first held.Number 42 kind.Star change.Multiply refl refl refl)
-        (λ f. by_byte (Operates held.Number) b 100 c change.Divide _ (turned_last held.Number 100 kind.D role.Divide change.Divide refl refl refl refl) (λ g. cc g) f) e
-    held_stands held.Name b c e =
-        by_byte (Operates held.Name) b 119 c change.Weaken _ (turned_last held.Name 119 kind.W role.Weaken change.Weaken refl refl refl refl) (λ g. cc g) e
+    held_stands Held.Number b c e =
+        by_byte (Operates Held.Number) b 42 c Change.Multiply _ (turned_first Held.Number 42 Kind.Star Change.Multiply refl refl refl)
+        (λ f. by_byte (Operates Held.Number) b 100 c Change.Divide _ (turned_last Held.Number 100 Kind.D Role.Divide Change.Divide refl refl refl refl) (λ g. cc g) f) e
+    held_stands Held.Name b c e =
+        by_byte (Operates Held.Name) b 119 c Change.Weaken _ (turned_last Held.Name 119 Kind.W Role.Weaken Change.Weaken refl refl refl refl) (λ g. cc g) e
     held_stands _ b c e = cc e
 
     operator_stands : (h : Held) (b : ℕ) (c : Change) → IsFree h → Some c ≡ operator d h b → Operates h b c
     operator_stands h b c i e =
-        by_test (Operates h) b 43 (nat_le 2 d) c change.Sum _ (λ t. turned_first h 43 kind.Plus change.Sum refl (plus_planned h i t) refl)
-        (λ f. by_test (Operates h) b 115 (nat_le 1 d) c change.Saturate _
-        (λ t. turned_last h 115 kind.S role.Saturate change.Saturate refl (saturate_planned h i t) refl refl) (held_stands h b c) f) e
+        by_test (Operates h) b 43 (nat_le 2 d) c Change.Sum _ (λ t. turned_first h 43 Kind.Plus Change.Sum refl (plus_planned h i t) refl)
+        (λ f. by_test (Operates h) b 115 (nat_le 1 d) c Change.Saturate _
+        (λ t. turned_last h 115 Kind.S Role.Saturate Change.Saturate refl (saturate_planned h i t) refl refl) (held_stands h b c) f) e
 
 -- ids, operators, and no word
 pub id_word : (limit top d : ℕ) (h : Held) (ds : List ℕ) (v : ℕ) (n : List ℕ) → AreDigits ds → v ≡ value_from 0 ds → 0 < v → v ≤ top
-    → IsWord limit top d h ds (change.Id (pos v)) n (held_number limit d v)
+    → IsWord limit top d h ds (Change.Id (pos v)) n (held_number limit d v)
 id_word limit top d h ds v n all same i l ws name some f = id_stands limit top d ws name some n h ds v f all same i l
 
 no_operator : (h : Held) (c : Change) → Some c ≡ held_operator h 0 → ⊥
-no_operator held.Number c e = cc
-no_operator held.Name c e = cc
+no_operator Held.Number c e = cc
 no_operator _ c e = cc
 
-pub operator_word : (limit top d : ℕ) (h : Held) (text : List ℕ) (c : Change) (n : List ℕ) → Some c ≡ operator d h (get_or text 0 0) → IsWord limit top d h (take 1 text) c n held.Nothing
+pub operator_word : (limit top d : ℕ) (h : Held) (text : List ℕ) (c : Change) (n : List ℕ) → Some c ≡ operator d h (get_or text 0 0) → IsWord limit top d h (take 1 text) c n Held.Nothing
 operator_word limit top d h [] c n e ws name some f = absurd (no_operator h c e)
 operator_word limit top d h (b ∷ text) c n e ws name some f = operator_stands limit top d ws name some n h b c f e
 
-pub no_word : (limit top d : ℕ) (h : Held) (n : List ℕ) → IsWord limit top d h [] change.Keep n h
-no_word limit top d h n ws name some f = ((ws, d, name, phase.Gap h, change.Keep, refl, refl, refl, refl), f)
+pub no_word : (limit top d : ℕ) (h : Held) (n : List ℕ) → IsWord limit top d h [] Change.Keep n h
+no_word limit top d h n ws name some f = ((ws, d, name, Phase.Gap h, Change.Keep, refl, refl, refl, refl), f)
 
 -- Words with blanks after them, and the end of the line.
 
 -- the phases before a word
-pub gap_of : (p : Phase) (h : Held) → Some h ≡ held_before p → p ≡ phase.Gap h
-gap_of (phase.Gap held.Nothing) h e = cc
-gap_of (phase.Gap held.Number) h e = cc
-gap_of (phase.Gap held.Name) h e = cc
+pub gap_of : (p : Phase) (h : Held) → Some h ≡ held_before p → p ≡ Phase.Gap h
+gap_of (Phase.Gap Held.Large) h e = cc e
 gap_of _ h e = cc e
 
 pub free_of : (p : Phase) (h : Held) → Some h ≡ held_before p → IsFree h
-free_of (phase.Gap held.Nothing) h e = subst IsFree (sym (same_Some h held.Nothing e)) tt
-free_of (phase.Gap held.Number) h e = subst IsFree (sym (same_Some h held.Number e)) tt
-free_of (phase.Gap held.Name) h e = subst IsFree (sym (same_Some h held.Name e)) tt
+free_of (Phase.Gap Held.Large) h e = cc e
+free_of (Phase.Gap g) h e = subst IsFree (sym (same_Some h g e)) tt
 free_of _ h e = cc e
 
 module _ (limit top : ℕ) where
   -- what the byte after a word does
-  on_blank : (e : ℕ) (p : Phase) (c : Change) (h : Held) → close limit top e p ≡ Some (c, h) → action.Turn c (phase.Gap h) ≡ transition limit top e p kind.Blank
-  on_blank e phase.Ending c h q = absurd (cc)
+  on_blank : (e : ℕ) (p : Phase) (c : Change) (h : Held) → close limit top e p ≡ Some (c, h) → Action.Turn c (Phase.Gap h) ≡ transition limit top e p Kind.Blank
+  on_blank e Phase.Ending c h q = absurd (cc)
   on_blank e p c h q = sym (ap blank q)
 
-  on_feed : (e : ℕ) (p : Phase) (c : Change) (h : Held) → close limit top e p ≡ Some (c, h) → counted c e ≡ 1 → action.End c ≡ transition limit top e p kind.Feed
-  on_feed e phase.Ending c h q one = absurd (cc)
-  on_feed e p c h q one = sym (ap (feed e) q ∙ ap (λ (n : ℕ). cond (nat_eq n 1) (action.End c) action.Stop) one)
+  on_feed : (e : ℕ) (p : Phase) (c : Change) (h : Held) → close limit top e p ≡ Some (c, h) → counted c e ≡ 1 → Action.End c ≡ transition limit top e p Kind.Feed
+  on_feed e Phase.Ending c h q one = absurd (cc)
+  on_feed e p c h q one = sym (ap (feed e) q ∙ ap (λ (n : ℕ). cond (nat_eq n 1) (Action.End c) Action.Stop) one)
 
-  on_semicolon : (e : ℕ) (p : Phase) (c : Change) (h : Held) → close limit top e p ≡ Some (c, h) → counted c e ≡ 1 → action.Turn c phase.Ending ≡ transition limit top e p kind.Semicolon
-  on_semicolon e phase.Ending c h q one = absurd (cc)
-  on_semicolon e p c h q one = sym (ap (semicolon e) q ∙ ap (λ (n : ℕ). cond (nat_eq n 1) (action.Turn c phase.Ending) action.Stop) one)
+  on_semicolon : (e : ℕ) (p : Phase) (c : Change) (h : Held) → close limit top e p ≡ Some (c, h) → counted c e ≡ 1 → Action.Turn c Phase.Ending ≡ transition limit top e p Kind.Semicolon
+  on_semicolon e Phase.Ending c h q one = absurd (cc)
+  on_semicolon e p c h q one = sym (ap (semicolon e) q ∙ ap (λ (n : ℕ). cond (nat_eq n 1) (Action.Turn c Phase.Ending) Action.Stop) one)
 
   module _ (some : 0 < top) where
     -- a word, and a blank after it
     blank_after : (old : PolState) (text : List ℕ) (i : ℕ) (ws : List PolWord) (d : ℕ) (h : Held) → i < length text → get_or text i 0 ≡ 32
-        → EndsAs limit top old (take i text) ws d h → Runs pol_automaton old (take (i + 1) text) (standing limit top ws d [] (phase.Gap h))
+        → EndsAs limit top old (take i text) ws d h → Runs pol_automaton old (take (i + 1) text) (standing limit top ws d [] (Phase.Gap h))
     blank_after old text i ws d h inside blank (vs, e, name, p, c, runs, closes, same, deep) =
-        let next : PolState = standing limit top (changed c vs name) (counted c e) [] (phase.Gap h) in
-        let goes : pol_automaton.step (standing limit top vs e name p) 32 ≡ Go next = moved limit top vs e name p 32 kind.Blank (action.Turn c (phase.Gap h)) refl (on_blank e p c h closes) in
-        subst (λ (x : List PolWord). Runs pol_automaton old (take (i + 1) text) (standing limit top x d [] (phase.Gap h))) same
-        (subst (λ (n : ℕ). Runs pol_automaton old (take (i + 1) text) (standing limit top (changed c vs name) n [] (phase.Gap h))) deep
+        let next : PolState = standing limit top (changed c vs name) (counted c e) [] (Phase.Gap h) in
+        let goes : pol_automaton.step (standing limit top vs e name p) 32 ≡ Go next = moved limit top vs e name p 32 Kind.Blank (Action.Turn c (Phase.Gap h)) refl (on_blank e p c h closes) in
+        subst (λ (x : List PolWord). Runs pol_automaton old (take (i + 1) text) (standing limit top x d [] (Phase.Gap h))) same
+        (subst (λ (n : ℕ). Runs pol_automaton old (take (i + 1) text) (standing limit top (changed c vs name) n [] (Phase.Gap h))) deep
         (runs_on pol_automaton old text i (standing limit top vs e name p) next inside runs (rw blank goes)
-        (midway_state limit top (changed c vs name) (counted c e) [] (phase.Gap h) some refl)))
+        (midway_state limit top (changed c vs name) (counted c e) [] (Phase.Gap h) some refl)))
 
     -- a word after words
     word_after : (text : List ℕ) (i n d : ℕ) (ws : List PolWord) (name new : List ℕ) (h next : Held) (c : Change) → AreWords limit top (take i text) ws d name h
@@ -197,7 +174,7 @@ module _ (limit top : ℕ) where
     word_after text i n d ws name new h next c words word =
         let (runs, free) = words some in
         let ((vs, e, more, p, k, on, closes, same, deep), still) = word ws name some free in
-        ((vs, e, more, p, k, runs_further pol_automaton (no_words limit top) text i n (standing limit top ws d name (phase.Gap h)) (standing limit top vs e more p) runs on, closes, same, deep), still)
+        ((vs, e, more, p, k, runs_further pol_automaton (no_words limit top) text i n (standing limit top ws d name (Phase.Gap h)) (standing limit top vs e more p) runs on, closes, same, deep), still)
 
   pub more_words : (text : List ℕ) (i n d : ℕ) (ws : List PolWord) (name new : List ℕ) (h next : Held) (c : Change) → i + n < length text → get_or text (i + n) 0 ≡ 32
       → AreWords limit top (take i text) ws d name h → IsWord limit top d h (take n (take (length text - i) (drop i text))) c new next
@@ -215,9 +192,9 @@ module _ (limit top : ℕ) where
 
   pub word_blank : (text : List ℕ) (n d : ℕ) (ws : List PolWord) (name : List ℕ) (h next : Held) (c : Change) → 0 < top → IsFree h → n < length text → get_or text n 0 ≡ 32
       → IsWord limit top d h (take n text) c name next
-      → Runs pol_automaton (standing limit top ws d name (phase.Gap h)) (take (n + 1) text) (standing limit top (changed c ws name) (counted c d) [] (phase.Gap next))
+      → Runs pol_automaton (standing limit top ws d name (Phase.Gap h)) (take (n + 1) text) (standing limit top (changed c ws name) (counted c d) [] (Phase.Gap next))
   word_blank text n d ws name h next c some free inside blank word =
-      blank_after some (standing limit top ws d name (phase.Gap h)) text n (changed c ws name) (counted c d) next inside blank (word ws name some free).0
+      blank_after some (standing limit top ws d name (Phase.Gap h)) text n (changed c ws name) (counted c d) next inside blank (word ws name some free).0
 
   -- all of a line after `pol` but its line feed
   pub line_runs : (text closing : List ℕ) (ws : List PolWord) → 0 < top → IsExpression limit top text ws → IsClosing closing
@@ -225,7 +202,7 @@ module _ (limit top : ℕ) where
   line_runs text closing ws some words closes = by (words some) closes
     where
       first : (s : PolState) (t : List ℕ) → Runs pol_automaton (no_words limit top) t s → Runs pol_automaton (pol_first limit top) (32 ∷ t) s
-      first s t runs = (no_words limit top, refl, midway_state limit top [] 0 [] (phase.Gap held.Nothing) some refl, runs)
+      first s t runs = (no_words limit top, refl, midway_state limit top [] 0 [] (Phase.Gap Held.Nothing) some refl, runs)
 
       by : (h : Held) × EndsAs limit top (no_words limit top) text ws 1 h → IsClosing closing
           → (s : PolState) × Runs pol_automaton (pol_first limit top) (32 ∷ (text ++ closing)) s × (pol_automaton.step s 10 ≡ End ws (pol_last limit top))
@@ -233,13 +210,13 @@ module _ (limit top : ℕ) where
           let s : PolState = standing limit top vs e name p in (
             s,
             first s (text ++ closing) (subst (λ (t : List ℕ). Runs pol_automaton (no_words limit top) t s) (sym (ap (λ (x : List ℕ). text ++ x) none ∙ append-nil text)) runs),
-            moved limit top vs e name p 10 kind.Feed (action.End c) refl (on_feed e p c h q one) ∙ ap (λ (x : List PolWord). End x (pol_last limit top)) same,
+            moved limit top vs e name p 10 Kind.Feed (Action.End c) refl (on_feed e p c h q one) ∙ ap (λ (x : List PolWord). End x (pol_last limit top)) same,
           )
       by (h, (vs, e, name, p, c, runs, q, same, one)) (inr given) =
-          let s : PolState = standing limit top (changed c vs name) (counted c e) [] phase.Ending in
-          let goes : pol_automaton.step (standing limit top vs e name p) 59 ≡ Go s = moved limit top vs e name p 59 kind.Semicolon (action.Turn c phase.Ending) refl (on_semicolon e p c h q one) in (
+          let s : PolState = standing limit top (changed c vs name) (counted c e) [] Phase.Ending in
+          let goes : pol_automaton.step (standing limit top vs e name p) 59 ≡ Go s = moved limit top vs e name p 59 Kind.Semicolon (Action.Turn c Phase.Ending) refl (on_semicolon e p c h q one) in (
             s,
             first s (text ++ closing) (subst (λ (x : List ℕ). Runs pol_automaton (no_words limit top) (text ++ x) s) (sym given)
-                (runs_more pol_automaton (no_words limit top) text (standing limit top vs e name p) 59 s runs goes (midway_state limit top (changed c vs name) (counted c e) [] phase.Ending some refl))),
+                (runs_more pol_automaton (no_words limit top) text (standing limit top vs e name p) 59 s runs goes (midway_state limit top (changed c vs name) (counted c e) [] Phase.Ending some refl))),
             ap (λ (x : List PolWord). End x (pol_last limit top)) same,
           )

@@ -1,5 +1,5 @@
 -- Statements of a proof that are collected one by one are that proof.
-use Rattle.pb_proof.proofs.Common.{ℕ, ◌++◌, ◌↔◌, ◌∙◌, ◌∷◌, ◌≡◌, [], All, ap, append-nil, append_assoc, List, refl, sym, All-head, All-tail, Spanned}
+use Rattle.pb_proof.proofs.Common.{ℕ, ◌++◌, ◌↔◌, ◌∙◌, ◌∷◌, ◌≡◌, [], All, ap, append-nil, append_assoc, List, refl, sym, All-head, All-tail, Spanned, arith}
 use Rattle.pb_proof.proofs.Common.{Item, events_of, gathered, IsRead, IsWhole, MayHold, StopsIn, Proof, Statement, Conclude, F, Header, Output}
 use Rattle.pb_proof.proofs.Common.{IsProof, IsProofOf, IsStep, statements_of}
 use Rattle.pb_text.proofs.lemmas.source.Unkept as stopped
@@ -8,7 +8,6 @@ use Rattle.pb_text.proofs.lemmas.text.Formats as formats
 use Rattle.pb_proof.specs.contract.Gather.{with, asks, MayKeep, nothing}
 use Rattle.pb_proof.specs.meaning.Reading.{AsksInProof}
 use Rattle.pb_proof.specs.declared.read.gather.ProofSoFar.{ProofSoFar}
-use Rattle.pb_proof.specs.declared.statement.Statement.TheVariants.{End}
 
 abbrev pub one_more : ProofSoFar → Statement → ProofSoFar
 one_more b e = record { proof = with b.proof e }
@@ -22,7 +21,7 @@ step_after v Header h = absurd h
 step_after v (F count) h = absurd h
 step_after v Output h = absurd h
 step_after v (Conclude c) h = absurd h
-step_after v End h = absurd h
+step_after v Statement.End h = absurd h
 step_after v _ h = refl
 
 steps_after : (steps rest : List Statement) (v : Proof) → All IsStep steps → gathered with v (steps ++ rest) ≡ gathered with (with_steps v steps) rest
@@ -37,9 +36,7 @@ proof_of [] b = refl
 proof_of (e ∷ events) b = proof_of events (one_more b e)
 
 gathered_is : (events : List Statement) (b c : ProofSoFar) (v : Proof) → b.proof ≡ nothing → c ≡ gathered one_more b events → All IsStep v.steps → events ≡ statements_of v → c.proof ≡ v
-gathered_is events b c v n e h k =
-    ap (λ (x : ProofSoFar). x.proof) e ∙ (proof_of events b ∙ (ap (λ (x : Proof). gathered with x events) n
-    ∙ (ap (gathered with nothing) k ∙ steps_after v.steps (Output ∷ Conclude v.conclusion ∷ End ∷ []) (record nothing { count = v.count }) h)))
+gathered_is events b c v n e h k = grind (arith, proof_of, steps_after, v.steps, v.conclusion, v.count)
 
 module _ (limit top longest : ℕ) (accepted : List (Item Statement) → Type 0) (same : (items : List (Item Statement)) → accepted items ↔ IsProof limit top items) (used : List ℕ) where
   only : (items : List (Item Statement)) → accepted items → IsProof limit top items

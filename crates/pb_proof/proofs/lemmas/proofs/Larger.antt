@@ -4,10 +4,7 @@ use Rattle.pb_proof.proofs.Common.{SpellsLinear, after_it, inside, ◌⋅◌, Bl
 use Rattle.pb_proof.proofs.Common.{Infinite, Conclusion, Bounds, NoClaim, Sat, Unsat, Statement, Conclude, Delete, F, Pol, Rup, PolWord, Divide, Id}
 use Rattle.pb_proof.proofs.Common.{Multiply, bounds_word, conclusion_word, f_word, Factor, Feed, IdShown, LineEnd, Listed, LiteralsShown, rup_word}
 use Rattle.pb_proof.proofs.Common.{SpellsBound, SpellsConclusion, SpellsCount, SpellsId, SpellsRup, SpellsStatement, SpellsWord, unsat_word}
-use Rattle.pb_proof.proofs.Common.{AreSpelled, BeginsAtOnce, IsGap, IsProof}
-use Rattle.pb_text.proofs.lemmas.numbers.Numbers.{number-within}
-use Rattle.pb_sums.specs.declared.Part as part
-use Rattle.pb_sums.specs.declared.SumEvent as sum
+use Rattle.pb_proof.proofs.Common.{AreSpelled, BeginsAtOnce, IsGap, IsProof, number-within, Part, SumEvent}
 use Rattle.pb_sums.proofs.lemmas.values.Larger.{spells_larger}
 
 abbrev Within : Language → Language → Type 0
@@ -70,7 +67,7 @@ module _ (limit limit' top top' : ℕ) (h : limit ≤ limit') (j : top ≤ top')
       first_grows (Blanks1 ⋅ Count top n) (Blanks1 ⋅ Count top' n) LineEnd (last_grows Blanks1 (Count top n) (Count top' n) (λ u i. (omega (arith, i.0), i.1))) t k
 
   linear_grows : (c : Linear) → Within (SpellsLinear Blank limit c) (SpellsLinear Blank limit' c)
-  linear_grows c t k = (spells_larger Blank limit limit' h part.TheVariants.Linear t (sum.TheVariants.Linear c) (refl, k)).1
+  linear_grows c t k = (spells_larger Blank limit limit' h Part.Linear t (SumEvent.Linear c) (refl, k)).1
 
   spelt_rup : (c : Linear) → Within (SpellsRup limit top c) (SpellsRup limit' top' c)
   spelt_rup c t (r, k) =

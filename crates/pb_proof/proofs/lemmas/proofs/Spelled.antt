@@ -3,7 +3,6 @@ use Rattle.pb_proof.proofs.Common.{ℕ, ◌++◌, ◌<◌, ◌^◌, ◌∙◌, �
 use Rattle.pb_proof.proofs.Common.{All-cons, All-head, All-map, All-nil, All-tail, All-weaker, bytes-append, Nothing, bytes_of, Item, letters_of}
 use Rattle.pb_proof.proofs.Common.{events_of, CanonicalProof, IsProofValue, IsStatementValue, Proof, Statement, Conclude, F, Header, Output}
 use Rattle.pb_proof.proofs.Common.{ended_lines, lines, proof_bytes, statement_bytes, SpellsStatement, AreSpelled, IsGap, IsStep, statements_of}
-use Rattle.pb_proof.specs.declared.statement.Statement.TheVariants.{End}
 use Rattle.pb_proof.proofs.lemmas.line.Texts.{line_text, line_bytes, bytes-line, line_spelled}
 use Rattle.pb_proof.proofs.lemmas.Written.{ended_none, ended-cons, lines-ended}
 
@@ -23,7 +22,7 @@ step_feeds Header h = absurd h
 step_feeds (F count) h = absurd h
 step_feeds Output h = absurd h
 step_feeds (Conclude c) h = absurd h
-step_feeds End h = absurd h
+step_feeds Statement.End h = absurd h
 step_feeds _ h = refl
 
 bytes-feeds : (xs : List Statement) (rest : List (Item Statement)) → All HasFeed xs → bytes_of (map item_of xs ++ rest) ≡ ended_lines xs ++ bytes_of rest
@@ -38,8 +37,8 @@ bytes-feeds (x ∷ xs) rest h =
 abbrev body : Proof → List Statement
 body v = Header ∷ F v.count ∷ (v.steps ++ Output ∷ Conclude v.conclusion ∷ [])
 
-body_is : (v : Proof) → statements_of v ≡ body v ++ End ∷ []
-body_is v = ap (λ (y : List Statement). Header ∷ F v.count ∷ y) (sym (append_assoc v.steps (Output ∷ Conclude v.conclusion ∷ []) (End ∷ [])))
+body_is : (v : Proof) → statements_of v ≡ body v ++ Statement.End ∷ []
+body_is v = ap (λ (y : List Statement). Header ∷ F v.count ∷ y) (sym (append_assoc v.steps (Output ∷ Conclude v.conclusion ∷ []) (Statement.End ∷ [])))
 
 body_feeds : (v : Proof) → All IsStep v.steps → All HasFeed (body v)
 body_feeds v h =
@@ -51,26 +50,23 @@ body_feeds v h =
 proof-bytes : (v : Proof) → All IsStep v.steps → bytes_of (map item_of (statements_of v)) ≡ proof_bytes v
 proof-bytes v h =
     ap (λ (y : List Statement). bytes_of (map item_of y)) (body_is v)
-    ∙ (ap bytes_of (map-append item_of (body v) (End ∷ []))
-    ∙ (bytes-feeds (body v) (item_of End ∷ []) (body_feeds v h)
-    ∙ (sym (lines-ended (body v) End []) ∙ ap lines (sym (body_is v)))))
-
-no_gap : IsGap []
-no_gap = (Nothing, refl)
+    ∙ (ap bytes_of (map-append item_of (body v) (Statement.End ∷ []))
+    ∙ (bytes-feeds (body v) (item_of Statement.End ∷ []) (body_feeds v h)
+    ∙ (sym (lines-ended (body v) Statement.End []) ∙ ap lines (sym (body_is v)))))
 
 module _ (limit top : ℕ) where
   all_values : (v : Proof) → IsProofValue limit top v → All (IsStatementValue limit top) (statements_of v)
   all_values v h =
       let P : Statement → Type 0 = IsStatementValue limit top in
-      All-cons P Header (F v.count ∷ (v.steps ++ Output ∷ Conclude v.conclusion ∷ End ∷ [])) tt
-      (All-cons P (F v.count) (v.steps ++ Output ∷ Conclude v.conclusion ∷ End ∷ []) h.count
-      (All-append P v.steps (Output ∷ Conclude v.conclusion ∷ End ∷ []) (All-weaker (λ s. IsStep s × P s) P (λ s k. k.1) v.steps h.steps)
-      (All-cons P Output (Conclude v.conclusion ∷ End ∷ []) tt (All-cons P (Conclude v.conclusion) (End ∷ []) h.conclusion (All-cons P End [] tt (All-nil P))))))
+      All-cons P Header (F v.count ∷ (v.steps ++ Output ∷ Conclude v.conclusion ∷ Statement.End ∷ [])) tt
+      (All-cons P (F v.count) (v.steps ++ Output ∷ Conclude v.conclusion ∷ Statement.End ∷ []) h.count
+      (All-append P v.steps (Output ∷ Conclude v.conclusion ∷ Statement.End ∷ []) (All-weaker (λ s. IsStep s × P s) P (λ s k. k.1) v.steps h.steps)
+      (All-cons P Output (Conclude v.conclusion ∷ Statement.End ∷ []) tt (All-cons P (Conclude v.conclusion) (Statement.End ∷ []) h.conclusion (All-cons P Statement.End [] tt (All-nil P))))))
 
   all_spelled : limit < 2 ^ 127 → top < 2 ^ 63 → (xs : List Statement) → All (IsStatementValue limit top) xs → AreSpelled limit top (map item_of xs)
   all_spelled small low xs h =
       All-map (λ i. IsGap i.gap × SpellsStatement limit top i.event i.text) item_of xs
-      (All-weaker (IsStatementValue limit top) (λ s. IsGap [] × SpellsStatement limit top s (line_text s)) (λ s k. (no_gap, line_spelled limit small top low s k)) xs h)
+      (All-weaker (IsStatementValue limit top) (λ s. IsGap [] × SpellsStatement limit top s (line_text s)) (λ s k. ((Nothing, refl), line_spelled limit small top low s k)) xs h)
 
 pub canonical_proof : CanonicalProof
 canonical_proof limit top v small low h =

@@ -4,10 +4,9 @@ use Rattle.pb_proof.proofs.Common.{refl, Some, subst, suc, sym, true, zero, ints
 use Rattle.pb_proof.proofs.Common.{SpellsLiteral, Language, signed, Item, Letter, events_of, OneValue, ProofValues, StatementValues, AreLiterals}
 use Rattle.pb_proof.proofs.Common.{IfGiven, IsBound, IsConclusion, IsFactor, IsId, IsProofValue, IsStatementValue, IsWord, Bound, Finite, Infinite}
 use Rattle.pb_proof.proofs.Common.{Conclusion, Bounds, NoClaim, Sat, Unsat, Proof, Statement, Conclude, Delete, F, Header, Output, Pol, Rup, Soli}
-use Rattle.pb_proof.proofs.Common.{Solx, PolWord, Add, Axiom, Divide, Id, Multiply, Saturate, Weaken, Factor, IdShown, Listed, LiteralsShown}
+use Rattle.pb_proof.proofs.Common.{Solx, PolWord, Axiom, Divide, Id, Multiply, Weaken, Factor, IdShown, Listed, LiteralsShown}
 use Rattle.pb_proof.proofs.Common.{SpellsBound, SpellsConclusion, SpellsId, SpellsStatement, SpellsWord, IsGap, IsStep, statements_of}
 use Rattle.pb_sums.proofs.lemmas.values.Within.{number-within, linear-within}
-use Rattle.pb_proof.specs.declared.statement.Statement.TheVariants.{End}
 
 listed_values : {A : Type 0} (P : A → Language) (R : A → Type 0) → ((x : A) (t : List Letter) → P x t → R x) → (xs : List A) (t : List Letter) → Listed P xs t → All R xs
 listed_values P R f [] t h = All-nil R
@@ -44,11 +43,10 @@ module _ (limit top : ℕ) where
   word_value : (w : PolWord) (t : List Letter) → SpellsWord limit top w t → IsWord limit top w
   word_value (Id id) t h = id_value top id t h
   word_value (Axiom l) t h = h.0
-  word_value Add t h = tt
   word_value (Multiply k) t (ab, c, e, (a, b, f, h, s), o) = factor_value limit k a h
   word_value (Divide k) t (ab, c, e, (a, b, f, h, s), o) = factor_value limit k a h
-  word_value Saturate t h = tt
   word_value (Weaken name) t h = h.0
+  word_value _ t h = tt
 
   conclusion_value : (c : Conclusion) (t : List Letter) → SpellsConclusion limit top c t → IsConclusion limit top c
   conclusion_value NoClaim t h = tt
@@ -62,16 +60,14 @@ module _ (limit top : ℕ) where
   f_value (Some n) t (a, b, e, w, (cd, f, g, (c, d, i, s, h), k)) = h.0
 
   statement_value : (s : Statement) (t : List Letter) → SpellsStatement limit top s t → IsStatementValue limit top s
-  statement_value Header t h = tt
   statement_value (F count) t h = f_value count t h
   statement_value (Pol ws) t (a, b, e, w, (postfix, (c, d, f, h, k))) = (postfix, listed_values (SpellsWord limit top) (IsWord limit top) word_value ws c h)
   statement_value (Rup c) t (a, b, e, w, (relation, (x, y, f, (p, q, g, s, h), k))) = (relation, linear-within Blank limit c q h)
   statement_value (Soli ls) t (a, b, e, w, (c, d, f, h, k)) = literals_value ls c h
   statement_value (Solx ls) t (a, b, e, w, (c, d, f, h, k)) = literals_value ls c h
   statement_value (Delete ids) t (a, b, e, w, (some, (c, d, f, h, k))) = (some, listed_values (SpellsId top) (IsId top) (id_value top) ids c h)
-  statement_value Output t h = tt
   statement_value (Conclude c) t (a, b, e, w, (x, y, f, (p, q, g, s, h), k)) = conclusion_value c q h
-  statement_value End t h = tt
+  statement_value _ t h = tt
 
   pub events_values : (items : List (Item Statement)) → All (λ i. IsGap i.gap × SpellsStatement limit top i.event i.text) items → All (IsStatementValue limit top) (events_of items)
   events_values [] h = All-nil (IsStatementValue limit top)
@@ -100,15 +96,12 @@ proof count steps conclusion = record { count = count; steps = steps; conclusion
 same_parts : (a b : Option ℕ) (c d : List Statement) (e f : Conclusion) → a ≡ b → c ≡ d → e ≡ f → proof a c e ≡ proof b d f
 same_parts a b c d e f h i j = rw (h, i, j) refl
 
-same_conclusion : (c d : Conclusion) → Conclude c ≡ Conclude d → c ≡ d
-same_conclusion c d h = cc
-
 same_proof : (v w : Proof) → statements_of v ≡ statements_of w → v ≡ w
 same_proof v w h =
     let counts : v.count ≡ w.count = cc in
-    let tails : v.steps ++ Output ∷ Conclude v.conclusion ∷ End ∷ [] ≡ w.steps ++ Output ∷ Conclude w.conclusion ∷ End ∷ [] = cc in
-    let r = ends_same v.steps w.steps Output (Conclude v.conclusion) End Output (Conclude w.conclusion) End tails in
-    same_parts v.count w.count v.steps w.steps v.conclusion w.conclusion counts r.0 (same_conclusion v.conclusion w.conclusion r.1)
+    let tails : v.steps ++ Output ∷ Conclude v.conclusion ∷ Statement.End ∷ [] ≡ w.steps ++ Output ∷ Conclude w.conclusion ∷ Statement.End ∷ [] = cc in
+    let r = ends_same v.steps w.steps Output (Conclude v.conclusion) Statement.End Output (Conclude w.conclusion) Statement.End tails in
+    same_parts v.count w.count v.steps w.steps v.conclusion w.conclusion counts r.0 (let e : v.conclusion ≡ w.conclusion = cc (r.1) in e)
 
 pub one_value : OneValue
 one_value statements v w h k = same_proof v w (sym h ∙ k)
@@ -117,13 +110,13 @@ one_value statements v w h k = same_proof v w (sym h ∙ k)
 parts_value : (limit top : ℕ) (v : Proof) → All IsStep v.steps → All (IsStatementValue limit top) (statements_of v) → IsProofValue limit top v
 parts_value limit top v steps h =
     let P : Statement → Type 0 = IsStatementValue limit top in
-    let rest : List Statement = Output ∷ Conclude v.conclusion ∷ End ∷ [] in
+    let rest : List Statement = Output ∷ Conclude v.conclusion ∷ Statement.End ∷ [] in
     let following : All P (F v.count ∷ (v.steps ++ rest)) = All-tail P Header (F v.count ∷ (v.steps ++ rest)) h in
     let both : All P v.steps × All P rest = halves v.steps rest (All-tail P (F v.count) (v.steps ++ rest) following) in
     record {
       count = All-head P (F v.count) (v.steps ++ rest) following;
       steps = λ k d lt. (steps k d lt, both.0 k d lt);
-      conclusion = All-head P (Conclude v.conclusion) (End ∷ []) (All-tail P Output (Conclude v.conclusion ∷ End ∷ []) both.1);
+      conclusion = All-head P (Conclude v.conclusion) (Statement.End ∷ []) (All-tail P Output (Conclude v.conclusion ∷ Statement.End ∷ []) both.1);
     }
   where
     halves : (xs ys : List Statement) → All (IsStatementValue limit top) (xs ++ ys) → All (IsStatementValue limit top) xs × All (IsStatementValue limit top) ys

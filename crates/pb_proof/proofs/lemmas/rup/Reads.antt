@@ -1,16 +1,11 @@
 -- What the `rup` machine reads is the grammar.
-use Rattle.pb_proof.proofs.Common.{ℕ, ◌++◌, ◌↔◌, ◌∙◌, ◌∷◌, ◌≡◌, [], ap, false, IsTrue, List, nat_eq, None, Option, refl, Some, subst, sym, true}
-use Rattle.pb_proof.proofs.Common.{cond_both, eqb-true, false_from_ne_true, reads_grammar, continues-midway, Linear, Blank, SumEvent, sums, SumState}
-use Rattle.pb_proof.proofs.Common.{allows, Spells, SpellsLinear, refuse_or_end, refuse_or_go, ends_walk, Keeps, On, reads_after, reported, Walks}
-use Rattle.pb_proof.proofs.Common.{walks_more, walks_then, never, blank_each, grown, none_yet, End, Go, Next, ReadsStatement, Refuse, is_blank, ◌⋅◌}
-use Rattle.pb_proof.proofs.Common.{Blanks0, Blanks1, Language, Letter, RupAction, Give, RupPhase, Inside, Tail, linear_of, rup_act, rup_automaton}
-use Rattle.pb_proof.proofs.Common.{rup_finish, rup_first, rup_last, rup_over, rup_transition, RupState, sum_first, sum_last, SpellsRup}
-use Rattle.pb_sums.specs.declared.Relation.{Relation}
-use Rattle.pb_sums.specs.declared.Relation.TheVariants.{AtLeast, Equal}
-use Rattle.pb_sums.specs.declared.Part as part
-use Rattle.pb_sums.specs.declared.SumEvent as sum
-use Rattle.pb_proof.specs.declared.line.rup.phase.RupPhase.TheVariants.{Start, Gap, Done}
-use Rattle.pb_proof.proofs.lemmas.line.Ends.{TakesBlanks, blanks1_lead, Feeds, feed_reads, gapped, first_blank, further_blank, blank_more, feed_after_blanks}
+use Rattle.pb_proof.proofs.Common.{ℕ, ◌++◌, ◌↔◌, ◌∙◌, ◌∷◌, ◌≡◌, [], ap, false, IsTrue, List, nat_eq, None, Option, refl, Some, subst, sym, true, cond_both}
+use Rattle.pb_proof.proofs.Common.{eqb-true, false_from_ne_true, reads_grammar, continues-midway, Linear, Blank, SumEvent, sums, SumState, allows, Spells}
+use Rattle.pb_proof.proofs.Common.{SpellsLinear, refuse_or_end, refuse_or_go, ends_walk, Keeps, On, reads_after, reported, Walks, walks_more, walks_then}
+use Rattle.pb_proof.proofs.Common.{never, blank_each, grown, none_yet, End, Go, Next, ReadsStatement, Refuse, is_blank, ◌⋅◌, Blanks0, Blanks1, Language}
+use Rattle.pb_proof.proofs.Common.{Letter, RupAction, Give, RupPhase, Inside, Tail, linear_of, rup_act, rup_automaton, rup_finish, rup_first, rup_last}
+use Rattle.pb_proof.proofs.Common.{rup_over, rup_transition, RupState, sum_first, sum_last, SpellsRup, Part, Relation}
+use Rattle.pb_proof.proofs.lemmas.line.Ends.{TakesBlanks, blanks1_lead, closing_feeds, feed_reads, gapped, first_blank, further_blank, blank_more, feed_after_blanks}
 
 -- what the sum machine reads
 pub given_walks : (o : Option Linear) (t : List Letter) (inner new : SumState) (e : SumEvent) → ReadsStatement sums inner t e new
@@ -30,12 +25,12 @@ module _ (limit top : ℕ) where
 
   -- What has been read, by phase.
   abbrev pub prefix : RupState → RupPhase → Language
-  prefix s Start = λ p. (p ≡ []) × (s.sums ≡ sum_first limit) × (s.linear ≡ None)
-  prefix s Gap = λ p. Blanks1 p × (s.sums ≡ sum_first limit) × (s.linear ≡ None)
+  prefix s RupPhase.Start = λ p. (p ≡ []) × (s.sums ≡ sum_first limit) × (s.linear ≡ None)
+  prefix s RupPhase.Gap = λ p. Blanks1 p × (s.sums ≡ sum_first limit) × (s.linear ≡ None)
   prefix s Inside = λ p. (s.linear ≡ None) × (Blanks1 ⋅ SumPrefix s.sums) p
   prefix s Tail = λ p. (s.sums ≡ sum_last limit)
-      × ((c : Linear) × (s.linear ≡ Some c) × (c.relation ≡ AtLeast) × (Blanks1 ⋅ SpellsLinear Blank limit c ⋅ Blanks0) p)
-  prefix s Done = λ p. ⊥
+      × ((c : Linear) × (s.linear ≡ Some c) × (c.relation ≡ Relation.AtLeast) × (Blanks1 ⋅ SpellsLinear Blank limit c ⋅ Blanks0) p)
+  prefix s RupPhase.Done = λ p. ⊥
 
   abbrev pub Prefix : RupState → Language
   Prefix s = prefix s s.phase
@@ -47,19 +42,14 @@ module _ (limit top : ℕ) where
     abbrev After : RupAction → Type 0
     After m = Leaves (rup_act s l.byte m)
 
-    at_start : p ≡ [] → s.sums ≡ sum_first limit → s.linear ≡ None → After (rup_transition Start l.byte)
-    at_start e i n = cond_both (is_blank l.byte) _ _ After
-        (λ h w f. (first_blank l p h f e, i, n))
-        (λ h. tt)
+    allowed : (r : Relation) → IsTrue (allows Part.AtLeast r) → r ≡ Relation.AtLeast
+    allowed Relation.AtLeast h = refl
+    allowed Relation.Equal h = never false h refl
 
-    allowed : (r : Relation) → IsTrue (allows part.TheVariants.AtLeast r) → r ≡ AtLeast
-    allowed AtLeast h = refl
-    allowed Equal h = never false h refl
-
-    spelled : (e : SumEvent) → (Blanks1 ⋅ Spells Blank limit part.TheVariants.AtLeast e) (p ++ l ∷ [])
-        → ((linear_of e).relation ≡ AtLeast) × (Blanks1 ⋅ SpellsLinear Blank limit (linear_of e) ⋅ Blanks0) (p ++ l ∷ [])
-    spelled (sum.TheVariants.Sum terms) (a, b, e, h, k) = never false k.0 refl
-    spelled (sum.TheVariants.Linear c) (a, b, e, h, k) =
+    spelled : (e : SumEvent) → (Blanks1 ⋅ Spells Blank limit Part.AtLeast e) (p ++ l ∷ [])
+        → ((linear_of e).relation ≡ Relation.AtLeast) × (Blanks1 ⋅ SpellsLinear Blank limit (linear_of e) ⋅ Blanks0) (p ++ l ∷ [])
+    spelled (SumEvent.Sum terms) (a, b, e, h, k) = never false k.0 refl
+    spelled (SumEvent.Linear c) (a, b, e, h, k) =
         (allowed c.relation k.0, gapped (Blanks1 ⋅ SpellsLinear Blank limit c) (p ++ l ∷ []) (a, b, e, h, k.1))
 
     given : s.linear ≡ None → (Blanks1 ⋅ SumPrefix s.sums) p → (x : Next SumState SumEvent) → sums.step s.sums l.byte ≡ x → Leaves (rup_over s x)
@@ -70,18 +60,13 @@ module _ (limit top : ℕ) where
     )
     given n h (End e new) i = λ w f.
         let (a, b, j, g, r) = h in
-        let k : Spells Blank limit part.TheVariants.AtLeast e (b ++ l ∷ []) × (new ≡ sum_last limit) =
-        (reads_grammar Blank part.TheVariants.AtLeast limit (b ++ l ∷ []) e new).0 (ends_walk sums b l (sum_first limit) s.sums new e r i f) in
-        let t : (Blanks1 ⋅ Spells Blank limit part.TheVariants.AtLeast e) (p ++ l ∷ []) = grown Blanks1 (λ q. q ≡ b) (Spells Blank limit part.TheVariants.AtLeast e) p l (λ q z. subst (λ x. Spells Blank limit part.TheVariants.AtLeast e (x ++ l ∷ [])) (sym z) k.0) (a, b, j, g, refl) in
+        let k : Spells Blank limit Part.AtLeast e (b ++ l ∷ []) × (new ≡ sum_last limit) =
+        (reads_grammar Blank Part.AtLeast limit (b ++ l ∷ []) e new).0 (ends_walk sums b l (sum_first limit) s.sums new e r i f) in
+        let t : (Blanks1 ⋅ Spells Blank limit Part.AtLeast e) (p ++ l ∷ []) = grown Blanks1 (λ q. q ≡ b) (Spells Blank limit Part.AtLeast e) p l (λ q z. subst (λ x. Spells Blank limit Part.AtLeast e (x ++ l ∷ [])) (sym z) k.0) (a, b, j, g, refl) in
         (k.1, (linear_of e, refl, (spelled e t).0, (spelled e t).1))
     given n h Refuse i = tt
 
-    in_gap : Blanks1 p → s.sums ≡ sum_first limit → s.linear ≡ None → After (rup_transition Gap l.byte)
-    in_gap h i n = cond_both (is_blank l.byte) _ _ After
-        (λ k w f. (further_blank l p k f h, i, n))
-        (λ k. given n (none_yet Blanks1 (SumPrefix s.sums) p i h) (sums.step s.sums l.byte) refl)
-
-    in_tail : s.sums ≡ sum_last limit → (c : Linear) → s.linear ≡ Some c → c.relation ≡ AtLeast → (Blanks1 ⋅ SpellsLinear Blank limit c ⋅ Blanks0) p → After (rup_transition Tail l.byte)
+    in_tail : s.sums ≡ sum_last limit → (c : Linear) → s.linear ≡ Some c → c.relation ≡ Relation.AtLeast → (Blanks1 ⋅ SpellsLinear Blank limit c ⋅ Blanks0) p → After (rup_transition Tail l.byte)
     in_tail i c k r h = cond_both (is_blank l.byte) _ _ After
         (λ g w f. (i, (c, k, r, blank_more (Blanks1 ⋅ SpellsLinear Blank limit c) l p g f h)))
         (λ _. cond_both (nat_eq l.byte 10) _ _ After
@@ -97,84 +82,60 @@ module _ (limit top : ℕ) where
             (subst (λ x. SpellsRup limit top x (p ++ l ∷ [])) (sym same) whole, rw i refl)
 
     sound : (q : RupPhase) → prefix s q p → After (rup_transition q l.byte)
-    sound Start h = at_start h.0 h.1 h.2
-    sound Gap h = in_gap h.0 h.1 h.2
+    sound RupPhase.Start (e, i, n) = cond_both (is_blank l.byte) _ _ After (λ h w f. (first_blank l p h f e, i, n)) (λ h. tt)
+    sound RupPhase.Gap (h, i, n) = cond_both (is_blank l.byte) _ _ After (λ k w f. (further_blank l p k f h, i, n))
+        (λ k. given n (none_yet Blanks1 (SumPrefix s.sums) p i h) (sums.step s.sums l.byte) refl)
     sound Inside h = given h.0 h.1 (sums.step s.sums l.byte) refl
     sound Tail h = in_tail h.0 h.1.0 h.1.1 h.1.2 h.1.3
-    sound Done h = absurd h
+    sound RupPhase.Done h = absurd h
 
   pub keeps : Keeps rup_automaton Prefix Whole
   keeps s l p f = sound s l p s.phase f
 
   pub rup_only : (t : List Letter) (c : Linear) (after : RupState) → ReadsStatement rup_automaton (rup_first limit) t c after → SpellsRup limit top c t × (after ≡ rup_last limit)
-  rup_only t c after r =
-      reported rup_automaton Prefix Whole keeps t (rup_first limit) [] c after r (refl, refl, refl)
+  rup_only t c after r = reported rup_automaton Prefix Whole keeps t (rup_first limit) [] c after r (refl, refl, refl)
 
   -- The converse: each part of a text leads on.
   abbrev in_phase : RupPhase → RupState
   in_phase p = record { phase = p; sums = sum_first limit; linear = None }
 
-  abbrev inside : SumState → RupState
-  inside inner = record { phase = Inside; sums = inner; linear = None }
-
   abbrev following : SumEvent → SumState → RupState
   following e inner = record { phase = Tail; sums = inner; linear = Some (linear_of e) }
 
-  gap_blanks : TakesBlanks rup_automaton (in_phase Start) (in_phase Gap)
-  gap_blanks = record {
-    enters = λ b h. rw h refl;
-    stays = λ b h. rw h refl;
-    begun = refl;
-    plain = refl;
-  }
-
-  tail_blanks : (e : SumEvent) (inner : SumState) → TakesBlanks rup_automaton (following e inner) (following e inner)
-  tail_blanks e inner = record {
-    enters = λ b h. rw h refl;
-    stays = λ b h. rw h refl;
-    begun = refl;
-    plain = refl;
-  }
-
-  tail_feeds : (e : SumEvent) → Feeds rup_automaton (following e (sum_last limit)) (following e (sum_last limit)) (linear_of e) (rup_last limit)
-  tail_feeds e = record { blanks = tail_blanks e (sum_last limit); ends = refl; ends_gap = refl }
+  gap_blanks : TakesBlanks rup_automaton (in_phase RupPhase.Start) (in_phase RupPhase.Gap)
+  gap_blanks = record { enters = λ b h. rw h refl; stays = λ b h. rw h refl; begun = refl; plain = refl }
 
   -- no blank begins a constraint
-  no_blank : (b : ℕ) → is_blank b ≡ true → sums.step (sum_first limit) b ≡ Refuse
-  no_blank = blank_each (λ b. sums.step (sum_first limit) b ≡ Refuse) refl refl refl
-
-  gap_gives : (l : Letter) → (sums.step (sum_first limit) l.byte ≡ Refuse → ⊥) → rup_transition Gap l.byte ≡ Give
+  gap_gives : (l : Letter) → (sums.step (sum_first limit) l.byte ≡ Refuse → ⊥) → rup_transition RupPhase.Gap l.byte ≡ Give
   gap_gives l h =
-      let e : is_blank l.byte ≡ false = false_from_ne_true (is_blank l.byte) (λ k. h (no_blank l.byte k)) in rw e refl
+      let e : is_blank l.byte ≡ false = false_from_ne_true (is_blank l.byte) (λ k. h (blank_each (λ b. sums.step (sum_first limit) b ≡ Refuse) refl refl refl l.byte k)) in
+      rw e refl
 
-  linear_walks : (t : List Letter) (new : SumState) (e : SumEvent) → ReadsStatement sums (sum_first limit) t e new → Walks rup_automaton (in_phase Gap) t (following e new)
+  linear_walks : (t : List Letter) (new : SumState) (e : SumEvent) → ReadsStatement sums (sum_first limit) t e new → Walks rup_automaton (in_phase RupPhase.Gap) t (following e new)
   linear_walks [] new e r = absurd r
   linear_walks (l ∷ []) new e (g, n) =
       let k = gap_gives l (λ h. refuse_or_end e new (sym h ∙ g)) in
-      (following e new, ap (rup_act (in_phase Gap) l.byte) k ∙ ap (rup_over (in_phase Gap)) g, refl, n, refl)
+      (following e new, ap (rup_act (in_phase RupPhase.Gap) l.byte) k ∙ ap (rup_over (in_phase RupPhase.Gap)) g, refl, n, refl)
   linear_walks (l ∷ c ∷ t) new e (mid, g, i, n, r) =
       let k = gap_gives l (λ h. refuse_or_go mid (sym h ∙ g)) in
-      (inside mid, ap (rup_act (in_phase Gap) l.byte) k ∙ ap (rup_over (in_phase Gap)) g, refl, n, given_walks None (c ∷ t) mid new e r)
+      (record { phase = Inside; sums = mid; linear = None }, ap (rup_act (in_phase RupPhase.Gap) l.byte) k ∙ ap (rup_over (in_phase RupPhase.Gap)) g, refl, n, given_walks None (c ∷ t) mid new e r)
 
-  allows_it : (r : Relation) → r ≡ AtLeast → IsTrue (allows part.TheVariants.AtLeast r)
-  allows_it AtLeast h = refl
-  allows_it Equal h = cc
+  allows_it : (r : Relation) → r ≡ Relation.AtLeast → IsTrue (allows Part.AtLeast r)
+  allows_it Relation.AtLeast h = refl
+  allows_it Relation.Equal h = cc
 
   pub rup_each : (t : List Letter) (c : Linear) → SpellsRup limit top c t → ReadsStatement rup_automaton (rup_first limit) t c (rup_last limit)
   rup_each t c (r, (ab, f, e, (a, b, g, h, k), i)) =
-      let q : ReadsStatement sums (sum_first limit) b (sum.TheVariants.Linear c) (sum_last limit) =
-      (reads_grammar Blank part.TheVariants.AtLeast limit b (sum.TheVariants.Linear c) (sum_last limit)).1 ((allows_it c.relation r, k), refl) in
-      let w : Walks rup_automaton (rup_first limit) (a ++ b) (following (sum.TheVariants.Linear c) (sum_last limit)) =
-      walks_then rup_automaton a b (rup_first limit) (in_phase Gap)
-      (following (sum.TheVariants.Linear c) (sum_last limit))
-      (blanks1_lead rup_automaton (in_phase Start) (in_phase Gap) gap_blanks a h) (linear_walks b (sum_last limit) (sum.TheVariants.Linear c) q) in
+      let q : ReadsStatement sums (sum_first limit) b (SumEvent.Linear c) (sum_last limit) =
+      (reads_grammar Blank Part.AtLeast limit b (SumEvent.Linear c) (sum_last limit)).1 ((allows_it c.relation r, k), refl) in
+      let tail : RupState = following (SumEvent.Linear c) (sum_last limit) in
+      let w : Walks rup_automaton (rup_first limit) (a ++ b) tail =
+      walks_then rup_automaton a b (rup_first limit) (in_phase RupPhase.Gap) tail
+      (blanks1_lead rup_automaton (in_phase RupPhase.Start) (in_phase RupPhase.Gap) gap_blanks a h) (linear_walks b (sum_last limit) (SumEvent.Linear c) q) in
       subst (λ x. ReadsStatement rup_automaton (rup_first limit) x c (rup_last limit)) (ap (λ x. x ++ f) (sym g) ∙ sym e)
-      (reads_after rup_automaton (a ++ b) f (rup_first limit) (following (sum.TheVariants.Linear c) (sum_last limit)) (rup_last limit) c w
-      (feed_reads rup_automaton (following (sum.TheVariants.Linear c) (sum_last limit)) (following (sum.TheVariants.Linear c) (sum_last limit)) (rup_last limit) c (tail_feeds (sum.TheVariants.Linear c)) f i))
+      (reads_after rup_automaton (a ++ b) f (rup_first limit) tail (rup_last limit) c w
+      (feed_reads rup_automaton tail tail (rup_last limit) c (closing_feeds rup_automaton tail (rup_last limit) c (λ b h. rw h refl) refl refl refl) f i))
 
   -- What a new machine reads is a constraint, and then it has ended.
   pub rup_reads : (t : List Letter) (c : Linear) (after : RupState) → ReadsStatement rup_automaton (rup_first limit) t c after ↔ (SpellsRup limit top c t × (after ≡ rup_last limit))
-  rup_reads t c after = (
-    rup_only t c after,
-    λ h. subst (λ x. ReadsStatement rup_automaton (rup_first limit) t c x) (sym h.1) (rup_each t c h.0),
-  )
+  rup_reads t c after = (rup_only t c after, λ h. subst (λ x. ReadsStatement rup_automaton (rup_first limit) t c x) (sym h.1) (rup_each t c h.0))

@@ -4,29 +4,22 @@ use Rattle.pb_proof.proofs.Common.{subst, sym, true, cond_both, flushed-units, m
 use Rattle.pb_proof.proofs.Common.{SumEvent, sums, SumState, accepted, admits_before, final, IsAlive, refuses, reads_after, never, AcceptsItems}
 use Rattle.pb_proof.proofs.Common.{Admits, End, Go, is_large, IsState, Next, Refuse, is_blank, is_digit, Item, RupAction, Give, RupPhase, Inside}
 use Rattle.pb_proof.proofs.Common.{Tail, IsRupInOrder, linear_of, rup_act, rup_asks, rup_automaton, rup_done, rup_finish, rup_first, rup_in_number}
-use Rattle.pb_proof.proofs.Common.{rup_midway, rup_over, rup_transition, RupHolds, RupState, sum_first}
+use Rattle.pb_proof.proofs.Common.{rup_midway, rup_over, rup_transition, RupHolds, RupState, sum_first, SumPhase as Phase, SumAction as Action}
 use Rattle.pb_sums.specs.engine.Machine.{Work, Outcome, act, flushed, transition, kind, letter_at, is_numeric}
 use Rattle.pb_sums.specs.engine.State.{over, units}
 use Rattle.pb_sums.specs.declared.linear.Term.{Term}
-use Rattle.pb_sums.specs.declared.phase.Phase as sum_phase
-use Rattle.pb_sums.specs.declared.phase.Action.{Action}
-use Rattle.pb_sums.specs.declared.phase.Action.TheVariants as action
-use Rattle.pb_sums.specs.declared.SumEvent as sum
-use Rattle.pb_proof.specs.declared.line.rup.phase.RupPhase.TheVariants.{Start, Gap, Done}
-use Rattle.pb_proof.specs.declared.line.rup.phase.RupAction.TheVariants.{To, Finish, Stop}
 use Rattle.pb_text.proofs.lemmas.machine.Living.{before}
 use Rattle.pb_proof.proofs.lemmas.rup.Reads.{given_walks}
 
 -- The constraint that the sum machine gives has at most as many units as that machine had.
 acted-terms : (ys xs : List Term) (name : List ℕ) (m : Action) (e : SumEvent) (w : Work) → act ys xs name m ≡ End e w → (linear_of e).terms ≡ ys
-acted-terms ys xs name action.EndSum e w h = let f : sum.TheVariants.Sum ys ≡ e = cc in ap (λ x. (linear_of x).terms) (sym f)
-acted-terms ys xs name (action.EndLinear r z) e w h = let f : sum.TheVariants.Linear (record { terms = ys; relation = r; degree = z }) ≡ e = cc in ap (λ x. (linear_of x).terms) (sym f)
+acted-terms ys xs name Action.EndSum e w h = let f : SumEvent.Sum ys ≡ e = cc in ap (λ x. (linear_of x).terms) (sym f)
+acted-terms ys xs name (Action.EndLinear r z) e w h = let f : SumEvent.Linear (record { terms = ys; relation = r; degree = z }) ≡ e = cc in ap (λ x. (linear_of x).terms) (sym f)
 acted-terms ys xs name _ e w h = absurd (let f : ⊥ = cc in f)
 
 over-ends : (s next : SumState) (e : SumEvent) (n : Outcome) → over s n ≡ End e next → (w : Work) × (n ≡ End e w)
-over-ends s next e (Go v) h = absurd (let f : ⊥ = cc in f)
 over-ends s next e (End g v) h = let f : g ≡ e = cc in (v, ap (λ x. End x v) f)
-over-ends s next e Refuse h = absurd (let f : ⊥ = cc in f)
+over-ends s next e _ h = absurd (let f : ⊥ = cc in f)
 
 pub ended_units : (s next : SumState) (b : ℕ) (e : SumEvent) → sums.step s b ≡ End e next → units (linear_of e).terms ≤ sums.spent s
 ended_units s next b e h =
@@ -51,18 +44,18 @@ On s Refuse = Unit {0}
 
 -- what holds of a move from a phase
 abbrev OnAction : RupState → RupPhase → RupAction → Type 0
-OnAction s p (To q) = (rup_midway q ≡ true) × (RupHolds s p → RupHolds s q)
+OnAction s p (RupAction.To q) = (rup_midway q ≡ true) × (RupHolds s p → RupHolds s q)
 OnAction s p Give = RupHolds s p → (s.linear ≡ None) × (rup_in_number s p ≡ sums.in_number s.sums)
-OnAction s p Finish = RupHolds s p → sums.spent s.sums ≡ 0
-OnAction s p Stop = Unit {0}
+OnAction s p RupAction.Finish = RupHolds s p → sums.spent s.sums ≡ 0
+OnAction s p RupAction.Stop = Unit {0}
 
 on_transition : (s : RupState) (p : RupPhase) (b : ℕ) → OnAction s p (rup_transition p b)
-on_transition s Start b = cond_both (is_blank b) (To Gap) Stop (OnAction s Start) (λ e. (refl, λ h. h)) (λ e. tt)
-on_transition s Gap b = cond_both (is_blank b) (To Gap) Give (OnAction s Gap) (λ e. (refl, λ h. h)) (λ e h. (h.0, sym (ap sums.in_number h.1)))
+on_transition s RupPhase.Start b = cond_both (is_blank b) (RupAction.To RupPhase.Gap) RupAction.Stop (OnAction s RupPhase.Start) (λ e. (refl, λ h. h)) (λ e. tt)
+on_transition s RupPhase.Gap b = cond_both (is_blank b) (RupAction.To RupPhase.Gap) Give (OnAction s RupPhase.Gap) (λ e. (refl, λ h. h)) (λ e h. (h.0, sym (ap sums.in_number h.1)))
 on_transition s Inside b = λ h. (h.0, refl)
 on_transition s Tail b =
-    cond_both (is_blank b) (To Tail) _ (OnAction s Tail) (λ e. (refl, λ h. h)) (λ e. cond_both (nat_eq b 10) Finish Stop (OnAction s Tail) (λ e h. h.1) (λ e. tt))
-on_transition s Done b = tt
+    cond_both (is_blank b) (RupAction.To Tail) _ (OnAction s Tail) (λ e. (refl, λ h. h)) (λ e. cond_both (nat_eq b 10) RupAction.Finish RupAction.Stop (OnAction s Tail) (λ e h. h.1) (λ e. tt))
+on_transition s RupPhase.Done b = tt
 
 known : (s : RupState) (b : ℕ) (m : RupAction) → rup_transition s.phase b ≡ m → OnAction s s.phase m
 known s b m e = subst (OnAction s s.phase) e (on_transition s s.phase b)
@@ -77,10 +70,10 @@ on_finish s f None = tt
 on_finish s f (Some c) = λ h. (refl, ap (λ (n : ℕ). 0 + n) (f h))
 
 on_act : (s : RupState) (b : ℕ) (m : RupAction) → OnAction s s.phase m → On s (rup_act s b m)
-on_act s b (To p) k = record { begins = k.0; grows = λ h. omega arith }
+on_act s b (RupAction.To p) k = record { begins = k.0; grows = λ h. omega arith }
 on_act s b Give k = on_given s b (sums.step s.sums b) refl
-on_act s b Finish k = on_finish s (λ h. k h.holds) s.linear
-on_act s b Stop k = tt
+on_act s b RupAction.Finish k = on_finish s (λ h. k h.holds) s.linear
+on_act s b RupAction.Stop k = tt
 
 steps : (s : RupState) (b : ℕ) → On s (rup_automaton.step s b)
 steps s b = on_act s b (rup_transition s.phase b) (on_transition s s.phase b)
@@ -88,23 +81,20 @@ steps s b = on_act s b (rup_transition s.phase b) (on_transition s s.phase b)
 continues : (s next : RupState) (b : ℕ) → rup_automaton.step s b ≡ Go next → Continues s next
 continues s next b e = subst (On s) e (steps s b)
 
-ends : (s next : RupState) (b : ℕ) (c : Linear) → IsRupInOrder s → rup_automaton.step s b ≡ End c next → (rup_done next.phase ≡ true) × (rup_automaton.spent next ≡ 0)
-ends s next b c h e = subst (On s) e (steps s b) h
-
 -- after each byte that is taken the line has begun
 pub rup_begins : (s next : RupState) (b : ℕ) → rup_automaton.step s b ≡ Go next → rup_automaton.begun next ≡ true
 rup_begins s next b e = (continues s next b e).begins
 
 midway_not_done : (p : RupPhase) → rup_midway p ≡ true → rup_done p ≡ false
-midway_not_done Done h = sym h
+midway_not_done RupPhase.Done h = sym h
 midway_not_done _ h = refl
 
 done_not_midway : (p : RupPhase) → rup_done p ≡ true → rup_midway p ≡ false
-done_not_midway Done h = refl
+done_not_midway RupPhase.Done h = refl
 done_not_midway _ h = never false h refl
 
 done_stops : (s : RupState) (p : RupPhase) (b : ℕ) → rup_done p ≡ true → rup_act s b (rup_transition p b) ≡ Refuse
-done_stops s Done b h = refl
+done_stops s RupPhase.Done b h = refl
 done_stops s _ b h = never false h refl
 
 outside_plain : (s : RupState) (p : RupPhase) → rup_midway p ≡ false → rup_in_number s p ≡ false
@@ -112,14 +102,14 @@ outside_plain s Inside h = never true refl h
 outside_plain s _ h = refl
 
 empty_outside : (s : RupState) (p : RupPhase) → RupHolds s p → rup_midway p ≡ false → rup_automaton.spent s ≡ 0
-empty_outside s Start h k = rw h.0 (ap (λ (x : SumState). 0 + sums.spent x) h.1)
-empty_outside s Done h k = rw h.0 (ap (λ (n : ℕ). 0 + n) h.1)
+empty_outside s RupPhase.Start h k = rw h.0 (ap (λ (x : SumState). 0 + sums.spent x) h.1)
+empty_outside s RupPhase.Done h k = rw h.0 (ap (λ (n : ℕ). 0 + n) h.1)
 empty_outside s _ h k = never true refl k
 
 -- Each state that has not ended can end.
 finishing : (s : RupState) (c : Linear) → s.phase ≡ Tail → s.linear ≡ Some c → IsAlive rup_automaton s
 finishing s c p e =
-    final rup_automaton s (record s { phase = Done; linear = None }) 10 c (ap (λ x. rup_act s 10 (rup_transition x 10)) p ∙ ap (rup_finish s) e) [] refl
+    final rup_automaton s (record s { phase = RupPhase.Done; linear = None }) 10 c (ap (λ x. rup_act s 10 (rup_transition x 10)) p ∙ ap (rup_finish s) e) [] refl
 
 inside_alive : (s : RupState) → s.phase ≡ Inside → sums.done s.sums ≡ false → IsAlive rup_automaton s
 inside_alive s p d =
@@ -139,25 +129,25 @@ inside_alive s p d =
     same s p = rw p refl
 
 -- after blanks, with `>`
-gap_alive : (s : RupState) → s.phase ≡ Gap → s.sums ≡ sum_first s.sums.limit → IsAlive rup_automaton s
+gap_alive : (s : RupState) → s.phase ≡ RupPhase.Gap → s.sums ≡ sum_first s.sums.limit → IsAlive rup_automaton s
 gap_alive s p i =
-    let mid : RupState = record s { phase = Inside; sums = record { spaces = s.sums.spaces; part = s.sums.part; limit = s.sums.limit; work = record { terms = []; name = []; phase = sum_phase.TheVariants.Greater } } } in
+    let mid : RupState = record s { phase = Inside; sums = record { spaces = s.sums.spaces; part = s.sums.part; limit = s.sums.limit; work = record { terms = []; name = []; phase = Phase.Greater } } } in
     before rup_automaton s mid 62 (ap (λ x. rup_act s 62 (rup_transition x 62)) p ∙ stepped s i) refl (inside_alive mid refl refl)
   where
-    stepped : (s : RupState) → s.sums ≡ sum_first s.sums.limit → rup_over s (sums.step s.sums 62) ≡ Go (record s { phase = Inside; sums = record { spaces = s.sums.spaces; part = s.sums.part; limit = s.sums.limit; work = record { terms = []; name = []; phase = sum_phase.TheVariants.Greater } } })
+    stepped : (s : RupState) → s.sums ≡ sum_first s.sums.limit → rup_over s (sums.step s.sums 62) ≡ Go (record s { phase = Inside; sums = record { spaces = s.sums.spaces; part = s.sums.part; limit = s.sums.limit; work = record { terms = []; name = []; phase = Phase.Greater } } })
     stepped s i = rw i refl
 
-start_alive : (s : RupState) → s.phase ≡ Start → s.sums ≡ sum_first s.sums.limit → IsAlive rup_automaton s
+start_alive : (s : RupState) → s.phase ≡ RupPhase.Start → s.sums ≡ sum_first s.sums.limit → IsAlive rup_automaton s
 start_alive s p i =
-    let mid : RupState = record s { phase = Gap } in
+    let mid : RupState = record s { phase = RupPhase.Gap } in
     before rup_automaton s mid 32 (ap (λ x. rup_act s 32 (rup_transition x 32)) p) refl (gap_alive mid refl i)
 
 alive : (s : RupState) (p : RupPhase) → s.phase ≡ p → RupHolds s p → rup_done p ≡ false → IsAlive rup_automaton s
-alive s Start e h d = start_alive s e h.1
-alive s Gap e h d = gap_alive s e h.1
+alive s RupPhase.Start e h d = start_alive s e h.1
+alive s RupPhase.Gap e h d = gap_alive s e h.1
 alive s Inside e h d = inside_alive s e h.1
 alive s Tail e h d = finishing s h.0.0 e h.0.1
-alive s Done e h d = never true refl d
+alive s RupPhase.Done e h d = never true refl d
 
 live : (s : RupState) → IsRupInOrder s → (d : Bool) → rup_done s.phase ≡ d → (items : List (Item Linear)) × AcceptsItems rup_automaton s items
 live s h true d = ([], d)
@@ -169,7 +159,7 @@ rup_is_state s h = record {
   ends = λ d b. done_stops s s.phase b d;
   owes = λ b next e. midway_not_done next.phase (continues s next b e).begins;
   stays = λ i b next e. (continues s next b e).begins;
-  finishes = λ b c next e. done_not_midway next.phase (ends s next b c h e).0;
+  finishes = λ b c next e. done_not_midway next.phase (subst (On s) e (steps s b) h).0;
   plain = λ o. outside_plain s s.phase o;
   grows = λ b next e. (continues s next b e).grows h;
   bounds = omega (arith, h.state.bounds);
@@ -182,20 +172,14 @@ rup_first_in_order limit state = record { holds = (refl, refl); state = state }
 
 -- What holds of the machine after a byte.
 pub give_order : (s : RupState) → IsRupInOrder s → (b : ℕ) (inner : SumState) → rup_transition s.phase b ≡ Give → sums.step s.sums b ≡ Go inner → IsState sums inner → IsRupInOrder (record s { phase = Inside; sums = inner })
-give_order s h b inner e g state = record {
-  holds = ((known s b Give e h.holds).0, midway-not-done inner.work.phase (continues-midway s.sums inner b g));
-  state = state;
-}
+give_order s h b inner e g state = grind (arith, known, h.holds, midway-not-done, inner.work.phase, continues-midway, s.sums)
 
 pub tail_order : (s : RupState) (b : ℕ) (e : SumEvent) (inner : SumState) → sums.step s.sums b ≡ End e inner → IsState sums inner → IsRupInOrder (record { phase = Tail; sums = inner; linear = Some (linear_of e) })
 tail_order s b e inner g state = record { holds = ((linear_of e, refl), ended_empty s.sums inner b e g); state = state }
 
 module _ (s : RupState) (h : IsRupInOrder s) (b : ℕ) (planned : rup_transition s.phase b ≡ Give) where
   pub give_refused : sums.step s.sums b ≡ Refuse → (rup_automaton.step s b ≡ Refuse) × (is_large rup_automaton s b ≡ is_large sums s.sums b)
-  give_refused stops = (
-    ap (rup_act s b) planned ∙ ap (rup_over s) stops,
-    ap (λ (x : Bool). x && is_digit b) (known s b Give planned h.holds).1,
-  )
+  give_refused stops = (ap (rup_act s b) planned ∙ ap (rup_over s) stops, ap (λ (x : Bool). x && is_digit b) (known s b Give planned h.holds).1)
 
   by_step : (n : Next SumState SumEvent) → sums.step s.sums b ≡ n → Admits sums s.sums b → Admits rup_automaton s b
   by_step (Go inner) e a =

@@ -1,16 +1,13 @@
 -- Names and literals that grow at their end.
-use Rattle.pb_proof.proofs.Common.{ℕ, ◌++◌, ◌∷◌, ◌≡◌, [], Bool, IsTrue, List, first-append, FirstOf, LiteralOf, name-append, name-bytes, grown}
-use Rattle.pb_proof.proofs.Common.{is_name_byte, ◌⋅◌, Language, unmarked, Letter, ◌∙◌, ap, cond, false, refl, subst, sym, true, Literal}
-use Rattle.pb_proof.proofs.Common.{SpellsLiteral, Keeps, On, letter_name, after_it, next, nil_first, none_yet, regroup3, as_unmarked, Next, is_blank}
-use Rattle.pb_proof.proofs.Common.{Blanks0, Blanks1, Byte, Empty, NameByte, SolutionPhase, First, More, Negation, name_byte, flushed, literal}
-use Rattle.pb_proof.proofs.Common.{solution_automaton, SolutionState, SpellsJoined, LineEnd, Listed, append-nil, append_assoc, inl, inr, map}
-use Rattle.pb_proof.proofs.Common.{reads_after, Walks, walks_then, End, Go, ReadsStatement, is_letter, Each, solution_at, solution_first}
-use Rattle.pb_proof.proofs.Common.{solution_last}
+use Rattle.pb_proof.proofs.Common.{ℕ, ◌++◌, ◌∷◌, ◌≡◌, [], Bool, IsTrue, List, first-append, FirstOf, LiteralOf, name-append, name-bytes, grown, is_name_byte}
+use Rattle.pb_proof.proofs.Common.{◌⋅◌, Language, unmarked, Letter, ◌∙◌, ap, cond, false, refl, subst, sym, true, Literal, SpellsLiteral, Keeps, On}
+use Rattle.pb_proof.proofs.Common.{letter_name, after_it, next, nil_first, none_yet, regroup3, as_unmarked, Next, is_blank, Blanks0, Blanks1, Byte, Empty}
+use Rattle.pb_proof.proofs.Common.{NameByte, SolutionPhase, First, More, Negation, name_byte, flushed, literal, solution_automaton, SolutionState}
+use Rattle.pb_proof.proofs.Common.{SpellsJoined, LineEnd, Listed, append-nil, append_assoc, inl, inr, map, reads_after, Walks, walks_then, End, Go}
+use Rattle.pb_proof.proofs.Common.{ReadsStatement, is_letter, Each, solution_at, solution_first, solution_last}
 use Rattle.pb_proof.specs.engine.line.Solution.{act, transition, next_action, before, step}
-use Rattle.pb_proof.specs.declared.line.solution.phase.SolutionPhase.TheVariants.{Start, Gap, Closing, Done}
 use Rattle.pb_proof.proofs.lemmas.line.ByteKinds.{NameMeans, name_means, name_blank, name_letter, name_inner}
 use Rattle.pb_proof.proofs.lemmas.line.Ends.{TakesBlanks, MayEnd, closing_feeds, blanks1_lead, line_reads, listed_walks}
-use Rattle.pb_proof.specs.declared.line.byte_kind.NameByte.TheVariants as kind
 use Rattle.pb_proof.proofs.lemmas.line.Ends as ends
 
 -- a second byte, and more of them
@@ -64,13 +61,13 @@ whole true [] q h = nil_first LineEnd q h
 whole true (l ∷ ls) q h = h
 
 abbrev pub prefix : Bool → SolutionPhase → List Literal → List ℕ → Language
-prefix joined Start ls name = λ t. (ls ≡ []) × Empty t
-prefix joined Gap ls name = Row joined ls ⋅ Blanks1
+prefix joined SolutionPhase.Start ls name = λ t. (ls ≡ []) × Empty t
+prefix joined SolutionPhase.Gap ls name = Row joined ls ⋅ Blanks1
 prefix joined Negation ls name = Before joined ls ⋅ Byte 126
 prefix joined (First negated) ls name = Before joined ls ⋅ FirstOf negated name
 prefix joined (More negated) ls name = Before joined ls ⋅ LiteralOf negated name
-prefix joined Closing ls name = ends.Closing (Row joined ls)
-prefix joined Done ls name = λ t. ⊥
+prefix joined SolutionPhase.Closing ls name = ends.Closing (Row joined ls)
+prefix joined SolutionPhase.Done ls name = λ t. ⊥
 
 abbrev pub Prefix : SolutionState → Language
 Prefix s = prefix s.joined s.phase s.literals s.name
@@ -84,15 +81,15 @@ OnNext = On solution_automaton Prefix Whole
 module _ (joined : Bool) where
   after_sound : (ms ls : List Literal) (name : List ℕ) (k : NameByte) (l : Letter) (p : List Letter) → NameMeans k l.byte → ends.Gapped (Row joined ms) p
       → (IsTrue (is_blank l.byte) → l.numeral ≡ false → (Row joined ms ⋅ Blanks1) (p ++ l ∷ [])) → OnNext (act joined ms ls name (next_action k)) l (p ++ l ∷ [])
-  after_sound ms ls name kind.Blank l p m h f = λ _ n. f m n
-  after_sound ms ls name kind.Semicolon l p m h f = λ _ n. ends.semicolon_after_blanks (Row joined ms) l p m n h
-  after_sound ms ls name kind.Feed l p m h f = λ n. whole joined ms (p ++ l ∷ []) (ends.line_after_blanks (Row joined ms) l p m n h)
+  after_sound ms ls name NameByte.Blank l p m h f = λ _ n. f m n
+  after_sound ms ls name NameByte.Semicolon l p m h f = λ _ n. ends.semicolon_after_blanks (Row joined ms) l p m n h
+  after_sound ms ls name NameByte.Feed l p m h f = λ n. whole joined ms (p ++ l ∷ []) (ends.line_after_blanks (Row joined ms) l p m n h)
   after_sound ms ls name _ l p m h f = tt
 
   before_sound : (ls : List Literal) (name : List ℕ) (k : NameByte) (l : Letter) (p : List Letter) → NameMeans k l.byte → Before joined ls p → ends.Gapped (Row joined ls) p
       → (IsTrue (is_blank l.byte) → l.numeral ≡ false → (Row joined ls ⋅ Blanks1) (p ++ l ∷ [])) → OnNext (act joined ls ls name (before k)) l (p ++ l ∷ [])
-  before_sound ls name kind.Tilde l p m b h f = λ _ n. next (Before joined ls) (Byte 126) p l b (ap (λ x. x ∷ []) (as_unmarked l 126 n m))
-  before_sound ls name (kind.Letter c) l p m b h f =
+  before_sound ls name NameByte.Tilde l p m b h f = λ _ n. next (Before joined ls) (Byte 126) p l b (ap (λ x. x ∷ []) (as_unmarked l 126 n m))
+  before_sound ls name (NameByte.Letter c) l p m b h f =
       λ _ n. next (Before joined ls) (FirstOf false (c ∷ [])) p l b (m.1, ap (λ x. x ∷ []) (as_unmarked l c n m.0))
   before_sound ls name k l p m b h f = after_sound ls ls name k l p m h f
 
@@ -110,24 +107,24 @@ start_sound false ls name k l p m e h =
 module _ (joined : Bool) where
   sound : (ph : SolutionPhase) (ls : List Literal) (name : List ℕ) (k : NameByte) (l : Letter) (p : List Letter) → NameMeans k l.byte → prefix joined ph ls name p
       → OnNext (act joined (flushed ph ls name) ls name (transition joined ph k)) l (p ++ l ∷ [])
-  sound Start ls name k l p m h = start_sound joined ls name k l p m h.0 h.1
-  sound Gap ls name k l p m h =
+  sound SolutionPhase.Start ls name k l p m h = start_sound joined ls name k l p m h.0 h.1
+  sound SolutionPhase.Gap ls name k l p m h =
       before_sound joined ls name k l p m (before_of joined ls p h) (ends.gapped_some (Row joined ls) p h) (λ b n. ends.blanks_go_on (Row joined ls) l p b n h)
-  sound Negation ls name (kind.Letter c) l p m h =
+  sound Negation ls name (NameByte.Letter c) l p m h =
       λ _ n. grown (Before joined ls) (Byte 126) (FirstOf true (c ∷ [])) p l
       (λ q r. (m.1, ap (λ x. x ++ l ∷ []) r ∙ ap (λ y. unmarked 126 ∷ y ∷ []) (as_unmarked l c n m.0))) h
-  sound (First negated) ls name (kind.Letter c) l p m h =
+  sound (First negated) ls name (NameByte.Letter c) l p m h =
       λ _ n. first_grown (Before joined ls) negated name c l p (as_unmarked l c n m.0) (letter_name c m.1) h
-  sound (First negated) ls name (kind.Inner c) l p m h = λ _ n. first_grown (Before joined ls) negated name c l p (as_unmarked l c n m.0) m.1 h
-  sound (More negated) ls name (kind.Letter c) l p m h =
+  sound (First negated) ls name (NameByte.Inner c) l p m h = λ _ n. first_grown (Before joined ls) negated name c l p (as_unmarked l c n m.0) m.1 h
+  sound (More negated) ls name (NameByte.Letter c) l p m h =
       λ _ n. more_grown (Before joined ls) negated name c l p (as_unmarked l c n m.0) (letter_name c m.1) h
-  sound (More negated) ls name (kind.Inner c) l p m h = λ _ n. more_grown (Before joined ls) negated name c l p (as_unmarked l c n m.0) m.1 h
+  sound (More negated) ls name (NameByte.Inner c) l p m h = λ _ n. more_grown (Before joined ls) negated name c l p (as_unmarked l c n m.0) m.1 h
   sound (More negated) ls name k l p m h =
       let ms : List Literal = ls ++ literal negated name ∷ [] in
       let r : Row joined ms p = row_append joined ls (literal negated name) p h in
       after_sound joined ms ls name k l p m (ends.gapped (Row joined ms) p r) (λ b n. ends.blanks_begin (Row joined ms) l p b n r)
-  sound Closing ls name kind.Blank l p m h = λ _ n. ends.blank_closing (Row joined ls) l p m n h
-  sound Closing ls name kind.Feed l p m h = λ n. whole joined ls (p ++ l ∷ []) (ends.line_closing (Row joined ls) l p m n h)
+  sound SolutionPhase.Closing ls name NameByte.Blank l p m h = λ _ n. ends.blank_closing (Row joined ls) l p m n h
+  sound SolutionPhase.Closing ls name NameByte.Feed l p m h = λ n. whole joined ls (p ++ l ∷ []) (ends.line_closing (Row joined ls) l p m n h)
   sound _ ls name k l p m h = tt
 
 pub keeps_prefix : Keeps solution_automaton Prefix Whole
@@ -140,10 +137,10 @@ module _ (joined : Bool) where
   S = SolutionState
 
   abbrev at_gap : List Literal → S
-  at_gap ls = solution_at joined ls [] Gap
+  at_gap ls = solution_at joined ls [] SolutionPhase.Gap
 
   abbrev at_closing : List Literal → S
-  at_closing ls = solution_at joined ls [] Closing
+  at_closing ls = solution_at joined ls [] SolutionPhase.Closing
 
   abbrev at_more : List Literal → Bool → List ℕ → S
   at_more ls negated name = solution_at joined ls name (More negated)
@@ -159,22 +156,20 @@ module _ (joined : Bool) where
 
   more_after : (ls : List Literal) (negated : Bool) (name : List ℕ) → IsAfter (ls ++ literal negated name ∷ []) (at_more ls negated name)
   more_after ls negated name = record {
-    blank = λ b h. by_kind (at_more ls negated name) b kind.Blank (name_blank b h);
+    blank = λ b h. by_kind (at_more ls negated name) b NameByte.Blank (name_blank b h);
     semicolon = refl;
     feed = refl;
   }
 
   takes_blanks : (ls : List Literal) (s : S) → IsAfter ls s → TakesBlanks solution_automaton s (at_gap ls)
-  takes_blanks ls s h = record { enters = h.blank; stays = λ b i. by_kind (at_gap ls) b kind.Blank (name_blank b i); begun = refl; plain = refl }
+  takes_blanks ls s h = record { enters = h.blank; stays = λ b i. by_kind (at_gap ls) b NameByte.Blank (name_blank b i); begun = refl; plain = refl }
 
   may_end : (ls : List Literal) (s : S) → IsAfter ls s → MayEnd solution_automaton s (at_gap ls) (at_closing ls) ls (solution_last joined)
   may_end ls s h = record {
     feeds = record { blanks = takes_blanks ls s h; ends = h.feed; ends_gap = refl };
     finishes = h.semicolon;
     closes_gap = refl;
-    begun = refl;
-    plain = refl;
-    last = closing_feeds solution_automaton (at_closing ls) (solution_last joined) ls (λ b i. by_kind (at_closing ls) b kind.Blank (name_blank b i)) refl refl refl;
+    last = closing_feeds solution_automaton (at_closing ls) (solution_last joined) ls (λ b i. by_kind (at_closing ls) b NameByte.Blank (name_blank b i)) refl refl refl;
   }
 
   -- A literal may begin here.
@@ -183,13 +178,13 @@ module _ (joined : Bool) where
     pub letter : (b : ℕ) → IsTrue (is_letter b) → solution_automaton.step s b ≡ Go (solution_at joined ls (b ∷ []) (First false))
 
   gap_opens : (ls : List Literal) → Opens ls (at_gap ls)
-  gap_opens ls = record { tilde = refl; letter = λ b h. by_kind (at_gap ls) b (kind.Letter b) (name_letter b h) }
+  gap_opens ls = record { tilde = refl; letter = λ b h. by_kind (at_gap ls) b (NameByte.Letter b) (name_letter b h) }
 
   -- a state that takes letters and other bytes of names in the same way
-  name_step : (s next : S) (b : ℕ) → step s (kind.Letter b) ≡ Go next → step s (kind.Inner b) ≡ Go next → IsTrue (is_name_byte b) → solution_automaton.step s b ≡ Go next
+  name_step : (s next : S) (b : ℕ) → step s (NameByte.Letter b) ≡ Go next → step s (NameByte.Inner b) ≡ Go next → IsTrue (is_name_byte b) → solution_automaton.step s b ≡ Go next
   name_step s next b f g h = elim (name_inner b h) [
-    | inl e ↦ by_kind s b (kind.Letter b) e ∙ f
-    | inr e ↦ by_kind s b (kind.Inner b) e ∙ g
+    | inl e ↦ by_kind s b (NameByte.Letter b) e ∙ f
+    | inr e ↦ by_kind s b (NameByte.Inner b) e ∙ g
   ]
 
   name_walks : (ls : List Literal) (negated : Bool) (name bs : List ℕ) → Each (λ b. IsTrue (is_name_byte b)) bs
@@ -213,50 +208,41 @@ module _ (joined : Bool) where
   literal_walks : (ls : List Literal) (s : S) (negated : Bool) (name : List ℕ) (t : List Letter) → Opens ls s → SpellsLiteral (literal negated name) t
       → Walks solution_automaton s t (at_more ls negated name)
   literal_walks ls s true (a ∷ b ∷ bs) t o h =
-      let second = by_kind (solution_at joined ls [] Negation) a (kind.Letter a) (name_letter a h.0.0) in
-      subst (λ x. Walks solution_automaton s x (at_more ls true (a ∷ b ∷ bs))) (sym h.1)
+      let second = by_kind (solution_at joined ls [] Negation) a (NameByte.Letter a) (name_letter a h.0.0) in
+      rw h.1
       (solution_at joined ls [] Negation, o.tilde, refl, refl, (solution_at joined ls (a ∷ []) (First true), second, refl, refl, first_walks ls true a b bs h.0.1))
   literal_walks ls s false (a ∷ b ∷ bs) t o h =
-      subst (λ x. Walks solution_automaton s x (at_more ls false (a ∷ b ∷ bs))) (sym h.1)
-      (solution_at joined ls (a ∷ []) (First false), o.letter a h.0.0, refl, refl, first_walks ls false a b bs h.0.1)
+      rw h.1 (solution_at joined ls (a ∷ []) (First false), o.letter a h.0.0, refl, refl, first_walks ls false a b bs h.0.1)
   literal_walks ls s negated _ t o h = absurd h.0
 
   -- a further literal
   further_walks : (ls : List Literal) (l : Literal) (s : S) (t : List Letter) → IsAfter ls s → (Blanks1 ⋅ SpellsLiteral l) t
       → Walks solution_automaton s t (at_more ls l.negated l.name)
   further_walks ls l s t h (a, b, e, i, k) =
-      subst (λ x. Walks solution_automaton s x (at_more ls l.negated l.name)) (sym e)
-      (walks_then solution_automaton a b s (at_gap ls) (at_more ls l.negated l.name)
+      rw e (walks_then solution_automaton a b s (at_gap ls) (at_more ls l.negated l.name)
       (blanks1_lead solution_automaton s (at_gap ls) (takes_blanks ls s h) a i)
       (literal_walks ls (at_gap ls) l.negated l.name b (gap_opens ls) k))
-
-  one_more : (ls : List Literal) (l : Literal) (s : S) (t : List Letter) → IsAfter ls s → (Blanks1 ⋅ SpellsLiteral l) t
-      → (after : S) × Walks solution_automaton s t after × IsAfter (ls ++ l ∷ []) after
-  one_more ls l s t h k = (at_more ls l.negated l.name, further_walks ls l s t h k, more_after ls l.negated l.name)
 
   -- literals with blanks before each, and the end of the line
   row_reads : (ls ms : List Literal) (s : S) (t : List Letter) → IsAfter ls s → (Listed SpellsLiteral ms ⋅ LineEnd) t → ReadsStatement solution_automaton s t (ls ++ ms) (solution_last joined)
   row_reads ls ms s t h (a, b, e, i, k) =
-      let (mid, w, g) = listed_walks SpellsLiteral solution_automaton IsAfter one_more ls ms s a h i in
-      subst (λ x. ReadsStatement solution_automaton s x (ls ++ ms) (solution_last joined)) (sym e)
-      (reads_after solution_automaton a b s mid (solution_last joined) (ls ++ ms) w
+      let (mid, w, g) = listed_walks SpellsLiteral solution_automaton IsAfter (λ xs x r u g k. (at_more xs x.negated x.name, further_walks xs x r u g k, more_after xs x.negated x.name)) ls ms s a h i in
+      rw e (reads_after solution_automaton a b s mid (solution_last joined) (ls ++ ms) w
       (line_reads solution_automaton mid (at_gap (ls ++ ms)) (at_closing (ls ++ ms)) (solution_last joined) (ls ++ ms) (may_end (ls ++ ms) mid g) b k))
 
 first_after : (joined : Bool) → IsAfter joined [] (solution_first joined)
-first_after true = record { blank = λ b h. by_kind true (solution_first true) b kind.Blank (name_blank b h); semicolon = refl; feed = refl }
-first_after false = record { blank = λ b h. by_kind false (solution_first false) b kind.Blank (name_blank b h); semicolon = refl; feed = refl }
+first_after true = record { blank = λ b h. by_kind true (solution_first true) b NameByte.Blank (name_blank b h); semicolon = refl; feed = refl }
+first_after false = record { blank = λ b h. by_kind false (solution_first false) b NameByte.Blank (name_blank b h); semicolon = refl; feed = refl }
 
 first_opens : Opens true [] (solution_first true)
-first_opens = record { tilde = refl; letter = λ b h. by_kind true (solution_first true) b (kind.Letter b) (name_letter b h) }
+first_opens = record { tilde = refl; letter = λ b h. by_kind true (solution_first true) b (NameByte.Letter b) (name_letter b h) }
 
 -- the first literal, if it is joined
 first_joined : (l : Literal) (t : List Letter) → (Blanks0 ⋅ SpellsLiteral l) t → Walks solution_automaton (solution_first true) t (at_more true [] l.negated l.name)
 first_joined l t (a, b, e, ([], i, f), k) =
     let g : t ≡ b = e ∙ ap (λ x. x ++ b) f in
-    subst (λ x. Walks solution_automaton (solution_first true) x (at_more true [] l.negated l.name)) (sym g)
-    (literal_walks true [] (solution_first true) l.negated l.name b first_opens k)
-first_joined l t (a, b, e, (c ∷ cs, i, f), k) =
-    further_walks true [] l (solution_first true) t (first_after true) (a, b, e, (c, cs, i.0, i.1, f), k)
+    rw g (literal_walks true [] (solution_first true) l.negated l.name b first_opens k)
+first_joined l t (a, b, e, (c ∷ cs, i, f), k) = further_walks true [] l (solution_first true) t (first_after true) (a, b, e, (c, cs, i.0, i.1, f), k)
 
 pub reads_each : (joined : Bool) (e : List Literal) (t : List Letter) → SpellsJoined joined e t → ReadsStatement solution_automaton (solution_first joined) t e (solution_last joined)
 reads_each false e t h = row_reads false [] e (solution_first false) t (first_after false) h
@@ -264,7 +250,6 @@ reads_each true [] t h =
     line_reads solution_automaton (solution_first true) (at_gap true []) (at_closing true []) (solution_last true) [] (may_end true [] (solution_first true) (first_after true)) t h
 reads_each true (l ∷ ls) t (abc, d, e, (ab, c, f, h, i), k) =
     let g : t ≡ ab ++ (c ++ d) = e ∙ (ap (λ x. x ++ d) f ∙ append_assoc ab c d) in
-    subst (λ x. ReadsStatement solution_automaton (solution_first true) x (l ∷ ls) (solution_last true)) (sym g)
-    (reads_after solution_automaton ab (c ++ d) (solution_first true) (at_more true [] l.negated l.name) (solution_last true) (l ∷ ls)
+    rw g (reads_after solution_automaton ab (c ++ d) (solution_first true) (at_more true [] l.negated l.name) (solution_last true) (l ∷ ls)
     (first_joined l ab h)
     (row_reads true (l ∷ []) ls (at_more true [] l.negated l.name) (c ++ d) (more_after true [] l.negated l.name) (c, d, refl, i, k)))

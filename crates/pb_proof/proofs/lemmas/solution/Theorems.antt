@@ -6,49 +6,45 @@ use Rattle.pb_proof.proofs.Common.{SolutionPhase, First, More, Negation, name_by
 use Rattle.pb_proof.proofs.Common.{solution_automaton, solution_first, solution_last, SolutionState, SpellsJoined, ◌<◌, ◌||◌, ◌∙◌, get_or, IsTrue}
 use Rattle.pb_proof.proofs.Common.{min, take, take_more, admits, end_or_refuse, go_or_refuse, Admits, adds, is_more}
 use Rattle.pb_proof.specs.engine.line.Solution.{act, transition, next_action, before, is_midway, is_done, units, in_hand, ready, all_units}
-use Rattle.pb_proof.specs.declared.line.solution.phase.SolutionPhase.TheVariants.{Start, Gap, Closing, Done}
 use Rattle.pb_proof.proofs.lemmas.solution.Texts.{reads_each, Prefix, Whole, keeps_prefix}
 use Rattle.pb_proof.proofs.lemmas.line.Ends.{reads_exactly}
 use Rattle.pb_sums.proofs.lemmas.machine.Counts.{counted}
-use Rattle.pb_proof.specs.declared.line.byte_kind.NameByte.TheVariants as kind
-use Rattle.pb_proof.specs.declared.line.solution.phase.SolutionAction as action
 
 -- The phase that a move leads to is midway, and a literal is being read if a name has begun.
 abbrev IsSane : Bool → SolutionPhase → SolutionAction → Type 0
-IsSane joined ph (action.TheVariants.To q) = (is_midway q ≡ true) × (in_hand q ≡ 0)
-IsSane joined ph (action.TheVariants.Begin q b) = (is_midway q ≡ true) × (in_hand q + ready joined q ≡ 1) × (ready joined ph ≡ 1)
-IsSane joined ph (action.TheVariants.Add q b) =
-    (is_midway q ≡ true) × (in_hand q + ready joined q ≡ 1) × (in_hand ph ≡ 1)
+IsSane joined ph (SolutionAction.To q) = (is_midway q ≡ true) × (in_hand q ≡ 0)
+IsSane joined ph (SolutionAction.Begin q b) = (is_midway q ≡ true) × (in_hand q + ready joined q ≡ 1) × (ready joined ph ≡ 1)
+IsSane joined ph (SolutionAction.Add q b) = (is_midway q ≡ true) × (in_hand q + ready joined q ≡ 1) × (in_hand ph ≡ 1)
 IsSane joined ph _ = Unit {0}
 
 after_sane : (joined : Bool) (ph : SolutionPhase) (k : NameByte) → IsSane joined ph (next_action k)
-after_sane joined ph kind.Blank = (refl, refl)
-after_sane joined ph kind.Semicolon = (refl, refl)
+after_sane joined ph NameByte.Blank = (refl, refl)
+after_sane joined ph NameByte.Semicolon = (refl, refl)
 after_sane joined ph _ = tt
 
 before_sane : (joined : Bool) (ph : SolutionPhase) (k : NameByte) → ready joined ph ≡ 1 → IsSane joined ph (before k)
-before_sane joined ph kind.Tilde h = (refl, refl)
-before_sane joined ph (kind.Letter b) h = (refl, refl, h)
+before_sane joined ph NameByte.Tilde h = (refl, refl)
+before_sane joined ph (NameByte.Letter b) h = (refl, refl, h)
 before_sane joined ph k h = after_sane joined ph k
 
-start_sane : (joined : Bool) (k : NameByte) → IsSane joined Start (cond joined (before k) (next_action k))
-start_sane true k = before_sane true Start k refl
-start_sane false k = after_sane false Start k
+start_sane : (joined : Bool) (k : NameByte) → IsSane joined SolutionPhase.Start (cond joined (before k) (next_action k))
+start_sane true k = before_sane true SolutionPhase.Start k refl
+start_sane false k = after_sane false SolutionPhase.Start k
 
 transition_sane : (joined : Bool) (ph : SolutionPhase) (k : NameByte) → IsSane joined ph (transition joined ph k)
-transition_sane joined Start k = start_sane joined k
-transition_sane joined Gap k = before_sane joined Gap k refl
-transition_sane joined Negation (kind.Letter b) = (refl, refl, refl)
-transition_sane joined (First negated) (kind.Letter b) = (refl, refl, refl)
-transition_sane joined (First negated) (kind.Inner b) = (refl, refl, refl)
-transition_sane joined (More negated) (kind.Letter b) = (refl, refl, refl)
-transition_sane joined (More negated) (kind.Inner b) = (refl, refl, refl)
+transition_sane joined SolutionPhase.Start k = start_sane joined k
+transition_sane joined SolutionPhase.Gap k = before_sane joined SolutionPhase.Gap k refl
+transition_sane joined Negation (NameByte.Letter b) = (refl, refl, refl)
+transition_sane joined (First negated) (NameByte.Letter b) = (refl, refl, refl)
+transition_sane joined (First negated) (NameByte.Inner b) = (refl, refl, refl)
+transition_sane joined (More negated) (NameByte.Letter b) = (refl, refl, refl)
+transition_sane joined (More negated) (NameByte.Inner b) = (refl, refl, refl)
 transition_sane joined (More negated) k = after_sane joined (More negated) k
-transition_sane joined Closing kind.Blank = (refl, refl)
+transition_sane joined SolutionPhase.Closing NameByte.Blank = (refl, refl)
 transition_sane _ _ _ = tt
 
 midway_begun : (joined : Bool) (ph : SolutionPhase) → is_midway ph ≡ true → is_begun joined ph ≡ true
-midway_begun joined Start h = cc
+midway_begun joined SolutionPhase.Start h = cc
 midway_begun joined _ h = h
 
 -- what is stored grows by at most one unit per byte
@@ -62,8 +58,8 @@ flushed_units (First negated) ls name = omega arith
 flushed_units _ ls name = omega arith
 
 ready_one : (joined : Bool) (ph : SolutionPhase) → ready joined ph ≤ 1
-ready_one true Start = omega arith
-ready_one false Start = omega arith
+ready_one true SolutionPhase.Start = omega arith
+ready_one false SolutionPhase.Start = omega arith
 ready_one joined _ = omega arith
 
 abbrev spent : SolutionState → ℕ
@@ -101,14 +97,13 @@ module _ (joined : Bool) (ls : List Literal) (name : List ℕ) (ph : SolutionPha
   }
 
   acted : (m : SolutionAction) (next : SolutionState) → IsSane joined ph m → act joined (flushed ph ls name) ls name m ≡ Go next → Steps here next
-  acted (action.TheVariants.To q) next h e = subst (λ x. Steps here x) (one_state _ next e) (to_steps q h.0 h.1)
-  acted (action.TheVariants.Begin q b) next h e = subst (λ x. Steps here x) (one_state _ next e) (begin_steps q b h.0 h.1 h.2)
-  acted (action.TheVariants.Add q b) next h e =
-      subst (λ x. Steps here x) (one_state _ next e) (add_steps q b h.0 h.1 h.2)
+  acted (SolutionAction.To q) next h e = subst (λ x. Steps here x) (one_state _ next e) (to_steps q h.0 h.1)
+  acted (SolutionAction.Begin q b) next h e = subst (λ x. Steps here x) (one_state _ next e) (begin_steps q b h.0 h.1 h.2)
+  acted (SolutionAction.Add q b) next h e = subst (λ x. Steps here x) (one_state _ next e) (add_steps q b h.0 h.1 h.2)
   acted _ next h e = cc
 
   ended : (m : SolutionAction) (next : SolutionState) (e : List Literal) → act joined (flushed ph ls name) ls name m ≡ End e next → next ≡ solution_last joined
-  ended (action.TheVariants.To q) next e i = cc
+  ended (SolutionAction.To q) next e i = cc
   ended _ next e i = cc
 
 continues : (s next : SolutionState) (b : ℕ) → solution_automaton.step s b ≡ Go next → Steps s next
@@ -118,12 +113,12 @@ abbrev last : SolutionState → SolutionState
 last s = solution_last s.joined
 
 owes : (joined : Bool) (ph : SolutionPhase) → is_begun joined ph ≡ true → is_done ph ≡ false
-owes joined Done h = sym h
+owes joined SolutionPhase.Done h = sym h
 owes joined _ h = refl
 
 stops : (joined : Bool) (ph : SolutionPhase) (ls : List Literal) (name : List ℕ) (k : NameByte) → is_done ph ≡ true
     → act joined (flushed ph ls name) ls name (transition joined ph k) ≡ Refuse
-stops joined Done ls name k h = refl
+stops joined SolutionPhase.Done ls name k h = refl
 stops joined _ ls name k h = cc
 
 -- a further byte or two of a name, and the line feed
@@ -135,14 +130,12 @@ some_name joined negated ls name =
     reads_before solution_automaton (solution_at joined ls name (First negated)) (solution_at joined ls (name ++ 97 ∷ []) (More negated)) 97 refl refl (some_more joined negated ls (name ++ 97 ∷ []))
 
 some_text : (joined : Bool) (ph : SolutionPhase) (ls : List Literal) (name : List ℕ) → is_done ph ≡ false → ReadsOn solution_automaton (solution_at joined ls name ph)
-some_text true Start ls name h = (unmarked 10 ∷ [], ls, solution_last true, (refl, refl))
-some_text false Start ls name h = (unmarked 10 ∷ [], ls, solution_last false, (refl, refl))
-some_text joined Gap ls name h = (unmarked 10 ∷ [], ls, solution_last joined, (refl, refl))
+some_text true SolutionPhase.Start ls name h = (unmarked 10 ∷ [], ls, solution_last true, (refl, refl))
 some_text joined Negation ls name h = reads_before solution_automaton (solution_at joined ls name Negation) (solution_at joined ls (97 ∷ []) (First true)) 97 refl refl (some_name joined true ls (97 ∷ []))
 some_text joined (First negated) ls name h = some_name joined negated ls name
 some_text joined (More negated) ls name h = some_more joined negated ls name
-some_text joined Closing ls name h = (unmarked 10 ∷ [], ls, solution_last joined, (refl, refl))
-some_text joined Done ls name h = cc
+some_text joined SolutionPhase.Done ls name h = cc
+some_text joined _ ls name h = (unmarked 10 ∷ [], ls, solution_last joined, (refl, refl))
 
 pub solution_of_one : IsOfOne solution_automaton IsSolutionInOrder last
 solution_of_one = record {
@@ -169,9 +162,9 @@ pub solution_is_state : (s : SolutionState) → IsSolutionInOrder s → IsState 
 solution_is_state s h = is_state solution_automaton IsSolutionInOrder last solution_of_one s h (λ i. empty s.joined s.phase s.literals s.name i h)
   where
     begun_midway : (joined : Bool) (ph : SolutionPhase) → is_begun joined ph ≡ false → (is_midway ph ≡ false) × (in_hand ph ≡ 0) × (ready joined ph ≡ 0)
-    begun_midway true Start i = cc
-    begun_midway false Start i = (refl, refl, refl)
-    begun_midway joined Done i = (refl, refl, refl)
+    begun_midway true SolutionPhase.Start i = cc
+    begun_midway false SolutionPhase.Start i = (refl, refl, refl)
+    begun_midway joined SolutionPhase.Done i = (refl, refl, refl)
     begun_midway joined _ i = cc
 
     empty : (joined : Bool) (ph : SolutionPhase) (ls : List Literal) (name : List ℕ) → is_begun joined ph ≡ false → IsSolutionInOrder (solution_at joined ls name ph)
@@ -184,15 +177,13 @@ solution_is_state s h = is_state solution_automaton IsSolutionInOrder last solut
 -- A push of the literals machine does what its transition says.
 
 abbrev pub IsTaken : SolutionAction → Type 0
-IsTaken action.TheVariants.Stop = ⊥
+IsTaken SolutionAction.Stop = ⊥
 IsTaken _ = Unit {0}
 
 taken_acts : (joined : Bool) (ms ls : List Literal) (name : List ℕ) (m : SolutionAction) → IsTaken m → act joined ms ls name m ≡ Refuse → ⊥
-taken_acts joined ms ls name (action.TheVariants.To q) h e = go_or_refuse _ e
-taken_acts joined ms ls name (action.TheVariants.Begin q b) h e = go_or_refuse _ e
-taken_acts joined ms ls name (action.TheVariants.Add q b) h e = go_or_refuse _ e
-taken_acts joined ms ls name action.TheVariants.End h e = end_or_refuse _ _ e
-taken_acts joined ms ls name action.TheVariants.Stop h e = h
+taken_acts joined ms ls name SolutionAction.End h e = end_or_refuse _ _ e
+taken_acts joined ms ls name SolutionAction.Stop h e = h
+taken_acts joined ms ls name _ h e = go_or_refuse _ e
 
 -- a push may allocate at a byte of a name or one that ends a literal, and only if the byte is taken
 pub wants : (s : SolutionState) (b : ℕ) (m : SolutionAction) → IsSolutionInOrder s → m ≡ transition s.joined s.phase (name_byte b) → IsTaken m → (adds m || is_more s.phase) ≡ true

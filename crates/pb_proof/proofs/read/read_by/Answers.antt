@@ -1,11 +1,9 @@
-use Rattle.pb_proof.proofs.Common.{AcceptsItems, MayAsk, largest, top_of}
+use Rattle.pb_proof.proofs.Common.{AcceptsItems, MayAsk, largest, top_of, arith}
 use Rattle.pb_proof.proofs.lemmas.proofs.Gathered.{is_read, stops_in}
 use Rattle.pb_proof.proofs.read.read_by.Goals as goal
 
 pub returns-in-Ok-clause-reads : goal.returns-in-Ok-clause-reads
-returns-in-Ok-clause-reads g c =
-    let r = c.in-Ok.ensures.reads in
-    (r.0, r.1, r.2, is_read (largest c.args.limits) (top_of c.args.limits) c.args.longest (AcceptsItems g.M.Machine.automaton c.args.machine) c.requires.accepts r.0 c.new.result c.new.ensures c.in-Ok.read r.3)
+returns-in-Ok-clause-reads g c = grind (arith, c.in-Ok.ensures.reads, is_read, g.M.Machine.automaton, c.requires.accepts, c.new.ensures)
 
 pub returns-in-Ok-clause-given : goal.returns-in-Ok-clause-given
 returns-in-Ok-clause-given g c =

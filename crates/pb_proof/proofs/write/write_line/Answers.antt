@@ -6,6 +6,4 @@ returns-in_err-write_pieces g c =
     part_broke g.S.Sink.contents g.S.Sink.faults _ _ _ _ _ _ refl c.from_residual.ensures.0 c.in_err-write_pieces.ensures
 
 pub returns : goal.returns
-returns g c =
-    part_then g.S.Sink.contents g.S.Sink.faults _ _ _ _ _ _ _ refl c.in_ok-write_pieces.ensures
-    c.write_bytes-2.ensures
+returns g c = part_then g.S.Sink.contents g.S.Sink.faults _ _ _ _ _ _ _ refl c.in_ok-write_pieces.ensures c.write_bytes-2.ensures

@@ -1,24 +1,14 @@
-use Rattle.pb_proof.proofs.Common.{subst, sym, take, Runs, IsInOrder, proofs, ProofState, IsRest}
+use Rattle.pb_proof.proofs.Common.{subst, take, ProofState, IsRest}
 use Rattle.pb_proof.specs.contracts.machine.ProofMachine.{the_view}
-use Rattle.pb_proof.specs.declared.machine.phase.Phase.TheVariants.{Inside}
 use Rattle.pb_proof.proofs.lemmas.machine.Taken.{words_to, words_begin}
 use Rattle.pb_proof.proofs.machine.ProofMachine.take_words.Goals as goal
 use Rattle.pb_proof.proofs.machine.ProofMachine.take_words.Goals.{in-To, in-Begin}
-
-pub invariant_of-self : goal.invariant_of-self
-invariant_of-self c =
-    let s : ProofState = the_view c.self.inside in
-    let prefix = take c.in-Some.length c.args.text.now in
-    (words_to s c.self.invariant prefix c.in-To.phase (subst (IsRest s.phase prefix) c.in-To.is
-    c.in-Some.ensures.rest)).1
 
 pub invariant_of-self-in-Begin : goal.invariant_of-self-in-Begin
 invariant_of-self-in-Begin c =
     let s : ProofState = the_view c.self.inside in
     let prefix = take c.in-Some.length c.args.text.now in
-    let line = sym c.start_line.ensures in
-    subst (λ x. IsInOrder (record { limit = s.limit; top = s.top; phase = Inside c.in-Begin.kind; line = x })) line
-    (words_begin s c.self.invariant prefix c.in-Begin.kind (subst (IsRest s.phase prefix) c.in-Begin.is c.in-Some.ensures.rest)).1
+    rw c.start_line.ensures (words_begin s c.self.invariant prefix c.in-Begin.kind (subst (IsRest s.phase prefix) c.in-Begin.is c.in-Some.ensures.rest)).1
 
 pub returns-clause-runs : goal.returns-clause-runs
 returns-clause-runs c =
@@ -27,9 +17,6 @@ returns-clause-runs c =
     elim c.match-next.branch [
       | in-To w ↦ rw (w.self-is, ← c.self.view_is)
           (words_to s c.self.invariant prefix w.in-To.phase (subst (IsRest s.phase prefix) w.in-To.is c.in-Some.ensures.rest)).0
-      | in-Begin w ↦ rw (w.self-is, ← c.self.view_is) (
-          let line = sym w.start_line.ensures in
-          subst (λ x. Runs proofs s prefix (record { limit = s.limit; top = s.top; phase = Inside w.in-Begin.kind; line = x })) line
-          (words_begin s c.self.invariant prefix w.in-Begin.kind (subst (IsRest s.phase prefix) w.in-Begin.is c.in-Some.ensures.rest)).0
-          )
+      | in-Begin w ↦ rw (w.self-is, ← c.self.view_is)
+          (rw w.start_line.ensures (words_begin s c.self.invariant prefix w.in-Begin.kind (subst (IsRest s.phase prefix) w.in-Begin.is c.in-Some.ensures.rest)).0)
     ]

@@ -1,12 +1,9 @@
-use Rattle.pb_proof.proofs.Common.{◌-◌, ◌∙◌, drop, length, subst, sym, take, bytes_decides}
-use Rattle.pb_proof.proofs.lemmas.machine.Taken.{rest_is, lacks_rest, LacksPrefix}
+use Rattle.pb_proof.proofs.Common.{◌-◌, ◌∙◌, drop, length, sym, take, bytes_decides, arith}
+use Rattle.pb_proof.proofs.lemmas.machine.Taken.{rest_is, lacks_rest}
 use Rattle.pb_proof.proofs.machine.transition.words_prefix.Goals as goal
 
 pub returns-then-not-starts_with-clause-none : goal.returns-then-not-starts_with-clause-none
-returns-then-not-starts_with-clause-none c = λ e.
-    let whole = rest_is c.in-Spelling.keyword c.in-Spelling.read c.words_of.result.now c.words_of.ensures in
-    let lacks = sym c.starts_with.ensures.value ∙ c.if-not-starts_with.true in
-    lacks_rest c.args.phase c.in-Spelling.keyword c.in-Spelling.read c.args.text.now c.in-Spelling.is (subst (LacksPrefix c.args.text.now) whole lacks)
+returns-then-not-starts_with-clause-none c = grind (arith, rest_is, c.words_of.ensures, c.starts_with.ensures.value, c.if-not-starts_with.true, lacks_rest, c.in-Spelling.is)
 
 pub returns-clause-rest : goal.returns-clause-rest
 returns-clause-rest c =

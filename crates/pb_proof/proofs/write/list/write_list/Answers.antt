@@ -1,13 +1,11 @@
-use Rattle.pb_proof.proofs.Common.{ℕ, ◌++◌, ◌∙◌, ◌≡◌, ap, append_assoc, List, sym, part_broke, part_then, listed_bytes}
+use Rattle.pb_proof.proofs.Common.{ℕ, ◌++◌, ◌≡◌, append_assoc, List, part_broke, part_then, listed_bytes, arith}
 use Rattle.pb_proof.proofs.lemmas.Written.{listed-append}
 use Rattle.pb_proof.proofs.write.list.write_list.Goals as goal
 
 -- a text, and items in two parts
 parts : {A : Type 0} (line : A → List ℕ) (lead : List ℕ) (all batch rest : List A) → all ≡ batch ++ rest
     → lead ++ listed_bytes line all ≡ (lead ++ listed_bytes line batch) ++ listed_bytes line rest
-parts line lead all batch rest e =
-    ap (λ z. lead ++ listed_bytes line z) e
-    ∙ (ap (λ z. lead ++ z) (listed-append line batch rest) ∙ sym (append_assoc lead (listed_bytes line batch) (listed_bytes line rest)))
+parts line lead all batch rest e = grind (arith, listed-append, append_assoc)
 
 pub returns-in_err-write_batch : goal.returns-in_err-write_batch
 returns-in_err-write_batch g c =

@@ -1,13 +1,10 @@
-use Rattle.pb_proof.proofs.Common.{◌∙◌, ap, never, transition}
+use Rattle.pb_proof.proofs.Common.{◌∙◌, ap, never, transition, arith}
 use Rattle.pb_proof.proofs.lemmas.pol.Theorems.{stays}
 use Rattle.pb_proof.proofs.line.pol.PolMachineMachine.try_continue.Goals.{in-End, in_default}
 use Rattle.pb_proof.proofs.line.pol.PolMachineMachine.try_continue.Goals as goal
 
 pub take-answer-requires-clause-action : goal.take-answer-requires-clause-action
-take-answer-requires-clause-action c = rw (← c.self.view_is) (
-    c.transition-action.ensures.transition
-    ∙ ap (λ k. transition c.self.inside.limit c.self.inside.top c.self.inside.depth c.self.inside.phase k) c.kind_of.ensures.kind
-    )
+take-answer-requires-clause-action c = grind (arith, c.self.view_is, c.transition-action.ensures.transition, c.kind_of.ensures.kind)
 
 pub returns-in_default-answer : goal.returns-in_default-answer
 returns-in_default-answer c = record {

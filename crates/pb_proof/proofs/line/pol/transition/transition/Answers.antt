@@ -1,18 +1,16 @@
 use Rattle.pb_proof.proofs.Common.{ℕ, ◌∙◌, ◌≡◌, ap, refl, sym, Kind, Phase, close, read, semicolon, transition}
-use Rattle.pb_proof.specs.declared.line.pol.phase.Kind.TheVariants as kind
-use Rattle.pb_proof.specs.declared.line.pol.phase.Phase.TheVariants as phase
 use Rattle.pb_proof.proofs.line.pol.transition.transition.Goals as goal
 
-reads : (limit top d : ℕ) (p : Phase) (k : Kind) → (p ≡ phase.Ending → ⊥) → (k ≡ kind.Blank → ⊥) → (k ≡ kind.Feed → ⊥) → (k ≡ kind.Semicolon → ⊥)
+reads : (limit top d : ℕ) (p : Phase) (k : Kind) → (p ≡ Phase.Ending → ⊥) → (k ≡ Kind.Blank → ⊥) → (k ≡ Kind.Feed → ⊥) → (k ≡ Kind.Semicolon → ⊥)
     → read limit top d p k ≡ transition limit top d p k
-reads limit top d phase.Ending k e b f s = absurd (e refl)
-reads limit top d p kind.Blank e b f s = absurd (b refl)
-reads limit top d p kind.Feed e b f s = absurd (f refl)
-reads limit top d p kind.Semicolon e b f s = absurd (s refl)
+reads limit top d Phase.Ending k e b f s = absurd (e refl)
+reads limit top d p Kind.Blank e b f s = absurd (b refl)
+reads limit top d p Kind.Feed e b f s = absurd (f refl)
+reads limit top d p Kind.Semicolon e b f s = absurd (s refl)
 reads limit top d p k e b f s = refl
 
-semicolons : (limit top d : ℕ) (p : Phase) → (p ≡ phase.Ending → ⊥) → semicolon d (close limit top d p) ≡ transition limit top d p kind.Semicolon
-semicolons limit top d phase.Ending e = absurd (e refl)
+semicolons : (limit top d : ℕ) (p : Phase) → (p ≡ Phase.Ending → ⊥) → semicolon d (close limit top d p) ≡ transition limit top d p Kind.Semicolon
+semicolons limit top d Phase.Ending e = absurd (e refl)
 semicolons limit top d p e = refl
 
 pub returns-in_default-Semicolon : goal.returns-in_default-Semicolon

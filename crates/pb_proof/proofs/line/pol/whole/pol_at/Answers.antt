@@ -3,7 +3,4 @@ use Rattle.pb_proof.proofs.lemmas.machine.Whole.{pol_leads}
 use Rattle.pb_proof.proofs.line.pol.whole.pol_at.Goals as goal
 
 pub returns-clause-runs : goal.returns-clause-runs
-returns-clause-runs c =
-    rw (← c.largest-limit.ensures.value, ← c.top-top.ensures.value)
-    (pol_leads c.largest-limit.result c.top-top.result c.args.text.now c.in-Some.words c.in-Some.length c.in-Some-closing_prefix.more (omega (arith, c.if-text-lt4.false))
-    c.if-text-ne112.false c.if-text-ne111.false c.if-text-ne108.false c.if-text-ne32.false c.in-Some.ensures.expression c.in-Some-closing_prefix.ensures.closing)
+returns-clause-runs c = grind (arith, c.largest-limit.ensures.value, c.top-top.ensures.value, pol_leads, c.if-text-lt4.false, c.if-text-ne112.false, c.if-text-ne111.false, c.if-text-ne108.false, c.if-text-ne32.false, c.in-Some.ensures.expression, c.in-Some-closing_prefix.ensures.closing)

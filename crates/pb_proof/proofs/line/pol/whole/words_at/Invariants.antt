@@ -1,6 +1,4 @@
-use Rattle.pb_proof.proofs.Common.{◌-◌, ◌≤◌, length, take}
-use Rattle.std.specs.Prelude.{vec_len}
-use Rattle.pb_proof.specs.engine.line.PolWhole.{AreWords}
+use Rattle.pb_proof.proofs.Common.{◌-◌, ◌≤◌, length, take, vec_len, AreWords}
 use Rattle.pb_proof.proofs.line.pol.whole.words_at.Given as goal
 
 -- the bytes so far are words

@@ -1,21 +1,12 @@
-use Rattle.pb_proof.proofs.lemmas.Carried.{state_in, closes_in}
+use Rattle.pb_proof.proofs.lemmas.Carried.{state_in}
 use Rattle.pb_proof.proofs.lemmas.line.Laws.{pol_carries, rup_carries, delete_carries}
 use Rattle.pb_proof.proofs.line.push.LineMachineMachine.try_finish.Goals as goal
-
-pub returns-in-Pol-clause-finishes : goal.returns-in-Pol-clause-finishes
-returns-in-Pol-clause-finishes c = rw c.in-Pol.is (closes_in _ _ _ _ pol_carries _ (λ e f g. g) c.in-Pol.machine c.try_finish.new.self c.args.byte _ _ c.ended.ensures c.try_finish.ensures.finishes)
 
 pub returns-in-Pol-clause-state : goal.returns-in-Pol-clause-state
 returns-in-Pol-clause-state c = state_in _ _ _ _ pol_carries c.try_finish.new.self c.try_finish.ensures.state
 
-pub returns-in-Rup-clause-finishes : goal.returns-in-Rup-clause-finishes
-returns-in-Rup-clause-finishes c = rw c.in-Rup.is (closes_in _ _ _ _ rup_carries _ (λ e f g. g) c.in-Rup.machine c.try_finish-in-Rup.new.self c.args.byte _ _ c.ended-in-Rup.ensures c.try_finish-in-Rup.ensures.finishes)
-
 pub returns-in-Rup-clause-state : goal.returns-in-Rup-clause-state
 returns-in-Rup-clause-state c = state_in _ _ _ _ rup_carries c.try_finish-in-Rup.new.self c.try_finish-in-Rup.ensures.state
-
-pub returns-in-Delete-clause-finishes : goal.returns-in-Delete-clause-finishes
-returns-in-Delete-clause-finishes c = rw c.in-Delete.is (closes_in _ _ _ _ delete_carries _ (λ e f g. g) c.in-Delete.machine c.try_finish-in-Delete.new.self c.args.byte _ _ c.ended-in-Delete.ensures c.try_finish-in-Delete.ensures.finishes)
 
 pub returns-in-Delete-clause-state : goal.returns-in-Delete-clause-state
 returns-in-Delete-clause-state c = state_in _ _ _ _ delete_carries c.try_finish-in-Delete.new.self c.try_finish-in-Delete.ensures.state
