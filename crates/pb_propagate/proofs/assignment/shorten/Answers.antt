@@ -3,9 +3,7 @@ use Rattle.pb_propagate.proofs.lemmas.root.Cuts.{IsCut, cut-inside, cut-next}
 use Rattle.pb_propagate.proofs.assignment.shorten.Goals as goal
 
 pub unassign-requires-clause-inside : goal.unassign-requires-clause-inside
-unassign-requires-clause-inside c =
-    let size : length c.list.list.items ≡ (c.len-last.result - 1) + 1 = omega (arith, c.list-test.true, c.list.list.ok.0, c.len.ensures, c.len-last.ensures) in
-    cut-inside c.args.values.now.items c.args.list.now.items c.args.count c.list.values.items c.list.list.items (c.len-last.result - 1) c.index-literal.result.now size c.index-literal.ensures c.list.invariant.cut
+unassign-requires-clause-inside c = grind (arith, c.list-test.true, c.list.list.ok.0, c.len.ensures, c.len-last.ensures, cut-inside, c.index-literal.ensures, c.list.invariant.cut)
 
 pub list-preserved : goal.list-preserved
 list-preserved c =

@@ -1,5 +1,4 @@
-use Rattle.pb_propagate.proofs.Common.{◌++◌, ◌∙◌, ◌∷◌, [], ap, sym, append-nil, append_assoc}
-use Rattle.std.proofs.Math.ListN.{replicate}
+use Rattle.pb_propagate.proofs.Common.{sym, append-nil, append_assoc, arith}
 use Rattle.std.proofs.lemmas.List.{replicate_more}
 use Rattle.pb_propagate.proofs.heads.mark.Goals as goal
 
@@ -7,6 +6,4 @@ pub literals-init : goal.literals-init
 literals-init c = sym (append-nil c.args.marks.now.items)
 
 pub literals-preserved : goal.literals-preserved
-literals-preserved c =
-    let marks = c.args.marks.now.items in
-    c.in_ok-push.ensures.items ∙ ap (λ xs. xs ++ (c.args.heads ∷ [])) c.literals.invariant ∙ append_assoc marks (replicate c.literals.counter c.args.heads) (c.args.heads ∷ []) ∙ ap (λ xs. marks ++ xs) (replicate_more c.literals.counter c.args.heads)
+literals-preserved c = grind (arith, append_assoc, replicate_more)

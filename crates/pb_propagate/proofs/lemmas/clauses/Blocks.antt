@@ -1,23 +1,17 @@
 -- What blocks of words store, and where.
-use Rattle.pb_propagate.proofs.Common.{ℕ, ◌*◌, ◌+◌, ◌/◌, ◌<◌, ◌∙◌, ◌≡◌, ◌≤◌, ◌⊎◌, ◌%◌, ◌==◌, [], ap, arith, both_ways, cases_Bool, cases_eq, cases_lt}
-use Rattle.pb_propagate.proofs.Common.{drop, eqb-true, get_or, get_or_past, get_or_read, inl, inr, length, List, nat_tests, refl, subst, sym, take, true}
+use Rattle.pb_propagate.proofs.Common.{ℕ, ◌*◌, ◌+◌, ◌/◌, ◌<◌, ◌∙◌, ◌≡◌, ◌≤◌, ◌⊎◌, ◌%◌, [], ap, arith, both_ways, cases_eq, cases_lt}
+use Rattle.pb_propagate.proofs.Common.{drop, get_or, get_or_past, get_or_read, inl, inr, length, List, nat_tests, refl, subst, sym, take, true}
 use Rattle.pb_propagate.proofs.Common.{AreBlocks, begun, Contents, contents, HasBlock, idle, IsBare, IsRenewed, list_at, nowhere, number_at, passed_by}
 use Rattle.pb_propagate.proofs.Common.{Search, search_at, stored_clause, stored_search, stored_watch, table, Watch, watch_at, watch_of, watch_place}
 use Rattle.pb_propagate.proofs.lemmas.clauses.Tables.{slice-same, table-at, table-length}
 
-watch-live : (l spot : ℕ) → (spot ≡ nowhere → ⊥) → watch_of l spot ≡ record { literal = l; live = true; spot = spot }
-watch-live l spot n = elim (cases_Bool (spot == nowhere)) [
-  | inl is ↦ absurd (n (eqb-true spot nowhere is))
-  | inr isnt ↦ rw isnt refl
-]
-
 watch-shown : (l spot : ℕ) → (watch_of l spot).live ≡ true →
     watch_of l spot ≡ record { literal = l; live = true; spot = spot }
-watch-shown l spot live = watch-live l spot (λ is. both_ways _ (ap (λ i. (watch_of l i).live) is) live)
+watch-shown l spot live = grind (arith, nat_tests)
 
 pub watch-made : (l spot l' spot' : ℕ) → l ≡ l' → spot ≡ spot' → spot' < nowhere →
     watch_of l spot ≡ record { literal = l'; live = true; spot = spot' }
-watch-made l spot l' spot' e f small = rw (e, f) (watch-live l' spot' (λ is. absurd (omega (arith, is, small))))
+watch-made l spot l' spot' e f small = grind (arith, nat_tests)
 
 pub search-made : (p q p' q' : ℕ) → p ≡ p' → q ≡ q' →
     ◌≡◌ {A = Search} (record { position = p; passed = q }) (record { position = p'; passed = q' })
@@ -28,32 +22,20 @@ pub passed-same : (run own passed own' passed' : ℕ) → own ≡ own' → passe
 passed-same run own passed own' passed' e f = rw (e, f) refl
 
 pub passed-none : (run own passed : ℕ) → passed ≡ 0 → passed_by run own passed ≡ 0
-passed-none run own passed none = elim (cases_Bool (own == run)) [
-  | inl is ↦ rw (is, none) refl
-  | inr isnt ↦ rw isnt refl
-]
+passed-none run own passed none = grind (arith, nat_tests)
 
 pub passed-own : (run own passed : ℕ) → own ≡ run → passed_by run own passed ≡ passed
-passed-own run own passed is = elim (cases_Bool (own == run)) [
-  | inl same ↦ rw same refl
-  | inr other ↦ absurd (grind (arith, nat_tests, is, other))
-]
+passed-own run own passed is = grind (arith, nat_tests)
 
 passed-before : (run own passed : ℕ) → own ≤ run → passed_by (run + 1) own passed ≡ 0
-passed-before run own passed less = elim (cases_Bool (own == run + 1)) [
-  | inl is ↦ absurd (grind (arith, nat_tests, is, less))
-  | inr isnt ↦ rw isnt refl
-]
+passed-before run own passed less = grind (arith, nat_tests)
 
 pub contents-are : (a b : Contents) → a.literals ≡ b.literals → a.searches ≡ b.searches → a.watches ≡ b.watches →
     a.rooms ≡ b.rooms → a ≡ b
 contents-are a b p q r s = rw (p, q, r, s) refl
 
 half : (n : ℕ) → (n % 2 ≡ 0) ⊎ (n % 2 ≡ 1)
-half n = elim (cases_eq (n % 2) 0) [
-  | inl is ↦ inl is
-  | inr isnt ↦ inr (grind arith)
-]
+half n = grind arith
 
 -- what is stored in a block with no clause
 pub bare-clause : {words : List ℕ} (starts : List ℕ) (s : ℕ) → IsBare words (number_at starts s) →
@@ -66,20 +48,10 @@ bare-search starts run s bare = search-made _ _ _ _ bare.position (passed-none r
 
 pub bare-watch : {words : List ℕ} (starts : List ℕ) (e : ℕ) → IsBare words (number_at starts (e / 2)) →
     stored_watch words starts e ≡ idle
-bare-watch {words} starts e bare = ap (watch_of (number_at words (watch_place starts e))) (elim (half e) [
-  | inl even ↦ ap (number_at words) (omega (arith, even)) ∙ bare.first
-  | inr odd ↦ ap (number_at words) (omega (arith, odd)) ∙ bare.second
-])
+bare-watch starts e bare = grind (arith, nat_tests, half e, bare.first, bare.second)
 
 pub bare-kept : {words words' : List ℕ} → ((i : ℕ) → i < 8 → number_at words' i ≡ number_at words i) → IsBare words 0 → IsBare words' 0
-bare-kept kept b = record {
-  first = kept 1 (omega arith) ∙ b.first;
-  second = kept 3 (omega arith) ∙ b.second;
-  position = kept 4 (omega arith) ∙ b.position;
-  passed = kept 5 (omega arith) ∙ b.passed;
-  count = kept 6 (omega arith) ∙ b.count;
-  run = kept 7 (omega arith) ∙ b.run;
-}
+bare-kept kept b = omega (arith, kept, b)
 
 -- what is stored of a slot is as before
 pub record IsSame (words words' starts starts' : List ℕ) (run s : ℕ) : Type 0 where
@@ -129,50 +101,37 @@ same-bare {words} {words'} {starts} {starts'} {run} s was now = record {
 -- what is known of the slots with a block of their own
 pub room-inside : {words starts rooms : List ℕ} {run : ℕ} → AreBlocks words starts rooms run → (s : ℕ) →
     0 < number_at rooms s → s < length starts
-room-inside {rooms = rooms} old s some = elim (cases_lt s (length rooms)) [
-  | inl inside ↦ omega (arith, inside, old.sizes)
-  | inr past ↦ absurd (omega (arith, some, get_or_past rooms s 0 past))
-]
+room-inside old s some = grind (arith, get_or_past, old.sizes)
 
 module _ {words starts rooms : List ℕ} {run : ℕ} (old : AreBlocks words starts rooms run) where
   pub room-start : (s : ℕ) → 0 < number_at rooms s → 8 ≤ number_at starts s
-  room-start s some =
-      let inside = room-inside old s some in
-      let none_start = get_or_past starts (length starts) 0 (omega arith) in
-      let none_room = get_or_past rooms (length starts) 0 (omega (arith, old.sizes)) in
-      elim (old.apart s (length starts) (λ is. absurd (omega (arith, is, inside))) some) [
-        | inl before ↦ omega (arith, before, none_start, none_room)
-        | inr after ↦ absurd (omega (arith, after, none_start, none_room))
-      ]
+  room-start s some = grind (arith, room-inside old s some, old.apart s (length starts), get_or_past, old.sizes)
 
   -- a block that is not the common one is a slot's own
   pub start-room : (s : ℕ) → 0 < number_at starts s → 0 < number_at rooms s
-  start-room s some = elim (cases_eq (number_at rooms s) 0) [
-    | inl none ↦ absurd (omega (arith, some, old.shared s none))
-    | inr has ↦ grind arith
-  ]
+  start-room s some = grind (arith, old.shared)
 
   -- a slot with no block of its own
   pub shared-bare : (s : ℕ) → s < length starts → number_at rooms s ≡ 0 → IsBare words (number_at starts s)
   shared-bare s inside none = subst (IsBare words) (sym (old.shared s none)) (old.common (omega (arith, inside)))
 
   filled-room : (s : ℕ) → 0 < length (list_at (contents words starts rooms run).literals s) → 0 < number_at rooms s
-  filled-room s some = elim (cases_eq (number_at rooms s) 0) [
-    | inr has ↦ grind arith
-    | inl none ↦ absurd (elim (cases_lt s (length starts)) [
-      | inl inside ↦ omega (
+  filled-room s some = elim (cases_lt s (length starts)) [
+    | inr past ↦ absurd (omega (
+      arith,
+      some,
+      ap length (get_or_past (table (length starts) (stored_clause words starts)) s []
+          (omega (arith, past, table-length (length starts) (stored_clause words starts)))),
+    ))
+    | inl inside ↦ elim (cases_eq (number_at rooms s) 0) [
+      | inr has ↦ grind arith
+      | inl none ↦ absurd (omega (
         arith,
         some,
         ap length (table-at (length starts) (stored_clause words starts) s [] inside
             ∙ bare-clause starts s (shared-bare s inside none)),
-      )
-      | inr past ↦ omega (
-        arith,
-        some,
-        ap length (get_or_past (table (length starts) (stored_clause words starts)) s []
-            (omega (arith, past, table-length (length starts) (stored_clause words starts)))),
-      )
-    ])
+      ))
+    ]
   ]
 
 -- where the program finds the block of a slot
@@ -263,39 +222,27 @@ pub record IsLiveAt (v : Contents) (words starts rooms : List ℕ) (e : ℕ) : T
 pub live-stored : {words starts rooms : List ℕ} {run : ℕ} {v : Contents} → AreBlocks words starts rooms run →
     contents words starts rooms run ≡ v →
     (e : ℕ) → (watch_at v.watches e).live ≡ true → IsLiveAt v words starts rooms e
-live-stored {words} {starts} {rooms} {run} {v} old is e live = record {
-  room = room;
-  slot = slot;
-  place = omega (arith, old.inside (e / 2) slot);
-  shown = sym at ∙ watch-shown _ _ (ap (λ (w : Watch). w.live) at ∙ live);
-}
-  where
-    all : length (table (2 * length starts) (stored_watch words starts)) ≡ 2 * length starts
-    all = table-length (2 * length starts) (stored_watch words starts)
-
-    stored : get_or (table (2 * length starts) (stored_watch words starts)) e idle ≡ watch_at v.watches e
-    stored = ap (λ (x : Contents). watch_at x.watches e) is
-
-    inside : e < 2 * length starts
-    inside = elim (cases_lt e (2 * length starts)) [
+live-stored {words} {starts} {rooms} {v = v} old is e live =
+    let ws = table (2 * length starts) (stored_watch words starts) in
+    let alive : idle ≡ watch_at v.watches e → ⊥ = λ none. both_ways _ (ap (λ (w : Watch). w.live) (sym none)) live in
+    let stored : watch_at ws e ≡ watch_at v.watches e = ap (λ (x : Contents). watch_at x.watches e) is in
+    let inside : e < 2 * length starts = elim (cases_lt e (2 * length starts)) [
       | inl less ↦ less
-      | inr past ↦ absurd (both_ways _ (ap (λ (w : Watch). w.live) (sym stored
-          ∙ get_or_past (table (2 * length starts) (stored_watch words starts)) e idle
-          (omega (arith, past, all)))) live)
-    ]
-
-    slot : e / 2 < length starts
-    slot = omega (arith, inside)
-
-    at : stored_watch words starts e ≡ watch_at v.watches e
-    at = sym (table-at (2 * length starts) (stored_watch words starts) e idle inside) ∙ stored
-
-    room : 0 < number_at rooms (e / 2)
-    room = elim (cases_eq (number_at rooms (e / 2)) 0) [
-      | inl none ↦ absurd (both_ways _ (ap (λ (w : Watch). w.live) (sym at
-          ∙ bare-watch starts e (shared-bare old (e / 2) slot none))) live)
-      | inr some ↦ grind arith
-    ]
+      | inr past ↦ absurd (alive (sym (get_or_past ws e idle
+          (omega (arith, past, table-length (2 * length starts) (stored_watch words starts)))) ∙ stored))
+    ] in
+    let slot : e / 2 < length starts = omega (arith, inside) in
+    let at : stored_watch words starts e ≡ watch_at v.watches e =
+    sym (table-at (2 * length starts) (stored_watch words starts) e idle inside) ∙ stored in
+    record {
+      room = elim (cases_eq (number_at rooms (e / 2)) 0) [
+        | inl none ↦ absurd (alive (sym (bare-watch starts e (shared-bare old (e / 2) slot none)) ∙ at))
+        | inr some ↦ grind arith
+      ];
+      slot = slot;
+      place = omega (arith, old.inside (e / 2) slot);
+      shown = sym at ∙ watch-shown _ _ (ap (λ (w : Watch). w.live) at ∙ live);
+    }
 
 -- another run
 pub next-run : {words starts rooms : List ℕ} {run : ℕ} → AreBlocks words starts rooms run →
@@ -318,25 +265,6 @@ renewed-by {words} {starts} {rooms} {run} old is =
       literals = refl;
       watches = refl;
       rooms = refl;
-      sizes = size (run + 1) ∙ sym (size run);
-      searches = λ s. at s (cases_lt s (length starts));
+      sizes = omega (arith, table-length (length starts) (stored_search words starts run), table-length (length starts) (stored_search words starts (run + 1)));
+      searches = λ s. grind (arith, cases_lt s (length starts), table-at, table-length, get_or_past, passed-before run, old.begun_by s);
     })
-  where
-    size : (r : ℕ) → length (table (length starts) (stored_search words starts r)) ≡ length starts
-    size r = table-length (length starts) (stored_search words starts r)
-
-    at : (s : ℕ) → (s < length starts) ⊎ (length starts ≤ s) →
-        get_or (table (length starts) (stored_search words starts (run + 1))) s begun ≡ record {
-          position =
-              (get_or (table (length starts) (stored_search words starts run)) s begun).position;
-          passed = 0;
-        }
-    at s (inl less) =
-        table-at (length starts) (stored_search words starts (run + 1)) s begun less
-        ∙ search-made _ _ _ _ (ap (λ (x : Search). x.position)
-        (sym (table-at (length starts) (stored_search words starts run) s begun less)))
-        (passed-before run _ _ (old.begun_by s less))
-    at s (inr past) =
-        let none = λ (r : ℕ). get_or_past (table (length starts) (stored_search words starts r)) s begun
-        (omega (arith, past, size r)) in
-        none (run + 1) ∙ search-made _ _ _ _ (ap (λ (x : Search). x.position) (sym (none run))) refl

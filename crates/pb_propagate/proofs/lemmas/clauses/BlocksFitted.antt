@@ -1,18 +1,19 @@
 -- A slot comes, and a slot gets a block.
-use Rattle.pb_propagate.proofs.Common.{ℕ, ◌*◌, ◌++◌, ◌+◌, ◌-◌, ◌/◌, ◌<◌, ◌^◌, ◌∙◌, ◌∷◌, ◌≡◌, ◌≤◌, ◌⊎◌, [], ap, arith, cases_eq, cases_lt}
+use Rattle.pb_propagate.proofs.Common.{ℕ, ◌*◌, ◌++◌, ◌+◌, ◌-◌, ◌/◌, ◌<◌, ◌^◌, ◌∙◌, ◌∷◌, ◌≡◌, ◌≤◌, [], ap, arith, cases_eq}
 use Rattle.pb_propagate.proofs.Common.{get_or-set_other, get_or-set_same, get_or_past, inl, inr, length, length-append, length-set, List, refl, set, subst, sym}
-use Rattle.pb_propagate.proofs.Common.{AreBlocks, begun, Contents, contents, idle, IsBare, IsBefore, number_at, stored_clause, stored_search, stored_watch, table}
+use Rattle.pb_propagate.proofs.Common.{AreBlocks, begun, Contents, contents, idle, IsBare, number_at, stored_clause, stored_search, stored_watch, table}
+use Rattle.std.proofs.lemmas.Grind.{get_or-set_at}
+use Rattle.std.proofs.lemmas.List.{nil_from_length}
 use Rattle.pb_propagate.proofs.lemmas.store.Gets.{push-default}
 use Rattle.pb_propagate.proofs.lemmas.clauses.Tables.{table-push, table-same}
 use Rattle.pb_propagate.proofs.lemmas.clauses.Blocks.{bare-clause, bare-kept, bare-search, bare-watch, IsSame, same-bare, same-block, shared-bare, slot-stored}
 
 -- one more slot
 pub record HasExtended (words starts rooms : List ℕ) (run : ℕ) (old : Contents) : Type 0 where
-  pub blocks : AreBlocks words (starts ++ (0 ∷ [])) (rooms ++ (0 ∷ [])) run
-  pub literals : (contents words (starts ++ (0 ∷ [])) (rooms ++ (0 ∷ [])) run).literals ≡ old.literals ++ ([] ∷ [])
-  pub searches : (contents words (starts ++ (0 ∷ [])) (rooms ++ (0 ∷ [])) run).searches ≡ old.searches ++ (begun ∷ [])
-  pub watches : (contents words (starts ++ (0 ∷ [])) (rooms ++ (0 ∷ [])) run).watches ≡ (old.watches ++ (idle ∷ [])) ++
-      (idle ∷ [])
+  pub blocks : AreBlocks words starts rooms run
+  pub literals : (contents words starts rooms run).literals ≡ old.literals ++ ([] ∷ [])
+  pub searches : (contents words starts rooms run).searches ≡ old.searches ++ (begun ∷ [])
+  pub watches : (contents words starts rooms run).watches ≡ (old.watches ++ (idle ∷ [])) ++ (idle ∷ [])
 
 module _ {words starts rooms : List ℕ} {run : ℕ} (old : AreBlocks words starts rooms run) (common : IsBare words 0)
     (seven : 8 ≤ length words) where
@@ -25,11 +26,8 @@ module _ {words starts rooms : List ℕ} {run : ℕ} (old : AreBlocks words star
   more-length : length (starts ++ (0 ∷ [])) ≡ length starts + 1
   more-length = length-append starts (0 ∷ [])
 
-  past-start : (s : ℕ) → length starts ≤ s → number_at (starts ++ (0 ∷ [])) s ≡ 0
-  past-start s past = more-start s ∙ get_or_past starts s 0 past
-
   bare-past : (s : ℕ) → length starts ≤ s → IsBare words (number_at (starts ++ (0 ∷ [])) s)
-  bare-past s past = subst (IsBare words) (sym (past-start s past)) common
+  bare-past s past = rw (more-start s, get_or_past starts s 0 past) common
 
   more-same : (s : ℕ) → s < length starts → IsSame words words starts (starts ++ (0 ∷ [])) run s
   more-same s inside = same-block s (number_at rooms s) (more-start s) (old.within s inside) (old.inside s inside)
@@ -41,34 +39,16 @@ module _ {words starts rooms : List ℕ} {run : ℕ} (old : AreBlocks words star
     common = λ any. common;
     shared = λ s none. more-start s ∙ old.shared s (sym (more-room s) ∙ none);
     small = λ s some. old.small s (omega (arith, some, more-room s));
-    apart = λ s t n some. elim (old.apart s t n (omega (arith, some, more-room s))) [
-      | inl before ↦ inl (omega (arith, before, more-start s, more-start t, more-room t))
-      | inr after ↦ inr (omega (arith, after, more-start s, more-start t, more-room s))
-    ];
-    inside = λ s h. elim (cases_lt s (length starts)) [
-      | inl less ↦ omega (arith, old.inside s less, more-start s, more-room s)
-      | inr past ↦ omega (
-        arith,
-        seven,
-        past-start s past,
-        more-room s,
-        get_or_past rooms s 0 (omega (arith, past, old.sizes)),
-      )
-    ];
-    within = λ s h. elim (cases_lt s (length starts)) [
-      | inl less ↦ omega (arith, old.within s less, more-room s, ap (λ i. number_at words (i + 6)) (more-start s))
-      | inr past ↦ omega (arith, (bare-past s past).count)
-    ];
-    begun_by = λ s h. elim (cases_lt s (length starts)) [
-      | inl less ↦ omega (arith, old.begun_by s less, ap (λ i. number_at words (i + 7)) (more-start s))
-      | inr past ↦ omega (arith, (bare-past s past).run)
-    ];
+    apart = λ s t n some. grind (arith, more-start, more-room, old.apart s t n);
+    inside = λ s h. grind (arith, more-start s, more-room s, old.inside s, seven, get_or_past, old.sizes);
+    within = λ s h. grind (arith, more-start s, more-room s, old.within s, get_or_past, old.sizes, common.count);
+    begun_by = λ s h. grind (arith, more-start s, old.begun_by s, get_or_past, old.sizes, common.run);
   }
 
   last-watch : (e : ℕ) → e / 2 ≡ length starts → stored_watch words (starts ++ (0 ∷ [])) e ≡ idle
   last-watch e half = bare-watch (starts ++ (0 ∷ [])) e (bare-past (e / 2) (omega (arith, half)))
 
-  extended : HasExtended words starts rooms run (contents words starts rooms run)
+  extended : HasExtended words (starts ++ (0 ∷ [])) (rooms ++ (0 ∷ [])) run (contents words starts rooms run)
   extended = record {
     blocks = more-blocks;
     literals =
@@ -91,12 +71,7 @@ module _ {words starts rooms : List ℕ} {run : ℕ} (old : AreBlocks words star
         (λ k h. (more-same (k / 2) (omega (arith, h))).watch k refl) (last-watch (2 * length starts) (omega arith)));
   }
 
--- there was no slot
-none-long : {A : Type 0} (xs : List A) → length xs ≡ 0 → xs ≡ []
-none-long [] h = refl
-none-long (x ∷ xs) h = absurd (omega (arith, h))
-
--- and so the words do not matter
+-- if there was no slot, the words do not matter
 none-blocks : {words starts rooms : List ℕ} {run : ℕ} (words' : List ℕ) → length starts ≡ 0 →
     AreBlocks words starts rooms run → AreBlocks words' starts rooms run
 none-blocks words' none old = record {
@@ -112,26 +87,21 @@ none-blocks words' none old = record {
 
 none-contents : (run : ℕ) (words words' starts rooms : List ℕ) → length starts ≡ 0 →
     contents words' starts rooms run ≡ contents words starts rooms run
-none-contents run words words' starts rooms none =
-    let bare = none-long starts none in
-    subst (λ ss. contents words' ss rooms run ≡ contents words ss rooms run) (sym bare) refl
+none-contents run words words' starts rooms none = rw (nil_from_length starts none) refl
 
-pub extended-from : {words starts rooms : List ℕ} {run : ℕ} {v : Contents} (words' starts' : List ℕ) →
-    AreBlocks words starts rooms run →
-    contents words starts rooms run ≡ v → starts' ≡ starts →
-    (length starts' ≡ 0 → (length words' ≡ 8) × IsBare words' 0) →
-    (0 < length starts' → words' ≡ words) → HasExtended words' starts rooms run v
-extended-from {words} {starts} {rooms} {run} words' starts' old is same first kept =
-    subst (HasExtended words' starts rooms run) is (elim (cases_eq (length starts) 0) [
+pub extended-from : {words starts rooms starts2 rooms2 : List ℕ} {run : ℕ} {v : Contents} (words' starts' : List ℕ) →
+    AreBlocks words starts rooms run → contents words starts rooms run ≡ v → starts' ≡ starts →
+    (length starts' ≡ 0 → (length words' ≡ 8) × IsBare words' 0) → (0 < length starts' → words' ≡ words) →
+    starts2 ≡ starts ++ (0 ∷ []) → rooms2 ≡ rooms ++ (0 ∷ []) → HasExtended words' starts2 rooms2 run v
+extended-from {words} {starts} {rooms} {run = run} words' starts' old is same first kept longer longer_rooms =
+    rw (longer, longer_rooms, ← is) (elim (cases_eq (length starts) 0) [
       | inl none ↦
           let new = first (omega (arith, none, ap length same)) in
-          subst (HasExtended words' starts rooms run) (none-contents run words words' starts rooms none)
+          subst (HasExtended words' (starts ++ (0 ∷ [])) (rooms ++ (0 ∷ [])) run) (none-contents run words words' starts rooms none)
           (extended (none-blocks words' none old) new.1 (omega (arith, new.0)))
       | inr some ↦
           let any : 0 < length starts = grind arith in
-          subst (λ ws. HasExtended ws starts rooms run (contents words starts rooms run))
-          (sym (kept (omega (arith, any, ap length same))))
-          (extended old (old.common any) (omega (arith, old.inside 0 any)))
+          rw (kept (omega (arith, any, ap length same))) (extended old (old.common any) (omega (arith, old.inside 0 any)))
     ])
 
 -- a block is made for a slot that has none
@@ -162,12 +132,6 @@ module _ {words words' starts rooms : List ℕ} {run room : ℕ} (s : ℕ) (old 
   start-other : (t : ℕ) → (t ≡ s → ⊥) → number_at starts' t ≡ number_at starts t
   start-other t n = get_or-set_other starts s t (length words) 0 n
 
-  room-here : number_at rooms' s ≡ room
-  room-here = get_or-set_same rooms s room 0 (omega (arith, inside, old.sizes))
-
-  room-other : (t : ℕ) → (t ≡ s → ⊥) → number_at rooms' t ≡ number_at rooms t
-  room-other t n = get_or-set_other rooms s t room 0 n
-
   seven : 8 ≤ length words
   seven = omega (arith, old.inside s inside)
 
@@ -175,68 +139,19 @@ module _ {words words' starts rooms : List ℕ} {run room : ℕ} (s : ℕ) (old 
   bare-here = subst (IsBare words') (sym start-here) new.bare
 
   ends : (t : ℕ) → number_at starts t + 8 + number_at rooms t ≤ length words
-  ends t = elim (cases_lt t (length starts)) [
-    | inl less ↦ old.inside t less
-    | inr past ↦ omega (
-      arith,
-      seven,
-      get_or_past starts t 0 past,
-      get_or_past rooms t 0 (omega (arith, past, old.sizes)),
-    )
-  ]
+  ends t = grind (arith, get_or_past, old.sizes, old.inside t, seven)
 
   fitted-blocks : 0 < room → AreBlocks words' starts' rooms' run
   fitted-blocks some = record {
     sizes = length-set rooms s room ∙ old.sizes ∙ sym (length-set starts s (length words));
     common = λ any. bare-kept (λ i h. new.kept i (omega (arith, h, seven))) (old.common (omega (arith, inside)));
-    shared = λ t h. elim (cases_eq t s) [
-      | inl is ↦ absurd (omega (arith, h, ap (number_at rooms') is, room-here, some))
-      | inr n ↦ start-other t n ∙ old.shared t (sym (room-other t n) ∙ h)
-    ];
-    small = λ t h. elim (cases_eq t s) [
-      | inl is ↦ omega (arith, is, low)
-      | inr n ↦ old.small t (omega (arith, h, room-other t n))
-    ];
-    apart = λ t u n h. apart-at t u n h (cases_eq t s) (cases_eq u s);
-    inside = λ t h. elim (cases_eq t s) [
-      | inl is ↦ omega (arith, ap (number_at starts') is, ap (number_at rooms') is, start-here, room-here, new.size)
-      | inr n ↦ omega (arith, start-other t n, room-other t n, ends t, new.size)
-    ];
-    within = λ t h. elim (cases_eq t s) [
-      | inl is ↦ omega (arith, ap (λ u. number_at words' (number_at starts' u + 6)) is, bare-here.count)
-      | inr n ↦ omega (
-        arith,
-        word t n 6 (omega arith),
-        old.within t (omega (arith, h, length-set starts s (length words))),
-        room-other t n,
-      )
-    ];
-    begun_by = λ t h. elim (cases_eq t s) [
-      | inl is ↦ omega (arith, ap (λ u. number_at words' (number_at starts' u + 7)) is, bare-here.run)
-      | inr n ↦ omega (
-        arith,
-        word t n 7 (omega arith),
-        old.begun_by t (omega (arith, h, length-set starts s (length words))),
-      )
-    ];
+    shared = λ t h. grind (arith, cases_eq t s, get_or-set_at, get_or-set_other, old.shared, old.sizes);
+    small = λ t h. grind (arith, cases_eq t s, get_or-set_other, old.small);
+    apart = λ t u n h. grind (arith, cases_eq t s, cases_eq u s, get_or-set_at, get_or-set_other, old.sizes, ends t, ends u, old.apart t u);
+    inside = λ t h. grind (arith, cases_eq t s, get_or-set_at, get_or-set_other, old.sizes, ends t, new.size);
+    within = λ t h. grind (arith, cases_eq t s, get_or-set_at, get_or-set_other, length-set, old.sizes, ends t, new.kept, new.bare.count, old.within);
+    begun_by = λ t h. grind (arith, cases_eq t s, get_or-set_at, get_or-set_other, length-set, old.sizes, ends t, new.kept, new.bare.run, old.begun_by);
   }
-    where
-      word : (t : ℕ) → (t ≡ s → ⊥) → (i : ℕ) → i < 8 →
-          number_at words' (number_at starts' t + i) ≡ number_at words (number_at starts t + i)
-      word t n i h = ap (λ a. number_at words' (a + i)) (start-other t n)
-          ∙ new.kept (number_at starts t + i) (omega (arith, h, ends t))
-
-      apart-at : (t u : ℕ) → (t ≡ u → ⊥) → 0 < number_at rooms' t → (t ≡ s) ⊎ (t ≡ s → ⊥) → (u ≡ s) ⊎ (u ≡ s → ⊥) →
-          IsBefore starts' rooms' u t ⊎ IsBefore starts' rooms' t u
-      apart-at t u n h (inl is) (inl same) = absurd (n (is ∙ sym same))
-      apart-at t u n h (inl is) (inr m) = inl
-          (omega (arith, ends u, start-other u m, room-other u m, ap (number_at starts') is, start-here))
-      apart-at t u n h (inr m) (inl is) = inr
-          (omega (arith, ends t, start-other t m, room-other t m, ap (number_at starts') is, start-here))
-      apart-at t u n h (inr m) (inr k) = elim (old.apart t u n (omega (arith, h, room-other t m))) [
-        | inl before ↦ inl (omega (arith, before, start-other t m, start-other u k, room-other u k))
-        | inr after ↦ inr (omega (arith, after, start-other t m, start-other u k, room-other t m))
-      ]
 
   same : (t : ℕ) → t < length starts → IsSame words words' starts starts' run t
   same t h = elim (cases_eq t s) [

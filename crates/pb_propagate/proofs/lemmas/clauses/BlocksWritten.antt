@@ -1,9 +1,9 @@
 -- One block of words is written.
 use Rattle.pb_propagate.proofs.Common.{ℕ, ◌*◌, ◌+◌, ◌/◌, ◌<◌, ◌∙◌, ◌≡◌, ◌≤◌, ◌⊎◌, ◌%◌, [], ap, arith, cases_eq, drop, get_or-set_other, get_or-set_same}
-use Rattle.pb_propagate.proofs.Common.{inl, inr, length, length-set, List, refl, set, subst, sym, take, true}
+use Rattle.pb_propagate.proofs.Common.{inl, inr, length, length-set, List, refl, set, set-get_or, subst, sym, take, true}
 use Rattle.pb_propagate.proofs.Common.{AreBlocks, Contents, contents, idle, nowhere, number_at, rewatched, rewritten, Search, search_at, searched}
 use Rattle.pb_propagate.proofs.Common.{stored_clause, stored_search, stored_watch, Watch, watch_of, watch_place}
-use Rattle.pb_propagate.proofs.lemmas.clauses.Tables.{slice-is, slice-same, table-same, table-set}
+use Rattle.pb_propagate.proofs.lemmas.clauses.Tables.{slice-is, slice-same, table-kept, table-same, table-set}
 use Rattle.pb_propagate.proofs.lemmas.clauses.Blocks.{bare-kept, contents-are, IsOwn, IsSame, passed-none, passed-own, room-inside, room-start, same-block, search-stored, search-made, watch-made}
 
 -- words from one position to another are written
@@ -12,20 +12,20 @@ pub record IsWritten (from to : ℕ) (old new : List ℕ) : Type 0 where
   pub outside : (i : ℕ) → (i < from) ⊎ (to ≤ i) → number_at new i ≡ number_at old i
 
 pub one-written : (words : List ℕ) (from to p x : ℕ) → from ≤ p → p < to → IsWritten from to words (set words p x)
-one-written words from to p x above below = record {
-  size = length-set words p x;
-  outside = λ i h. get_or-set_other words p i x 0 (λ is. elim h [
-    | inl less ↦ absurd (omega (arith, less, is, above))
-    | inr more ↦ absurd (omega (arith, more, is, below))
-  ]);
-}
+one-written words from to p x above below = grind (arith, length-set, get_or-set_other)
 
 then-written : {from to : ℕ} {words1 words2 words3 : List ℕ} → IsWritten from to words1 words2 →
     IsWritten from to words2 words3 → IsWritten from to words1 words3
-then-written first next = record {
-  size = next.size ∙ first.size;
-  outside = λ i h. next.outside i h ∙ first.outside i h;
-}
+then-written first next = grind (arith, next.size, first.size, next.outside, first.outside)
+
+-- the two watches of a slot are at different places
+watch-sides : (start k e : ℕ) → k / 2 ≡ e / 2 → (k ≡ e → ⊥) →
+    (start + 2 * (k % 2) + 2 ≤ start + 2 * (e % 2)) ⊎ (start + 2 * (e % 2) + 2 ≤ start + 2 * (k % 2))
+watch-sides start k e half n = grind arith
+
+two-set : (words : List ℕ) (i x y : ℕ) → i + 1 < length words →
+    (number_at (set (set words i x) (i + 1) y) i ≡ x) × (number_at (set (set words i x) (i + 1) y) (i + 1) ≡ y)
+two-set words i x y inside = grind (arith, get_or-set_same, get_or-set_other, length-set)
 
 -- blocks, and what they store
 pub record Store (words starts rooms : List ℕ) (run : ℕ) (v : Contents) : Type 0 where
@@ -38,16 +38,12 @@ module _ {words words' starts rooms : List ℕ} {run from to : ℕ} {v : Content
     (below : to ≤ number_at starts s + 8 + number_at rooms s) where
   outside : (i : ℕ) → (i < number_at starts s) ⊎ (number_at starts s + 8 + number_at rooms s ≤ i) →
       number_at words' i ≡ number_at words i
-  outside i (inl less) = written.outside i (inl (omega (arith, less, above)))
-  outside i (inr more) = written.outside i (inr (omega (arith, more, below)))
+  outside i h = written.outside i (grind (arith, h, above, below))
 
   beside : (t : ℕ) → t < length starts → (t ≡ s → ⊥) → IsSame words words' starts starts run t
   beside t inside n = same-block t (number_at rooms t) refl (old.within t inside) (old.inside t inside)
-      (omega (arith, written.size)) (λ i low high.
-      elim (old.apart s t (λ is. n (sym is)) some) [
-        | inl before ↦ outside i (inl (omega (arith, before, high)))
-        | inr after ↦ outside i (inr (omega (arith, after, low)))
-      ])
+      (omega (arith, written.size))
+      (λ i low high. outside i (grind (arith, old.apart s t (λ is. n (sym is)) some, low, high)))
 
   blocks-kept : number_at words' (number_at starts s + 6) ≤ number_at rooms s →
       number_at words' (number_at starts s + 7) ≤ run → AreBlocks words' starts rooms run
@@ -58,38 +54,13 @@ module _ {words words' starts rooms : List ℕ} {run from to : ℕ} {v : Content
     small = old.small;
     apart = old.apart;
     inside = λ t h. omega (arith, old.inside t h, written.size);
-    within = λ t h. elim (cases_eq t s) [
-      | inl is ↦ subst (λ u. number_at words' (number_at starts u + 6) ≤ number_at rooms u) (sym is) most
-      | inr n ↦ omega (arith, old.within t h, other t n 6 (omega arith))
-    ];
-    begun_by = λ t h. elim (cases_eq t s) [
-      | inl is ↦ subst (λ u. number_at words' (number_at starts u + 7) ≤ run) (sym is) stamp
-      | inr n ↦ omega (arith, old.begun_by t h, other t n 7 (omega arith))
-    ];
+    within = λ t h. grind (arith, cases_eq t s, most, old.within t h, other t);
+    begun_by = λ t h. grind (arith, cases_eq t s, stamp, old.begun_by t h, other t);
   }
     where
       other : (t : ℕ) → (t ≡ s → ⊥) → (i : ℕ) → i < 8 →
           number_at words' (number_at starts t + i) ≡ number_at words (number_at starts t + i)
-      other t n i h = elim (old.apart s t (λ is. n (sym is)) some) [
-        | inl before ↦ outside (number_at starts t + i) (inl (omega (arith, before, h)))
-        | inr after ↦ outside (number_at starts t + i) (inr (omega (arith, after)))
-      ]
-
-  clauses-kept : stored_clause words' starts s ≡ stored_clause words starts s →
-      (contents words' starts rooms run).literals ≡ (contents words starts rooms run).literals
-  clauses-kept here = table-same (length starts) (stored_clause words starts) (stored_clause words' starts)
-      (λ t h. elim (cases_eq t s) [
-        | inl is ↦ subst (λ u. stored_clause words' starts u ≡ stored_clause words starts u) (sym is) here
-        | inr n ↦ (beside t h n).clause
-      ])
-
-  searches-kept : stored_search words' starts run s ≡ stored_search words starts run s →
-      (contents words' starts rooms run).searches ≡ (contents words starts rooms run).searches
-  searches-kept here = table-same (length starts) (stored_search words starts run) (stored_search words' starts run)
-      (λ t h. elim (cases_eq t s) [
-        | inl is ↦ subst (λ u. stored_search words' starts run u ≡ stored_search words starts run u) (sym is) here
-        | inr n ↦ (beside t h n).search
-      ])
+      other t n i h = outside (number_at starts t + i) (grind (arith, old.apart s t (λ is. n (sym is)) some, h))
 
   watch-kept : (e : ℕ) → e < 2 * length starts → (e / 2 ≡ s →
       stored_watch words' starts e ≡ stored_watch words starts e) →
@@ -108,6 +79,11 @@ module _ {words words' starts rooms : List ℕ} {run from to : ℕ} {v : Content
       let q = less (watch_place starts e + 1) (omega (arith, at)) in
       rw (p, q) refl))
 
+  searches-kept : stored_search words' starts run s ≡ stored_search words starts run s →
+      (contents words' starts rooms run).searches ≡ (contents words starts rooms run).searches
+  searches-kept = table-kept (length starts) (stored_search words starts run) (stored_search words' starts run) s
+      (λ t h n. (beside t h n).search)
+
   inside : s < length starts
   inside = room-inside old s some
 
@@ -123,7 +99,7 @@ module _ {words words' starts rooms : List ℕ} {run from to : ℕ} {v : Content
         is = contents-are _ _
             (table-set (length starts) (stored_clause words starts) (stored_clause words' starts) s xs here
             (λ t h n. (beside t h n).clause))
-            (searches-kept (let p = less 4 (omega arith) in let q = less 5 (omega arith) in rw (p, q, stamp) refl))
+            (searches-kept (rw (less 4 (omega arith), less 5 (omega arith), stamp) refl))
             (watches-kept (λ i h. written.outside i (inl (omega (arith, h, after)))))
             refl;
       })
@@ -139,7 +115,8 @@ module _ {words words' starts rooms : List ℕ} {run from to : ℕ} {v : Content
   clause-same : to ≤ number_at starts s + 8 →
       number_at words' (number_at starts s + 6) ≡ number_at words (number_at starts s + 6) →
       (contents words' starts rooms run).literals ≡ (contents words starts rooms run).literals
-  clause-same before count = clauses-kept (ap (λ k. take k (drop (number_at starts s + 8) words')) count
+  clause-same before count = table-kept (length starts) (stored_clause words starts) (stored_clause words' starts) s
+      (λ t h n. (beside t h n).clause) (ap (λ k. take k (drop (number_at starts s + 8) words')) count
       ∙ slice-same words words' (number_at starts s + 8) (number_at words (number_at starts s + 6))
       (omega (arith, old.within s inside, old.inside s inside))
       (omega (arith, old.within s inside, old.inside s inside, written.size))
@@ -168,9 +145,7 @@ module _ {words words' starts rooms : List ℕ} {run from to : ℕ} {v : Content
         blocks = blocks-kept (omega (arith, old.within s inside, more 6 (omega arith)))
             (omega (arith, old.begun_by s inside, more 7 (omega arith)));
         is = contents-are _ _ (clause-same (omega (arith, before, place)) (more 6 (omega arith)))
-            (searches-kept
-            (let p = more 4 (omega arith) in let q = more 5 (omega arith) in let r = more 7 (omega arith) in
-            rw (p, q, r) refl))
+            (searches-kept (rw (more 4 (omega arith), more 5 (omega arith), more 7 (omega arith)) refl))
             (table-set (2 * length starts) (stored_watch words starts) (stored_watch words' starts) e w here
             (λ k h n. watch-kept k h (other k n)))
             refl;
@@ -182,73 +157,55 @@ module _ {words words' starts rooms : List ℕ} {run from to : ℕ} {v : Content
       more : (i : ℕ) → 3 < i → number_at words' (number_at starts s + i) ≡ number_at words (number_at starts s + i)
       more i h = written.outside (number_at starts s + i) (inr (omega (arith, h, before, place)))
 
-      apart : (k : ℕ) → (k ≡ e → ⊥) → k / 2 ≡ s →
-          (watch_place starts k + 2 ≤ watch_place starts e) ⊎ (watch_place starts e + 2 ≤ watch_place starts k)
-      apart k n half =
+      -- the words of the other watch of the slot
+      same : (k i : ℕ) → (k ≡ e → ⊥) → k / 2 ≡ s → watch_place starts k ≤ i → i < watch_place starts k + 2 →
+          number_at words' i ≡ number_at words i
+      same k i n half low high =
           let at : number_at starts (k / 2) ≡ number_at starts (e / 2) = ap (number_at starts) (half ∙ sym side) in
-          elim (cases_eq (k % 2) 0) [
-            | inl even ↦ inl (elim (cases_eq (e % 2) 0) [
-              | inl same ↦ absurd (n (omega (arith, half, side, even, same)))
-              | inr odd ↦ grind (arith, at, even, odd)
-            ])
-            | inr odd ↦ inr (elim (cases_eq (e % 2) 0) [
-              | inl even ↦ grind (arith, at, even, odd)
-              | inr same ↦ absurd (n (grind (arith, half, side, odd, same)))
-            ])
-          ]
-
-      same : (k i : ℕ) → (watch_place starts k + 2 ≤ watch_place starts e) ⊎
-          (watch_place starts e + 2 ≤ watch_place starts k) →
-          watch_place starts k ≤ i → i < watch_place starts k + 2 → number_at words' i ≡ number_at words i
-      same k i (inl less) low high = written.outside i (inl (omega (arith, less, low, high, after)))
-      same k i (inr far) low high = written.outside i (inr (omega (arith, far, low, high, before)))
+          let sides = watch-sides (number_at starts (e / 2)) k e (half ∙ sym side) n in
+          written.outside i (grind (arith, at, sides, low, high, after, before))
 
       other : (k : ℕ) → (k ≡ e → ⊥) → k / 2 ≡ s → stored_watch words' starts k ≡ stored_watch words starts k
       other k n half =
-          let p = same k (watch_place starts k) (apart k n half) (omega arith) (omega arith) in
-          let q = same k (watch_place starts k + 1) (apart k n half) (omega arith) (omega arith) in
-          rw (p, q) refl
+          rw (same k (watch_place starts k) n half (omega arith) (omega arith), same k (watch_place starts k + 1) n half (omega arith) (omega arith)) refl
 
 -- the program's writes of a watch
 module _ {words starts rooms : List ℕ} {run : ℕ} {v : Contents} (e p : ℕ) (old : AreBlocks words starts rooms run)
     (is : contents words starts rooms run ≡ v)
     (some : 0 < number_at rooms (e / 2)) (at : p ≡ watch_place starts e) where
-  inside-watch : watch_place starts e + 1 < length words
-  inside-watch = omega (arith, old.inside (e / 2) (room-inside old (e / 2) some))
-
-  spot-written : (spot : ℕ) (w : Watch) → watch_of (number_at words (watch_place starts e)) spot ≡ w →
-      Store (set words (p + 1) spot) starts rooms run (rewatched v (set v.watches e w))
-  spot-written spot w made =
-      subst (λ i. Store (set words (i + 1) spot) starts rooms run (rewatched v (set v.watches e w))) (sym at)
-      (let l = get_or-set_other words (watch_place starts e + 1) (watch_place starts e) spot 0
-      (λ h. absurd (omega (arith, h))) in
-      let q = get_or-set_same words (watch_place starts e + 1) spot 0 inside-watch in
-      watch-written (e / 2) old is some (one-written words (watch_place starts e) (watch_place starts e + 2)
-      (watch_place starts e + 1) spot (omega arith) (omega arith))
-      (omega arith) (omega arith) e w refl (omega arith) (omega arith) (rw (l, q) made))
+  watch-set : (literal spot : ℕ) (w : Watch) → watch_of literal spot ≡ w →
+      Store (set (set words p literal) (p + 1) spot) starts rooms run (rewatched v (set v.watches e w))
+  watch-set literal spot w made = rw at (
+      let i = watch_place starts e in
+      let inside : i + 1 < length words = omega (arith, old.inside (e / 2) (room-inside old (e / 2) some)) in
+      let now = two-set words i literal spot inside in
+      watch-written (e / 2) old is some
+      (then-written (one-written words i (i + 2) i literal (omega arith) (omega arith))
+      (one-written (set words i literal) i (i + 2) (i + 1) spot (omega arith) (omega arith)))
+      (omega arith) (omega arith) e w refl (omega arith) (omega arith) (rw (now.0, now.1) made))
 
   pub idle-written : Store (set words (p + 1) nowhere) starts rooms run (rewatched v (set v.watches e idle))
-  idle-written = spot-written nowhere idle refl
+  idle-written = rw (set-get_or words p 0) at (watch-set (number_at words p) nowhere idle refl)
 
   pub place-written : (literal spot : ℕ) → number_at words (watch_place starts e) ≡ literal → spot < nowhere →
       Store (set words (p + 1) spot) starts rooms run
       (rewatched v (set v.watches e (record { literal = literal; live = true; spot = spot })))
-  place-written literal spot l small = spot-written spot _ (watch-made _ _ literal spot l refl small)
+  place-written literal spot l small = rw (set-get_or words p 0) at
+      (watch-set (number_at words p) spot _ (watch-made _ _ literal spot (ap (number_at words) at ∙ l) refl small))
 
   pub both-written : (literal spot : ℕ) → spot < nowhere →
       Store (set (set words p literal) (p + 1) spot) starts rooms run
       (rewatched v (set v.watches e (record { literal = literal; live = true; spot = spot })))
-  both-written literal spot small = subst (λ i. Store (set (set words i literal) (i + 1) spot) starts rooms run
-      (rewatched v (set v.watches e (record { literal = literal; live = true; spot = spot })))) (sym at)
-      (let i = watch_place starts e in
-      let words1 = set words i literal in
-      let l = get_or-set_other words1 (i + 1) i spot 0 (λ h. absurd (omega (arith, h)))
-      ∙ get_or-set_same words i literal 0 (omega (arith, inside-watch)) in
-      let q = get_or-set_same words1 (i + 1) spot 0 (omega (arith, inside-watch, length-set words i literal)) in
-      watch-written (e / 2) old is some
-      (then-written (one-written words i (i + 2) i literal (omega arith) (omega arith))
-      (one-written words1 i (i + 2) (i + 1) spot (omega arith) (omega arith)))
-      (omega arith) (omega arith) e _ refl (omega arith) (omega arith) (watch-made _ _ literal spot l q small))
+  both-written literal spot small = watch-set literal spot _ (watch-made _ _ literal spot refl refl small)
+
+-- the words of a search that is written
+abbrev sought : List ℕ → ℕ → Search → ℕ → List ℕ
+sought words b x run = set (set (set words (b + 4) x.position) (b + 5) x.passed) (b + 7) run
+
+sought-words : (words : List ℕ) (b : ℕ) (x : Search) (run : ℕ) → b + 8 ≤ length words →
+    (number_at (sought words b x run) (b + 4) ≡ x.position) × (number_at (sought words b x run) (b + 5) ≡ x.passed)
+    × (number_at (sought words b x run) (b + 6) ≡ number_at words (b + 6)) × (number_at (sought words b x run) (b + 7) ≡ run)
+sought-words words b x run inside = grind (arith, get_or-set_same, get_or-set_other, length-set)
 
 -- and of a search or a clause
 module _ {words starts rooms : List ℕ} {run s a : ℕ} {v : Contents} (old : AreBlocks words starts rooms run)
@@ -257,55 +214,32 @@ module _ {words starts rooms : List ℕ} {run s a : ℕ} {v : Contents} (old : A
   some : 0 < number_at rooms s
   some = own.room
 
-  at : a ≡ number_at starts s
-  at = own.at
-
   inside-block : number_at starts s + 8 + number_at rooms s ≤ length words
   inside-block = omega (arith, own.end, own.at)
 
-  pub seek-written : (x : Search) → Store (set (set (set words (a + 4) x.position) (a + 5) x.passed)
-      (a + 7) run) starts rooms run (searched v s x)
-  seek-written x = subst (λ i. Store (set (set (set words (i + 4) x.position) (i + 5) x.passed)
-      (i + 7) run) starts rooms run (searched v s x)) (sym at)
-      (let b = number_at starts s in
-      let words1 = set words (b + 4) x.position in
-      let words2 = set words1 (b + 5) x.passed in
-      let size = length-set words1 (b + 5) x.passed ∙ length-set words (b + 4) x.position in
-      let p = get_or-set_other words2 (b + 7) (b + 4) run 0 (λ h. absurd (omega (arith, h)))
-      ∙ get_or-set_other words1 (b + 5) (b + 4) x.passed 0 (λ h. absurd (omega (arith, h)))
-      ∙ get_or-set_same words (b + 4) x.position 0 (omega (arith, inside-block)) in
-      let q = get_or-set_other words2 (b + 7) (b + 5) run 0 (λ h. absurd (omega (arith, h)))
-      ∙ get_or-set_same words1 (b + 5) x.passed 0
-      (omega (arith, inside-block, length-set words (b + 4) x.position)) in
-      let r = get_or-set_same words2 (b + 7) run 0 (omega (arith, inside-block, size)) in
-      let count = get_or-set_other words2 (b + 7) (b + 6) run 0 (λ h. absurd (omega (arith, h)))
-      ∙ get_or-set_other words1 (b + 5) (b + 6) x.passed 0 (λ h. absurd (omega (arith, h)))
-      ∙ get_or-set_other words (b + 4) (b + 6) x.position 0 (λ h. absurd (omega (arith, h))) in
-      search-written s old is some
-      (then-written (one-written words (b + 4) (b + 8) (b + 4) x.position (omega arith) (omega arith))
-      (then-written (one-written words1 (b + 4) (b + 8) (b + 5) x.passed (omega arith) (omega arith))
-      (one-written words2 (b + 4) (b + 8) (b + 7) run (omega arith) (omega arith))))
-      (omega arith) (omega arith) x (omega arith) (omega arith) count (omega (arith, r))
-      (search-made _ _ _ _ p (passed-own run _ _ r ∙ q)))
+  pub seek-written : (x : Search) → Store (sought words a x run) starts rooms run (searched v s x)
+  seek-written x = rw own.at (
+      let b = number_at starts s in
+      let now = sought-words words b x run (omega (arith, inside-block)) in
+      let written : IsWritten (b + 4) (b + 8) words (sought words b x run) =
+      record { size = omega (arith, length-set {A = ℕ}); outside = λ i h. grind (arith, h, get_or-set_other) } in
+      search-written s old is some written (omega arith) (omega arith) x (omega arith) (omega arith) now.2 (omega (arith, now.3))
+      (search-made _ _ _ _ now.0 (passed-own run _ _ now.3 ∙ now.1)))
 
   pub begin-written : Store (set words (a + 5) 0) starts rooms run
       (searched v s (record { position = (search_at v.searches s).position; passed = 0 }))
-  begin-written =
-      subst (λ i. Store (set words (i + 5) 0) starts rooms run
-      (searched v s (record { position = (search_at v.searches s).position; passed = 0 }))) (sym at)
-      (let b = number_at starts s in
+  begin-written = rw own.at (
+      let b = number_at starts s in
       let slot = room-inside old s some in
-      let other = λ (i : ℕ) (n : i ≡ b + 5 → ⊥). get_or-set_other words (b + 5) i 0 0 n in
+      let other = λ (k : ℕ) (n : k ≡ 5 → ⊥). get_or-set_other words (b + 5) (b + k) 0 0 (λ h. n (omega (arith, h))) in
       search-written s old is some (one-written words (b + 4) (b + 8) (b + 5) 0 (omega arith) (omega arith))
-      (omega arith) (omega arith) _ (omega arith) (omega arith) (other (b + 6) (λ h. absurd (omega (arith, h))))
-      (omega (arith, other (b + 7) (λ h. absurd (omega (arith, h))), old.begun_by s slot))
-      (search-made _ _ _ _ (other (b + 4) (λ h. absurd (omega (arith, h)))
-      ∙ ap (λ (x : Search). x.position) (search-stored old is s slot))
+      (omega arith) (omega arith) _ (omega arith) (omega arith) (other 6 (omega arith))
+      (omega (arith, other 7 (omega arith), old.begun_by s slot))
+      (search-made _ _ _ _ (other 4 (omega arith) ∙ ap (λ (x : Search). x.position) (search-stored old is s slot))
       (passed-none run _ _ (get_or-set_same words (b + 5) 0 0 (omega (arith, inside-block))))))
 
   pub clear-written : Store (set words (a + 6) 0) starts rooms run (rewritten v s [])
-  clear-written = subst (λ i. Store (set words (i + 6) 0) starts rooms run (rewritten v s [])) (sym at)
-      (clause-written s old is some
+  clear-written = rw own.at (clause-written s old is some
       (one-written words (number_at starts s + 6) (number_at starts s + 8) (number_at starts s + 6) 0 (omega arith)
       (omega arith))
       (omega arith) (omega arith) [] (omega arith) (omega arith)
@@ -320,30 +254,20 @@ module _ {words starts rooms : List ℕ} {run s a : ℕ} {v : Contents} (old : A
   whole-written {words'} xs fits written each =
       let b = number_at starts s in
       let n = length xs in
-      let next : IsWritten (b + 8) (b + 8 + n) (set words (b + 6) n) words' =
-      subst (λ i. IsWritten (i + 8) (i + 8 + n) (set words (i + 6) n) words') at written in
+      let next : IsWritten (b + 8) (b + 8 + n) (set words (b + 6) n) words' = rw own.at at written in
       clause-written s old is some
       (then-written (one-written words (b + 6) (b + 8 + n) (b + 6) n (omega arith) (omega arith)) (record {
         size = next.size;
-        outside = λ i h. next.outside i (elim h [
-          | inl less ↦ inl (omega (arith, less))
-          | inr more ↦ inr more
-        ]);
+        outside = λ i h. next.outside i (grind (arith, h));
       }))
       (omega arith) (omega (arith, fits)) xs (omega arith) fits
       (next.outside (b + 6) (inl (omega arith)) ∙ get_or-set_same words (b + 6) n 0 (omega (arith, inside-block)))
       (next.outside (b + 7) (inl (omega arith))
       ∙ get_or-set_other words (b + 6) (b + 7) n 0 (λ h. absurd (omega (arith, h))))
-      (λ k h. ap (λ i. number_at words' (i + 8 + k)) (sym at) ∙ each k h)
+      (λ k h. ap (λ i. number_at words' (i + 8 + k)) (sym own.at) ∙ each k h)
 
 -- the common block is not written, and its search has passed nothing
 pub shared-begun : {words starts rooms : List ℕ} {run : ℕ} {v : Contents} (s : ℕ) → AreBlocks words starts rooms run →
     contents words starts rooms run ≡ v → s < length starts → number_at starts s ≡ 0 →
     v ≡ searched v s (record { position = (search_at v.searches s).position; passed = 0 })
-shared-begun {words} {starts} {rooms} {run} s old is inside none =
-    let q = ap (λ i. number_at words (i + 5)) none ∙ (old.common (omega (arith, inside))).passed in
-    subst (λ (u : Contents). u ≡ searched u s (record { position = (search_at u.searches s).position; passed = 0 })) is
-    (contents-are _ _ refl
-    (table-set (length starts) (stored_search words starts run) (stored_search words starts run) s _
-    (search-made _ _ _ _ (ap (λ (x : Search). x.position) (search-stored old refl s inside)) (passed-none run _ _ q))
-    (λ j h n. refl)) refl refl)
+shared-begun {words} {starts} {rooms} {run} s old is inside none = grind (arith, old.common, contents-are, table-set, search-made, search-stored, passed-none)

@@ -1,7 +1,7 @@
 -- How many visits there are.
-use Rattle.pb_propagate.proofs.Common.{ℕ, ◌++◌, ◌+◌, ◌/◌, ◌<◌, ◌||◌, ◌∙◌, ◌∷◌, ◌≡◌, ◌≤◌, ◌⊎◌, [], ap, arith, Bool, cond, eq-eqb, false, get_or}
-use Rattle.pb_propagate.proofs.Common.{get_or-set_other, inl, inr, length, List, map, refl, set, subst, suc, sym, true, ◌==◌, Contains, count_by}
-use Rattle.pb_propagate.proofs.Common.{slice_get, Some, sum, sum_by, both_ways, cases_lt, eqb-true, get_or-map, get_or_past, length-map}
+use Rattle.pb_propagate.proofs.Common.{ℕ, ◌++◌, ◌+◌, ◌/◌, ◌<◌, ◌||◌, ◌∙◌, ◌∷◌, ◌≡◌, ◌≤◌, [], ap, arith, cond, eq-eqb, false, get_or, rules}
+use Rattle.pb_propagate.proofs.Common.{get_or-set_other, length, List, map, refl, set, subst, suc, sym, ◌==◌, Contains, count_by}
+use Rattle.pb_propagate.proofs.Common.{slice_get, Some, sum, sum_by, eqb-true, nat_tests, get_or-map, get_or_past, length-map}
 use Rattle.pb_propagate.proofs.Common.{get_or-le-sum_by, sum-map, sum_by-cons, sum_by-set, slice_get-get_or, Watch, list_at}
 use Rattle.pb_propagate.proofs.Common.{watch_at, AreStored, flip}
 pub use Rattle.pb_propagate.specs.engine.clauses.Walked.{killed, has}
@@ -18,16 +18,15 @@ pub pigeons : (xs ws : List ℕ) → AreSingle xs → ((i d : ℕ) → i < lengt
 pigeons [] ws single weighs = omega arith
 pigeons (x ∷ xs) ws single weighs =
     let heavy : 1 ≤ get_or ws x 0 = weighs 0 0 (omega arith) in
-    let inside : x < length ws = within (cases_lt x (length ws)) heavy in
+    let inside : x < length ws = room heavy in
     let changed : sum (set ws x 0) + get_or ws x 0 ≡ sum ws + 0 = sum_by-set (λ y. y) ws x 0 0 inside in
     let rest : length xs ≤ sum (set ws x 0) = pigeons xs (set ws x 0)
     (λ i j d less inside_j same. single (suc i) (suc j) d (omega (arith, less)) (omega (arith, inside_j)) same)
     (λ i d h. lighter i d h) in
     omega (arith, heavy, changed, rest)
   where
-    within : (x < length ws) ⊎ (length ws ≤ x) → 1 ≤ get_or ws x 0 → x < length ws
-    within (inl h) heavy = h
-    within (inr past) heavy = absurd (omega (arith, heavy, get_or_past ws x 0 past))
+    room : 1 ≤ get_or ws x 0 → x < length ws
+    room heavy = grind (arith, get_or_past)
 
     lighter : (i d : ℕ) → i < length xs → 1 ≤ get_or (set ws x 0) (get_or xs i d) 0
     lighter i d h =
@@ -40,10 +39,7 @@ abbrev pub occurs : List (List ℕ) → ℕ → ℕ
 occurs clauses l = sum_by (λ xs. count_by (λ x. l == x) xs) clauses
 
 pub count-some : (xs : List ℕ) (l : ℕ) → Contains xs l → 1 ≤ count_by (λ x. l == x) xs
-count-some xs l (k, inside, is) =
-    let one : ◌≡◌ {A = ℕ} (cond (l == get_or xs k l) 1 0) 1 = ap (λ (b : Bool). cond {A = ℕ} b 1 0) (eq-eqb l (get_or xs k l) (sym is)) in
-    let most = get_or-le-sum_by (λ x. cond (l == x) 1 0) xs k l inside in
-    omega (arith, one, most)
+count-some xs l (k, inside, is) = grind (arith, eq-eqb, get_or-le-sum_by)
 
 -- a literal's list is no longer than the number of times that the literal occurs
 pub list-short : (clauses : List (List ℕ)) (ws : List Watch) (ls : List (List ℕ)) (l : ℕ) → AreStored clauses ws ls → length (list_at ls l) ≤ occurs clauses l
@@ -85,22 +81,12 @@ list-short clauses ws ls l stored =
         let some = count-some (list_at clauses (e / 2)) l there in
         subst (λ t. 1 ≤ get_or (map weight clauses) t 0) (sym at_i) (omega (arith, weighs, some))
 
-or-step : (b h q k : Bool) → k ≡ (h || q) → (b || k) ≡ ((b || h) || q)
-or-step true h q k e = refl
-or-step false h q k e = e
-
 pub has-append : (a b : List ℕ) (x : ℕ) → has (a ++ b) x ≡ (has a x || has b x)
 has-append [] b x = refl
-has-append (y ∷ ys) b x = or-step (y == x) (has ys x) (has b x) (has (ys ++ b) x) (has-append ys b x)
+has-append (y ∷ ys) b x = grind (arith, has-append ys b x)
 
 one-more : (walked : List ℕ) (l x : ℕ) → has walked l ≡ false → cond (has (walked ++ (l ∷ [])) x) 1 0 ≡ cond (has walked x) 1 0 + cond (l == x) 1 0
-one-more walked l x fresh = ap (λ b. cond b 1 0) (has-append walked (l ∷ []) x) ∙ by (has walked x) (l == x) refl refl
-  where
-    by : (a b : Bool) → has walked x ≡ a → (l == x) ≡ b → cond (has walked x || ((l == x) || false)) 1 0 ≡ cond (has walked x) 1 0 + cond (l == x) 1 0
-    by true true p q = absurd (both_ways _ fresh (ap (has walked) (eqb-true l x q) ∙ p))
-    by true false p q = rw (p, q) refl
-    by false true p q = rw (p, q) refl
-    by false false p q = rw (p, q) refl
+one-more walked l x fresh = grind (arith, has-append walked (l ∷ []) x, nat_tests, eqb-true)
 
 -- sums of terms
 sums-split : {X : Type 0} (f g h : X → ℕ) (xs : List X) → ((x : X) → h x ≡ f x + g x) → sum_by h xs ≡ sum_by f xs + sum_by g xs
@@ -112,19 +98,11 @@ sums-join f g h [] each = omega arith
 sums-join f g h (x ∷ xs) each = omega (arith, sums-join f g h xs each, each x, sum_by-cons f x xs, sum_by-cons g x xs, sum_by-cons h x xs)
 
 pub killed-more : (clauses : List (List ℕ)) (walked : List ℕ) (l : ℕ) → has walked l ≡ false → killed clauses (walked ++ (l ∷ [])) ≡ killed clauses walked + occurs clauses l
-killed-more clauses walked l fresh =
-    sums-split (λ xs. count_by (λ x. has walked x) xs) (λ xs. count_by (λ x. l == x) xs) (λ xs. count_by (λ x. has (walked ++ (l ∷ [])) x) xs) clauses
-    (λ xs. sums-split (λ x. cond (has walked x) 1 0) (λ x. cond (l == x) 1 0) (λ x. cond (has (walked ++ (l ∷ [])) x) 1 0) xs (λ x. one-more walked l x fresh))
+killed-more clauses walked l fresh = search (rules, sums-split, one-more)
 
 -- the positions that searches have passed
 pub passed-most : (ps : List ℕ) (clauses : List (List ℕ)) → ((s : ℕ) → get_or ps s 0 ≤ length (list_at clauses s)) → sum ps ≤ sum_by length clauses
 passed-most [] clauses h = omega arith
-passed-most (p ∷ ps) [] h =
-    let rest = passed-most ps [] (λ s. h (suc s)) in
-    let first = h 0 in
-    omega (arith, rest, first, sum_by-cons (λ x. x) p ps)
+passed-most (p ∷ ps) [] h = omega (arith, passed-most ps [] (λ s. h (suc s)), h 0, sum_by-cons (λ x. x) p ps)
 passed-most (p ∷ ps) (xs ∷ clauses) h =
-    let rest = passed-most ps clauses (λ s. h (suc s)) in
-    let first = h 0 in
-    let b = sum_by-cons (λ (ys : List ℕ). length ys) xs clauses in
-    omega (arith, rest, first, b, sum_by-cons (λ x. x) p ps)
+    omega (arith, passed-most ps clauses (λ s. h (suc s)), h 0, sum_by-cons (λ (ys : List ℕ). length ys) xs clauses, sum_by-cons (λ x. x) p ps)

@@ -1,5 +1,5 @@
 -- How far the literals of a list are walked, in longer lists and after visits.
-use Rattle.pb_propagate.proofs.Common.{ℕ, ◌++◌, ◌-◌, ◌/◌, ◌<◌, ◌∙◌, ◌≡◌, ◌≤◌, [], ap, arith, Bool, drop, get_or, inl, inr, length}
+use Rattle.pb_propagate.proofs.Common.{ℕ, ◌++◌, ◌-◌, ◌/◌, ◌<◌, ◌∙◌, ◌≡◌, ◌≤◌, [], ap, arith, Bool, drop, get_or, inl, inr, length, rules}
 use Rattle.pb_propagate.proofs.Common.{List, map, refl, subst, sym, take, take_all, true, Contains, Option, slice_get, Some, cases_lt, get_or-take}
 use Rattle.pb_propagate.proofs.Common.{get_or_append_left, get_or_from_slice_get, length-append, length-map, length-take, length-take-le, slice_get_within, take-append-drop}
 use Rattle.pb_propagate.proofs.Common.{take-append-le, get_or-map, slice_get-get_or, Contains-append_cases, NumberedLiteral, Group, Long, Short, Clauses}
@@ -41,35 +41,15 @@ mark-walked values clauses ws list h a m = record {
 }
 
 pub walked-mark : (values : List (Option Bool)) (clauses : List (List ℕ)) (ws : List Watch) (list : List NumberedLiteral) (h : Heads) → Agree values list → h.short ≤ length list → h.long ≤ length list → AreWalked values clauses ws (reached_codes h list) → IsMark clauses ws list h
-walked-mark values clauses ws list h a short long w = record {
-  short = short;
-  long = long;
-  done = λ e live there. let met = w.done e live there in (met.0, met.1, sym (true-listed values list met.0 a) ∙ met.2);
-}
+walked-mark values clauses ws list h a short long w = grind (arith, w.done, true-listed)
 
 -- no literal is walked
 pub mark-none : (clauses : List (List ℕ)) (ws : List Watch) (list : List NumberedLiteral) → IsMark clauses ws list (heads_at 0)
-mark-none clauses ws list = record {
-  short = omega arith;
-  long = omega arith;
-  done = λ e live there. absurd (omega (arith, there.1));
-}
+mark-none clauses ws list = grind (arith)
 
 -- a longer list
 pub mark-more : (clauses : List (List ℕ)) (ws : List Watch) (a b : List NumberedLiteral) (h : Heads) → Extends a b → IsMark clauses ws a h → IsMark clauses ws b h
-mark-more clauses ws a b h (r, e) m = record {
-  short = omega (arith, m.short, longer);
-  long = omega (arith, m.long, longer);
-  done = λ x live there.
-      let w = m.done x live (subst (λ cs. Contains cs (watch_at ws x).literal) codes there) in
-      (w.0, w.1, extends-within a b (r, e) (literal_at w.0) w.2);
-}
-  where
-    longer : length a ≤ length b
-    longer = omega (arith, ap length e, length-append a r)
-
-    codes : reached_codes h b ≡ reached_codes h a
-    codes = rw (e, take-append-le h.short a r m.short, take-append-le h.long a r m.long) refl
+mark-more clauses ws a b h (r, e) m = grind (arith, m.short, m.long, m.done, extends-within, length-append, take-append-le, h.short, h.long)
 
 -- Each watch on a literal that the list falsifies was there before, on the same clause.
 abbrev pub KeepsFallen : Clauses → Clauses → List NumberedLiteral → Type 0
@@ -104,25 +84,14 @@ marks-kept c c' list marks kept old i h at =
 
 -- the same of the record of both
 pub walks-kept : (c c' : Clauses) (list : List NumberedLiteral) (w : Walked) → KeepsFallen c c' list → IsWalkedTo c list w → IsWalkedTo c' list w
-walks-kept c c' list w kept old = record {
-  now = mark-kept c c' list list w.heads (λ l on. on) kept old.now;
-  marks = marks-kept c c' list w.marks.items kept old.marks;
-  level = old.level;
-}
+walks-kept c c' list w kept old = search (rules, mark-kept, w.heads, old.now, marks-kept, old.marks, old.level)
 
 -- no literal is walked, and none is on the list
 pub walks-none : (c : Clauses) (w : Walked) → w.heads ≡ heads_at 0 → w.marks.items ≡ [] → IsWalkedTo c [] w
-walks-none c w heads marks = record {
-  now = subst (IsMark c.blocks.literals c.blocks.watches []) (sym heads) (mark-none c.blocks.literals c.blocks.watches []);
-  marks = λ i h at. absurd (omega (arith, slice_get_within w.marks.items i h at, ap length marks));
-  level = ap length marks;
-}
+walks-none c w heads marks = grind (arith, mark-none, slice_get_within)
 
 pub marks-more : (clauses : List (List ℕ)) (ws : List Watch) (a b : List NumberedLiteral) (marks : List Heads) → Extends a b → AreMarks clauses ws a marks → AreMarks clauses ws b marks
-marks-more clauses ws a b marks (r, e) old i h at =
-    let m = old i h at in
-    let first : take i b ≡ take i a = ap (take i) e ∙ take-append-le i a r (omega (arith, m.0)) in
-    (omega (arith, m.0, ap length e, length-append a r), subst (λ xs. IsMark clauses ws xs h) (sym first) m.1)
+marks-more clauses ws a b marks (r, e) old i h at = grind (arith, take-append-le, length-append)
 
 -- new literals get the heads as their marks
 pub marks-push : (clauses : List (List ℕ)) (ws : List Watch) (list : List NumberedLiteral) (marks : List Heads) (n m : ℕ) (h : Heads) → length marks ≡ n → m ≤ length list → IsMark clauses ws (take n list) h → AreMarks clauses ws list marks → AreMarks clauses ws list (marks ++ replicate (m - n) h)
@@ -153,13 +122,7 @@ pub record IsMarking (c0 c : Clauses) (list0 list : List NumberedLiteral) (marks
   pub kept : KeepsMarks c0 c list0 list marks0 marks
 
 pub marking-start : (c : Clauses) (list : List NumberedLiteral) (marks : List Heads) (n : ℕ) (h : Heads) → n ≡ length list → IsMark c.blocks.literals c.blocks.watches list h → IsMarking c c list list marks marks n h
-marking-start c list marks n h is m = record {
-  first = omega (arith, is);
-  within = omega (arith, is);
-  now = subst (λ xs. IsMark c.blocks.literals c.blocks.watches xs h) (sym (take_all n list (omega (arith, is)))) m;
-  level = λ long. long ∙ sym is;
-  kept = λ long old. (omega arith, old);
-}
+marking-start c list marks n h is m = grind (arith, take_all)
 
 module _ {c0 c : Clauses} {list0 list : List NumberedLiteral} {marks0 marks : List Heads} {marked : ℕ} {h : Heads} (m : IsMarking c0 c list0 list marks0 marks marked h) where
   -- literals were put, and no clause was visited

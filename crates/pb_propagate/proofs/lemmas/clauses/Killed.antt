@@ -1,7 +1,7 @@
 -- The occurrences of the literals on a list, and of their negations.
-use Rattle.pb_propagate.proofs.Common.{count_by-le-length, sum_by-le-sum_by, ℕ, ◌++◌, ◌+◌, ◌<◌, ◌||◌, ◌∙◌, ◌∷◌, ◌≡◌, ◌≤◌, ◌⊎◌, [], ap, arith, Bool}
-use Rattle.pb_propagate.proofs.Common.{cond, false, inl, inr, length, List, map, refl, subst, sym, true, ◌==◌, Contains, count_by, sum_by, both_ways}
-use Rattle.pb_propagate.proofs.Common.{cases_Bool, eqb-true, or_cases, or_left, or_right, map-append, get_or-le-sum_by, NumberedLiteral, negation}
+use Rattle.pb_propagate.proofs.Common.{count_by-le-length, sum_by-le-sum_by, ℕ, ◌++◌, ◌+◌, ◌<◌, ◌||◌, ◌∙◌, ◌∷◌, ◌≡◌, ◌≤◌, ◌⊎◌, [], ap, arith, Bool, rules}
+use Rattle.pb_propagate.proofs.Common.{cond, false, inl, inr, length, List, map, refl, sym, true, ◌==◌, Contains, count_by, sum_by, both_ways}
+use Rattle.pb_propagate.proofs.Common.{eqb-true, or_cases, or_left, or_right, map-append, get_or-le-sum_by, NumberedLiteral, negation}
 use Rattle.pb_propagate.proofs.Common.{Group, Long, Short, list_at, code_in, fallen, falsified_code, same}
 use Rattle.pb_propagate.specs.engine.engine.Lists.{has}
 use Rattle.pb_propagate.proofs.lemmas.engine.Literals.{same-refl}
@@ -23,14 +23,9 @@ stands-source f (k ∷ xs) x h = elim (or_cases (f k == x) (stands (map f xs) x)
   | inr old ↦ let w = stands-source f xs x old in (w.0, or_right (same k w.0) (has xs w.0) w.1, w.2)
 ]
 
--- the codes of a list lack those of other literals
-fresh-code : (g : Group) (xs : List NumberedLiteral) (l : NumberedLiteral) → has xs l ≡ false → stands (map (code_in g) xs) (code_in g l) ≡ false
-fresh-code g xs l absent = elim (cases_Bool (stands (map (code_in g) xs) (code_in g l))) [
-  | inl there ↦
-      let w = stands-source (code_in g) xs (code_in g l) there in
-      absurd (both_ways _ absent (ap (has xs) (sym (code-injective g w.0 l w.2)) ∙ w.1))
-  | inr none_there ↦ none_there
-]
+-- the numbers of a list lack those of other literals
+pub stands-fresh : (f : NumberedLiteral → ℕ) (xs : List NumberedLiteral) (l : NumberedLiteral) → ((k : NumberedLiteral) → f k ≡ f l → k ≡ l) → has xs l ≡ false → stands (map f xs) (f l) ≡ false
+stands-fresh f xs l one absent = grind (arith, stands-source, both_ways)
 
 -- the occurrences, in clauses, of the literals on a list
 abbrev pub risen : List (List ℕ) → List NumberedLiteral → ℕ
@@ -42,20 +37,14 @@ risen-push clauses xs l absent =
     omega (arith, one Short, one Long)
   where
     one : (g : Group) → killed clauses (map (code_in g) (xs ++ (l ∷ []))) ≡ killed clauses (map (code_in g) xs) + occurs clauses (code_in g l)
-    one g = ap (killed clauses) (map-append (code_in g) xs (l ∷ [])) ∙ killed-more clauses (map (code_in g) xs) (code_in g l) (fresh-code g xs l absent)
+    one g = ap (killed clauses) (map-append (code_in g) xs (l ∷ [])) ∙ killed-more clauses (map (code_in g) xs) (code_in g l) (stands-fresh (code_in g) xs l (λ k. code-injective g k l) absent)
 
 -- what is counted by two tests that nothing passes both is counted by either
 bit-join : (a b : Bool) → (a ≡ true → b ≡ true → ⊥) → cond a 1 0 + cond b 1 0 ≤ cond (a || b) 1 0
-bit-join true true h = absurd (h refl refl)
-bit-join true false h = omega arith
-bit-join false true h = omega arith
-bit-join false false h = omega arith
+bit-join a b h = grind arith
 
 killed-join : (clauses : List (List ℕ)) (a b : List ℕ) → ((x : ℕ) → stands a x ≡ true → stands b x ≡ true → ⊥) → killed clauses a + killed clauses b ≤ killed clauses (a ++ b)
-killed-join clauses a b h =
-    sums-join (λ xs. count_by (stands a) xs) (λ xs. count_by (stands b) xs) (λ xs. count_by (stands (a ++ b)) xs) clauses
-    (λ xs. sums-join (λ x. cond (stands a x) 1 0) (λ x. cond (stands b x) 1 0) (λ x. cond (stands (a ++ b) x) 1 0) xs
-    (λ x. subst (λ t. cond (stands a x) 1 0 + cond (stands b x) 1 0 ≤ cond t 1 0) (sym (has-append a b x)) (bit-join (stands a x) (stands b x) (h x))))
+killed-join clauses a b h = search (rules, sums-join, has-append, bit-join)
 
 killed-apart : (clauses : List (List ℕ)) (a b : List ℕ) → ((x : ℕ) → stands a x ≡ true → stands b x ≡ true → ⊥) → killed clauses a + killed clauses b ≤ sum_by length clauses
 killed-apart clauses a b h =
@@ -63,18 +52,11 @@ killed-apart clauses a b h =
 
 -- no code is both of a literal of the list and of a negation
 codes-apart : (g : Group) (list : List NumberedLiteral) (x : ℕ) → IsOneSided list → stands (map (falsified_code g) list) x ≡ true → stands (map (code_in g) list) x ≡ true → ⊥
-codes-apart g list x one a b =
-    let l = stands-source (falsified_code g) list x a in
-    let k = stands-source (code_in g) list x b in
-    let is : negation l.0 ≡ k.0 = code-injective g (negation l.0) k.0 (l.2 ∙ sym k.2) in
-    both_ways _ (one l.0 l.1) (ap (has list) is ∙ k.1)
+codes-apart g list x one a b = grind (arith, stands-source, code-injective, both_ways)
 
 -- nor of both groups
 split-apart : (p q : NumberedLiteral → NumberedLiteral) (list : List NumberedLiteral) (x : ℕ) → stands (map (λ l. code_in Short (p l)) list) x ≡ true → stands (map (λ l. code_in Long (q l)) list) x ≡ true → ⊥
-split-apart p q list x a b =
-    let l = stands-source (λ y. code_in Short (p y)) list x a in
-    let k = stands-source (λ y. code_in Long (q y)) list x b in
-    groups-apart (p l.0) (q k.0) (l.2 ∙ sym k.2)
+split-apart p q list x a b = grind (arith, stands-source, groups-apart)
 
 pub killed-both : (clauses : List (List ℕ)) (list : List NumberedLiteral) → IsOneSided list → fallen clauses list + risen clauses list ≤ sum_by length clauses
 killed-both clauses list one =
@@ -95,7 +77,4 @@ killed-both clauses list one =
 
 -- a literal of a clause occurs
 pub occurs-some : (clauses : List (List ℕ)) (s l : ℕ) → 0 < length (list_at clauses s) → Contains (list_at clauses s) l → 1 ≤ occurs clauses l
-occurs-some clauses s l some there =
-    let one = count-some (list_at clauses s) l there in
-    let most = get_or-le-sum_by (λ xs. count_by (λ x. l == x) xs) clauses s [] (slot-room clauses s some) in
-    omega (arith, one, most)
+occurs-some clauses s l some there = grind (arith, count-some, get_or-le-sum_by, slot-room)

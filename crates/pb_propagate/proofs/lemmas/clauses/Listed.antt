@@ -2,10 +2,10 @@
 use Rattle.pb_propagate.proofs.Common.{slice_get-get_or, ℕ, ◌++◌, ◌-◌, ◌/◌, ◌<◌, ◌∙◌, ◌∷◌, ◌≡◌, ◌⊎◌, [], ap, arith, get_or, get_or-set_other}
 use Rattle.pb_propagate.proofs.Common.{get_or-set_same, Global, inl, inr, length, length-set, List, map, refl, set, subst, suc, sym, true, Vec, zero}
 use Rattle.pb_propagate.proofs.Common.{Contains, option_map, slice_get, Some, swap_remove, cases_eq, cases_lt, get_or-map, length-map, map-set}
-use Rattle.pb_propagate.proofs.Common.{set-get_or, get_or_from_slice_get, none-some, same_Some, slice_get-map, slice_get_within, Listed, Watch}
+use Rattle.pb_propagate.proofs.Common.{set-get_or, get_or_from_slice_get, none-some, slice_get-map, slice_get_within, Listed, Watch}
 use Rattle.pb_propagate.proofs.Common.{AreBlocked, AreFewer, AreLinked, AreMore, entries_at, IsListed, list_at, watch_at, watch_lists}
 use Rattle.std.proofs.lemmas.Option.{slice_get_read}
-use Rattle.pb_propagate.proofs.lemmas.store.Gets.{get-take_less, get-set_same, get-set_other, get-push_same, get-push_other, swap-past, swap-map}
+use Rattle.pb_propagate.proofs.lemmas.store.Gets.{get-take_less, get-set_at, get-set_other, get-push_same, get-push_other, swap-past, swap-map}
 
 pub lists-length : (occ : List (Vec Listed Global)) → length (watch_lists occ) ≡ length occ
 lists-length occ = length-map occ (λ (v : Vec Listed Global). map (λ (x : Listed). x.watch) v.items)
@@ -34,28 +34,13 @@ watch-set occ p v xs now = map-set (λ (x : Vec Listed Global). map (λ (y : Lis
 
 -- where an element of a changed list was before
 pub set-older : (es : List Listed) (q i : ℕ) (y x : Listed) → slice_get (set es q y) i ≡ Some x → (x ≡ y) ⊎ ((j : ℕ) × (slice_get es j ≡ Some x))
-set-older es q i y x h = elim (cases_eq i q) [
-  | inl is ↦ elim (cases_lt q (length es)) [
-    | inl inside ↦ inl (same_Some x y (sym h ∙ ap (slice_get (set es q y)) is ∙ get-set_same es q y inside))
-    | inr past ↦ absurd (omega (arith, is, past, slice_get_within (set es q y) i x h, length-set es q y))
-  ]
-  | inr n ↦ inr (i, sym (get-set_other es q i y n) ∙ h)
-]
+set-older es q i y x h = grind (arith, slice_get_within, length-set, get-set_at, get-set_other, cases_eq i q)
 
-pub push-older : (es : List Listed) (i : ℕ) (y x : Listed) → slice_get (es ++ (y ∷ [])) i ≡ Some x → (x ≡ y) ⊎ ((j : ℕ) × (slice_get es j ≡ Some x))
-push-older es i y x h = elim (cases_eq i (length es)) [
-  | inl is ↦ inl (same_Some x y (sym h ∙ get-push_same es i y is))
-  | inr n ↦ inr (i, sym (get-push_other es i y n) ∙ h)
-]
+pub push-older : {X : Type 0} (es : List X) (i : ℕ) (y x : X) → slice_get (es ++ (y ∷ [])) i ≡ Some x → (x ≡ y) ⊎ ((j : ℕ) × (slice_get es j ≡ Some x))
+push-older es i y x h = grind (arith, get-push_same, get-push_other, cases_eq i (length es))
 
 pub swap-older : (es : List Listed) (q i : ℕ) (d x : Listed) → slice_get (swap_remove es q d) i ≡ Some x → (j : ℕ) × (slice_get es j ≡ Some x)
-swap-older es q i d x h = elim (cases_lt i (length es - 1)) [
-  | inr past ↦ absurd (none-some x (sym (swap-past es q i d past) ∙ h))
-  | inl less ↦ elim (set-older es q i (get_or es (length es - 1) d) x (sym (get-take_less (set es q (get_or es (length es - 1) d)) (length es - 1) i less) ∙ h)) [
-    | inl is ↦ (length es - 1, slice_get-get_or es (length es - 1) d (omega (arith, less)) ∙ ap (λ y. Some y) (sym is))
-    | inr old ↦ old
-  ]
-]
+swap-older es q i d x h = grind (arith, none-some, swap-past, set-older, get-take_less, slice_get-get_or, cases_lt i (length es - 1))
 
 -- one of the lists is another
 pub entries-set : (occ : List (Vec Listed Global)) (p : ℕ) (v1 : Vec Listed Global) (l : ℕ) → (l ≡ p → ⊥) → entries_at (set occ p v1) l ≡ entries_at occ l
@@ -66,14 +51,7 @@ entries-now occ p v1 room = ap (λ es. get_or es p []) (map-set (λ (x : Vec Lis
 
 -- each entry of a changed list is an old one or another
 pub list-older : (occ : List (Vec Listed Global)) (p : ℕ) (v v1 : Vec Listed Global) (P : Listed → Type 0) → p < length occ → v ≡ get_or occ p v → ((i : ℕ) (x : Listed) → slice_get v1.items i ≡ Some x → P x ⊎ ((j : ℕ) × (slice_get v.items j ≡ Some x))) → (x : Listed) → IsListed (set occ p v1) x → P x ⊎ IsListed occ x
-list-older occ p v v1 P room value each x there = by (cases_eq there.0 p)
-  where
-    by : (there.0 ≡ p) ⊎ (there.0 ≡ p → ⊥) → P x ⊎ IsListed occ x
-    by (inr n) = inr (there.0, there.1, ap (λ es. slice_get es there.1) (sym (entries-set occ p v1 there.0 n)) ∙ there.2)
-    by (inl is) = elim (each there.1 x (ap (λ es. slice_get es there.1) (sym (ap (entries_at (set occ p v1)) is ∙ entries-now occ p v1 room)) ∙ there.2)) [
-      | inl new ↦ inl new
-      | inr old ↦ inr (p, old.0, ap (λ es. slice_get es old.0) (entries-here occ p v room value) ∙ old.1)
-    ]
+list-older occ p v v1 P room value each x there = grind (arith, there.0, there.1, entries-set, there.2, entries-now, entries-here, cases_eq there.0 p)
 
 -- an entry is removed
 pub removed-fewer : (occ : List (Vec Listed Global)) (p : ℕ) (v v1 : Vec Listed Global) (q : ℕ) (d : Listed) → p < length occ → v ≡ get_or occ p v → v1.items ≡ swap_remove v.items q d → AreFewer occ (set occ p v1)
@@ -84,9 +62,7 @@ removed-fewer occ p v v1 q d room value gone x there =
     ]
 
 pub removed-watch : (occ : List (Vec Listed Global)) (p : ℕ) (v v1 : Vec Listed Global) (q : ℕ) (d : Listed) → p < length occ → v ≡ get_or occ p v → v1.items ≡ swap_remove v.items q d → watch_lists (set occ p v1) ≡ set (watch_lists occ) p (swap_remove (list_at (watch_lists occ) p) q d.watch)
-removed-watch occ p v v1 q d room value gone =
-    let w = λ (y : Listed). y.watch in
-    watch-set occ p v1 (swap_remove (list_at (watch_lists occ) p) q d.watch) (ap (map w) gone ∙ swap-map w v.items q d ∙ ap (λ (xs : List ℕ). swap_remove xs q d.watch) (sym (watch-here occ p v room value)))
+removed-watch occ p v v1 q d room value gone = grind (arith, watch-set, d.watch, swap-map, watch-here)
 
 pub blocked-more : (clauses : List (List ℕ)) (entry : Listed) (old new : List (Vec Listed Global)) → AreMore entry old new → Contains (list_at clauses (entry.watch / 2)) entry.blocker → AreBlocked clauses old → AreBlocked clauses new
 blocked-more clauses entry old new more here b x there = elim (more x there) [
@@ -100,16 +76,11 @@ listed-live ws occ x linked there = (linked.named x.watch there.0 there.1 (liste
 
 -- one clause is another, which has the blockers of its entries
 pub blocked-set : (clauses : List (List ℕ)) (s : ℕ) (xs : List ℕ) (occ : List (Vec Listed Global)) → s < length clauses → ((x : Listed) → IsListed occ x → x.watch / 2 ≡ s → Contains xs x.blocker) → ((x : Listed) → IsListed occ x → (x.watch / 2 ≡ s → ⊥) → Contains (list_at clauses (x.watch / 2)) x.blocker) → AreBlocked (set clauses s xs) occ
-blocked-set clauses s xs occ room here others x there = elim (cases_eq (x.watch / 2) s) [
-  | inl is ↦ subst (λ ys. Contains ys x.blocker) (sym (ap (list_at (set clauses s xs)) is ∙ get_or-set_same clauses s xs [] room)) (here x there is)
-  | inr n ↦ subst (λ ys. Contains ys x.blocker) (sym (get_or-set_other clauses s (x.watch / 2) xs [] n)) (others x there n)
-]
+blocked-set clauses s xs occ room here others x there = grind (arith, x.watch, x.blocker, get_or-set_same, get_or-set_other, cases_eq (x.watch / 2) s)
 
 -- an entry that is read
 pub watch-read : (occ : List (Vec Listed Global)) (p : ℕ) (v : Vec Listed Global) (i : ℕ) (x : Listed) → p < length occ → v ≡ get_or occ p v → i < length (list_at (watch_lists occ) p) → x ≡ get_or v.items i x → slice_get (list_at (watch_lists occ) p) i ≡ Some x.watch
-watch-read occ p v i x room value inside is =
-    let here = watch-here occ p v room value in
-    ap (λ xs. slice_get xs i) here ∙ some-map v.items i x (slice_get_read v.items (length v.items) i x refl (omega (arith, inside, ap length here, length-map v.items (λ (y : Listed). y.watch))) is)
+watch-read occ p v i x room value inside is = grind (arith, watch-here, some-map, slice_get_read, length-map)
 
 -- the same watch with another blocker
 pub watch-kept : (occ : List (Vec Listed Global)) (p : ℕ) (v v1 : Vec Listed Global) (i : ℕ) (x : Listed) → p < length occ → v ≡ get_or occ p v → slice_get (list_at (watch_lists occ) p) i ≡ Some x.watch → v1.items ≡ set v.items i x → watch_lists (set occ p v1) ≡ watch_lists occ

@@ -17,36 +17,25 @@ abbrev pub marks_set : List Bool → ℕ → Bool → Bool → List Bool
 marks_set failed i a b = set (set (set (set failed i a) (i + 1) b) (i + 2) a) (i + 3) b
 
 marks-length : (failed : List Bool) (i : ℕ) (a b : Bool) → length (marks_set failed i a b) ≡ length failed
-marks-length failed i a b =
-    length-set (set (set (set failed i a) (i + 1) b) (i + 2) a) (i + 3) b ∙ length-set (set (set failed i a) (i + 1) b) (i + 2) a ∙ length-set (set failed i a) (i + 1) b ∙ length-set failed i a
+marks-length failed i a b = omega (arith, length-set {A = Bool})
 
-marks-other : (failed : List Bool) (i x : ℕ) (a b : Bool) → (x ≡ i → ⊥) → (x ≡ i + 1 → ⊥) → (x ≡ i + 2 → ⊥) → (x ≡ i + 3 → ⊥) → get_or (marks_set failed i a b) x false ≡ get_or failed x false
-marks-other failed i x a b p q r s =
-    get_or-set_other (set (set (set failed i a) (i + 1) b) (i + 2) a) (i + 3) x b false s ∙ get_or-set_other (set (set failed i a) (i + 1) b) (i + 2) x a false r ∙ get_or-set_other (set failed i a) (i + 1) x b false q ∙ get_or-set_other failed i x a false p
+marks-other : (failed : List Bool) (i x : ℕ) (a b : Bool) → (x < i) ⊎ (i + 3 < x) → get_or (marks_set failed i a b) x false ≡ get_or failed x false
+marks-other failed i x a b apart = grind (arith, get_or-set_other)
 
 marks-even : (failed : List Bool) (i x : ℕ) (a b : Bool) → i + 3 < length failed → (x ≡ i) ⊎ (x ≡ i + 2) → get_or (marks_set failed i a b) x false ≡ a
-marks-even failed i x a b less (inl is) =
-    get_or-set_other (set (set (set failed i a) (i + 1) b) (i + 2) a) (i + 3) x b false (λ e. omega (arith, e, is)) ∙ get_or-set_other (set (set failed i a) (i + 1) b) (i + 2) x a false (λ e. omega (arith, e, is)) ∙ get_or-set_other (set failed i a) (i + 1) x b false (λ e. omega (arith, e, is)) ∙ get_or-set_at failed i x a false is (omega (arith, less))
-marks-even failed i x a b less (inr is) =
-    get_or-set_other (set (set (set failed i a) (i + 1) b) (i + 2) a) (i + 3) x b false (λ e. omega (arith, e, is)) ∙ get_or-set_at (set (set failed i a) (i + 1) b) (i + 2) x a false is (omega (arith, less, length-set (set failed i a) (i + 1) b, length-set failed i a))
+marks-even failed i x a b less at = grind (arith, get_or-set_at, get_or-set_other, length-set)
 
 marks-odd : (failed : List Bool) (i x : ℕ) (a b : Bool) → i + 3 < length failed → (x ≡ i + 1) ⊎ (x ≡ i + 3) → get_or (marks_set failed i a b) x false ≡ b
-marks-odd failed i x a b less (inl is) =
-    get_or-set_other (set (set (set failed i a) (i + 1) b) (i + 2) a) (i + 3) x b false (λ e. omega (arith, e, is)) ∙ get_or-set_other (set (set failed i a) (i + 1) b) (i + 2) x a false (λ e. omega (arith, e, is)) ∙ get_or-set_at (set failed i a) (i + 1) x b false is (omega (arith, less, length-set failed i a))
-marks-odd failed i x a b less (inr is) =
-    get_or-set_at (set (set (set failed i a) (i + 1) b) (i + 2) a) (i + 3) x b false is (omega (arith, less, length-set (set (set failed i a) (i + 1) b) (i + 2) a, length-set (set failed i a) (i + 1) b, length-set failed i a))
+marks-odd failed i x a b less at = grind (arith, get_or-set_at, get_or-set_other, length-set)
 
 even-is : (x v : ℕ) → x / 4 ≡ v → x % 2 ≡ 0 → (x ≡ 4 * v) ⊎ (x ≡ 4 * v + 2)
-even-is x v same even = elim (cases_eq x (4 * v)) [
-  | inl is ↦ inl is
-  | inr isnt ↦ inr (omega (arith, same, even, isnt))
-]
+even-is x v same even = grind arith
 
 odd-is : (x v : ℕ) → x / 4 ≡ v → (x % 2 ≡ 0 → ⊥) → (x ≡ 4 * v + 1) ⊎ (x ≡ 4 * v + 3)
-odd-is x v same odd = elim (cases_eq x (4 * v + 1)) [
-  | inl is ↦ inl is
-  | inr isnt ↦ inr (grind (arith, nat_tests, same, odd, isnt))
-]
+odd-is x v same odd = grind arith
+
+apart-is : (x v : ℕ) → (x / 4 ≡ v → ⊥) → (x < 4 * v) ⊎ (4 * v + 3 < x)
+apart-is x v apart = grind arith
 
 -- the codes of a variable's literals are marked again
 pub marked-set : (values : List (Option Bool)) (failed : List Bool) (v : ℕ) (o : Option Bool) (a b : Bool) → v < length values → a ≡ is_failed o true → b ≡ is_failed o false → AreMarked values failed → AreMarked (set values v o) (marks_set failed (4 * v) a b)
@@ -62,7 +51,7 @@ marked-set values failed v o a b less plain negated m = record {
           ∙ negated ∙ ap (is_failed o) (sym (ne_eqb (x % 2) 0 odd))
           ∙ ap (λ (p : Option Bool). is_failed p (x % 2 == 0)) (sym (get_or-set_at values v (x / 4) o None same less))
     ]
-    | inr apart ↦ marks-other failed (4 * v) x a b (λ is. apart (omega (arith, is))) (λ is. apart (omega (arith, is))) (λ is. apart (omega (arith, is))) (λ is. apart (omega (arith, is)))
+    | inr apart ↦ marks-other failed (4 * v) x a b (apart-is x v apart)
         ∙ m.each x
         ∙ ap (λ (p : Option Bool). is_failed p (x % 2 == 0)) (sym (get_or-set_other values v (x / 4) o None apart))
   ];

@@ -1,7 +1,7 @@
 -- Clauses as constraints.
-use Rattle.pb_propagate.proofs.Common.{get_or_default, ℕ, ◌+◌, ◌<◌, ◌∙◌, ◌∷◌, ◌≡◌, ◌≤◌, ◌⊎◌, [], ap, arith, Bool, cond, eq-eqb, false, get_or, inl}
-use Rattle.pb_propagate.proofs.Common.{inr, length, List, map, refl, suc, sym, true, zero, ◌==◌, Contains, count_by, Option, slice_get, Some}
-use Rattle.pb_propagate.proofs.Common.{both_ways, cases_Bool, get_or-map, length-map, sum_by-cons, slice_get-get_or, NumberedLiteral, negation, Term}
+use Rattle.pb_propagate.proofs.Common.{get_or_default, ℕ, ◌+◌, ◌<◌, ◌∙◌, ◌∷◌, ◌≡◌, ◌≤◌, ◌⊎◌, [], ap, arith, Bool, cond, false, get_or, inl}
+use Rattle.pb_propagate.proofs.Common.{inr, length, List, map, refl, set, suc, sym, true, zero, ◌==◌, Contains, count_by, Option, slice_get, Some}
+use Rattle.pb_propagate.proofs.Common.{both_ways, cases_Bool, get_or-le-sum_by, get_or-map, get_or-set_other, length-map, length-set, nat_tests, sum_by-set, sum_by-cons, slice_get-get_or, NumberedLiteral, negation, Term}
 use Rattle.pb_propagate.proofs.Common.{list_at, IsBroken, IsUnit, AreJoined, clause_shape, joined, literal_at, one_term, slot_shape, false_at}
 use Rattle.pb_propagate.proofs.Common.{true_at, begin, broken, Conflicts, Derives, has, IsSettled, open_part, open_sum, opposed, put, Puts, Shape}
 use Rattle.pb_propagate.proofs.lemmas.engine.Literals.{open_part-falsified, open_part-open}
@@ -11,10 +11,7 @@ use Rattle.pb_propagate.proofs.lemmas.clauses.Stores.{slot-room}
 
 -- the open sum of a clause counts its literals that are not falsified
 part-most : (list : List NumberedLiteral) (c : ℕ) → open_part list (one_term c) ≤ 1
-part-most list c = elim (cases_Bool (has list (negation (literal_at c)))) [
-  | inl gone ↦ omega (arith, open_part-falsified list (one_term c) gone)
-  | inr there ↦ omega (arith, open_part-open list (one_term c) there)
-]
+part-most list c = grind (arith, cases_Bool (has list (negation (literal_at c))), open_part-falsified list (one_term c), open_part-open list (one_term c))
 
 pub few-open : (list : List NumberedLiteral) (codes : List ℕ) (x : ℕ) → ((k d : ℕ) → k < length codes → (has list (negation (literal_at (get_or codes k d))) ≡ true) ⊎ (get_or codes k d ≡ x)) → open_sum list (map one_term codes) ≤ count_by (λ y. x == y) codes
 few-open list [] x h = omega arith
@@ -23,40 +20,29 @@ few-open list (c ∷ codes) x h =
     omega (arith, rest, first (h 0 0 (omega arith)), sum_by-cons (open_part list) (one_term c) (map one_term codes), sum_by-cons (λ y. cond (x == y) 1 0) c codes)
   where
     first : (has list (negation (literal_at c)) ≡ true) ⊎ (c ≡ x) → open_part list (one_term c) ≤ cond (x == c) 1 0
-    first (inl gone) = omega (arith, open_part-falsified list (one_term c) gone)
-    first (inr is) =
-        let one : ◌≡◌ {A = ℕ} (cond (x == c) 1 0) 1 = ap (λ (b : Bool). cond {A = ℕ} b 1 0) (eq-eqb x c (sym is)) in
-        omega (arith, one, part-most list c)
+    first h = grind (arith, nat_tests, h, part-most list c, open_part-falsified list (one_term c))
 
 pub none-open : (list : List NumberedLiteral) (codes : List ℕ) → ((k d : ℕ) → k < length codes → has list (negation (literal_at (get_or codes k d))) ≡ true) → open_sum list (map one_term codes) ≡ 0
 none-open list [] h = refl
 none-open list (c ∷ codes) h =
-    let rest = none-open list codes (λ k d less. h (suc k) d (omega (arith, less))) in
-    omega (arith, rest, open_part-falsified list (one_term c) (h 0 0 (omega arith)), sum_by-cons (open_part list) (one_term c) (map one_term codes))
+    omega (arith, none-open list codes (λ k d less. h (suc k) d (omega (arith, less))), open_part-falsified list (one_term c) (h 0 0 (omega arith)), sum_by-cons (open_part list) (one_term c) (map one_term codes))
 
 one-open : (list : List NumberedLiteral) (codes : List ℕ) (a : ℕ) → Contains codes a → has list (negation (literal_at a)) ≡ false → 1 ≤ open_sum list (map one_term codes)
-one-open list [] a (i, inside, is) free = absurd (omega (arith, inside))
-one-open list (c ∷ codes) a (zero, inside, is) free =
-    let here = open_part-open list (one_term c) (ap (λ y. has list (negation (literal_at y))) is ∙ free) in
-    omega (arith, here, sum_by-cons (open_part list) (one_term c) (map one_term codes))
-one-open list (c ∷ codes) a (suc i, inside, is) free =
-    let rest = one-open list codes a (i, omega (arith, inside), is) free in
-    omega (arith, rest, sum_by-cons (open_part list) (one_term c) (map one_term codes))
+one-open list codes a (i, inside, is) free =
+    let at : get_or (map one_term codes) i (one_term a) ≡ one_term a = get_or-map one_term codes i a (one_term a) inside ∙ ap one_term is in
+    let most = get_or-le-sum_by (open_part list) (map one_term codes) i (one_term a) (omega (arith, inside, length-map codes one_term)) in
+    omega (arith, open_part-open list (one_term a) free, ap (open_part list) at, most)
 
 pub two-open : (list : List NumberedLiteral) (codes : List ℕ) (a b : ℕ) → Contains codes a → Contains codes b → (b ≡ a → ⊥) → has list (negation (literal_at a)) ≡ false → has list (negation (literal_at b)) ≡ false → 2 ≤ open_sum list (map one_term codes)
-two-open list [] a b (i, inside, is) (j, inside_b, is_b) apart free free_b = absurd (omega (arith, inside))
-two-open list (c ∷ codes) a b (zero, inside, is) (zero, inside_b, is_b) apart free free_b = absurd (apart (sym is_b ∙ is))
-two-open list (c ∷ codes) a b (zero, inside, is) (suc j, inside_b, is_b) apart free free_b =
-    let here = open_part-open list (one_term c) (ap (λ y. has list (negation (literal_at y))) is ∙ free) in
-    let rest = one-open list codes b (j, omega (arith, inside_b), is_b) free_b in
-    omega (arith, here, rest, sum_by-cons (open_part list) (one_term c) (map one_term codes))
-two-open list (c ∷ codes) a b (suc i, inside, is) (zero, inside_b, is_b) apart free free_b =
-    let here = open_part-open list (one_term c) (ap (λ y. has list (negation (literal_at y))) is_b ∙ free_b) in
-    let rest = one-open list codes a (i, omega (arith, inside), is) free in
-    omega (arith, here, rest, sum_by-cons (open_part list) (one_term c) (map one_term codes))
-two-open list (c ∷ codes) a b (suc i, inside, is) (suc j, inside_b, is_b) apart free free_b =
-    let rest = two-open list codes a b (i, omega (arith, inside), is) (j, omega (arith, inside_b), is_b) apart free free_b in
-    omega (arith, rest, sum_by-cons (open_part list) (one_term c) (map one_term codes))
+two-open list codes a b (i, inside, is) (j, inside_b, is_b) apart free free_b =
+    let ts = map one_term codes in
+    let gone : Term = record (one_term a) { coefficient = 0 } in
+    let at : get_or ts i (one_term a) ≡ one_term a = get_or-map one_term codes i a (one_term a) inside ∙ ap one_term is in
+    let other : j ≡ i → ⊥ = λ e. apart (sym is_b ∙ ap (λ k. get_or codes k b) e ∙ get_or_default codes i b a inside ∙ is) in
+    let at_b : get_or (set ts i gone) j (one_term b) ≡ one_term b = get_or-set_other ts i j gone (one_term b) other ∙ get_or-map one_term codes j b (one_term b) inside_b ∙ ap one_term is_b in
+    let most = get_or-le-sum_by (open_part list) (set ts i gone) j (one_term b) (omega (arith, inside_b, length-map codes one_term, length-set ts i gone)) in
+    let change = sum_by-set (open_part list) ts i gone (one_term a) (omega (arith, inside, length-map codes one_term)) in
+    omega (arith, change, most, ap (open_part list) at, ap (open_part list) at_b, open_part-open list (one_term a) free, open_part-open list (one_term b) free_b, open_part-open list gone free)
 
 -- the constraint of a slot
 pub joined-length : (xs : List Shape) (clauses : List (List ℕ)) → length (joined xs clauses) ≡ length xs
@@ -111,15 +97,7 @@ kept-joined xs clauses f j (s, inside, is) some = by (list_at clauses s) refl
 
 -- what the occurrence lists derive
 puts-joined : (xs : List Shape) (clauses : List (List ℕ)) (list : List NumberedLiteral) (l : NumberedLiteral) → AreJoined xs clauses → Puts xs list l → Puts (joined xs clauses) list l
-puts-joined xs clauses list l j m = record {
-  absent = m.absent;
-  not_falsified = m.not_falsified;
-  form = m.form;
-  among = kept-joined xs clauses m.form j m.among (omega (arith, m.term.1));
-  coefficient = m.coefficient;
-  term = m.term;
-  forced = m.forced;
-}
+puts-joined xs clauses list l j m = grind (arith, m.absent, m.not_falsified, kept-joined, m.among, m.term.1, m.term, m.forced)
 
 pub derives-joined : (xs : List Shape) (clauses : List (List ℕ)) (a b : List NumberedLiteral) → AreJoined xs clauses → Derives xs a b → Derives (joined xs clauses) a b
 derives-joined xs clauses a _ j begin = begin

@@ -1,11 +1,12 @@
 -- The constraints of all slots when a constraint is added or removed.
 use Rattle.pb_propagate.proofs.Common.{same_Some, ℕ, ◌*◌, ◌++◌, ◌+◌, ◌/◌, ◌<◌, ◌∙◌, ◌∷◌, ◌≡◌, ◌≤◌, [], ap, arith, Bool, cond, eq-eqb, false}
 use Rattle.pb_propagate.proofs.Common.{get_or, get_or-set_other, get_or-set_same, inl, inr, length, length-append, length-set, List, map, None, not}
-use Rattle.pb_propagate.proofs.Common.{refl, set, subst, suc, sym, true, zero, ◌%◌, ◌==◌, All, count_by, IsPermutation, Option, slice_get, Some}
-use Rattle.pb_propagate.proofs.Common.{cases_Bool, cases_eq, eqb-true, get_or_append_left, IsPermutation-refl, sum_by-cons, slice_get_within, Entry}
-use Rattle.pb_propagate.proofs.Common.{Form, IsNormal, IsRising, Group, Long, Short, list_at, AreDifferent, AreJoined, clause_shape, code}
-use Rattle.pb_propagate.proofs.Common.{codes_of_terms, group_by, IsClause, IsLight, joined, offset, one_term, slot_shape, entry_of, IsStoredAs, Shape}
+use Rattle.pb_propagate.proofs.Common.{refl, set, subst, suc, sym, true, zero, ◌%◌, ◌==◌, All, count_by, Option, slice_get, Some}
+use Rattle.pb_propagate.proofs.Common.{cases_eq, nat_tests, get_or_append_left, sum_by-cons, slice_get_within, Entry}
+use Rattle.pb_propagate.proofs.Common.{Form, IsNormal, IsRising, Group, list_at, AreDifferent, AreJoined, clause_shape, code}
+use Rattle.pb_propagate.proofs.Common.{codes_of_terms, IsClause, IsLight, joined, offset, one_term, slot_shape, entry_of, IsStoredAs, Shape}
 use Rattle.pb_propagate.proofs.Common.{AreSlots, IsSlot}
+use Rattle.std.proofs.lemmas.Grind.{get_or-set_at}
 use Rattle.pb_propagate.proofs.lemmas.store.Gets.{push-default}
 use Rattle.pb_propagate.proofs.lemmas.clauses.Literals.{half-of, parity-of}
 use Rattle.pb_propagate.proofs.lemmas.clauses.Shapes.{joined-at, joined-length, shape-some}
@@ -53,21 +54,12 @@ joined-widen (y ∷ xs) [] x h = absurd (omega (arith, h))
 joined-widen (y ∷ xs) (codes ∷ clauses) x h = ap (λ ys. slot_shape y codes ∷ ys) (joined-widen xs clauses x (omega (arith, h)))
 
 pub AreJoined-push : (xs : List Shape) (clauses : List (List ℕ)) (x : Shape) → AreJoined xs clauses → AreJoined (xs ++ (x ∷ [])) clauses
-AreJoined-push xs clauses x j = record {
-  short = omega (arith, j.short, length-append xs (x ∷ []));
-  apart = λ s d less some.
-      let inside : s < length xs = omega (arith, slot-room clauses s some, j.short) in
-      subst (λ (y : Shape). (y.terms ≡ []) × (y.degree ≡ 0)) (sym (get_or_append_left xs (x ∷ []) d s inside)) (j.apart s d inside some);
-  different = j.different;
-}
+AreJoined-push xs clauses x j = grind (arith, j.short, length-append, get_or_append_left, slot-room, j.apart, j.different)
 
 pub AreJoined-widen : (xs : List Shape) (clauses : List (List ℕ)) (x : Shape) → AreJoined xs clauses → AreJoined (xs ++ (x ∷ [])) (clauses ++ ([] ∷ []))
 AreJoined-widen xs clauses x j = record {
   short = omega (arith, j.short, length-append xs (x ∷ []), length-append clauses ([] ∷ []));
-  apart = λ s d less some.
-      let was : 0 < length (list_at clauses s) = omega (arith, some, ap length (push-default clauses s [])) in
-      let inside : s < length xs = omega (arith, slot-room clauses s was, j.short) in
-      subst (λ (y : Shape). (y.terms ≡ []) × (y.degree ≡ 0)) (sym (get_or_append_left xs (x ∷ []) d s inside)) (j.apart s d inside was);
+  apart = λ s d less some. grind (arith, get_or_append_left, push-default clauses s [], slot-room clauses s, j.short, j.apart s d, some);
   different = λ s. subst AreDifferent (sym (push-default clauses s [])) (j.different s);
 }
 
@@ -81,10 +73,7 @@ joined-set (y ∷ xs) (codes ∷ clauses) (suc s) x h = ap (λ ys. slot_shape y 
 pub AreJoined-set : (xs : List Shape) (clauses : List (List ℕ)) (s : ℕ) (x : Shape) → list_at clauses s ≡ [] → AreJoined xs clauses → AreJoined (set xs s x) clauses
 AreJoined-set xs clauses s x h j = record {
   short = omega (arith, j.short, length-set xs s x);
-  apart = λ t d less some. elim (cases_eq t s) [
-    | inl is ↦ absurd (omega (arith, some, ap length (ap (list_at clauses) is ∙ h)))
-    | inr n ↦ subst (λ (y : Shape). (y.terms ≡ []) × (y.degree ≡ 0)) (sym (get_or-set_other xs s t x d n)) (j.apart t d (omega (arith, less, length-set xs s x)) some)
-  ];
+  apart = λ t d less some. grind (arith, cases_eq t s, get_or-set_other, length-set, h, some, less, j.apart t d);
   different = j.different;
 }
 
@@ -100,10 +89,7 @@ pub AreJoined-clause : (xs : List Shape) (clauses : List (List ℕ)) (s : ℕ) (
     (0 < length codes → (d : Shape) → ((get_or xs s d).terms ≡ []) × ((get_or xs s d).degree ≡ 0)) → AreDifferent codes → AreJoined xs clauses → AreJoined xs (set clauses s codes)
 AreJoined-clause xs clauses s codes room bare different j = record {
   short = omega (arith, j.short, length-set clauses s codes);
-  apart = λ t d less some. elim (cases_eq t s) [
-    | inl is ↦ subst (λ k. ((get_or xs k d).terms ≡ []) × ((get_or xs k d).degree ≡ 0)) (sym is) (bare (omega (arith, some, ap length (here t is))) d)
-    | inr n ↦ j.apart t d less (omega (arith, some, ap length (get_or-set_other clauses s t codes [] n)))
-  ];
+  apart = λ t d less some. grind (arith, cases_eq t s, get_or-set_at, get_or-set_other, some, less, bare, j.apart t d);
   different = λ t. elim (cases_eq t s) [
     | inl is ↦ subst AreDifferent (sym (here t is)) different
     | inr n ↦ subst AreDifferent (sym (get_or-set_other clauses s t codes [] n)) (j.different t)
@@ -141,28 +127,16 @@ codes-back g (e ∷ es) all =
     rw (first, rest) refl
 
 pub clause-kept : (f : Form) → IsNormal f → IsClause f → IsStoredAs f (clause_shape (codes_of_terms f.terms))
-clause-kept f normal c = record {
-  terms = subst (λ es. IsPermutation es f.terms) (sym (codes-back (group_by (length f.terms)) f.terms c.light)) (IsPermutation-refl f.terms);
-  degree = sym c.degree;
-  normal = normal;
-}
+clause-kept f normal c = grind (arith, f.terms, codes-back)
 
 code-from : (g : Group) (e : Entry) → (4 * e.variable + offset g ≤ code g e) × (code g e ≤ 4 * e.variable + offset g + 1)
-code-from g e = at e.negated
-  where
-    at : (b : Bool) → (4 * e.variable + offset g ≤ 4 * e.variable + offset g + cond b 1 0) × (4 * e.variable + offset g + cond b 1 0 ≤ 4 * e.variable + offset g + 1)
-    at true = (omega arith, omega arith)
-    at false = (omega arith, omega arith)
+code-from g e = grind arith
 
 offset-small : (g : Group) → offset g ≤ 2
-offset-small Short = omega arith
-offset-small Long = omega arith
+offset-small g = grind arith
 
 apart-zero : (x y : ℕ) → (x ≡ y → ⊥) → ◌≡◌ {A = ℕ} (cond (x == y) 1 0) 0
-apart-zero x y n = elim (cases_Bool (x == y)) [
-  | inl is ↦ absurd (n (eqb-true x y is))
-  | inr isnt ↦ ap (λ (b : Bool). cond {A = ℕ} b 1 0) isnt
-]
+apart-zero x y n = grind (arith, nat_tests)
 
 rising-none : (g : Group) (n : ℕ) (es : List Entry) (x : ℕ) → IsRising n es → x < 4 * n + offset g → count_by (λ y. x == y) (map (code g) es) ≡ 0
 rising-none g n [] x r h = refl

@@ -6,6 +6,7 @@ use Rattle.pb_propagate.proofs.Common.{slice_get, Some, both_ways, cases_eq, cas
 use Rattle.pb_propagate.proofs.Common.{Contains-get_or, same_Some, Watch, AreLinked, list_at, Remains, watch_at}
 use Rattle.pb_propagate.proofs.Common.{ArePassed, AreServed, AreStored, HasTrue, IsBroken, IsUnit, IsWatched, false_at}
 use Rattle.pb_propagate.proofs.Common.{flip, true_at}
+use Rattle.std.proofs.lemmas.Grind.{get_or-set_at}
 use Rattle.pb_propagate.proofs.lemmas.clauses.Linked.{sits-within}
 use Rattle.pb_propagate.proofs.lemmas.clauses.Truths.{flip-half, flip-flip, flip-apart, same-slot}
 
@@ -46,10 +47,7 @@ passed-raised : {values : List (Option Bool)} {clauses : List (List ℕ)} {passe
     ((t k d : ℕ) → k < get_or passed t 0 → IsPassed values clauses ws' t k d) → ArePassed values clauses (set passed s n) ws'
 passed-raised {values} {clauses} {passed} {ws} {ws'} s n old inside most here others = record {
   sizes = length-set passed s n ∙ old.sizes;
-  bounded = λ t. elim (cases_eq t s) [
-    | inl is ↦ omega (arith, now t is, most, ap (λ u. length (list_at clauses u)) is)
-    | inr off ↦ omega (arith, get_or-set_other passed s t n 0 off, old.bounded t)
-  ];
+  bounded = λ t. grind (arith, cases_eq t s, get_or-set_at, get_or-set_other, old.bounded t);
   each = λ t k d h. elim (cases_eq t s) [
     | inl is ↦ subst (λ u. IsPassed values clauses ws' u k d) (sym is) (here k d (omega (arith, h, now t is)))
     | inr off ↦ others t k d (omega (arith, h, get_or-set_other passed s t n 0 off))
@@ -159,45 +157,15 @@ module _ {values : List (Option Bool)} {c c' : Clauses} {l index e other place :
   stored-move = record {
     linked = m.linked;
     pairs = m.watches ∙ g.stored.pairs;
-    watched = λ k live. watched-at k live (cases_eq k e);
-    paired = λ k live. paired-at k live (cases_eq k e) (cases_eq (flip k) e);
-    apart = λ k live h. apart-at k live h (cases_eq k e) (cases_eq (flip k) e);
-    full = λ s some. full-at s some (cases_eq (2 * s) e);
+    watched = λ k live. elim (cases_eq k e) [
+      | inl is ↦ rw (is, m.literal) (Contains-get_or (list_at c.blocks.literals (e / 2)) place 0 m.within)
+      | inr n ↦ rw (m.others k n).literal (g.stored.watched k (sym (m.others k n).live ∙ live))
+    ];
+    paired = λ k live. grind (arith, cases_eq k e, cases_eq (flip k) e, m.others k, m.others (flip k), flip-apart, g.stored.paired k, m.live, visiting-live g);
+    apart = λ k live h. grind (arith, cases_eq k e, cases_eq (flip k) e, m.others k, m.others (flip k), flip-apart, flip-flip, g.stored.apart k, m.live, visiting-live g, found-open.1, h);
+    full = λ s some. grind (arith, cases_eq (2 * s) e, m.others (2 * s), g.stored.full s, m.live);
     inside = λ s k d h. omega (arith, g.stored.inside s k d h, m.lists);
   }
-    where
-      live-e : (watch_at c.blocks.watches e).live ≡ true
-      live-e = visiting-live g
-
-      was-live : (k : ℕ) → (k ≡ e → ⊥) → (watch_at c'.blocks.watches k).live ≡ true → (watch_at c.blocks.watches k).live ≡ true
-      was-live k n live = sym (m.others k n).live ∙ live
-
-      watched-at : (k : ℕ) → (watch_at c'.blocks.watches k).live ≡ true → (k ≡ e) ⊎ (k ≡ e → ⊥) → Contains (list_at c.blocks.literals (k / 2)) (watch_at c'.blocks.watches k).literal
-      watched-at k live (inl is) =
-          subst (λ t. Contains (list_at c.blocks.literals (t / 2)) (watch_at c'.blocks.watches t).literal) (sym is) (subst (Contains (list_at c.blocks.literals (e / 2))) (sym m.literal) (Contains-get_or (list_at c.blocks.literals (e / 2)) place 0 m.within))
-      watched-at k live (inr n) = subst (Contains (list_at c.blocks.literals (k / 2))) (sym (m.others k n).literal) (g.stored.watched k (was-live k n live))
-
-      paired-at : (k : ℕ) → (watch_at c'.blocks.watches k).live ≡ true → (k ≡ e) ⊎ (k ≡ e → ⊥) → (flip k ≡ e) ⊎ (flip k ≡ e → ⊥) → (watch_at c'.blocks.watches (flip k)).live ≡ true
-      paired-at k live a (inl is) = ap (λ t. (watch_at c'.blocks.watches t).live) is ∙ m.live
-      paired-at k live (inl is) (inr n) =
-          let n_flip : flip e ≡ e → ⊥ = flip-apart e in
-          ap (λ t. (watch_at c'.blocks.watches (flip t)).live) is ∙ (m.others (flip e) n_flip).live ∙ g.stored.paired e live-e
-      paired-at k live (inr n) (inr n_flip) = (m.others (flip k) n_flip).live ∙ g.stored.paired k (was-live k n live)
-
-      apart-at : (k : ℕ) → (watch_at c'.blocks.watches k).live ≡ true → (watch_at c'.blocks.watches (flip k)).literal ≡ (watch_at c'.blocks.watches k).literal → (k ≡ e) ⊎ (k ≡ e → ⊥) → (flip k ≡ e) ⊎ (flip k ≡ e → ⊥) → ⊥
-      apart-at k live h (inl is) q =
-          let at_e : (watch_at c'.blocks.watches (flip e)).literal ≡ (watch_at c'.blocks.watches e).literal = subst (λ t. (watch_at c'.blocks.watches (flip t)).literal ≡ (watch_at c'.blocks.watches t).literal) is h in
-          found-open.1 (sym at_e ∙ (m.others (flip e) (flip-apart e)).literal)
-      apart-at k live h (inr n) (inl is) =
-          let k-is : k ≡ flip e = sym (flip-flip k) ∙ ap flip is in
-          let at_e : (watch_at c'.blocks.watches e).literal ≡ (watch_at c'.blocks.watches (flip e)).literal = ap (λ t. (watch_at c'.blocks.watches t).literal) (sym is) ∙ h ∙ ap (λ t. (watch_at c'.blocks.watches t).literal) k-is in
-          found-open.1 (at_e ∙ (m.others (flip e) (flip-apart e)).literal)
-      apart-at k live h (inr n) (inr n_flip) =
-          g.stored.apart k (was-live k n live) (sym (m.others (flip k) n_flip).literal ∙ h ∙ (m.others k n).literal)
-
-      full-at : (s : ℕ) → 0 < length (list_at c.blocks.literals s) → (2 * s ≡ e) ⊎ (2 * s ≡ e → ⊥) → (watch_at c'.blocks.watches (2 * s)).live ≡ true
-      full-at s some (inl is) = ap (λ t. (watch_at c'.blocks.watches t).live) is ∙ m.live
-      full-at s some (inr n) = (m.others (2 * s) n).live ∙ g.stored.full s some
 
   -- a watch that stayed, or that is on a literal which is not falsified
   pub shifted-old : (k : ℕ) → false_at values (watch_at c'.blocks.watches k).literal ≡ true → Remains index (watch_at c.blocks.watches k) (watch_at c'.blocks.watches k)
@@ -224,11 +192,8 @@ served-true values clauses ws ls walked l index e linked item met s = record {
   failed = s.failed;
   now = s.now;
   done = s.done;
-  here = λ k live at less. here-at k live at less (cases_eq (watch_at ws k).spot index);
+  here = λ k live at less. elim (cases_eq (watch_at ws k).spot index) [
+    | inl is ↦ rw (same_Some k e (sym (linked.sits k l index (record { live = live; literal = at; spot = is })) ∙ item)) met
+    | inr n ↦ s.here k live at (grind (arith, less, n))
+  ];
 }
-  where
-    here-at : (k : ℕ) → (watch_at ws k).live ≡ true → (watch_at ws k).literal ≡ l → (watch_at ws k).spot < index + 1 → ((watch_at ws k).spot ≡ index) ⊎ ((watch_at ws k).spot ≡ index → ⊥) → HasTrue values clauses (k / 2)
-    here-at k live at less (inl is) =
-        let same : k ≡ e = same_Some k e (sym (linked.sits k l index (record { live = live; literal = at; spot = is })) ∙ item) in
-        subst (λ t. HasTrue values clauses (t / 2)) (sym same) met
-    here-at k live at less (inr n) = s.here k live at (grind (arith, less, n))

@@ -1,10 +1,11 @@
 -- Clauses are added and removed.
 use Rattle.pb_propagate.proofs.Common.{ℕ, ◌*◌, ◌++◌, ◌+◌, ◌/◌, ◌<◌, ◌∙◌, ◌∷◌, ◌≡◌, ◌≤◌, ◌⊎◌, [], ap, arith, Bool, false, get_or, get_or-set_other}
 use Rattle.pb_propagate.proofs.Common.{get_or-set_same, Global, inl, inr, length, length-append, length-set, List, map, refl, set, subst, sym}
-use Rattle.pb_propagate.proofs.Common.{true, Vec, All, Contains, Option, slice_get, Some, both_ways, cases_eq, cases_lt}
+use Rattle.pb_propagate.proofs.Common.{true, Vec, All, Contains, Option, slice_get, Some, both_ways, cases_Bool, cases_eq}
 use Rattle.pb_propagate.proofs.Common.{get_or_past, map-append, Contains-get_or, slice_get_within, Clauses, Listed, Watch}
 use Rattle.pb_propagate.proofs.Common.{Search, begun, Contents, AreBlocked, AreFewer, AreLinked, AreMore, entries_at, idle, IsListed, list_at, Sits}
 use Rattle.pb_propagate.proofs.Common.{IsRenewed, watch_at, watch_lists, AreReady, AreStored, IsPair, IsRunning, passed_of, search_at, flip}
+use Rattle.std.proofs.lemmas.Grind.{get_or-set_at}
 use Rattle.pb_propagate.specs.declared.clauses.watched.Pair.{Pair}
 use Rattle.pb_propagate.proofs.lemmas.clauses.Linked.{list-within}
 use Rattle.pb_propagate.proofs.lemmas.clauses.Listed.{lists-length, watch-entries, listed-live, blocked-set}
@@ -47,25 +48,18 @@ rest-ready values c b run r = record {
 
 -- a slot has two watches
 two-of : (k s : ℕ) → k / 2 ≡ s → (k ≡ 2 * s) ⊎ (k ≡ 2 * s + 1)
-two-of k s h = elim (cases_eq k (2 * s)) [
-  | inl e ↦ inl e
-  | inr n ↦ inr (grind (arith, h, n))
-]
+two-of k s h = grind arith
 
 -- an empty slot's watches are dead
 pub empty-dead : (clauses : List (List ℕ)) (ws : List Watch) (ls : List (List ℕ)) (s e : ℕ) → AreStored clauses ws ls → list_at clauses s ≡ [] → e / 2 ≡ s → (watch_at ws e).live ≡ false
-empty-dead clauses ws ls s e stored none slot = by (watch_at ws e).live refl
-  where
-    by : (b : Bool) → (watch_at ws e).live ≡ b → (watch_at ws e).live ≡ false
-    by true h = absurd (omega (arith, (stored.watched e h).1, ap length (ap (list_at clauses) slot ∙ none)))
-    by false h = h
+empty-dead clauses ws ls s e stored none slot = elim (cases_Bool (watch_at ws e).live) [
+  | inl live ↦ absurd (omega (arith, (stored.watched e live).1, ap length (ap (list_at clauses) slot ∙ none)))
+  | inr dead ↦ dead
+]
 
 -- a slot with literals is one of them
 pub slot-room : (clauses : List (List ℕ)) (s : ℕ) → 0 < length (list_at clauses s) → s < length clauses
-slot-room clauses s some = elim (cases_lt s (length clauses)) [
-  | inl inside ↦ inside
-  | inr past ↦ absurd (omega (arith, some, ap length (get_or_past clauses s [] past)))
-]
+slot-room clauses s some = grind (arith, get_or_past)
 
 -- the watches of a slot are two literals of a clause
 pub record AreWatchesOf (ws : List Watch) (s : ℕ) (xs : List ℕ) : Type 0 where
@@ -86,52 +80,26 @@ stored-set {clauses} {ls} {ls'} {ws} {ws'} s xs old linked room sizes sizes_l sm
   linked = linked;
   pairs = sizes ∙ old.pairs ∙ ap (λ n. 2 * n) (sym (length-set clauses s xs));
   watched = λ k live. elim (cases_eq (k / 2) s) [
-    | inl e ↦ subst (λ zs. Contains zs (watch_at ws' k).literal) (sym (here (k / 2) e)) (mine.watched k e live)
-    | inr n ↦ subst (λ zs. Contains zs (watch_at ws' k).literal) (sym (other (k / 2) n))
-        (subst (Contains (list_at clauses (k / 2))) (sym (same k n).1) (old.watched k (was k n live)))
+    | inl e ↦ rw (e, get_or-set_same clauses s xs [] room) (mine.watched k e live)
+    | inr n ↦ rw (get_or-set_other clauses s (k / 2) xs [] n, (same k n).1) (old.watched k (sym (same k n).0 ∙ live))
   ];
-  paired = λ k live. elim (cases_eq (k / 2) s) [
-    | inl e ↦ mine.paired k e live
-    | inr n ↦ (same (flip k) (flip-off k n)).0 ∙ old.paired k (was k n live)
-  ];
-  apart = λ k live h. elim (cases_eq (k / 2) s) [
-    | inl e ↦ mine.apart k e live h
-    | inr n ↦ old.apart k (was k n live) (sym (same (flip k) (flip-off k n)).1 ∙ h ∙ (same k n).1)
-  ];
-  full = λ t some. elim (cases_eq t s) [
-    | inl e ↦ ap (λ u. (watch_at ws' (2 * u)).live) e ∙ mine.full (omega (arith, some, ap length (here t e)))
-    | inr n ↦ (same (2 * t) (λ h. n (omega (arith, h)))).0 ∙ old.full t (omega (arith, some, ap length (other t n)))
-  ];
-  inside = λ t k d h. elim (cases_eq t s) [
-    | inl e ↦ let less = small k d (omega (arith, h, ap length (here t e))) in omega (arith, less, sizes_l, ap (λ (zs : List ℕ). get_or zs k d) (here t e))
-    | inr n ↦ let less = old.inside t k d (omega (arith, h, ap length (other t n))) in omega (arith, less, sizes_l, ap (λ (zs : List ℕ). get_or zs k d) (other t n))
-  ];
+  paired = λ k live. grind (arith, cases_eq (k / 2) s, same k, same (flip k), flip-half k, old.paired k, mine.paired k);
+  apart = λ k live h. grind (arith, cases_eq (k / 2) s, same k, same (flip k), flip-half k, old.apart k, mine.apart k, h);
+  full = λ t some. grind (arith, cases_eq t s, get_or-set_at, get_or-set_other, same (2 * t), old.full t, mine.full);
+  inside = λ t k d h. grind (arith, cases_eq t s, get_or-set_at, get_or-set_other, small k d, old.inside t k d, sizes_l);
 }
-  where
-    here : (t : ℕ) → t ≡ s → list_at (set clauses s xs) t ≡ xs
-    here t e = ap (list_at (set clauses s xs)) e ∙ get_or-set_same clauses s xs [] room
-
-    other : (t : ℕ) → (t ≡ s → ⊥) → list_at (set clauses s xs) t ≡ list_at clauses t
-    other t n = get_or-set_other clauses s t xs [] n
-
-    was : (k : ℕ) → (k / 2 ≡ s → ⊥) → (watch_at ws' k).live ≡ true → (watch_at ws k).live ≡ true
-    was k n live = sym (same k n).0 ∙ live
-
-    flip-off : (k : ℕ) → (k / 2 ≡ s → ⊥) → flip k / 2 ≡ s → ⊥
-    flip-off k n h = n (sym (flip-half k) ∙ h)
 
 -- both watches are dead, and there is no clause
 none-watched : (ws : List Watch) (s : ℕ) → (watch_at ws (2 * s)).live ≡ false → (watch_at ws (2 * s + 1)).live ≡ false → AreWatchesOf ws s []
 none-watched ws s dead_x dead_y = record {
-  watched = λ k half live. absurd (none k live (two-of k s half));
-  paired = λ k half live. absurd (none k live (two-of k s half));
-  apart = λ k half live h. none k live (two-of k s half);
+  watched = λ k half live. absurd (none k half live);
+  paired = λ k half live. absurd (none k half live);
+  apart = λ k half live h. none k half live;
   full = λ some. absurd (omega (arith, some));
 }
   where
-    none : (k : ℕ) → (watch_at ws k).live ≡ true → (k ≡ 2 * s) ⊎ (k ≡ 2 * s + 1) → ⊥
-    none k live (inl e) = both_ways _ (ap (λ t. (watch_at ws t).live) e ∙ dead_x) live
-    none k live (inr e) = both_ways _ (ap (λ t. (watch_at ws t).live) e ∙ dead_y) live
+    none : (k : ℕ) → k / 2 ≡ s → (watch_at ws k).live ≡ true → ⊥
+    none k half live = grind (arith, cases_eq k (2 * s), dead_x, dead_y, live)
 
 -- a live watch on a literal
 pub record IsWatchOn (w : Watch) (x : ℕ) : Type 0 where
@@ -142,28 +110,13 @@ pub record IsWatchOn (w : Watch) (x : ℕ) : Type 0 where
 pair-watched : {xs : List ℕ} {p : Pair} (ws : List Watch) (s : ℕ) → IsPair xs p → IsWatchOn (watch_at ws (2 * s)) (get_or xs p.first 0) → IsWatchOn (watch_at ws (2 * s + 1)) (get_or xs p.second 0) → AreWatchesOf ws s xs
 pair-watched {xs} {p} ws s pair on_x on_y = record {
   watched = λ k half live. elim (two-of k s half) [
-    | inl e ↦ subst (Contains xs) (sym (first k e).literal) (Contains-get_or xs p.first 0 pair.first)
-    | inr e ↦ subst (Contains xs) (sym (second k e).literal) (Contains-get_or xs p.second 0 pair.second)
+    | inl e ↦ rw (e, on_x.literal) (Contains-get_or xs p.first 0 pair.first)
+    | inr e ↦ rw (e, on_y.literal) (Contains-get_or xs p.second 0 pair.second)
   ];
-  paired = λ k half live. elim (two-of k s half) [
-    | inl e ↦ (second (flip k) (ap flip e ∙ flip-even s)).live
-    | inr e ↦ (first (flip k) (ap flip e ∙ flip-odd)).live
-  ];
-  apart = λ k half live h. elim (two-of k s half) [
-    | inl e ↦ pair.apart (sym (first k e).literal ∙ sym h ∙ (second (flip k) (ap flip e ∙ flip-even s)).literal)
-    | inr e ↦ pair.apart (sym (first (flip k) (ap flip e ∙ flip-odd)).literal ∙ h ∙ (second k e).literal)
-  ];
+  paired = λ k half live. grind (arith, two-of k s half, flip-even s, flip-flip (2 * s), on_x.live, on_y.live);
+  apart = λ k half live h. grind (arith, two-of k s half, flip-even s, flip-flip (2 * s), on_x.literal, on_y.literal, pair.apart, h);
   full = λ some. on_x.live;
 }
-  where
-    flip-odd : flip (2 * s + 1) ≡ 2 * s
-    flip-odd = ap flip (sym (flip-even s)) ∙ flip-flip (2 * s)
-
-    first : (k : ℕ) → k ≡ 2 * s → IsWatchOn (watch_at ws k) (get_or xs p.first 0)
-    first k e = rw e on_x
-
-    second : (k : ℕ) → k ≡ 2 * s + 1 → IsWatchOn (watch_at ws k) (get_or xs p.second 0)
-    second k e = rw e on_y
 
 -- one more empty list
 lists-push : (occ occ' : List (Vec Listed Global)) (v : Vec Listed Global) → occ' ≡ occ ++ (v ∷ []) → v.items ≡ [] → (l : ℕ) → entries_at occ' l ≡ entries_at occ l
@@ -218,6 +171,18 @@ rest-fit c b r literals searches watches = record {
   none = rw searches r.none;
 }
 
+-- the searches, once that of a slot begins
+begun-inside : (clauses clauses' : List (List ℕ)) (ss ss' : List Search) (s : ℕ) (xs : List ℕ) → clauses' ≡ set clauses s xs → ss' ≡ set ss s begun → length ss ≡ length clauses → s < length clauses →
+    ((u : ℕ) → 0 < length (list_at clauses u) → (search_at ss u).position < length (list_at clauses u)) → (t : ℕ) → 0 < length (list_at clauses' t) → (search_at ss' t).position < length (list_at clauses' t)
+begun-inside clauses clauses' ss ss' s xs filled searching sizes room old t some = grind (arith, cases_eq t s, get_or-set_at, get_or-set_other, old t)
+
+begun-none : (ss ss' : List Search) (s t : ℕ) → ss' ≡ set ss s begun → s < length ss → (search_at ss t).passed ≡ 0 → (search_at ss' t).passed ≡ 0
+begun-none ss ss' s t searching room old = grind (arith, cases_eq t s, searching, get_or-set_at, get_or-set_other)
+
+cleared-inside : (clauses clauses' : List (List ℕ)) (ss : List Search) (s : ℕ) → clauses' ≡ set clauses s [] → s < length clauses →
+    ((u : ℕ) → 0 < length (list_at clauses u) → (search_at ss u).position < length (list_at clauses u)) → (t : ℕ) → 0 < length (list_at clauses' t) → (search_at ss t).position < length (list_at clauses' t)
+cleared-inside clauses clauses' ss s vacated room old t some = grind (arith, cases_eq t s, get_or-set_at, get_or-set_other, old t)
+
 -- a clause is stored in a slot
 pub rest-fill : (c : Clauses) (b : Contents) (lists1 lists' : Vec (Vec Listed Global) Global) (s : ℕ) (w1 w2 : Watch) (xs : List ℕ) (p : Pair) → AreReady c → s < length c.blocks.literals → list_at c.blocks.literals s ≡ [] →
     IsPair xs p → IsWatchOn w1 (get_or xs p.first 0) → IsWatchOn w2 (get_or xs p.second 0) → All (λ z. z < length c.lists.items) xs →
@@ -236,8 +201,8 @@ rest-fill c b lists1 lists' s w1 w2 xs p r room empty pair on_1 on_2 inside fill
           (ap (λ (w : Watch). w.live) same, ap (λ (w : Watch). w.literal) same)));
       blocked = subst (λ cs. AreBlocked cs lists'.items) (sym filled) (blocked-set c.blocks.literals s xs lists'.items room (λ e there is. here-blocked e is (more_2 e there)) (λ e there off. other-blocked e off (more_2 e there)));
       sizes = omega (arith, r.sizes, ap length searching, length-set c.blocks.searches s begun, ap length filled, length-set c.blocks.literals s xs);
-      inside = λ t some. inside-at t some (cases_eq t s);
-      none = λ t. none-at t (cases_eq t s);
+      inside = begun-inside c.blocks.literals b.literals c.blocks.searches b.searches s xs filled searching r.sizes room r.inside;
+      none = λ t. passed-at b.searches t ∙ begun-none c.blocks.searches b.searches s t searching (omega (arith, room, r.sizes)) (sym (passed-at c.blocks.searches t) ∙ r.none t);
     }
   where
     ws1 : List Watch
@@ -276,22 +241,6 @@ rest-fill c b lists1 lists' s w1 w2 xs p r room empty pair on_1 on_2 inside fill
       | inr old ↦ r.blocked e old
     ]
 
-    here : search_at b.searches s ≡ begun
-    here = ap (λ ss. search_at ss s) searching ∙ get_or-set_same c.blocks.searches s begun begun (omega (arith, room, r.sizes))
-
-    other : (t : ℕ) → (t ≡ s → ⊥) → search_at b.searches t ≡ search_at c.blocks.searches t
-    other t off = ap (λ ss. search_at ss t) searching ∙ get_or-set_other c.blocks.searches s t begun begun off
-
-    inside-at : (t : ℕ) → 0 < length (list_at b.literals t) → (t ≡ s) ⊎ (t ≡ s → ⊥) → (search_at b.searches t).position < length (list_at b.literals t)
-    inside-at t some (inl is) = omega (arith, some, ap (λ u. (search_at b.searches u).position) is, ap (λ (z : Search). z.position) here)
-    inside-at t some (inr off) =
-        let same : list_at b.literals t ≡ list_at c.blocks.literals t = ap (λ cs. list_at cs t) filled ∙ get_or-set_other c.blocks.literals s t xs [] off in
-        omega (arith, r.inside t (omega (arith, some, ap length same)), ap length same, ap (λ (z : Search). z.position) (other t off))
-
-    none-at : (t : ℕ) → (t ≡ s) ⊎ (t ≡ s → ⊥) → get_or (map (λ (z : Search). z.passed) b.searches) t 0 ≡ 0
-    none-at t (inl is) = passed-at b.searches t ∙ ap (λ u. (search_at b.searches u).passed) is ∙ ap (λ (z : Search). z.passed) here
-    none-at t (inr off) = passed-at b.searches t ∙ ap (λ (z : Search). z.passed) (other t off) ∙ sym (passed-at c.blocks.searches t) ∙ r.none t
-
 -- a clause was removed
 pub rest-cleared : (c : Clauses) (b : Contents) (lists1 lists' : Vec (Vec Listed Global) Global) (s : ℕ) → AreReady c → 0 < length (list_at c.blocks.literals s) → b.literals ≡ set c.blocks.literals s [] → b.searches ≡ c.blocks.searches → AreLinked b.watches (watch_lists lists'.items) →
     length b.watches ≡ length c.blocks.watches → length lists'.items ≡ length c.lists.items → (watch_at b.watches (2 * s)).live ≡ false → (watch_at b.watches (2 * s + 1)).live ≡ false →
@@ -303,7 +252,7 @@ rest-cleared c b lists1 lists' s r some vacated searching linked sizes sizes_l d
       (none-watched b.watches s dead_1 dead_2) same);
   blocked = subst (λ cs. AreBlocked cs lists'.items) (sym vacated) (blocked-set c.blocks.literals s [] lists'.items room (λ e there is. absurd (gone e there (two-of e.watch s is))) (λ e there off. r.blocked e (fewer_1 e (fewer_2 e there))));
   sizes = omega (arith, r.sizes, ap length searching, ap length vacated, length-set c.blocks.literals s []);
-  inside = λ t any. inside-at t any (cases_eq t s);
+  inside = rw searching (cleared-inside c.blocks.literals b.literals c.blocks.searches s vacated room r.inside);
   none = λ t. ap (λ ss. get_or (map (λ (z : Search). z.passed) ss) t 0) searching ∙ r.none t;
 }
   where
@@ -311,16 +260,7 @@ rest-cleared c b lists1 lists' s r some vacated searching linked sizes sizes_l d
     room = slot-room c.blocks.literals s some
 
     gone : (e : Listed) → IsListed lists'.items e → (e.watch ≡ 2 * s) ⊎ (e.watch ≡ 2 * s + 1) → ⊥
-    gone e there (inl is) = both_ways _ (ap (λ k. (watch_at b.watches k).live) is ∙ dead_1) (listed-live b.watches lists'.items e linked there)
-    gone e there (inr is) = both_ways _ (ap (λ k. (watch_at b.watches k).live) is ∙ dead_2) (listed-live b.watches lists'.items e linked there)
-
-    inside-at : (t : ℕ) → 0 < length (list_at b.literals t) → (t ≡ s) ⊎ (t ≡ s → ⊥) → (search_at b.searches t).position < length (list_at b.literals t)
-    inside-at t any (inl is) =
-        let none : list_at b.literals t ≡ [] = ap (λ cs. list_at cs t) vacated ∙ ap (list_at (set c.blocks.literals s [])) is ∙ get_or-set_same c.blocks.literals s [] [] room in
-        absurd (omega (arith, any, ap length none))
-    inside-at t any (inr off) =
-        let there : list_at b.literals t ≡ list_at c.blocks.literals t = ap (λ cs. list_at cs t) vacated ∙ get_or-set_other c.blocks.literals s t [] [] off in
-        omega (arith, r.inside t (omega (arith, any, ap length there)), ap length there, ap (λ ss. (search_at ss t).position) searching)
+    gone e there at = grind (arith, at, dead_1, dead_2, listed-live b.watches lists'.items e linked there)
 
 -- the position of a live watch of a slot
 pub slot-sits : (clauses : List (List ℕ)) (ws : List Watch) (ls : List (List ℕ)) (s e : ℕ) → AreStored clauses ws ls → 0 < length (list_at clauses s) → (e ≡ 2 * s) ⊎ (e ≡ 2 * s + 1) → (watch_at ws e).live ≡ true
@@ -328,12 +268,12 @@ slot-sits clauses ws ls s e stored some (inl is) = ap (λ k. (watch_at ws k).liv
 slot-sits clauses ws ls s e stored some (inr is) = ap (λ k. (watch_at ws k).live) (is ∙ sym (flip-even s)) ∙ stored.paired (2 * s) (stored.full s some)
 
 -- a live watch as it is read
-pub record Stands (ws : List Watch) (ls : List (List ℕ)) (e : ℕ) (w : Watch) : Type 0 where
-  pub item : slice_get (list_at ls w.literal) w.spot ≡ Some e
-  pub literal : w.literal < length ls
-  pub spot : w.spot < length (list_at ls w.literal)
+pub record Stands (ls : List (List ℕ)) (e l i : ℕ) : Type 0 where
+  pub item : slice_get (list_at ls l) i ≡ Some e
+  pub literal : l < length ls
+  pub spot : i < length (list_at ls l)
 
-pub stands-by : (ws : List Watch) (ls : List (List ℕ)) (e : ℕ) (w : Watch) → AreLinked ws ls → (watch_at ws e).live ≡ true → w ≡ watch_at ws e → Stands ws ls e w
-stands-by ws ls e w linked live is =
-    let item : slice_get (list_at ls w.literal) w.spot ≡ Some e = linked.sits e w.literal w.spot (record { live = live; literal = ap (λ (x : Watch). x.literal) (sym is); spot = ap (λ (x : Watch). x.spot) (sym is) }) in
-    record { item = item; literal = list-within ls w.literal w.spot e item; spot = slice_get_within (list_at ls w.literal) w.spot e item }
+pub stands-by : {ws : List Watch} {ls : List (List ℕ)} (e l i : ℕ) → AreLinked ws ls → (watch_at ws e).live ≡ true → l ≡ (watch_at ws e).literal → i ≡ (watch_at ws e).spot → Stands ls e l i
+stands-by {ls = ls} e l i linked live literal spot =
+    let item : slice_get (list_at ls l) i ≡ Some e = linked.sits e l i (record { live = live; literal = sym literal; spot = sym spot }) in
+    record { item = item; literal = list-within ls l i e item; spot = slice_get_within (list_at ls l) i e item }

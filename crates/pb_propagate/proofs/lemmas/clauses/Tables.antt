@@ -1,9 +1,9 @@
 -- Tables of a function's values, and parts of lists.
-use Rattle.pb_propagate.proofs.Common.{ℕ, ◌++◌, ◌+◌, ◌<◌, ◌∙◌, ◌∷◌, ◌≡◌, ◌≤◌, ◌⊎◌, [], ap, arith, cases_eq, cases_lt, drop, ext_get_or, get_or}
-use Rattle.pb_propagate.proofs.Common.{get_or-drop, get_or-map, get_or-set_other, get_or-set_same, get_or-take, get_or_append_left, inl, inr}
+use Rattle.pb_propagate.proofs.Common.{ℕ, ◌++◌, ◌+◌, ◌<◌, ◌∙◌, ◌∷◌, ◌≡◌, ◌≤◌, [], ap, arith, cases_eq, cases_lt, drop, ext_get_or, get_or}
+use Rattle.pb_propagate.proofs.Common.{get_or-drop, get_or-map, get_or-set_other, get_or-take, get_or_append_left, get_or_push}
 use Rattle.pb_propagate.proofs.Common.{length, length-append, length-drop, length-set, length-take-le, List, range_with_len, set, sym, table, take}
 use Rattle.std.proofs.lemmas.List.FromFn.{length-map-range_with_len, length-range_with_len, get_or-range_with_len}
-use Rattle.pb_propagate.proofs.lemmas.store.Gets.{last-is}
+use Rattle.std.proofs.lemmas.Grind.{get_or-set_at}
 
 pub table-length : {A : Type 0} (n : ℕ) (f : ℕ → A) → length (table n f) ≡ n
 table-length n f = length-map-range_with_len f 0 n
@@ -19,35 +19,23 @@ table-same n f g each =
     let less : k < n = omega (arith, h, table-length n g) in
     table-at n g k (f 0) less ∙ each k less ∙ sym (table-at n f k (f 0) less))
 
+-- a function is another at one number at most
+pub table-kept : {A : Type 0} (n : ℕ) (f g : ℕ → A) (k : ℕ) → ((j : ℕ) → j < n → (j ≡ k → ⊥) → g j ≡ f j) → g k ≡ f k → table n g ≡ table n f
+table-kept n f g k others here = table-same n f g (λ j h. grind (arith, cases_eq j k, others j h, here))
+
 pub table-set : {A : Type 0} (n : ℕ) (f g : ℕ → A) (k : ℕ) (y : A) → g k ≡ y →
     ((j : ℕ) → j < n → (j ≡ k → ⊥) → g j ≡ f j) → table n g ≡ set (table n f) k y
 table-set n f g k y here others =
     ext_get_or y (table n g) (set (table n f) k y) (table-length n g
     ∙ sym (length-set (table n f) k y ∙ table-length n f))
-    (λ j h. by j (omega (arith, h, table-length n g)) (cases_eq j k))
-  where
-    by : (j : ℕ) → j < n → (j ≡ k) ⊎ (j ≡ k → ⊥) → get_or (table n g) j y ≡ get_or (set (table n f) k y) j y
-    by j h (inl is) =
-        table-at n g j y h ∙ ap g is ∙ here ∙ sym (ap (λ i. get_or (set (table n f) k y) i y) is
-        ∙ get_or-set_same (table n f) k y y (omega (arith, h, is, table-length n f)))
-    by j h (inr n_is) =
-        table-at n g j y h ∙ others j h n_is ∙ sym (get_or-set_other (table n f) k j y y n_is ∙ table-at n f j y h)
+    (λ j h. grind (arith, cases_eq j k, table-at, table-length, get_or-set_at, get_or-set_other, here, others j, h))
 
 pub table-push : {A : Type 0} (n : ℕ) (f g : ℕ → A) (x : A) → ((k : ℕ) → k < n → g k ≡ f k) → g n ≡ x →
     table (n + 1) g ≡ table n f ++ (x ∷ [])
 table-push n f g x each here =
     ext_get_or x (table (n + 1) g) (table n f ++ (x ∷ []))
     (omega (arith, table-length (n + 1) g, table-length n f, length-append (table n f) (x ∷ [])))
-    (λ j h. by j (omega (arith, h, table-length (n + 1) g)) (cases_lt j n))
-  where
-    by : (j : ℕ) → j < n + 1 → (j < n) ⊎ (n ≤ j) → get_or (table (n + 1) g) j x ≡ get_or (table n f ++ (x ∷ [])) j x
-    by j h (inl less) =
-        table-at (n + 1) g j x h ∙ each j less
-        ∙ sym (get_or_append_left (table n f) (x ∷ []) x j (omega (arith, less, table-length n f))
-        ∙ table-at n f j x less)
-    by j h (inr more) =
-        let is : j ≡ n = omega (arith, h, more) in
-        table-at (n + 1) g j x h ∙ ap g is ∙ here ∙ sym (last-is (table n f) x x j (is ∙ sym (table-length n f)))
+    (λ j h. grind (arith, cases_lt j n, table-at, table-length, get_or_append_left, get_or_push, length-append, each j, here, h))
 
 -- a part of a list
 pub slice-length : (ws : List ℕ) (a n : ℕ) → a + n ≤ length ws → length (take n (drop a ws)) ≡ n

@@ -1,6 +1,5 @@
 -- Literals, coded, and their truth.
-use Rattle.pb_propagate.proofs.Common.{false, true}
-use Rattle.pb_propagate.proofs.Common.{Bool, None, Option, Some, is_failed, is_met, not, refl}
+use Rattle.pb_propagate.proofs.Common.{Bool, Option, is_failed, is_met, not}
 use Rattle.pb_propagate.proofs.Common.{ℕ, ◌*◌, ◌+◌, ◌/◌, ◌≡◌, arith, nat_tests}
 use Rattle.pb_propagate.specs.engine.clauses.Truths.{flip}
 
@@ -31,8 +30,4 @@ same-slot a b = grind (arith, nat_tests)
 
 -- a literal is true at the value at which the other one of its variable is falsified
 pub met-other : (o : Option Bool) (p : Bool) → is_met o p ≡ is_failed o (not p)
-met-other None p = refl
-met-other (Some true) true = refl
-met-other (Some true) false = refl
-met-other (Some false) true = refl
-met-other (Some false) false = refl
+met-other o p = grind arith

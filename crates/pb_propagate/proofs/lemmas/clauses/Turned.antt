@@ -1,19 +1,12 @@
 -- Clauses in the order in which they are searched.
-use Rattle.pb_propagate.proofs.Common.{ℕ, ◌*◌, ◌+◌, ◌-◌, ◌/◌, ◌<◌, ◌∙◌, ◌∷◌, ◌≡◌, ◌≤◌, ◌⊎◌, [], ap, arith, Bool, drop, get_or, inl, inr, length}
-use Rattle.pb_propagate.proofs.Common.{length-append, List, refl, subst, suc, sym, take, true, zero, Contains, Option, get_or-append_right}
-use Rattle.pb_propagate.proofs.Common.{get_or-drop, get_or-take, get_or_append_left, length-drop, take-append-drop, All-contains}
+use Rattle.pb_propagate.proofs.Common.{ℕ, ◌*◌, ◌/◌, ◌<◌, ◌∙◌, ◌∷◌, ◌≡◌, ◌⊎◌, [], ap, arith, Bool, drop, get_or, inl, inr, length}
+use Rattle.pb_propagate.proofs.Common.{length-append, List, refl, subst, suc, sym, take, true, zero, Contains, Option}
+use Rattle.pb_propagate.proofs.Common.{take-append-drop, All-contains}
 use Rattle.pb_propagate.proofs.Common.{Contains-append_cases, Contains-append_left, Contains-append_right, Contains-get_or, Watch, list_at, watch_at}
 use Rattle.pb_propagate.proofs.Common.{all_turned, AreStored, IsBroken, IsUnit, turned, false_at}
 
 pub turned-length : (start : ℕ) (xs : List ℕ) → length (turned start xs) ≡ length xs
 turned-length start xs = omega (arith, length-append (drop start xs) (take start xs), length-append (take start xs) (drop start xs), ap length (take-append-drop start xs))
-
--- the literals up to the end, and those after it
-pub turned-early : (start k : ℕ) (xs : List ℕ) (d : ℕ) → start + k < length xs → get_or (turned start xs) k d ≡ get_or xs (start + k) d
-turned-early start k xs d h = get_or_append_left (drop start xs) (take start xs) d k (omega (arith, h, length-drop start xs)) ∙ get_or-drop start xs k d
-
-pub turned-late : (start k : ℕ) (xs : List ℕ) (d : ℕ) → length xs - start ≤ k → k < length xs → get_or (turned start xs) k d ≡ get_or xs (k - (length xs - start)) d
-turned-late start k xs d h less = get_or-append_right (drop start xs) (take start xs) (length xs - start) k d (length-drop start xs) h ∙ get_or-take start xs (k - (length xs - start)) d (omega (arith, h, less))
 
 -- they are the same literals
 pub turned-contains : (start : ℕ) (xs : List ℕ) (x : ℕ) → Contains xs x → Contains (turned start xs) x

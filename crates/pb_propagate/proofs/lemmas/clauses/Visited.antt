@@ -1,12 +1,12 @@
 -- What a search in a clause has found, and what it leaves.
-use Rattle.pb_propagate.proofs.Common.{inl, inr, ArePassed, AreRound, AreWithin, cases_eq, get_or-set_other, get_or-set_same, map, set, sum}
+use Rattle.pb_propagate.proofs.Common.{ArePassed, AreRound, AreWithin, map, set, sum, rules}
 use Rattle.pb_propagate.proofs.Common.{sum_by-set, ℕ, ◌*◌, ◌+◌, ◌/◌, ◌<◌, ◌∙◌, ◌≡◌, ◌≤◌, ◌⊎◌, ap, arith, Bool, false, get_or, Global, length, List}
 use Rattle.pb_propagate.proofs.Common.{refl, subst, sym, true, Vec, Contains, Option, slice_get, Some, All-contains, Clauses, Listed, Search}
 use Rattle.pb_propagate.proofs.Common.{Falsified, Forces, Leaves, Stays, Contents, rewatched, searched, AreLinked, AreMore, IsListed, list_at}
 use Rattle.pb_propagate.proofs.Common.{Remains, watch_at, watch_lists, all_turned, AreStored, around, HasVisited, IsRound, IsRunning, passed_of}
 use Rattle.pb_propagate.proofs.Common.{turned, false_at, true_at}
 use Rattle.pb_propagate.proofs.lemmas.clauses.Readings.{Reading, Resuming, reading-slot, other-watched, resuming-from, resuming-turned, resuming-round, running-bounded}
-use Rattle.pb_propagate.proofs.lemmas.clauses.Searches.{turned-round, round-next, round-set, passed-set, passed-length}
+use Rattle.pb_propagate.proofs.lemmas.clauses.Searches.{turned-round, round-next, round-set, within-set, passed-set, passed-length}
 use Rattle.pb_propagate.proofs.lemmas.clauses.Steps.{broken-of, unit-of, served-true, served-move, shifted-old, passed-end, passed-move, stored-move, HasSearched, Shifted, Visiting}
 use Rattle.pb_propagate.proofs.lemmas.clauses.Turned.{turned-length, turned-size, stored-turned, stored-back, unit-back, broken-back}
 use Rattle.pb_propagate.proofs.lemmas.clauses.Listed.{lists-length, blocked-more}
@@ -77,17 +77,9 @@ module _ {c : Clauses} {values : List (Option Bool)} {l index e other : ℕ} {fr
       omega (arith, sum_by-set (λ y. y) (passed_of c) (e / 2) next.passed 0 room, resuming-from s.resuming, few, ap sum (passed-set c ss' (e / 2) next now))
 
   pub sought-bounded : (next : Search) (ss' : List Search) → ss' ≡ set c.blocks.searches (e / 2) next → next.passed ≤ length xs → AreWithin (map (λ (x : Search). x.passed) ss') c.blocks.literals
-  sought-bounded next ss' now within t = by (cases_eq t (e / 2))
-    where
-      raised : map (λ (x : Search). x.passed) ss' ≡ set (passed_of c) (e / 2) next.passed
-      raised = passed-set c ss' (e / 2) next now
-
-      room : e / 2 < length (passed_of c)
-      room = omega (arith, (reading-slot s.run s.reading).1, passed-length c)
-
-      by : (t ≡ e / 2) ⊎ (t ≡ e / 2 → ⊥) → get_or (map (λ (x : Search). x.passed) ss') t 0 ≤ length (list_at c.blocks.literals t)
-      by (inl is) = rw is (omega (arith, within, ap length s.resuming.items, ap (λ ps. get_or ps (e / 2) 0) raised, get_or-set_same (passed_of c) (e / 2) next.passed 0 room))
-      by (inr n) = omega (arith, running-bounded c values s.run t, ap (λ ps. get_or ps t 0) raised, get_or-set_other (passed_of c) (e / 2) t next.passed 0 n)
+  sought-bounded next ss' now within =
+      within-set (passed_of c) (map (λ (x : Search). x.passed) ss') c.blocks.literals (e / 2) next.passed (passed-set c ss' (e / 2) next now)
+      (omega (arith, (reading-slot s.run s.reading).1, passed-length c)) (omega (arith, within, ap length s.resuming.items)) (running-bounded c values s.run)
 
   module _ (end : length xs ≤ stop.passed) {blocks' : Contents} (now : blocks' ≡ searched c.blocks (e / 2) stop) where
     end-at : length (list_at (all_turned s.run.starts c.blocks.literals) (e / 2)) ≤ stop.passed
@@ -181,13 +173,7 @@ running-blocked c values entry lists' run same more here = record {
 
 -- a true literal of the clause was read
 pub visited-stays : (c : Clauses) (values : List (Option Bool)) (l index e x : ℕ) (lists' : Vec (Vec Listed Global) Global) → IsRunning values (record { blocks = c.blocks; lists = lists' }) → watch_lists lists'.items ≡ watch_lists c.lists.items → slice_get (list_at (watch_lists c.lists.items) l) index ≡ Some e → Contains (list_at c.blocks.literals (e / 2)) x → true_at values x ≡ true → HasVisited values c (record { blocks = c.blocks; lists = lists' }) l index Stays
-visited-stays c values l index e x lists' run same item here met = record {
-  lists = omega (arith, lists-length c.lists.items, lists-length lists'.items, ap length same);
-  running = run;
-  served = λ walked old. served-true values c.blocks.literals c.blocks.watches (watch_lists lists'.items) walked l index e run.stored.linked (ap (λ ls. slice_get (list_at ls l) index) same ∙ item) (x, here, met) old;
-  found = ap (λ ls. length (list_at ls l)) same;
-  kept = λ k live failed. (refl, refl);
-}
+visited-stays c values l index e x lists' run same item here met = search (rules, lists-length, served-true, run.stored.linked)
 
 -- the blocker of an entry is a literal of the clause
 pub blocker-small : (c : Clauses) (values : List (Option Bool)) (x : Listed) → IsRunning values c → IsListed c.lists.items x → x.blocker < 4 * length values

@@ -1,7 +1,7 @@
 -- The walk over the watches of a falsified literal.
-use Rattle.pb_propagate.proofs.Common.{ℕ, ◌*◌, ◌++◌, ◌+◌, ◌-◌, ◌/◌, ◌<◌, ◌^◌, ◌∙◌, ◌∷◌, ◌≡◌, ◌≤◌, [], ap, arith, Bool, get_or, inl, inr, length}
+use Rattle.pb_propagate.proofs.Common.{ℕ, ◌++◌, ◌+◌, ◌-◌, ◌<◌, ◌^◌, ◌∙◌, ◌∷◌, ◌≡◌, ◌≤◌, [], ap, arith, Bool, inl, inr, length, rules}
 use Rattle.pb_propagate.proofs.Common.{length-append, List, refl, subst, sym, true, Option, Contains-push_cases, slice_get_within, NumberedLiteral}
-use Rattle.pb_propagate.proofs.Common.{Clauses, Watch, Forces, AreLinked, list_at, watch_at, watch_lists, all_turned, AreServed, AreWalked, Grows}
+use Rattle.pb_propagate.proofs.Common.{Clauses, Watch, Forces, AreLinked, list_at, watch_at, watch_lists, AreServed, AreWalked, Grows}
 use Rattle.pb_propagate.proofs.Common.{HasTrue, HasVisited, index_after, IsRunning, KeepsWalked, literal_at, false_at, true_at, has, IsWithin}
 use Rattle.pb_propagate.proofs.Common.{Progress, visited_to, VisitsEach}
 use Rattle.pb_propagate.specs.declared.clauses.visiting.Forced.{Forced}
@@ -19,10 +19,7 @@ grows-trans a b c p q = record { met = λ x h. q.met x (p.met x h); failed = λ 
 
 -- visits one after another
 pub kept-then : (values values' : List (Option Bool)) (a b c : Clauses) → Grows values values' → KeepsWalked values a b → KeepsWalked values' b c → KeepsWalked values a c
-kept-then values values' a b c more p q e live failed =
-    let s = q e live (more.failed (watch_at c.blocks.watches e).literal failed) in
-    let r = p e (sym s.0 ∙ live) (ap (false_at values) (sym s.1) ∙ failed) in
-    (s.0 ∙ r.0, s.1 ∙ r.1)
+kept-then values values' a b c more p q e live failed = grind (arith, more.failed)
 
 -- a longer list
 pub grows-listed : (values values' : List (Option Bool)) (list list' : List NumberedLiteral) → Agree values list → Agree values' list' → IsWithin list list' → Grows values values'
@@ -36,35 +33,13 @@ pub true-grow : (old new : List (Option Bool)) (clauses : List (List ℕ)) (s : 
 true-grow old new clauses s g met = (met.0, met.1, g.met met.0 met.2)
 
 pub served-grow : (old new : List (Option Bool)) (clauses : List (List ℕ)) (ws : List Watch) (walked : List ℕ) (l index : ℕ) → Grows old new → AreServed old clauses ws walked l index → AreServed new clauses ws walked l index
-served-grow old new clauses ws walked l index g s = record {
-  failed = λ x h. g.failed x (s.failed x h);
-  now = g.failed l s.now;
-  done = λ e live h. true-grow old new clauses (e / 2) g (s.done e live h);
-  here = λ e live at less. true-grow old new clauses (e / 2) g (s.here e live at less);
-}
+served-grow old new clauses ws walked l index g s = grind (arith, g.failed, s.failed, s.now, true-grow, s.done, s.here)
 
 pub walked-grow : (old new : List (Option Bool)) (clauses : List (List ℕ)) (ws : List Watch) (walked : List ℕ) → Grows old new → AreWalked old clauses ws walked → AreWalked new clauses ws walked
-walked-grow old new clauses ws walked g s = record {
-  failed = λ x h. g.failed x (s.failed x h);
-  done = λ e live h. true-grow old new clauses (e / 2) g (s.done e live h);
-}
+walked-grow old new clauses ws walked g s = grind (arith, g.failed, s.failed, true-grow, s.done)
 
 pub running-grow : (c : Clauses) (old new : List (Option Bool)) → length new ≡ length old → Grows old new → IsRunning old c → IsRunning new c
-running-grow c old new sizes g r = record {
-  starts = r.starts;
-  stored = r.stored;
-  blocked = r.blocked;
-  passed = record {
-    sizes = r.passed.sizes;
-    bounded = r.passed.bounded;
-    each = λ s k d h. elim (r.passed.each s k d h) [
-      | inl f ↦ inl (g.failed (get_or (list_at (all_turned r.starts c.blocks.literals) s) k d) f)
-      | inr w ↦ inr w
-    ];
-  };
-  round = r.round;
-  sizes = r.sizes ∙ ap (λ n. 4 * n) (sym sizes);
-}
+running-grow c old new sizes g r = grind (arith, r.starts, r.stored, r.blocked, r.passed.sizes, r.passed.bounded, r.passed.each, g.failed, r.round, r.sizes)
 
 -- at the end of the list
 pub walked-end : (values : List (Option Bool)) (c : Clauses) (walked : List ℕ) (l index : ℕ) → AreLinked c.blocks.watches (watch_lists c.lists.items) → length (list_at (watch_lists c.lists.items) l) ≤ index → AreServed values c.blocks.literals c.blocks.watches walked l index → AreWalked values c.blocks.literals c.blocks.watches (walked ++ (l ∷ []))
@@ -92,17 +67,7 @@ pub record IsWalking (c0 c : Clauses) (l index : ℕ) (start now : Progress) : T
   pub found : VisitsEach start now
 
 pub walking-start : (c : Clauses) (l : ℕ) (start : Progress) → IsRunning start.values c → false_at start.values l ≡ true → IsWalking c c l 0 start start
-walking-start c l start running failed = record {
-  literals = refl;
-  sizes = refl;
-  running = running;
-  failed = failed;
-  within = omega arith;
-  served = λ walked s. s;
-  grows = grows-refl start.values;
-  kept = λ e live failed. (refl, refl);
-  found = λ few. omega arith;
-}
+walking-start c l start running failed = grind (arith, grows-refl, start.values)
 
 -- the visits that one call has counted
 pub record IsVisit (seen v : ℕ) : Type 0 where
@@ -125,17 +90,7 @@ walking-next {c0} {c} {l} {index} {start} {now} c' r seen w v literals within vi
 
 -- watches that are passed
 pub walking-pass : {c0 c : Clauses} {l index : ℕ} {start now : Progress} (j seen : ℕ) → IsWalking c0 c l index start now → j ≤ length (list_at (watch_lists c.lists.items) l) → ((walked : List ℕ) → IsServedTo now.values c walked l index → IsServedTo now.values c walked l j) → now.visits ≤ seen → IsWalking c0 c l j start (visited_to seen now)
-walking-pass {c0} {c} {l} {index} {start} {now} j seen w within served rising = record {
-  literals = w.literals;
-  sizes = w.sizes;
-  running = w.running;
-  failed = w.failed;
-  within = within;
-  served = λ walked s. served walked (w.served walked s);
-  grows = w.grows;
-  kept = w.kept;
-  found = λ few. let old = w.found (omega (arith, few, rising)) in omega (arith, old, rising);
-}
+walking-pass {c0} {c} {l} {index} {start} {now} j seen w within served rising = search (rules, w.literals, w.sizes, w.running, w.failed, w.served, w.grows, w.kept, w.found)
 
 -- a visit, and the literal that it forces
 pub walking-forces : {c0 c : Clauses} {l index : ℕ} {start now : Progress} (c' : Clauses) (seen : ℕ) (f : Forced) (after : Progress) → IsWalking c0 c l index start now → HasVisited now.values c c' l index (Forces f) → c'.blocks.literals ≡ c.blocks.literals → index < length (list_at (watch_lists c.lists.items) l) → IsVisit seen now.visits → seen ≤ after.visits → length after.values ≡ length now.values → after.list ≡ now.list ++ (literal_at f.code ∷ []) → Agree now.values now.list → Agree after.values after.list → IsWalking c0 c' l (index + 1) start after

@@ -5,7 +5,7 @@ use Rattle.pb_propagate.proofs.Common.{map, refl, subst, suc, sym, take, true, C
 use Rattle.pb_propagate.proofs.Common.{get_or-map, get_or_append_left, length-map, map-append, take-append-le, take_all, take_more}
 use Rattle.pb_propagate.proofs.Common.{Contains-append_cases, Contains-append_left, Contains-append_right, Contains-push, Contains-push_cases}
 use Rattle.pb_propagate.proofs.Common.{NumberedLiteral, negation, Group, Long, Short, Clauses, Watch, Search, Heads, list_at, watch_at, watch_lists}
-use Rattle.pb_propagate.proofs.Common.{AreReady, AreServed, AreStored, AreWalked, Grows, HasTrue, IsRunning, passed_of, clause_shape, clauses_of}
+use Rattle.pb_propagate.proofs.Common.{AreReady, AreServed, AreStored, AreWalked, Grows, IsRunning, passed_of, clause_shape, clauses_of}
 use Rattle.pb_propagate.proofs.Common.{code_in, literal_at, offset, false_at, flip, AreSingle, more, none, IsSettled, same}
 use Rattle.pb_propagate.specs.declared.heads.Ahead.{Ahead}
 use Rattle.pb_propagate.specs.engine.engine.Lists.{has}
@@ -20,7 +20,7 @@ use Rattle.pb_propagate.proofs.lemmas.clauses.Turned.{turned-count}
 use Rattle.pb_propagate.proofs.lemmas.clauses.Truths.{flip-half}
 use Rattle.pb_propagate.specs.engine.clauses.Walked.{has as stands}
 use Rattle.pb_propagate.proofs.lemmas.clauses.Counts.{killed, killed-more, occurs, list-short, passed-most}
-use Rattle.pb_propagate.proofs.lemmas.clauses.Killed.{stands-source}
+use Rattle.pb_propagate.proofs.lemmas.clauses.Killed.{stands-fresh}
 use Rattle.pb_propagate.proofs.lemmas.clauses.Literals.{Agree, false-listed, false-code, code-injective, code-of}
 use Rattle.pb_propagate.proofs.lemmas.clauses.Shapes.{Served, met, free, served-settled}
 use Rattle.pb_propagate.proofs.lemmas.clauses.Walks.{running-grow, walked-grow}
@@ -66,13 +66,7 @@ pub reached-same : (clauses : List (List ℕ)) (h : Heads) (list list' : List Nu
 reached-same clauses h list list' a b extends = rw (first-same list list' h.short a extends, first-same list list' h.long b extends) refl
 
 pub watching-grow : {c0 c : Clauses} {values values' : List (Option Bool)} {list list' : List NumberedLiteral} {h : Heads} → length values' ≡ length values → Grows values values' → Extends list list' → IsWatching c0 c values list h → IsWatching c0 c values' list' h
-watching-grow {c0} {c} {values} {values'} {list} {list'} {h} sizes g extends w = record {
-  literals = w.literals;
-  running = running-grow c values values' sizes g w.running;
-  short = omega (arith, w.short, extends-longer list list' extends);
-  long = omega (arith, w.long, extends-longer list list' extends);
-  served = subst (AreWalked values' c.blocks.literals c.blocks.watches) (sym (codes-same h list list' w.short w.long extends)) (walked-grow values values' c.blocks.literals c.blocks.watches (reached_codes h list) g w.served);
-}
+watching-grow {c0} {c} {values} {values'} {list} {list'} {h} sizes g extends w = grind (arith, w.literals, running-grow, w.running, w.short, extends-longer, w.long, codes-same, walked-grow, w.served)
 
 pub cost-grow : {c0 c : Clauses} {values : List (Option Bool)} {list : List NumberedLiteral} {h : Heads} (list' : List NumberedLiteral) → Extends list list' → IsWatching c0 c values list h → cost c0 c h list' ≡ cost c0 c h list
 cost-grow {c0} {c} {values} {list} {h} list' extends w = ap (λ n. 2 * n + sum (passed_of c)) (reached-same (clauses_of c0) h list list' w.short w.long extends)
@@ -100,27 +94,18 @@ reached-next Long h list l x inside is there =
 
 advanced-within : (g : Group) (h : Heads) (n : ℕ) → head g h < n → h.short ≤ n → h.long ≤ n →
     ((advanced g h).short ≤ n) × ((advanced g h).long ≤ n) × ((advanced g h).short + (advanced g h).long ≡ h.short + h.long + 1)
-advanced-within Short h n inside short long = (omega (arith, inside), long, omega arith)
-advanced-within Long h n inside short long = (short, omega (arith, inside), omega arith)
+advanced-within g h n inside short long = grind arith
 
 pub ahead-within : {h : Heads} {list : List NumberedLiteral} {ahead : Ahead} → IsAhead h list ahead → h.short ≤ length list → h.long ≤ length list →
     (ahead.heads.short ≤ length list) × (ahead.heads.long ≤ length list) × (ahead.heads.short + ahead.heads.long ≡ h.short + h.long + 1)
 ahead-within {h} {list} a short long = rw a.after (advanced-within a.group h (length list) a.inside short long)
 
 start-served : (values : List (Option Bool)) (clauses : List (List ℕ)) (ws : List Watch) (walked : List ℕ) (x : ℕ) → false_at values x ≡ true → AreWalked values clauses ws walked → AreServed values clauses ws walked x 0
-start-served values clauses ws walked x h s = record {
-  failed = s.failed;
-  now = h;
-  done = s.done;
-  here = λ e live at less. absurd (omega (arith, less));
-}
+start-served values clauses ws walked x h s = grind (arith, s.failed, s.done)
 
 -- fewer codes
 walked-within : (values : List (Option Bool)) (clauses : List (List ℕ)) (ws : List Watch) (a b : List ℕ) → ((x : ℕ) → Contains b x → Contains a x) → AreWalked values clauses ws a → AreWalked values clauses ws b
-walked-within values clauses ws a b within w = record {
-  failed = λ x there. w.failed x (within x there);
-  done = λ e live there. w.done e live (within (watch_at ws e).literal there);
-}
+walked-within values clauses ws a b within w = grind (arith, w.failed, w.done)
 
 -- the next literal is not walked yet
 pub fresh-take : (list : List NumberedLiteral) (n : ℕ) (l : NumberedLiteral) → AreSingle list → n < length list → l ≡ get_or list n l → has (take n list) l ≡ false
@@ -134,20 +119,12 @@ fresh-take _ n l (more {list} k s absent) inside is = elim (cases_lt n (length l
 ]
 
 fresh : (g : Group) (list : List NumberedLiteral) (n : ℕ) (l : NumberedLiteral) → AreSingle list → n < length list → l ≡ get_or list n l → stands (map (falsified_code g) (take n list)) (falsified_code g l) ≡ false
-fresh g list n l single inside is = elim (cases_Bool (stands (map (falsified_code g) (take n list)) (falsified_code g l))) [
-  | inl there ↦
-      let w = stands-source (falsified_code g) (take n list) (falsified_code g l) there in
-      let same : l ≡ w.0 = sym (negation-negation l) ∙ ap negation (sym (code-injective g (negation w.0) (negation l) w.2)) ∙ negation-negation w.0 in
-      absurd (both_ways _ (fresh-take list n l single inside is) (ap (has (take n list)) same ∙ w.1))
-  | inr absent ↦ absent
-]
+fresh g list n l single inside is =
+    stands-fresh (falsified_code g) (take n list) l (λ k e. sym (negation-negation k) ∙ ap negation (code-injective g (negation k) (negation l) e) ∙ negation-negation l) (fresh-take list n l single inside is)
 
 -- the next literal is falsified
 code-small : (g : Group) (v n : ℕ) (b : Bool) → v < n → 4 * v + offset g + (if b then 1 else 0) < 4 * n
-code-small Short v n true h = omega (arith, h)
-code-small Short v n false h = omega (arith, h)
-code-small Long v n true h = omega (arith, h)
-code-small Long v n false h = omega (arith, h)
+code-small g v n b h = grind arith
 
 pub next-of : {h : Heads} {list : List NumberedLiteral} {ahead : Ahead} (values : List (Option Bool)) → Agree values list → IsAhead h list ahead → (false_at values ahead.code ≡ true) × (ahead.code < 4 * length values)
 next-of {h} {list} values agree a =
@@ -211,29 +188,18 @@ cost-most c0 c values list h w =
 
 -- if all falsified literals are walked, each clause is settled
 served-by : (values : List (Option Bool)) (clauses : List (List ℕ)) (ws : List Watch) (ls : List (List ℕ)) (walked : List ℕ) (s : ℕ) → AreStored clauses ws ls → AreWalked values clauses ws walked → ((y : ℕ) → false_at values y ≡ true → Contains walked y) → 0 < length (list_at clauses s) → Served values (list_at clauses s)
-served-by values clauses ws ls walked s stored served all some = by (false_at values (watch_at ws (2 * s)).literal) (false_at values (watch_at ws (flip (2 * s))).literal) refl refl
-  where
-    live : (watch_at ws (2 * s)).live ≡ true
-    live = stored.full s some
-
-    live' : (watch_at ws (flip (2 * s))).live ≡ true
-    live' = stored.paired (2 * s) (stored.full s some)
-
-    at_a : Contains (list_at clauses s) (watch_at ws (2 * s)).literal
-    at_a = subst (λ t. Contains (list_at clauses t) (watch_at ws (2 * s)).literal) (omega arith) (stored.watched (2 * s) (stored.full s some))
-
-    at_b : Contains (list_at clauses s) (watch_at ws (flip (2 * s))).literal
-    at_b =
-        let half : flip (2 * s) / 2 ≡ s = omega (arith, flip-half (2 * s)) in
-        subst (λ t. Contains (list_at clauses t) (watch_at ws (flip (2 * s))).literal) half (stored.watched (flip (2 * s)) (stored.paired (2 * s) (stored.full s some)))
-
-    by-true : (e : ℕ) → e / 2 ≡ s → HasTrue values clauses (e / 2) → Served values (list_at clauses s)
-    by-true e is there = met there.0 (subst (λ t. Contains (list_at clauses t) there.0) is there.1) there.2
-
-    by : (p q : Bool) → false_at values (watch_at ws (2 * s)).literal ≡ p → false_at values (watch_at ws (flip (2 * s))).literal ≡ q → Served values (list_at clauses s)
-    by true q h k = by-true (2 * s) (omega arith) (served.done (2 * s) live (all (watch_at ws (2 * s)).literal h))
-    by false true h k = by-true (flip (2 * s)) (omega (arith, flip-half (2 * s))) (served.done (flip (2 * s)) live' (all (watch_at ws (flip (2 * s))).literal k))
-    by false false h k = free (watch_at ws (2 * s)).literal (watch_at ws (flip (2 * s))).literal at_a at_b (stored.apart (2 * s) live) h k
+served-by values clauses ws ls walked s stored served all some =
+    let live : (watch_at ws (2 * s)).live ≡ true = stored.full s some in
+    let live' : (watch_at ws (flip (2 * s))).live ≡ true = stored.paired (2 * s) live in
+    let half : 2 * s / 2 ≡ s = omega arith in
+    let half' : flip (2 * s) / 2 ≡ s = omega (arith, flip-half (2 * s)) in
+    elim (cases_Bool (false_at values (watch_at ws (2 * s)).literal)) [
+      | inl h ↦ let there = rw half at (served.done (2 * s) live (all (watch_at ws (2 * s)).literal h)) in met there.0 there.1 there.2
+      | inr h ↦ elim (cases_Bool (false_at values (watch_at ws (flip (2 * s))).literal)) [
+        | inl k ↦ let there = rw half' at (served.done (flip (2 * s)) live' (all (watch_at ws (flip (2 * s))).literal k)) in met there.0 there.1 there.2
+        | inr k ↦ free (watch_at ws (2 * s)).literal (watch_at ws (flip (2 * s))).literal (rw half at (stored.watched (2 * s) live)) (rw half' at (stored.watched (flip (2 * s)) live')) (stored.apart (2 * s) live) h k
+      ]
+    ]
 
 -- the position of a literal of the list
 pub has-place : (xs : List NumberedLiteral) (l : NumberedLiteral) → has xs l ≡ true → (i : ℕ) × (i < length xs) × (get_or xs i l ≡ l)
@@ -246,11 +212,7 @@ has-place (x ∷ xs) l h = elim (or_cases (same x l) (has xs l) h) [
 
 -- the code of a falsified literal is walked
 code-walked : (g : Group) (list : List NumberedLiteral) (n y : ℕ) → length list ≤ n → has list (negation (literal_at y)) ≡ true → code_in g (literal_at y) ≡ y → Contains (map (falsified_code g) (take n list)) y
-code-walked g list n y end on at =
-    let w = has-place list (negation (literal_at y)) on in
-    let code_is : falsified_code g (negation (literal_at y)) ≡ y = ap (code_in g) (negation-negation (literal_at y)) ∙ at in
-    let there : Contains (map (falsified_code g) list) y = (w.0, omega (arith, w.1, length-map list (falsified_code g)), get_or-map (falsified_code g) list w.0 (negation (literal_at y)) y w.1 ∙ ap (falsified_code g) w.2 ∙ code_is) in
-    subst (λ xs. Contains (map (falsified_code g) xs) y) (sym (take_all n list end)) there
+code-walked g list n y end on at = grind (arith, has-place, negation-negation, length-map, get_or-map, take_all)
 
 all-walked : (values : List (Option Bool)) (list : List NumberedLiteral) (h : Heads) (y : ℕ) → Agree values list → length list ≤ h.short → length list ≤ h.long → false_at values y ≡ true → Contains (reached_codes h list) y
 all-walked values list h y a short long failed =

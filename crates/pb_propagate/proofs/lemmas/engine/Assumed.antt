@@ -1,8 +1,7 @@
 -- The given literals, and what a completion from them is.
-use Rattle.pb_propagate.proofs.Common.{ℕ, ◌++◌, ◌+◌, ◌<◌, ◌||◌, ◌∙◌, ◌∷◌, ◌≡◌, [], ap, Bool, false, get_or, inl, inr, length, List, None, refl, sym}
-use Rattle.pb_propagate.proofs.Common.{take, true, Option, Some, both_ways, or_cases, take_more, NumberedLiteral, Form, negation, on, added, Adopted}
-use Rattle.pb_propagate.proofs.Common.{kept, holds, IsWithin, same, Shape, Gives, value_says, HasClash, IsFrom, IsEnded, IsRefuted, IsCompletion}
-use Rattle.pb_propagate.proofs.Common.{MeetsConflict}
+use Rattle.pb_propagate.proofs.Common.{arith, ℕ, ◌++◌, ◌+◌, ◌<◌, ◌||◌, ◌∙◌, ◌∷◌, ◌≡◌, [], ap, Bool, false, get_or, length, List, None, refl, sym}
+use Rattle.pb_propagate.proofs.Common.{take, true, Option, both_ways, take_more, NumberedLiteral, Form, negation, on, added, Adopted, kept, IsWithin}
+use Rattle.pb_propagate.proofs.Common.{same, Shape, Gives, value_says, HasClash, IsFrom, IsEnded, IsRefuted, IsCompletion, MeetsConflict}
 use Rattle.std.specs.Cmp.{both_ways as same_answers}
 use Rattle.pb_propagate.specs.engine.engine.Lists.{has, says, opposed as both, begin as start_there}
 use Rattle.pb_propagate.specs.meaning.Propagation.{begin}
@@ -13,10 +12,7 @@ use Rattle.pb_propagate.proofs.lemmas.engine.Completing.{closed-none}
 use Rattle.pb_propagate.proofs.lemmas.engine.Values.{Agree, opposite}
 
 push-from : (start given list : List NumberedLiteral) (i : ℕ) (d : NumberedLiteral) → i < length given → IsFrom start given list → IsFrom start given (list ++ (get_or given i d ∷ []))
-push-from start given list i d inside source k h = elim (has-push_cases list (get_or given i d) k h) [
-  | inl old ↦ source k old
-  | inr is ↦ inr (ap (has given) (sym is) ∙ has-get given i d inside)
-]
+push-from start given list i d inside source k h = grind (arith, has-push_cases list (get_or given i d) k h, source k, has-get given i d inside)
 
 -- a literal was tried
 pub record Assumed (start given list : List NumberedLiteral) (i : ℕ) : Type 0 where
@@ -26,10 +22,7 @@ pub record Assumed (start given list : List NumberedLiteral) (i : ℕ) : Type 0 
 pub assumed-next : (start given old new : List NumberedLiteral) (i : ℕ) (d : NumberedLiteral) → i < length given → has old (negation (get_or given i d)) ≡ false → Adopted (get_or given i d) old new → Assumed start given old i → Assumed start given new (i + 1)
 assumed-next start given old _ i d inside free (kept done) a =
     let l = get_or given i d in
-    let here : has old l ≡ true = elim (or_cases (has old l) (has old (negation l)) done) [
-      | inl there ↦ there
-      | inr opposed ↦ absurd (both_ways _ free opposed)
-    ] in
+    let here : has old l ≡ true = grind (arith, done, free) in
     record {
       within = a.within;
       covers = λ k h. push-within (take i given) old l a.covers here k (sym (ap (λ xs. has xs k) (take_more given i d inside)) ∙ h);
@@ -80,16 +73,9 @@ ended-free F shapes given list values a g e =
     let d = ended-derived F shapes given list a e in
     closed-none F given d.list d.derived (is-closed F shapes d.list list a d.matches e.settled) (conflict-free F shapes d.list list a d.matches (λ l here. opposite values list l g here) e.settled)
 
-value-of : (o : Option Bool) (n : Bool) → holds o n ≡ value_says o n
-value-of None n = refl
-value-of (Some true) true = refl
-value-of (Some true) false = refl
-value-of (Some false) true = refl
-value-of (Some false) false = refl
-
 says-value : (values : List (Option Bool)) (v : ℕ) (n : Bool) → says values (literal v n) ≡ value_says (get_or values v None) n
 unfolding says
-says-value values v n = value-of (get_or values v None) n
+says-value values v n = grind arith
 
 pub ended-completion : (F : Form → Type 0) (shapes : List Shape) (given list : List NumberedLiteral) (values copy : List (Option Bool)) → AreKept F shapes → Agree values list → copy ≡ values → IsEnded shapes given list → (list : List NumberedLiteral) × IsCompletion F given list × Gives list copy
 ended-completion F shapes given list values copy a g c e =

@@ -67,6 +67,5 @@ positioned-room list positions form inside gone positioned =
     let less : s < length positions = slice_get_within positions s i (positioned i s h) in
     let other : s ≡ form → ⊥ = λ e. absent-get list form i gone (h ∙ ap (λ z. Some z) e) in
     (f, get_or-set_other full form s None None other ∙ get_or-map (λ (x : ℕ). Some f) positions s 0 None less)) in
-    let change = sum_by-set one_in full form None None within in
     let one : get_or full form None ≡ Some f = get_or-map (λ (x : ℕ). Some f) positions form 0 None inside in
-    omega (arith, few, change, ones positions f, ap one_in one)
+    omega (arith, few, sum_by-set one_in full form None None within, ones positions f, ap one_in one)

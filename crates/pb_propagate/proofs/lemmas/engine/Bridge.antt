@@ -3,12 +3,12 @@ use Rattle.pb_propagate.proofs.Common.{ℕ, ◌++◌, ◌+◌, ◌<◌, ◌||◌
 use Rattle.pb_propagate.proofs.Common.{map, not, refl, subst, suc, sym, true, Contains, sum_by, or_comm, both_ways, cases_Bool, get_or-map}
 use Rattle.pb_propagate.proofs.Common.{length-map, Contains-permutation, IsPermutation-sym, sum_by-IsPermutation, sum_by-cons, Entry, NumberedLiteral}
 use Rattle.pb_propagate.proofs.Common.{counted, Form, IsRising, total, negation, on, only, Term, entry_of, IsStoredAs, Conflicts, Derives, has}
-use Rattle.pb_propagate.proofs.Common.{IsSettled, open_part, open_sum, Puts, same, Shape, Derivation, HasConflict, MayPropagate, opened}
+use Rattle.pb_propagate.proofs.Common.{IsSettled, open_sum, Puts, same, Shape, Derivation, HasConflict, MayPropagate, opened}
 use Rattle.std.specs.Cmp.{both_ways as same_answers}
-use Rattle.pb_propagate.specs.engine.engine.Lists.{begin as start, put as more, opposed as both, broken as low}
+use Rattle.pb_propagate.specs.engine.engine.Lists.{open_part, begin as start, put as more, opposed as both, broken as low}
 use Rattle.pb_propagate.specs.meaning.Propagation.{begin, put, opposed, broken}
 use Rattle.pb_propagate.proofs.lemmas.engine.Choices.{total-has, rising-positive, only-true, only-self}
-use Rattle.pb_propagate.proofs.lemmas.engine.Literals.{literal, same-true, same-refl, has-push, open_part-falsified, open_part-open, literal_ext}
+use Rattle.pb_propagate.proofs.lemmas.engine.Literals.{literal, same-true, same-refl, has-push, literal_ext}
 use Rattle.pb_propagate.proofs.lemmas.engine.Derivations.{one_itself}
 use Rattle.pb_propagate.proofs.lemmas.engine.Sources.{source}
 
@@ -38,17 +38,8 @@ sum-entries f g e [] = refl
 sum-entries f g e (t ∷ ts) = omega (arith, sum-entries f g e ts, e t, sum_by-cons f (entry_of t) (map entry_of ts), sum_by-cons g t ts)
 
 counted-open : (new old : List NumberedLiteral) → Matches new old → (t : Term) → counted (opened new) (entry_of t) ≡ open_part old t
-counted-open new old m t =
-    elim (cases_Bool (has old (negation t.literal))) [
-      | inl gone ↦ counted-false new t (m t.literal.variable (not t.literal.negated) ∙ gone) ∙ sym (open_part-falsified old t gone)
-      | inr there ↦ counted-true new t (m t.literal.variable (not t.literal.negated) ∙ there) ∙ sym (open_part-open old t there)
-    ]
-  where
-    counted-false : (xs : List NumberedLiteral) (u : Term) → on xs u.literal.variable (not u.literal.negated) ≡ true → counted (opened xs) (entry_of u) ≡ 0
-    counted-false xs u h = rw h refl
-
-    counted-true : (xs : List NumberedLiteral) (u : Term) → on xs u.literal.variable (not u.literal.negated) ≡ false → counted (opened xs) (entry_of u) ≡ u.coefficient
-    counted-true xs u h = rw h refl
+unfolding open_part
+counted-open new old m t = rw (m t.literal.variable (not t.literal.negated)) (grind arith)
 
 pub total-open : (f : Form) (x : Shape) (new old : List NumberedLiteral) → IsStoredAs f x → Matches new old → total (opened new) f.terms ≡ open_sum old x.terms
 total-open f x new old k m =
@@ -57,12 +48,7 @@ total-open f x new old k m =
 -- beyond its variable a literal has no coefficient
 rising-past : (n v : ℕ) (b : Bool) (es : List Entry) → v < n → IsRising n es → total (only v b) es ≡ 0
 rising-past n v b [] h r = refl
-rising-past n v b (x ∷ xs) h r =
-    let rest = rising-past (x.variable + 1) v b xs (omega (arith, h, r.0)) r.2 in
-    elim (cases_Bool (only v b x.variable x.negated)) [
-      | inl here ↦ let is = only-true v b x.variable x.negated here in absurd (omega (arith, is.0, h, r.0))
-      | inr other ↦ let none : counted (only v b) x ≡ 0 = rw other refl in omega (arith, rest, none)
-    ]
+rising-past n v b (x ∷ xs) h r = grind (arith, only-true v b x.variable x.negated, rising-past (x.variable + 1) v b xs (omega (arith, h, r.0)) r.2)
 
 rising-only : (n v : ℕ) (b : Bool) (es : List Entry) → IsRising n es → 0 < total (only v b) es → Contains es (record { variable = v; negated = b; coefficient = total (only v b) es })
 rising-only n v b [] r h = absurd (omega (arith, h))
@@ -99,7 +85,7 @@ entry-contains f x t k (i, inside, is) =
 pub may-put : (F : Form → Type 0) (shapes : List Shape) (new old : List NumberedLiteral) (l : NumberedLiteral) → AreKept F shapes → Matches new old → Puts shapes old l → MayPropagate F new l
 may-put F shapes new old l a m p =
     elim (a.forth p.form p.among) [
-      | inr empty ↦ absurd (no_term p.form.terms empty.0 p.term)
+      | inr empty ↦ absurd (omega (arith, p.term.1, ap length empty.0))
       | inl found ↦
           let f = found.0 in
           let k = found.2 in
@@ -116,9 +102,6 @@ may-put F shapes new old l a m p =
             forced = omega (arith, total-open f p.form new old k m, p.forced, k.degree, some);
           }
     ]
-  where
-    no_term : (ts : List Term) → ts ≡ [] → Contains ts (record { literal = l; coefficient = p.coefficient }) → ⊥
-    no_term ts e (i, inside, is) = omega (arith, inside, ap length e)
 
 pub record Derived (F : Form → Type 0) (given beginning old : List NumberedLiteral) : Type 0 where
   pub list : List NumberedLiteral
@@ -138,17 +121,11 @@ derives F shapes given first _ a m (more {list = earlier} l d p) =
     }
 
 pub conflicts : (F : Form → Type 0) (shapes : List Shape) (new old : List NumberedLiteral) → AreKept F shapes → Matches new old → Conflicts shapes old → HasConflict F new
-conflicts F shapes new old a m (both l here there) = by_sign l.negated refl
+conflicts F shapes new old a m (both l here there) = by_sign l.negated (matches-at new old l m ∙ here) (matches-at new old (negation l) m ∙ there)
   where
-    on-at : (b : Bool) → l.negated ≡ b → on new l.variable b ≡ true
-    on-at b e = m l.variable b ∙ ap (has old) (literal_ext (literal l.variable b) l refl (sym e)) ∙ here
-
-    on-not : (b : Bool) → l.negated ≡ b → on new l.variable (not b) ≡ true
-    on-not b e = m l.variable (not b) ∙ ap (has old) (literal_ext (literal l.variable (not b)) (negation l) refl (ap not (sym e))) ∙ there
-
-    by_sign : (b : Bool) → l.negated ≡ b → HasConflict F new
-    by_sign true e = opposed l.variable (on-at true e) (on-not true e)
-    by_sign false e = opposed l.variable (on-not false e) (on-at false e)
+    by_sign : (b : Bool) → on new l.variable b ≡ true → on new l.variable (not b) ≡ true → HasConflict F new
+    by_sign true p q = opposed l.variable p q
+    by_sign false p q = opposed l.variable q p
 conflicts F shapes new old a m (low x among less) =
     elim (a.forth x among) [
       | inr empty ↦ absurd (omega (arith, empty.1, less))

@@ -1,16 +1,13 @@
 -- Lists of free slots, of which one is changed.
 use Rattle.pb_propagate.proofs.Common.{ℕ, ◌++◌, ◌<◌, ◌∷◌, ◌≡◌, [], arith, Contains, get_or, get_or-set_other, get_or_append_left, length}
-use Rattle.pb_propagate.proofs.Common.{length-append, length-set, List, set, subst, suc, sym, cases_lt, get_or-set_same, get_or_past, inl, inr}
+use Rattle.pb_propagate.proofs.Common.{length-append, length-set, List, set, subst, suc, sym, get_or-set_same, get_or_past}
 use Rattle.std.proofs.lemmas.List.{get_or-replicate, length-replicate}
 use Rattle.std.specs.Prelude.{replicate}
 use Rattle.pb_propagate.specs.declared.free.Free.{Free}
 use Rattle.pb_propagate.specs.engine.engine.Free.{ended, HasPut, IsChain, linked, nobody}
 
 pub same-everywhere : (n i x : ℕ) → get_or (replicate n x) i x ≡ x
-same-everywhere n i x = elim (cases_lt i n) [
-  | inl less ↦ get_or-replicate n i x x less
-  | inr past ↦ get_or_past (replicate n x) i x (omega (arith, past, length-replicate n x))
-]
+same-everywhere n i x = grind (arith, get_or-replicate n i x x, get_or_past (replicate n x) i x, length-replicate n x)
 
 pub chain-push : (before : List ℕ) (x last : ℕ) (slots : List ℕ) → IsChain before last slots → IsChain (before ++ (x ∷ [])) last slots
 chain-push before x _ _ ended = ended

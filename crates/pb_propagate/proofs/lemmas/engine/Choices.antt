@@ -1,15 +1,10 @@
 -- Sums over choices of literals. Offered to other crates.
-use Rattle.pb_propagate.proofs.Common.{ℕ, ◌+◌, ◌<◌, ◌∙◌, ◌∷◌, ◌≡◌, ◌≤◌, [], ap, arith, Bool, cond, eq-eqb, eqb, false, List, not, refl, suc, sym}
-use Rattle.pb_propagate.proofs.Common.{true, zero, Contains, and_parts, eqb-true, Entry, counted, IsRising, total, only}
+use Rattle.pb_propagate.proofs.Common.{ℕ, ◌+◌, ◌<◌, ◌∙◌, ◌∷◌, ◌≡◌, ◌≤◌, [], ap, arith, Bool, cond, eq-eqb, List, not, refl, suc}
+use Rattle.pb_propagate.proofs.Common.{true, zero, Contains, eqb-true, Entry, counted, IsRising, total, only}
 
 -- two disjoint choices, both within a third
 one_fits : (p r q : Bool) (c : ℕ) → (p ≡ true → q ≡ true) → (r ≡ true → q ≡ true) → (p ≡ true → r ≡ true → ⊥) → cond p c 0 + cond r c 0 ≤ cond q c 0
-one_fits true true q c f g h = absurd (h refl refl)
-one_fits true false true c f g h = omega arith
-one_fits true false false c f g h = absurd (let e = f refl in cc)
-one_fits false true true c f g h = omega arith
-one_fits false true false c f g h = absurd (let e = g refl in cc)
-one_fits false false q c f g h = omega arith
+one_fits p r q c f g h = grind arith
 
 pub total-fits : (p r q : ℕ → Bool → Bool) → ((w : ℕ) (m : Bool) → p w m ≡ true → q w m ≡ true) → ((w : ℕ) (m : Bool) → r w m ≡ true → q w m ≡ true) → ((w : ℕ) (m : Bool) → p w m ≡ true → r w m ≡ true → ⊥) → (ts : List Entry) → total p ts + total r ts ≤ total q ts
 total-fits p r q f g h [] = omega arith
@@ -17,9 +12,7 @@ total-fits p r q f g h (t ∷ ts) =
     omega (arith, total-fits p r q f g h ts, one_fits (p t.variable t.negated) (r t.variable t.negated) (q t.variable t.negated) t.coefficient (f t.variable t.negated) (g t.variable t.negated) (h t.variable t.negated))
 
 one_within : (p q : Bool) (c : ℕ) → (p ≡ true → q ≡ true) → cond p c 0 ≤ cond q c 0
-one_within true true c f = omega arith
-one_within true false c f = absurd (let e = f refl in cc)
-one_within false q c f = omega arith
+one_within p q c f = grind arith
 
 pub total-within : (p q : ℕ → Bool → Bool) → ((w : ℕ) (m : Bool) → p w m ≡ true → q w m ≡ true) → (ts : List Entry) → total p ts ≤ total q ts
 total-within p q f [] = omega arith
@@ -27,19 +20,13 @@ total-within p q f (t ∷ ts) = omega (arith, total-within p q f ts, one_within 
 
 -- the one literal
 sign_same : (n m : Bool) → cond n m (not m) ≡ true → m ≡ n
-sign_same true true h = refl
-sign_same true false h = h
-sign_same false true h = sym h
-sign_same false false h = refl
+sign_same n m h = grind arith
 
 pub only-true : (v : ℕ) (n : Bool) (w : ℕ) (m : Bool) → only v n w m ≡ true → (w ≡ v) × (m ≡ n)
-only-true v n w m h =
-    let parts = and_parts (eqb w v) (cond n m (not m)) h in
-    (eqb-true w v parts.0, sign_same n m parts.1)
+only-true v n w m h = grind (arith, eqb-true, sign_same)
 
 sign_self : (n : Bool) → cond n n (not n) ≡ true
-sign_self true = refl
-sign_self false = refl
+sign_self n = grind arith
 
 pub only-self : (v : ℕ) (n : Bool) → only v n v n ≡ true
 only-self v n = rw (eq-eqb v v refl) (sign_self n)

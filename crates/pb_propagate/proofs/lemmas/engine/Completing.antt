@@ -1,6 +1,6 @@
 -- The completion is one set. Offered to other crates.
 use Rattle.pb_propagate.proofs.Common.{ℕ, ◌∷◌, ◌≡◌, arith, Bool, false, inl, inr, List, not, true, both_ways, cases_Bool, false_from_ne_true}
-use Rattle.pb_propagate.proofs.Common.{not-true, not_from_false, or_cases, or_right, NumberedLiteral, Form, on, only, Derivation, HasConflict}
+use Rattle.pb_propagate.proofs.Common.{not-true, not_from_false, or_right, NumberedLiteral, Form, on, only, Derivation, HasConflict}
 use Rattle.pb_propagate.proofs.Common.{IsCompletion, MayPropagate, MeetsConflict, opened}
 use Rattle.std.specs.Cmp.{both_ways as same_answers}
 use Rattle.pb_propagate.specs.meaning.Propagation.{begin, put, opposed, broken}
@@ -36,24 +36,19 @@ lasting forms a b l w m =
                 m.form.terms in
                 conflicting (broken m.form m.among (omega (arith, lower, m.forced)))
             | inr free ↦
-                let low = total-within (opened b) (opened a) (opened-part a b w) m.form.terms in
                 still (record {
                   absent = absent;
                   not_falsified = free;
                   form = m.form;
                   among = m.among;
                   stands = m.stands;
-                  forced = omega (arith, low, m.forced);
+                  forced = omega (arith, total-within (opened b) (opened a) (opened-part a b w) m.form.terms, m.forced);
                 })
           ]
     ]
 
 pub put-part : (a b : List NumberedLiteral) (l : NumberedLiteral) → IsPart a b → on b l.variable l.negated ≡ true → IsPart (l ∷ a) b
-put-part a b l w here v n e =
-    elim (or_cases (only l.variable l.negated v n) (on a v n) e) [
-      | inl new ↦ let same = only-true l.variable l.negated v n new in rw (same.0, same.1) here
-      | inr old ↦ w v n old
-    ]
+put-part a b l w here v n e = grind (arith, e, only-true l.variable l.negated v n, w v n)
 
 pub derivation-keeps : (forms : Form → Type 0) (given list : List NumberedLiteral) → Derivation forms given list → IsPart given list
 derivation-keeps forms given _ begin v n h = h

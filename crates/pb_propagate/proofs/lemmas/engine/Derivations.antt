@@ -1,4 +1,4 @@
-use Rattle.pb_propagate.proofs.Common.{ℕ, ◌+◌, ◌<◌, ◌∙◌, ◌∷◌, ◌≡◌, ◌≤◌, [], ap, arith, false, get_or, length, List, refl, suc, zero, Contains, NumberedLiteral}
+use Rattle.pb_propagate.proofs.Common.{ℕ, ◌+◌, ◌<◌, ◌∷◌, ◌≡◌, ◌≤◌, [], arith, false, get_or, length, List, refl, suc, zero, Contains, NumberedLiteral}
 use Rattle.pb_propagate.proofs.Common.{negation, Term, begin, Derives, has, IsSettled, IsWithin, open_sum, put, Puts, Shape}
 use Rattle.pb_propagate.proofs.lemmas.engine.Literals.{has-push_old}
 
@@ -15,15 +15,7 @@ one_itself f = (0, omega arith, refl)
 
 -- the same from other constraints, among them the one that forces it
 pub puts-other : (a b : List Shape) (list : List NumberedLiteral) (l : NumberedLiteral) (m : Puts a list l) → Contains b m.form → Puts b list l
-puts-other a b list l m among = record {
-  absent = m.absent;
-  not_falsified = m.not_falsified;
-  form = m.form;
-  among = among;
-  coefficient = m.coefficient;
-  term = m.term;
-  forced = m.forced;
-}
+puts-other a b list l m among = grind (arith, m.absent, m.not_falsified, m.term, m.forced)
 
 -- some element is the only one of a list
 pub only-itself : (x y : Shape) → Contains (x ∷ []) y → x ≡ y
@@ -32,13 +24,4 @@ only-itself x y (suc k, inside, is) = absurd (omega (arith, inside))
 
 -- a form is settled if each term that would be propagated is on the list or falsified
 pub settled-of_terms : (f : Shape) (list : List NumberedLiteral) → f.degree ≤ open_sum list f.terms → ((k : ℕ) (d : Term) → k < length f.terms → open_sum list f.terms < f.degree + (get_or f.terms k d).coefficient → has list (get_or f.terms k d).literal ≡ false → has list (negation (get_or f.terms k d).literal) ≡ false → ⊥) → IsSettled f list
-settled-of_terms f list met each = record {
-  met = met;
-  idle = λ l m.
-      let e = only-itself f m.form m.among in
-      let t : Term = record { literal = l; coefficient = m.coefficient } in
-      let at : get_or f.terms m.term.0 t ≡ t = ap (λ (x : Shape). get_or x.terms m.term.0 t) e ∙ m.term.2 in
-      each m.term.0 t (omega (arith, m.term.1, ap (λ (x : Shape). length x.terms) e))
-      (omega (arith, m.forced, ap (λ (x : Shape). open_sum list x.terms) e, ap (λ (x : Shape). x.degree) e, ap (λ (y : Term). y.coefficient) at))
-      (ap (λ (y : Term). has list y.literal) at ∙ m.absent) (ap (λ (y : Term). has list (negation y.literal)) at ∙ m.not_falsified);
-}
+settled-of_terms f list met each = grind (arith, only-itself, f.terms)

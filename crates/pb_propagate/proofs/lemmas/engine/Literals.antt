@@ -1,34 +1,23 @@
 -- Literals on a list, tested and counted. Offered to other crates.
-use Rattle.pb_propagate.proofs.Common.{ℕ, ◌++◌, ◌+◌, ◌<◌, ◌||◌, ◌∙◌, ◌∷◌, ◌≡◌, ◌≤◌, ◌⊎◌, [], ap, arith, Bool, eq-eqb, false, get_or, inl, inr, length}
-use Rattle.pb_propagate.proofs.Common.{List, not, refl, suc, sym, true, zero, ◌==◌, Contains, sum_by, not-not, or-false, and_parts, both_ways}
-use Rattle.pb_propagate.proofs.Common.{cases_Bool, eqb-true, or_cases, or_left, or_right, list_any-append, sum_by-cons, sum_by-le-sum_by, beq}
-use Rattle.pb_propagate.proofs.Common.{list_any, NumberedLiteral, negation, Term, IsWithin, open_sum}
+use Rattle.pb_propagate.proofs.Common.{ℕ, ◌++◌, ◌+◌, ◌<◌, ◌||◌, ◌∙◌, ◌∷◌, ◌≡◌, ◌≤◌, ◌⊎◌, [], ap, arith, Bool, eq-eqb, false, get_or, length, List, not, refl}
+use Rattle.pb_propagate.proofs.Common.{suc, true, zero, ◌==◌, Contains, sum_by, not-not, or-false, and_parts, eqb-true, or_left, or_right, list_any-append}
+use Rattle.pb_propagate.proofs.Common.{sum_by-cons, sum_by-le-sum_by, beq, list_any, NumberedLiteral, negation, Term, IsWithin, open_sum}
 use Rattle.pb_propagate.specs.engine.engine.Lists.{same, has, open_part}
 
 pub beq-true : (a b : Bool) → beq a b ≡ true → a ≡ b
-beq-true true true h = refl
-beq-true false false h = refl
-beq-true true false h = cc
-beq-true false true h = cc
+beq-true a b h = grind arith
 
 pub beq-refl : (a : Bool) → beq a a ≡ true
-beq-refl true = refl
-beq-refl false = refl
+beq-refl a = grind arith
 
 pub beq-not : (a b : Bool) → beq (not a) b ≡ not (beq a b)
-beq-not true true = refl
-beq-not true false = refl
-beq-not false true = refl
-beq-not false false = refl
+beq-not a b = grind arith
 
 abbrev pub literal : ℕ → Bool → NumberedLiteral
 literal v n = record { variable = v; negated = n }
 
 pub literal_ext : (a b : NumberedLiteral) → a.variable ≡ b.variable → a.negated ≡ b.negated → a ≡ b
-literal_ext a b v n =
-    let first : literal a.variable a.negated ≡ literal b.variable a.negated = ap (λ x. literal x a.negated) v in
-    let second : literal b.variable a.negated ≡ literal b.variable b.negated = ap (λ x. literal b.variable x) n in
-    first ∙ second
+literal_ext a b v n = grind (arith, a.negated, b.negated)
 
 pub same-true : (a b : NumberedLiteral) → same a b ≡ true → a ≡ b
 unfolding same
@@ -61,18 +50,10 @@ pub has-push_new : (xs : List NumberedLiteral) (l : NumberedLiteral) → has (xs
 has-push_new xs l = has-push xs l l ∙ or_right (has xs l) (same l l) (same-refl l)
 
 pub has-push_cases : (xs : List NumberedLiteral) (l k : NumberedLiteral) → has (xs ++ (l ∷ [])) k ≡ true → (has xs k ≡ true) ⊎ (l ≡ k)
-has-push_cases xs l k h =
-    elim (or_cases (has xs k) (same l k) (sym (has-push xs l k) ∙ h)) [
-      | inl old ↦ inl old
-      | inr new ↦ inr (same-true l k new)
-    ]
+has-push_cases xs l k h = grind (arith, has-push xs l k, same-true l k)
 
 pub push-within : (xs ys : List NumberedLiteral) (l : NumberedLiteral) → IsWithin xs ys → has ys l ≡ true → IsWithin (xs ++ (l ∷ [])) ys
-push-within xs ys l w here k h =
-    elim (has-push_cases xs l k h) [
-      | inl old ↦ w k old
-      | inr new ↦ rw new at here
-    ]
+push-within xs ys l w here k h = grind (arith, has-push_cases xs l k h, w k)
 
 -- a longer list opens no more
 pub open_part-falsified : (list : List NumberedLiteral) (t : Term) → has list (negation t.literal) ≡ true → open_part list t ≡ 0
@@ -85,14 +66,7 @@ open_part-open list t h = rw h
 
 pub open_part-within : (a b : List NumberedLiteral) → IsWithin a b → (t : Term) → open_part b t ≤ open_part a t
 open_part-within a b w t =
-    elim (cases_Bool (has b (negation t.literal))) [
-      | inl gone ↦ rw (open_part-falsified b t gone) (omega arith)
-      | inr there ↦
-          elim (cases_Bool (has a (negation t.literal))) [
-            | inl gone ↦ absurd (both_ways _ there (w (negation t.literal) gone))
-            | inr here ↦ rw (open_part-open b t there, open_part-open a t here) (omega arith)
-          ]
-    ]
+    grind (arith, open_part-falsified b t, open_part-open b t, open_part-falsified a t, open_part-open a t, w (negation t.literal))
 
 pub open_sum-within : (a b : List NumberedLiteral) → IsWithin a b → (terms : List Term) → open_sum b terms ≤ open_sum a terms
 open_sum-within a b w terms =
@@ -106,17 +80,11 @@ sum_by-lower_at f g le (x ∷ xs) zero d h =
     rw (sum_by-cons f x xs, sum_by-cons g x xs) (omega (arith, low))
 sum_by-lower_at f g le (x ∷ xs) (suc k) d h =
     let here : k < length xs = omega (arith, h) in
-    let more = sum_by-lower_at f g le xs k d here in
-    rw (sum_by-cons f x xs, sum_by-cons g x xs) (omega (arith, le x, more))
+    rw (sum_by-cons f x xs, sum_by-cons g x xs) (omega (arith, le x, sum_by-lower_at f g le xs k d here))
 
 -- a literal that the longer list falsifies takes its coefficient from the open sum
 pub open_sum-lower : (a b : List NumberedLiteral) → IsWithin a b → (terms : List Term) (t : Term) → Contains terms t → has a (negation t.literal) ≡ false → has b (negation t.literal) ≡ true → open_sum b terms + t.coefficient ≤ open_sum a terms
-open_sum-lower a b w terms t (k, inside, is) opened gone =
-    let low = sum_by-lower_at (open_part b) (open_part a) (open_part-within a b w) terms k t inside in
-    let at = rw is at low in
-    let zero = open_part-falsified b t gone in
-    let all = open_part-open a t opened in
-    omega (arith, at, zero, all)
+open_sum-lower a b w terms t (k, inside, is) opened gone = grind (arith, sum_by-lower_at, open_part-within, open_part-falsified, open_part-open)
 
 -- which literals are on a list
 pub has-get : (list : List NumberedLiteral) (i : ℕ) (d : NumberedLiteral) → i < length list → has list (get_or list i d) ≡ true

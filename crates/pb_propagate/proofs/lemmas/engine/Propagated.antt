@@ -1,14 +1,12 @@
 -- A propagation between two visits, from its beginning to its end.
-use Rattle.pb_propagate.proofs.Common.{ℕ, ◌*◌, ◌++◌, ◌+◌, ◌-◌, ◌<◌, ◌∙◌, ◌∷◌, ◌≡◌, ◌≤◌, [], ap, arith, drop, get_or, length, length-append, List}
-use Rattle.pb_propagate.proofs.Common.{refl, sym, take, Contains, sum, sum_by, drop_all, drop_more, get_or_read, length-take, All-push}
-use Rattle.pb_propagate.proofs.Common.{Heads, fallen, AreFalling, AreSingle, IsAbsent, spent, StoredForm}
-use Rattle.pb_propagate.proofs.Common.{shapes_of, stored_shape, Extends, IsSettled, Shape, Advances, Costs, Database, IsOpen, IsTidyAt}
-use Rattle.pb_propagate.proofs.Common.{Progress, queued, queued_to, Spends, taken_to, VisitsEach}
-use Rattle.pb_propagate.proofs.lemmas.engine.Runs.{Tidy-next, calm-settled, absent-push, absent-new, absent-more, absent-cons}
+use Rattle.pb_propagate.proofs.Common.{rules, ℕ, ◌*◌, ◌++◌, ◌+◌, ◌-◌, ◌<◌, ◌∙◌, ◌∷◌, ◌≡◌, ◌≤◌, [], ap, arith, drop, get_or, length, length-append, List, sym}
+use Rattle.pb_propagate.proofs.Common.{take, Contains, sum, sum_by, drop_all, drop_more, get_or_read, length-take, All-push, Heads, fallen, AreFalling}
+use Rattle.pb_propagate.proofs.Common.{AreSingle, IsAbsent, spent, StoredForm, shapes_of, stored_shape, Extends, IsSettled, Shape, Advances, Costs, Database}
+use Rattle.pb_propagate.proofs.Common.{IsOpen, IsTidyAt, Progress, queued, queued_to, Spends, taken_to, VisitsEach}
+use Rattle.pb_propagate.proofs.lemmas.engine.Runs.{calm-settled, absent-push, absent-new, absent-more, absent-cons}
 use Rattle.pb_propagate.proofs.lemmas.engine.Sources.{source}
 use Rattle.pb_propagate.proofs.lemmas.engine.VisitSteps.{open-now}
 use Rattle.pb_propagate.proofs.lemmas.engine.Spent.{spent-le}
-use Rattle.pb_propagate.proofs.lemmas.engine.Advances.{costs-as}
 use Rattle.pb_propagate.proofs.lemmas.root.Extends.{extends-none, extends-then, spent-extends, reached-extends}
 use Rattle.pb_propagate.proofs.lemmas.clauses.Watching.{reached}
 use Rattle.pb_propagate.proofs.lemmas.store.Stored.{stored-falling}
@@ -43,20 +41,7 @@ pub record IsPropagating (b : Beginning) (extra taken : ℕ) (now : Progress) : 
   pub within : now.next ≤ length now.work
 
 pub propagating-start : (b : Beginning) → IsBegun b → IsOpen b.base b.start → IsTidyAt b.base b.waiting b.count b.start → length b.start.opens ≡ b.count → length b.start.candidates ≡ b.count → IsPropagating b b.before 0 b.start
-propagating-start b begun counted tidy o c = record {
-  begun = begun;
-  counted = counted;
-  tidy = tidy;
-  costs = costs-as {m = 0} {n = 0} b.before (b.before + (b.start.next - b.start.next)) (omega arith) (record { extends = extends-none b.start.list; single = λ s. s; paid = omega arith });
-  works = omega (arith, length-append b.start.work []);
-  started = omega arith;
-  found = λ few. omega arith;
-  rising = omega arith;
-  values = refl;
-  open_sizes = o;
-  candidate_sizes = c;
-  within = begun.within;
-}
+propagating-start b begun counted tidy o c = search (rules, extends-none b.start.list, length-append b.start.work [])
 
 -- a waiting form is put to work
 taken-tidy : (d : Database) (rest : List ℕ) (busy x : ℕ) (now : Progress) → x < length d.forms → now.next ≤ length now.work → IsTidyAt d (x ∷ rest) busy now → IsTidyAt d rest busy (queued_to (now.work ++ (x ∷ [])) (now.trail ++ (x ∷ [])) now)
@@ -74,58 +59,22 @@ pub propagating-take : {b : Beginning} {extra taken : ℕ} {now : Progress} (x :
 propagating-take {b} {extra} {taken} {now} x work trail s less is inside longer noted =
     let rest = drop (taken + 1) b.waiting in
     let ahead : drop taken b.waiting ≡ x ∷ rest = drop_more b.waiting taken x less ∙ ap (λ y. y ∷ rest) (sym is) in
-    let grown : length work ≡ length now.work + 1 = ap length longer ∙ length-append now.work (x ∷ []) in
-    record {
-      begun = s.begun;
-      counted = s.counted;
-      tidy = rw (longer, noted) (taken-tidy b.base rest b.count x now inside s.within (rw ahead at s.tidy));
-      costs = record { extends = s.costs.extends; single = s.costs.single; paid = s.costs.paid };
-      works = omega (arith, s.works, grown, length-append b.start.work (take taken b.waiting), length-append b.start.work (take (taken + 1) b.waiting), length-take taken b.waiting, length-take (taken + 1) b.waiting, less);
-      started = s.started;
-      found = s.found;
-      rising = s.rising;
-      values = s.values;
-      open_sizes = s.open_sizes;
-      candidate_sizes = s.candidate_sizes;
-      within = omega (arith, s.within, grown);
-    }
+    let tidy : IsTidyAt b.base rest b.count (queued_to work trail now) =
+    rw (longer, noted) (taken-tidy b.base rest b.count x now inside s.within (rw ahead at s.tidy)) in
+    search (rules, ap length longer, length-append now.work (x ∷ []), length-append b.start.work (take taken b.waiting), length-append b.start.work (take (taken + 1) b.waiting), length-take taken b.waiting, length-take (taken + 1) b.waiting)
 
 pub propagating-visit : (d : Database) (aside : List ℕ) {n : ℕ} (now : Progress) (form : ℕ) → length d.forms ≡ n → now.next < length now.work → form ≡ get_or now.work now.next form → IsTidyAt d aside n now → IsTidyAt d aside form (taken_to (now.next + 1) now)
-propagating-visit d aside {n} now form e inside is t =
-    let read = get_or_read now.work now.next form inside is 0 in
-    let busy : IsTidyAt d aside (length d.forms) now = rw e t in
-    rw read (Tidy-next d aside now busy)
+propagating-visit d aside {n} now form e inside is t = grind (arith, get_or_read, now.work, now.next, d.forms)
 
 -- after a visit to a form of the work list, or the walk over a literal's watches
 pub propagating-next : {b : Beginning} {extra taken m n : ℕ} {now after : Progress} (extra' next : ℕ) → IsPropagating b extra taken now → IsOpen b.base after → IsTidyAt b.base (drop taken b.waiting) b.count after → Advances b.base m n (taken_to next now) after → VisitsEach now after → now.next ≤ next → next ≤ length now.work →
     after.visits + sum now.candidates + spent b.base.lists now.list + extra + now.next ≤ now.visits + sum after.candidates + spent b.base.lists after.list + extra' + next → IsPropagating b extra' taken after
-propagating-next {b} {extra} {taken} {m} {n} {now} {after} extra' next s counted tidy a found onward within paid = record {
-  begun = s.begun;
-  counted = counted;
-  tidy = tidy;
-  costs = record {
-    extends = extends-then b.start.list now.list after.list s.costs.extends a.costs.extends;
-    single = λ one. a.costs.single (s.costs.single one);
-    paid = omega (arith, s.costs.paid, paid, s.started, onward, a.next);
-  };
-  works = omega (arith, s.works, a.work);
-  started = omega (arith, s.started, onward, a.next);
-  found = λ few.
-      let one = s.found (omega (arith, a.rising, few)) in
-      let two = found few in
-      omega (arith, one, two);
-  rising = omega (arith, s.rising, a.rising);
-  values = a.values ∙ s.values;
-  open_sizes = a.opens ∙ s.open_sizes;
-  candidate_sizes = a.candidates ∙ s.candidate_sizes;
-  within = omega (arith, within, a.next, a.longer);
-}
+propagating-next {b} {extra} {taken} {m} {n} {now} {after} extra' next s counted tidy a found onward within paid =
+    search (rules, extends-then b.start.list now.list after.list s.costs.extends a.costs.extends, s.costs.single, a.costs.single, s.found, found)
 
 -- the work list has a bound
 pub propagating-bound : {b : Beginning} {extra taken : ℕ} {now : Progress} → IsPropagating b extra taken now → length now.work ≤ length b.start.work + length b.waiting + sum_by length b.base.lists
-propagating-bound {b} {extra} {taken} {now} s =
-    let bound = spent-le b.base.lists now.list (s.costs.single s.begun.single) in
-    omega (arith, bound, s.works, length-append b.start.work (take taken b.waiting), length-take taken b.waiting)
+propagating-bound {b} {extra} {taken} {now} s = grind (arith, spent-le, b.base.lists, now.list, s.costs.single, s.begun.single, s.works, length-append, b.start.work, b.waiting, length-take)
 
 pub forms-falling : (keep : List StoredForm) (f : Shape) → Contains (shapes_of keep) f → AreFalling f.terms
 forms-falling keep f (s, inside, is) = let from = source stored_shape keep s f inside is in rw (← from.value) (stored-falling from.element)
@@ -144,9 +93,6 @@ propagating-settled {b} {extra} {taken} {now} state all none_waits f (s, inside,
 -- the number of visits, also if the propagation was abandoned after some visits to clauses
 pub propagating-spends : {b : Beginning} {extra taken : ℕ} {now : Progress} (clauses : List (List ℕ)) (h : Heads) (searched : ℕ) (after : Progress) (made : ℕ) → IsPropagating b extra taken now → Extends now.list after.list → (AreSingle now.list → AreSingle after.list) → sum after.candidates ≤ sum_by (λ f. length f.terms) b.base.forms → now.next + made ≤ length now.work →
     after.visits + sum now.candidates + spent b.base.lists now.list + extra ≤ now.visits + made + sum after.candidates + spent b.base.lists after.list + (2 * reached clauses h now.list + searched) → Spends b.base b.before (queued b.waiting b.start + (2 * fallen clauses after.list + searched)) b.start after
-propagating-spends {b} {extra} {taken} {now} clauses h searched after made s more one bounded room covered = record {
-  extends = extends-then b.start.list now.list after.list s.costs.extends more;
-  single = one (s.costs.single s.begun.single);
-  bounded = bounded;
-  upper = omega (arith, s.costs.paid, covered, s.works, length-append b.start.work (take taken b.waiting), length-take taken b.waiting, spent-extends b.base.lists now.list after.list more, reached-extends clauses now.list after.list h more, s.begun.within, s.started, room);
-}
+propagating-spends {b} {extra} {taken} {now} clauses h searched after made s more one bounded room covered =
+    let extends = extends-then b.start.list now.list after.list s.costs.extends more in
+    search (rules, one, s.costs.single, length-append b.start.work (take taken b.waiting), length-take taken b.waiting, spent-extends b.base.lists now.list after.list more, reached-extends clauses now.list after.list h more)

@@ -1,9 +1,8 @@
-use Rattle.pb_propagate.proofs.Common.{ℕ, ◌*◌, ◌++◌, ◌+◌, ◌-◌, ◌<◌, ◌^◌, ◌∙◌, ◌∷◌, ◌≡◌, ◌≤◌, [], ap, arith, Bool, drop, false, get_or, Global}
-use Rattle.pb_propagate.proofs.Common.{if◌then◌else◌, length, length-set, List, map, min, refl, subst, sym, true, Vec, All, Option, sum, drop_more}
-use Rattle.pb_propagate.proofs.Common.{get_or-map, length-map, Contains-get_or, sum_by_push, NumberedLiteral, negation, Rests, Occurrence, Store}
-use Rattle.pb_propagate.proofs.Common.{IsAbsent, IsCounted, more, place, spent, entries_of, IsSound, lists_of, shapes_of, spots_of}
-use Rattle.pb_propagate.proofs.Common.{coefficient_at, terms_at, weighted, broken, Conflicts, has, Shape, Weighted, Advances, assigned_to, Costs}
-use Rattle.pb_propagate.proofs.Common.{Database, database, entries_against, Lowers, Progress, StaysTidy, visited_to}
+use Rattle.pb_propagate.proofs.Common.{Extends, AreSingle, rules, ℕ, ◌*◌, ◌++◌, ◌+◌, ◌-◌, ◌<◌, ◌^◌, ◌∙◌, ◌∷◌, ◌≡◌, ◌≤◌, [], ap, arith, Bool, drop, false, get_or, Global, length}
+use Rattle.pb_propagate.proofs.Common.{length-set, List, map, min, refl, subst, sym, Vec, All, Option, sum, drop_more, get_or-map, length-map, Contains-get_or}
+use Rattle.pb_propagate.proofs.Common.{sum_by_push, NumberedLiteral, negation, Rests, Occurrence, Store, IsAbsent, IsCounted, more, place, spent, entries_of}
+use Rattle.pb_propagate.proofs.Common.{IsSound, lists_of, shapes_of, spots_of, coefficient_at, terms_at, weighted, broken, Conflicts, has, Shape, Weighted}
+use Rattle.pb_propagate.proofs.Common.{Advances, assigned_to, Costs, Database, database, entries_against, Lowers, Progress, StaysTidy, visited_to}
 use Rattle.std.proofs.Math.ListN.{get_or-map as get_or-map-default}
 use Rattle.pb_propagate.specs.declared.store.Visited.{Visited}
 use Rattle.pb_propagate.specs.engine.engine.Fields.{entry_at}
@@ -23,17 +22,7 @@ pub record Assigns (l : NumberedLiteral) (old new : Progress) : Type 0 where
   pub visits : new.visits ≡ old.visits
 
 pub assigns : (values : List (Option Bool)) (list : List NumberedLiteral) (l : NumberedLiteral) (old : Progress) → list ≡ old.list ++ (l ∷ []) → has old.list l ≡ false → length values ≡ length old.values → Assigns l old (assigned_to values list old)
-assigns values list l old listed absent sizes = record {
-  list = listed;
-  absent = absent;
-  values = sizes;
-  opens = refl;
-  candidates = refl;
-  work = refl;
-  trail = refl;
-  next = refl;
-  visits = refl;
-}
+assigns values list l old listed absent sizes = search rules
 
 -- the first j of some entries were subtracted from the open sums
 pub record IsPutting (d : Database) (es : List Weighted) (start now : Progress) (j : ℕ) : Type 0 where
@@ -52,21 +41,7 @@ pub record IsPutting (d : Database) (es : List Weighted) (start now : Progress) 
   pub next : now.next ≡ start.next
 
 pub putting-start : (d : Database) (es : List Weighted) (start : Progress) → IsCounted d.forms start.opens start.list es → length start.opens ≡ length d.forms → IsPutting d es start start 0
-putting-start d es start counted sizes = record {
-  within = omega arith;
-  counted = counted;
-  tidy = λ aside busy t. t;
-  absent = λ s gone. gone;
-  sizes = sizes;
-  grown = omega arith;
-  longer = omega arith;
-  upper = omega arith;
-  rising = omega arith;
-  candidates = refl;
-  values = refl;
-  list = refl;
-  next = refl;
-}
+putting-start d es start counted sizes = search rules
 
 -- the entry that was visited is the one at a position of a literal's list
 pub record IsRead (d : Database) (es : List Weighted) (e : Visited) (j : ℕ) : Type 0 where
@@ -88,61 +63,30 @@ putting-next {d} {es} {start} {now} {j} seen e after read within count rising p 
     let ahead = drop_more es j entry read.inside ∙ ap (λ x. x ∷ drop (j + 1) es) (sym read.is) in
     let inside : e.form < length now.opens = omega (arith, read.form, p.sizes) in
     let queued = grown-length e.form now.work after.work l.work in
-    record {
-      within = omega (arith, read.inside);
-      counted = rw l.list (Counted-lower d.forms now.opens after.opens now.list entry (drop (j + 1) es) l.opens inside (subst (IsCounted d.forms now.opens now.list) ahead p.counted));
-      tidy = λ aside busy t. Tidy-lower d aside busy e l read.form inside (omega (arith, p.longer, within, p.next)) (p.tidy aside busy t);
-      absent = λ s gone. p.absent s (grown-absent e.form now.work after.work 0 s l.work gone);
-      sizes = ap length l.opens ∙ length-set now.opens e.form (get_or now.opens e.form 0 - coefficient_at d.forms e.form e.index) ∙ p.sizes;
-      grown = omega (arith, queued.1, p.grown);
-      longer = omega (arith, queued.0, p.longer);
-      upper = omega (arith, count, p.upper, visits);
-      rising = omega (arith, rising, p.rising, visits);
-      candidates = l.candidates ∙ p.candidates;
-      values = values ∙ p.values;
-      list = l.list ∙ p.list;
-      next = l.next ∙ p.next;
-    }
+    let counted = Counted-lower d.forms now.opens after.opens now.list entry (drop (j + 1) es) l.opens inside (subst (IsCounted d.forms now.opens now.list) ahead p.counted) in
+    let tidy : StaysTidy d start after = λ aside busy t. Tidy-lower d aside busy e l read.form inside (omega (arith, p.longer, within, p.next)) (p.tidy aside busy t) in
+    let absent = λ (s : ℕ) (gone : IsAbsent after.work 0 s). p.absent s (grown-absent e.form now.work after.work 0 s l.work gone) in
+    search (rules, l.list, ap length l.opens, length-set now.opens e.form (get_or now.opens e.form 0 - coefficient_at d.forms e.form e.index))
 
 spent-push : (d : Database) (l : NumberedLiteral) (old start : Progress) → Assigns l old start → spent d.lists start.list ≡ spent d.lists old.list + length (entries_against d l)
 spent-push d l old start a = ap (spent d.lists) a.list ∙ sum_by_push (λ (k : NumberedLiteral). length (get_or d.lists (place (negation k)) [])) old.list l
 
 pub assigned-tidy : (d : Database) {l : NumberedLiteral} {old start : Progress} → Assigns l old start → StaysTidy d old start
 assigned-tidy d {l} {old} {start} a aside busy t =
-    rw (a.opens, a.candidates, a.work, a.trail, a.next, a.list) (record {
-      calm = t.calm;
-      passed = λ s x inside k f before within. done-push old.list l (get_or (get_or d.forms s x).terms k f).literal (t.passed s x inside k f before within);
-      bounded = t.bounded;
-      clean = t.clean;
-      named = t.named;
-      marked = t.marked;
-      traced = t.traced;
-    })
+    rw (a.opens, a.candidates, a.work, a.trail, a.next, a.list) (search (rules, done-push old.list l, t.passed))
 
 -- what has been paid once some entries were subtracted, also if an allocation fails at the next one
 pub putting-costs : {d : Database} {l : NumberedLiteral} {old start now : Progress} {j : ℕ} (new : Progress) → Assigns l old start → new.list ≡ now.list → new.candidates ≡ now.candidates → new.visits + j ≤ now.visits + length (entries_against d l) → IsPutting d (entries_against d l) start now j → Costs d 0 0 old new
 putting-costs {d} {l} {old} {start} {now} {j} new a lists candidates visits p =
     let listed : new.list ≡ old.list ++ (l ∷ []) = lists ∙ p.list ∙ a.list in
-    record {
-      extends = (l ∷ [], listed);
-      single = λ s. rw listed (more l s a.absent);
-      paid = omega (arith, visits, p.upper, a.visits, spent-push d l old start a, ap (spent d.lists) (lists ∙ p.list), ap sum (candidates ∙ p.candidates ∙ a.candidates));
-    }
+    let extends : Extends old.list new.list = (l ∷ [], listed) in
+    let single : AreSingle old.list → AreSingle new.list = λ s. rw listed (more l s a.absent) in
+    search (rules, spent-push d l old start a, ap (spent d.lists) (lists ∙ p.list), ap sum (candidates ∙ p.candidates ∙ a.candidates))
 
 pub putting-advances : {d : Database} {l : NumberedLiteral} {old start now : Progress} {j : ℕ} → Assigns l old start → length old.opens ≡ length d.forms → IsPutting d (entries_against d l) start now j → Advances d 0 0 old now
 putting-advances {d} {l} {old} {start} {now} {j} a sizes p =
-    let works = ap length a.work in
-    record {
-      costs = putting-costs now a refl refl (omega (arith, p.within)) p;
-      values = ap length p.values ∙ a.values;
-      opens = p.sizes ∙ sym sizes;
-      candidates = ap length (p.candidates ∙ a.candidates);
-      next = p.next ∙ a.next;
-      absent = λ s gone. rw a.work at (p.absent s gone);
-      longer = omega (arith, p.longer, works);
-      work = omega (arith, p.grown, works, p.within, spent-push d l old start a, ap (spent d.lists) p.list);
-      rising = omega (arith, p.rising, a.visits);
-    }
+    let costs = putting-costs now a refl refl (omega (arith, p.within)) p in
+    search (rules, p.absent, a.work, ap length a.work, spent-push d l old start a, ap (spent d.lists) p.list, ap length p.values, ap length (p.candidates ∙ a.candidates))
 
 -- a form whose open sum is too small is falsified, also while entries are still to be subtracted
 pub counted-conflict : (forms : List Shape) (opens : List ℕ) (list : List NumberedLiteral) (rest : List Weighted) (form : ℕ) → form < length forms → IsCounted forms opens list rest → ((d : Shape) → get_or opens form 0 < (get_or forms form d).degree) → Conflicts forms list
@@ -152,14 +96,10 @@ counted-conflict forms opens list rest form inside counted low =
 
 -- in terms of what the program reads
 pub lists-at : (occ : List (Vec Occurrence Global)) (p q : ℕ) (v : Vec Occurrence Global) → q < length occ → v ≡ get_or occ q v → q ≡ p → get_or (lists_of occ) p [] ≡ v.items
-lists-at occ p q v inside is same =
-    let at : get_or (lists_of occ) q [] ≡ (get_or occ q v).items = get_or-map (λ (w : Vec Occurrence Global). w.items) occ q v [] inside in
-    rw (← same) (at ∙ ap (λ (w : Vec Occurrence Global). w.items) (sym is))
+lists-at occ p q v inside is same = grind (arith, get_or-map)
 
 pub entries-at : (forms : List Shape) (occ : List (Vec Occurrence Global)) (p q : ℕ) (v : Vec Occurrence Global) → q < length occ → v ≡ get_or occ q v → q ≡ p → get_or (entries_of forms occ) p [] ≡ map (weighted forms) v.items
-entries-at forms occ p q v inside is same =
-    let at : get_or (entries_of forms occ) q [] ≡ map (weighted forms) (get_or occ q v).items = get_or-map (λ (w : Vec Occurrence Global). map (weighted forms) w.items) occ q v [] inside in
-    rw (← same) (at ∙ ap (λ (w : Vec Occurrence Global). map (weighted forms) w.items) (sym is))
+entries-at forms occ p q v inside is same = grind (arith, get_or-map)
 
 item-weighted : (forms : List Shape) (es : List Weighted) (items : List Occurrence) (j : ℕ) (e : Occurrence) → es ≡ map (weighted forms) items → e ≡ get_or items j e → weighted forms e ≡ get_or es j (weighted forms e)
 item-weighted forms es items j e same is = rw same (ap (weighted forms) is ∙ sym (get_or-map-default (weighted forms) items j e))
@@ -172,11 +112,7 @@ form-within forms es items j e n same is inside named =
     omega (arith, less, form)
 
 pub place-inside : (l : NumberedLiteral) (n : ℕ) → l.variable < n → place l < 2 * n
-place-inside l n h = by_sign l.negated l.variable h
-  where
-    by_sign : (b : Bool) (v : ℕ) → v < n → 2 * v + (if b then 1 else 0) < 2 * n
-    by_sign true v h = omega arith
-    by_sign false v h = omega arith
+place-inside l n h = grind arith
 
 pub place-read : (forms : List Shape) (occ : List (Vec Occurrence Global)) (n : ℕ) (l : NumberedLiteral) (q : ℕ) → l.variable < n → q ≡ place (negation l) → length (entries_of forms occ) ≡ 2 * n → q < length occ
 place-read forms occ n l q h e sizes =
@@ -188,9 +124,6 @@ entry-read store rests l q v items j e sound inside at read is item less =
     let es = get_or (entries_of forms store.occurrences.items) (place (negation l)) [] in
     let there = place-read forms store.occurrences.items store.variables l q inside at sound.places in
     let same : es ≡ map (weighted forms) items = entries-at forms store.occurrences.items (place (negation l)) q v there read at ∙ ap (map (weighted forms)) (sym is) in
-    record {
-      inside = omega (arith, ap length same, length-map items (weighted forms), less);
-      is = item-weighted forms es items j (entry_at e) same item;
-      form = form-within forms es items j (entry_at e) (length forms) same item less (sound.named (place (negation l)));
-      index = index-within forms (spots_of store.spots.items) store.occurrences.items (place (negation l)) j items (entry_at e) same item less sound.whole;
-    }
+    let named = form-within forms es items j (entry_at e) (length forms) same item less (sound.named (place (negation l))) in
+    let index = index-within forms (spots_of store.spots.items) store.occurrences.items (place (negation l)) j items (entry_at e) same item less sound.whole in
+    search (rules, item-weighted forms es items j (entry_at e) same item, ap length same, length-map items (weighted forms))

@@ -1,5 +1,5 @@
 -- Lists of literals with their reasons.
-use Rattle.pb_propagate.proofs.Common.{ℕ, ◌<◌, ◌∙◌, ◌∷◌, ◌≡◌, [], ap, arith, false, inl, inr, length, List, set, subst, sym, true}
+use Rattle.pb_propagate.proofs.Common.{ℕ, ◌<◌, ◌∙◌, ◌∷◌, ◌≡◌, [], ap, arith, false, inl, inr, length, List, set, subst, sym, true, rules}
 use Rattle.pb_propagate.proofs.Common.{Contains, slice_get, Some, both_ways, get_or_from_slice_get, slice_get_within, NumberedLiteral, negation, Run}
 use Rattle.pb_propagate.proofs.Common.{begin, by_reason, Derives, from_given, has, HaveReasons, IsDue, IsWithin, KeepsReasons, put, Puts, Shape}
 use Rattle.pb_propagate.proofs.Common.{list_of, reasons_of, RunReasons, RunRecords}
@@ -58,10 +58,7 @@ pub run-reasons-none : (forms : List Shape) (run : Run) → RunReasons forms run
 run-reasons-none forms run = record { kept = λ l s on at. at; added = from_given }
 
 pub run-reasons-then : {forms : List Shape} {old mid new : Run} → RunReasons forms old mid → RunReasons forms mid new → RunReasons forms old new
-run-reasons-then {forms} {old} {mid} {new} f g = record {
-  kept = keeps-then (list_of old) (list_of mid) (reasons_of old) (reasons_of mid) (reasons_of new) (reasons-within (list_of old) (list_of mid) f.added) f.kept g.kept;
-  added = reasons-then (reasons-keep (reasons_of mid) (reasons_of new) g.kept f.added) g.added;
-}
+run-reasons-then {forms} {old} {mid} {new} f g = search (rules, keeps-then, reasons-within, f.added, f.kept, g.kept, reasons-then, reasons-keep, g.added)
 
 -- the same from the root's literals
 pub run-reasons-rooted : {forms : List Shape} {old new : Run} → HaveReasons forms (reasons_of old) [] (list_of old) → RunReasons forms old new → HaveReasons forms (reasons_of new) [] (list_of new)
@@ -69,9 +66,7 @@ run-reasons-rooted {forms} {old} {new} h r = reasons-then (reasons-keep (reasons
 
 -- the reason of a literal that is put
 pub recorded : (old new : List ℕ) (list : List NumberedLiteral) (l : NumberedLiteral) (reason : ℕ) → has list l ≡ false → has list (negation l) ≡ false → new ≡ set old l.variable reason → KeepsReasons list old new
-recorded old new list l reason absent opened is k s on at =
-    let apart = λ (e : k.variable ≡ l.variable). both_ways _ (has-neither list l k absent opened e) on in
-    ap (λ xs. slice_get xs k.variable) is ∙ get-set_other old l.variable k.variable reason apart ∙ at
+recorded old new list l reason absent opened is k s on at = grind (arith, both_ways, has-neither, get-set_other)
 
 pub run-records : (reason : ℕ) (l : NumberedLiteral) (old new : Run) → has (list_of old) l ≡ false → has (list_of old) (negation l) ≡ false → l.variable < length (reasons_of old) → reasons_of new ≡ set (reasons_of old) l.variable reason → KeepsReasons (list_of old) (reasons_of old) (reasons_of new) × RunRecords reason l old new
 run-records reason l old new absent opened inside is = (recorded (reasons_of old) (reasons_of new) (list_of old) l reason absent opened is, λ a o. ap (λ xs. slice_get xs l.variable) is ∙ get-set_same (reasons_of old) l.variable reason inside)

@@ -1,9 +1,8 @@
 -- The engine between two calls: what a call finds, and what it leaves.
-use Rattle.pb_propagate.proofs.Common.{ℕ, ◌++◌, ◌-◌, ◌<◌, ◌∙◌, ◌∷◌, ◌≡◌, ◌⊎◌, [], ap, arith, false, get_or, inl, inr, length, length-append, List}
-use Rattle.pb_propagate.proofs.Common.{map, None, refl, set, subst, suc, sym, take, true, zero, All, Contains, Option, slice_get, Some}
-use Rattle.pb_propagate.proofs.Common.{take-append_seam, get_or-map, length-map, map-append, Contains-append_left, Contains-push_cases, same_Some}
-use Rattle.pb_propagate.proofs.Common.{Entry, Form, opposite, StoredForm, AreJoined, shapes_of, stored_shape, IsStoredAs, Shape, Live}
-use Rattle.pb_propagate.proofs.Common.{AreSlots, IsSlot, With}
+use Rattle.pb_propagate.proofs.Common.{ℕ, ◌++◌, ◌-◌, ◌<◌, ◌∙◌, ◌∷◌, ◌≡◌, ◌⊎◌, [], ap, arith, false, get_or, inl, inr, length, length-append, List, map, None}
+use Rattle.pb_propagate.proofs.Common.{refl, set, subst, suc, sym, take, true, zero, All, Contains, Option, slice_get, Some, take-append_seam, get_or-map}
+use Rattle.pb_propagate.proofs.Common.{length-map, map-append, Contains-append_left, Contains-push_cases, same_Some, Entry, Form, opposite, StoredForm}
+use Rattle.pb_propagate.proofs.Common.{AreJoined, shapes_of, stored_shape, IsStoredAs, Shape, Live, AreSlots, IsSlot, With}
 use Rattle.pb_propagate.proofs.lemmas.engine.Bridge.{AreKept}
 use Rattle.pb_propagate.proofs.lemmas.store.Gets.{last-is}
 use Rattle.pb_propagate.proofs.lemmas.clauses.Slots.{AreJoined-push}

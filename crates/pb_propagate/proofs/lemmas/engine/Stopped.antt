@@ -1,7 +1,6 @@
 -- What a propagation costs that ends: at a visit to a form, in a walk, or between them.
-use Rattle.pb_propagate.proofs.Common.{ℕ, ◌*◌, ◌+◌, ◌≡◌, ◌≤◌, ap, arith, length, refl, sym, ◌∙◌, sum, sum_by, Clauses, Heads}
-use Rattle.pb_propagate.proofs.Common.{AreWithin, clauses_of, Costs, IsAhead, passed_of, Progress, queued}
-use Rattle.pb_propagate.proofs.Common.{seen, spent, Spends, taken_to}
+use Rattle.pb_propagate.proofs.Common.{ℕ, ◌*◌, ◌+◌, ◌≡◌, ◌≤◌, ap, arith, length, refl, sym, ◌∙◌, sum, sum_by, Clauses, Heads, AreWithin, clauses_of, Costs}
+use Rattle.pb_propagate.proofs.Common.{IsAhead, passed_of, Progress, queued, seen, spent, Spends, taken_to}
 use Rattle.pb_propagate.specs.declared.heads.Ahead.{Ahead}
 use Rattle.pb_propagate.proofs.lemmas.clauses.Watching.{IsWatching, cost, cost-broken, cost-most}
 use Rattle.pb_propagate.proofs.lemmas.engine.Propagated.{Beginning, IsPropagating, propagating-spends}

@@ -1,14 +1,12 @@
-use Rattle.pb_propagate.proofs.Common.{stored_bound, stored_degree, stored_terms, stored_total}
+use Rattle.pb_propagate.proofs.Common.{rules, stored_bound, stored_degree, stored_terms, stored_total, ℕ, ◌+◌, ◌-◌, ◌<◌, ◌^◌, ◌∙◌, ◌∷◌, ◌≡◌, ◌≤◌, [], ap, arith}
+use Rattle.pb_propagate.proofs.Common.{false, get_or, length, length-append, length-set, List, min, set, subst, sym, All, Contains, slice_get, Some, sum}
+use Rattle.pb_propagate.proofs.Common.{get_or-map, get_or_default, get_or_read, length-map, Contains-get_or, sum_by-set, slice_get-get_or, NumberedLiteral}
+use Rattle.pb_propagate.proofs.Common.{negation, Rests, Store, StoredForm, Term, added, Adopted, Grown, IsAbsent, IsCalm, IsCounted, IsDone, kept, pushed}
+use Rattle.pb_propagate.proofs.Common.{rest_open, spared, shapes_of, stored_shape, coefficient_at, AreInside, broken, by_reason, Conflicts, has}
+use Rattle.pb_propagate.proofs.Common.{HaveReasons, KeepsReasons, open_sum, Shape, Advances, Database, database, IsOpen, IsTidyAt, passed_to, Progress}
+use Rattle.pb_propagate.proofs.Common.{StaysTidy, visited_to, VisitsEach, ◌++◌, or_left}
 use Rattle.pb_propagate.proofs.lemmas.store.Stored.{stored-sum, stored-idle}
-use Rattle.pb_propagate.proofs.Common.{ℕ, ◌+◌, ◌-◌, ◌<◌, ◌^◌, ◌∙◌, ◌∷◌, ◌≡◌, ◌≤◌, [], ap, arith, false, get_or, length, length-append, length-set}
-use Rattle.pb_propagate.proofs.Common.{List, min, refl, set, subst, sym, All, Contains, slice_get, Some, sum, get_or-map, get_or_default, get_or_read}
-use Rattle.pb_propagate.proofs.Common.{length-map, Contains-get_or, sum_by-set, slice_get-get_or, NumberedLiteral, negation, Rests, Store, StoredForm}
-use Rattle.pb_propagate.proofs.Common.{Term, added, Adopted, Grown, IsAbsent, IsCalm, IsCounted, IsDone, kept, pushed, rest_open, spared}
-use Rattle.pb_propagate.proofs.Common.{weight_in, shapes_of, stored_shape, coefficient_at, AreInside, broken, by_reason, Conflicts, has, HaveReasons}
-use Rattle.pb_propagate.proofs.Common.{KeepsReasons, open_sum, Shape, size, Advances, Database, database, IsOpen, IsTidyAt, passed_to, Progress}
-use Rattle.pb_propagate.proofs.Common.{StaysTidy, visited_to, VisitsEach}
 use Rattle.pb_propagate.proofs.lemmas.engine.Advances.{advances-refl, advances-then, advances-as, advances-visit, advances-counted}
-use Rattle.pb_propagate.proofs.Common.{◌++◌, or_left}
 use Rattle.pb_propagate.proofs.lemmas.engine.Derivations.{one_itself}
 use Rattle.pb_propagate.proofs.lemmas.engine.Literals.{has-push_new}
 use Rattle.pb_propagate.proofs.lemmas.engine.Reasoned.{reasons-keep}
@@ -33,9 +31,7 @@ pub record IsForced (d : Database) (form : ℕ) (now : Progress) (f : Shape) (t 
   pub low : get_or now.opens form 0 < f.degree + t.coefficient
 
 sum-raise : (xs : List ℕ) (i : ℕ) → i < length xs → sum (set xs i (get_or xs i 0 + 1)) ≡ sum xs + 1
-sum-raise xs i inside =
-    let e : sum (set xs i (get_or xs i 0 + 1)) + get_or xs i 0 ≡ sum xs + (get_or xs i 0 + 1) = sum_by-set (λ x. x) xs i (get_or xs i 0 + 1) 0 inside in
-    omega (arith, e)
+sum-raise xs i inside = grind (arith, sum_by-set)
 
 adopted-done : (l : NumberedLiteral) (old new : List NumberedLiteral) → Adopted l old new → IsDone new l
 adopted-done l old _ (kept d) = d
@@ -46,20 +42,10 @@ adopted-length l old _ (kept d) = omega arith
 adopted-length l old _ (added absent opened) = omega (arith, length-append old (l ∷ []))
 
 pub open-now : (forms : List Shape) (opens : List ℕ) (list : List NumberedLiteral) (form : ℕ) (d : Shape) → form < length forms → IsCounted forms opens list [] → get_or opens form 0 ≡ open_sum list (get_or forms form d).terms
-open-now forms opens list form d inside c =
-    let all = c.each form d inside in
-    let none : weight_in form [] ≡ 0 = refl in
-    omega (arith, all, none)
+open-now forms opens list form d inside c = grind (arith)
 
 pub visiting-start : (d : Database) (aside : List ℕ) (form : ℕ) (start : Progress) → IsTidyAt d aside form start → (IsAbsent start.work 0 form → ⊥) → length start.opens ≡ length d.forms → length start.candidates ≡ length d.forms → IsVisiting d aside form start start
-visiting-start d aside form start tidy there opens candidates = record {
-  advances = advances-refl d start;
-  tidy = tidy;
-  there = there;
-  found = λ few. omega arith;
-  opens = opens;
-  candidates = candidates;
-}
+visiting-start d aside form start tidy there opens candidates = search (rules, advances-refl d start)
 
 -- a forced literal that was tried has its form as its reason
 pub visiting-reasons : {d : Database} {form : ℕ} {now : Progress} {f : Shape} {t : Term} {c : ℕ} (given new : List NumberedLiteral) (reasons reasons' : List ℕ) → IsForced d form now f t c → IsOpen d now → Adopted t.literal now.list new → (has now.list t.literal ≡ false → has now.list (negation t.literal) ≡ false → slice_get reasons' t.literal.variable ≡ Some form) → KeepsReasons now.list reasons reasons' → HaveReasons d.forms reasons given now.list → HaveReasons d.forms reasons' given new
@@ -86,17 +72,9 @@ visiting-next {d} {aside} {form} {start} {now} {f} {t} {c} seen mid p forced cou
     let sizes = length-set mid.candidates form (c + 1) in
     let raised : sum (set mid.candidates form (c + 1)) ≡ sum mid.candidates + 1 = ap (λ x. sum (set mid.candidates form (x + 1))) at ∙ sum-raise mid.candidates form room in
     let visit = advances-visit d now seen 0 1 rising (omega (arith, count)) in
-    record {
-      advances = advances-as 0 0 (omega arith) (advances-then p.advances (advances-then visit (advances-then a (advances-counted d mid (set mid.candidates form (c + 1)) mid.visits 1 0 sizes (omega arith) (omega (arith, raised))))));
-      tidy = Tidy-pass d aside form mid f c t at room forced.is forced.here (adopted-done (get_or f.terms c t).literal now.list mid.list adopted_f) (λ gone. p.there (a.absent form gone)) (tidy aside form p.tidy);
-      there = λ gone. p.there (a.absent form gone);
-      found = λ few.
-          let small : now.visits < 2 ^ 64 - 1 = omega (arith, count, a.rising, few) in
-          let before = p.found small in
-          omega (arith, count, a.rising, few, before, adopted-length t.literal now.list mid.list adopted);
-      opens = a.opens ∙ p.opens;
-      candidates = sizes ∙ ap length same ∙ p.candidates;
-    }
+    let advances = advances-as 0 0 (omega arith) (advances-then p.advances (advances-then visit (advances-then a (advances-counted d mid (set mid.candidates form (c + 1)) mid.visits 1 0 sizes (omega arith) (omega (arith, raised)))))) in
+    let done = Tidy-pass d aside form mid f c t at room forced.is forced.here (adopted-done (get_or f.terms c t).literal now.list mid.list adopted_f) (λ gone. p.there (a.absent form gone)) (tidy aside form p.tidy) in
+    search (rules, p.there, a.absent, p.found, adopted-length t.literal now.list mid.list adopted, ap length same)
 
 -- the visit ends at a calm form
 pub visiting-settled : {d : Database} {aside : List ℕ} {form : ℕ} {start now : Progress} (f : Shape) (n : ℕ) → length d.forms ≡ n → ((x : Shape) → get_or d.forms form x ≡ f) → IsCalm f (get_or now.opens form 0) (get_or now.candidates form 0) → IsVisiting d aside form start now → IsTidyAt d aside n now
@@ -114,30 +92,13 @@ pub shape-at : (keep : List StoredForm) (form : ℕ) (k : StoredForm) → form <
 shape-at keep form k inside is d = get_or-map stored_shape keep form k d inside ∙ ap stored_shape (sym is)
 
 pub forced-read : (store : Store) (rests : Rests) (form : ℕ) (now : Progress) (k : StoredForm) (o c : ℕ) (t : Term) → form < length store.stored.items → k ≡ get_or store.stored.items form k → length now.opens ≡ length (shapes_of store.stored.items) → length now.candidates ≡ length (shapes_of store.stored.items) → o ≡ get_or now.opens form o → c ≡ get_or now.candidates form c → c < length (stored_terms k) → t ≡ get_or (stored_terms k) c t → o < stored_degree k + t.coefficient → IsForced (database store rests) form now (stored_shape k) t c
-forced-read store rests form now k o c t inside is opens candidates open_is cand_is here item low =
-    let size = length-map store.stored.items stored_shape in
-    let room : form < length now.opens = omega (arith, inside, size, opens) in
-    let roomc : form < length now.candidates = omega (arith, inside, size, candidates) in
-    record {
-      inside = omega (arith, inside, size);
-      is = shape-at store.stored.items form k inside is;
-      candidate = get_or_read now.candidates form c roomc cand_is 0;
-      here = here;
-      item = item;
-      low = omega (arith, get_or_read now.opens form o room open_is 0, low);
-    }
+forced-read store rests form now k o c t inside is opens candidates open_is cand_is here item low = grind (arith, length-map, now.opens, now.candidates, shape-at, get_or_read)
 
 pub calm-by : (k : StoredForm) (opens cands : List ℕ) (form o c : ℕ) → form < length opens → form < length cands → o ≡ get_or opens form o → c ≡ get_or cands form c → stored_degree k ≤ o → ((d : Term) → c < length (stored_terms k) → stored_degree k + (get_or (stored_terms k) c d).coefficient ≤ o) → IsCalm (stored_shape k) (get_or opens form 0) (get_or cands form 0)
-calm-by k opens cands form o c room roomc open_is cand_is met waiting =
-    let open_0 = get_or_read opens form o room open_is 0 in
-    let cand_0 = get_or_read cands form c roomc cand_is 0 in
-    rw (← open_0, ← cand_0) (record { met = met; waiting = waiting })
+calm-by k opens cands form o c room roomc open_is cand_is met waiting = grind (arith, get_or_read)
 
 pub waiting-by : (k : StoredForm) (items : List Term) (o c : ℕ) (t : Term) → items ≡ (stored_terms k) → t ≡ get_or items c t → stored_degree k + t.coefficient ≤ o → (d : Term) → c < length (stored_terms k) → stored_degree k + (get_or (stored_terms k) c d).coefficient ≤ o
-waiting-by k items o c t items_is item low d here =
-    let item_k : t ≡ get_or (stored_terms k) c t = rw (← items_is) item in
-    let same : get_or (stored_terms k) c d ≡ t = get_or_default (stored_terms k) c d t here ∙ sym item_k in
-    rw same low
+waiting-by k items o c t items_is item low d here = grind (arith, get_or_default)
 
 pub term-inside : (keep : List StoredForm) (n form : ℕ) (k : StoredForm) (items : List Term) (c : ℕ) (t : Term) → form < length keep → k ≡ get_or keep form k → items ≡ (stored_terms k) → c < length items → t ≡ get_or items c t → All (λ f. AreInside n f.terms) (shapes_of keep) → t.literal.variable < n
 term-inside keep n form k items c t inside is items_is here item all =
@@ -158,13 +119,8 @@ idle-at keep opens form k o e inside is room open_is low d c =
     rw (shape-at keep form k inside is d, ← open_0) (stored-idle k (o - e) c low)
 
 pub changed-at : (rests : Rests) (keep : List StoredForm) (opens : List ℕ) (form : ℕ) (k : StoredForm) (o : ℕ) → form < length keep → k ≡ get_or keep form k → form < length opens → o ≡ get_or opens form o → (o ≡ get_or rests.opens.items form (stored_total k) → ⊥) → (d : Shape) → get_or opens form 0 ≡ rest_open rests form (get_or (shapes_of keep) form d) → ⊥
-changed-at rests keep opens form k o inside is room open_is other d e =
-    let open_0 = get_or_read opens form o room open_is 0 in
-    let shape : size (get_or (shapes_of keep) form d).terms ≡ size (stored_terms k) = ap (λ (f : Shape). size f.terms) (shape-at keep form k inside is d) in
-    other (open_0 ∙ e ∙ ap (get_or rests.opens.items form) (shape ∙ sym (stored-sum k)))
+changed-at rests keep opens form k o inside is room open_is other d e = grind (arith, get_or_read, shape-at, stored-sum)
 
 -- a coefficient that is read
 pub weight-read : (keep : List StoredForm) (form index : ℕ) (k : StoredForm) (w : ℕ) → form < length keep → k ≡ get_or keep form k → ((d : Term) → w ≡ (get_or (stored_terms k) index d).coefficient) → w ≡ coefficient_at (shapes_of keep) form index
-weight-read keep form index k w inside is read =
-    let t : Term = record { literal = record { variable = 0; negated = false }; coefficient = 0 } in
-    read t ∙ ap (λ (f : Shape). (get_or f.terms index t).coefficient) (sym (shape-at keep form k inside is (record { terms = []; degree = 0 })))
+weight-read keep form index k w inside is read = grind (arith, shape-at)

@@ -19,24 +19,15 @@ walk-start d c l start = advances-as (sum (passed_of c) + 2 * (size_at c l - 0))
 
 -- a visit to the watch at a position
 pub walk-next : (d : Database) (c0 c c' : Clauses) (l index index' seen : ℕ) {start now : Progress} → index < size_at c l → index' ≤ size_at c' l → size_at c' l + index + 1 ≡ size_at c l + index' → seen + sum (passed_of c) ≤ now.visits + 2 + sum (passed_of c') → now.visits ≤ seen → WalkIsAt d c0 c l index start now → WalkIsAt d c0 c' l index' start (visited_to seen now)
-walk-next d c0 c c' l index index' seen {start} {now} inside within count covered rising a =
-    advances-as (sum (passed_of c0) + 2 * (size_at c' l - index')) (2 * size_at c0 l + sum (passed_of c'))
-    (omega (arith, inside, within, count))
-    (advances-then a (advances-visit d now seen (sum (passed_of c)) (2 + sum (passed_of c')) rising (omega (arith, covered))))
+walk-next d c0 c c' l index index' seen {start} {now} inside within count covered rising a = grind (arith, advances-as, advances-then, advances-visit)
 
 -- watches that are passed
 pub walk-pass : (d : Database) (c0 c : Clauses) (l index j seen : ℕ) {start now : Progress} → index ≤ j → j ≤ size_at c l → seen ≤ now.visits + (j - index) → now.visits ≤ seen → WalkIsAt d c0 c l index start now → WalkIsAt d c0 c l j start (visited_to seen now)
-walk-pass d c0 c l index j seen {start} {now} after within few rising a =
-    advances-as (sum (passed_of c0) + 2 * (size_at c l - j)) (2 * size_at c0 l + sum (passed_of c))
-    (omega (arith, after, within))
-    (advances-then a (advances-visit d now seen 0 (j - index) rising (omega (arith, few))))
+walk-pass d c0 c l index j seen {start} {now} after within few rising a = grind (arith, advances-as, advances-then, advances-visit)
 
 -- a visit that ends the walk
 pub walk-ends : (d : Database) (c0 c c' : Clauses) (l index seen : ℕ) {start now : Progress} → index < size_at c l → seen + sum (passed_of c) ≤ now.visits + 2 + sum (passed_of c') → now.visits ≤ seen → WalkIsAt d c0 c l index start now → WalkIsDone d c0 c' l start (visited_to seen now)
-walk-ends d c0 c c' l index seen {start} {now} inside covered rising a =
-    advances-as (sum (passed_of c0)) (2 * size_at c0 l + sum (passed_of c'))
-    (omega (arith, inside))
-    (advances-then a (advances-visit d now seen (sum (passed_of c)) (2 + sum (passed_of c')) rising (omega (arith, covered))))
+walk-ends d c0 c c' l index seen {start} {now} inside covered rising a = grind (arith, advances-as, advances-then, advances-visit)
 
 -- what costs nothing more
 pub walk-then : {d : Database} {m n : ℕ} {start now after : Progress} → Advances d m n start now → Advances d 0 0 now after → Advances d m n start after

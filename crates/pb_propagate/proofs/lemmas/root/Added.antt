@@ -1,20 +1,19 @@
 -- A form that was added comes to the root.
-use Rattle.pb_propagate.proofs.Common.{stored_form}
-use Rattle.pb_propagate.proofs.Common.{ℕ, ◌++◌, ◌/◌, ◌<◌, ◌∙◌, ◌∷◌, ◌≡◌, ◌≤◌, [], ap, arith, Bool, get_or, get_or-set_other}
-use Rattle.pb_propagate.proofs.Common.{get_or-set_same, Global, inl, inr, length, length-append, List, refl, set, subst, suc, sym, true, Vec}
-use Rattle.pb_propagate.proofs.Common.{zero, All, both_ways, Option, slice_get, Some, cases_eq, cases_lt, get_or-map, get_or_append_left}
-use Rattle.pb_propagate.proofs.Common.{get_or_push, length-map, get_or_from_slice_get, slice_get-get_or, slice_get_within}
-use Rattle.pb_propagate.proofs.Common.{NumberedLiteral, Form, Assignment, Clauses, Watch, Waiting, Rests, Run, Store, StoredForm, list_at, watch_at}
-use Rattle.pb_propagate.proofs.Common.{AreStored, all_of, clauses_of, joined, one_term, slot_shape}
-use Rattle.pb_propagate.proofs.Common.{false_at, Walked, beside, Grown, IsAbsent, IsCalm, IsCounted, IsTidy, pushed, spared}
-use Rattle.pb_propagate.proofs.Common.{weight_in, forms_of, shapes_of, stored_shape, HaveReasons, open_sum, Shape, HasForm, HasGained}
-use Rattle.pb_propagate.proofs.Common.{RunIsWidened, IsRooted, form_at, AreFree, AreSet, IsFreePair, None, Pair}
+use Rattle.pb_propagate.proofs.Common.{rules, All-push, stored_form, ℕ, ◌++◌, ◌/◌, ◌<◌, ◌∙◌, ◌∷◌, ◌≡◌, ◌≤◌, [], ap, arith, Bool, get_or, get_or-set_other}
+use Rattle.pb_propagate.proofs.Common.{get_or-set_same, Global, inl, inr, length, length-append, List, refl, set, subst, suc, sym, true, Vec, zero, both_ways}
+use Rattle.pb_propagate.proofs.Common.{Option, slice_get, Some, cases_eq, get_or-map, get_or_append_left, get_or_push, length-map, get_or_from_slice_get}
+use Rattle.pb_propagate.proofs.Common.{slice_get-get_or, slice_get_within, NumberedLiteral, Form, Assignment, Clauses, Watch, Waiting, Rests, Run, Store}
+use Rattle.pb_propagate.proofs.Common.{StoredForm, list_at, watch_at, AreStored, all_of, clauses_of, joined, one_term, slot_shape, Walked, beside}
+use Rattle.pb_propagate.proofs.Common.{Grown, IsCalm, IsCounted, IsTidy, forms_of, shapes_of, stored_shape, HaveReasons, open_sum, Shape, HasForm}
+use Rattle.pb_propagate.proofs.Common.{HasGained, RunIsWidened, IsWalkedTo, IsRooted, form_at, AreFree, AreSet, IsFreePair, None, Pair}
+use Rattle.std.proofs.lemmas.Grind.{get_or-set_at}
+use Rattle.pb_propagate.proofs.lemmas.root.Roots.{AreRootSums, IsTidyRoot}
 use Rattle.pb_propagate.specs.declared.engine.root.Root.{Root}
 use Rattle.pb_propagate.specs.engine.engine.Root.{WasRootOf}
 use Rattle.pb_propagate.proofs.lemmas.clauses.Heads.{KeepsFallen, walks-kept}
 use Rattle.pb_propagate.proofs.lemmas.clauses.Literals.{Agree, false-listed}
 use Rattle.pb_propagate.proofs.lemmas.clauses.Shapes.{joined-at, joined-length}
-use Rattle.pb_propagate.proofs.lemmas.engine.Runs.{Tidy-rest}
+use Rattle.pb_propagate.proofs.lemmas.engine.Runs.{Tidy-rest, grown-all, grown-new, grown-still}
 use Rattle.pb_propagate.proofs.lemmas.engine.Rests.{element}
 use Rattle.pb_propagate.proofs.lemmas.engine.Reasoned.{moved-same, reasons-moved}
 
@@ -59,25 +58,15 @@ arrived store clauses root run' rests' waiting' slot (before, old, r, g, free) i
         let less : slot < length before.stored.items = omega (arith, inside, same) in
         let terms = bare-slot before.stored.items (clauses_of old) slot none less g.bare in
         let few = r.tidy.bounded slot none (omega (arith, less, length-map before.stored.items stored_shape)) in
-        record {
-          sizes = ap length stay.1 ∙ r.open_sizes ∙ sym same;
-          csizes = ap length stay.2 ∙ r.start_sizes ∙ sym same;
-          older = λ s h n. omega (arith, h, same);
-          opens = λ s h n. ap (λ xs. get_or xs s 0) stay.1;
-          cands = λ s h n. ap (λ xs. get_or xs s 0) stay.2;
-          open_none = ap (λ xs. get_or xs slot 0) stay.1 ∙ r.counted slot none less (λ e. absurd (omega (arith, e, less))) ∙ ap (open_sum root.run.assignment.list.items) terms;
-          cand_none = omega (arith, ap (λ xs. get_or xs slot 0) stay.2, few, ap length terms);
-        }
+        let open_none = ap (λ xs. get_or xs slot 0) stay.1 ∙ r.counted slot none less (λ e. absurd (omega (arith, e, less))) ∙ ap (open_sum root.run.assignment.list.items) terms in
+        search (rules, open_none, ap (λ xs. get_or xs slot 0) stay.2, few, ap length terms, stay.1, stay.2, same)
   ]
   | inr grown ↦ elim g.longer [
     | inl same ↦ absurd (omega (arith, grown.0, inside, same, r.open_sizes))
     | inr new ↦ record {
       sizes = omega (arith, ap length grown.1, length-append root.run.opens.items (0 ∷ []), r.open_sizes, new.0);
       csizes = omega (arith, ap length grown.2, length-append root.run.candidates.items (0 ∷ []), r.start_sizes, new.0);
-      older = λ s h n. elim (cases_lt s (length before.stored.items)) [
-        | inl less ↦ less
-        | inr past ↦ absurd (n (omega (arith, h, past, new.0, new.1)))
-      ];
+      older = λ s h n. grind (arith, h, n, new.0, new.1);
       opens = λ s h n. ap (λ xs. get_or xs s 0) grown.1 ∙ get_or_append_left root.run.opens.items (0 ∷ []) 0 s (omega (arith, h, r.open_sizes));
       cands = λ s h n. ap (λ xs. get_or xs s 0) grown.2 ∙ get_or_append_left root.run.candidates.items (0 ∷ []) 0 s (omega (arith, h, r.start_sizes));
       open_none = ap (λ xs. get_or xs slot 0) grown.1 ∙ get_or_push root.run.opens.items 0 0 slot (omega (arith, new.1, r.open_sizes));
@@ -118,10 +107,7 @@ gained-at before store old clauses slot i x g apart at =
     slice_get-get_or (all_of store clauses) i x (omega (arith, room, longer, joined-length (shapes_of store.stored.items) (clauses_of clauses), length-map store.stored.items stored_shape)) ∙ ap (λ y. Some y) (mine ∙ same ∙ sym theirs ∙ is)
   where
     longer : length before.stored.items ≤ length store.stored.items
-    longer = elim g.longer [
-      | inl same ↦ omega (arith, same)
-      | inr new ↦ omega (arith, new.0)
-    ]
+    longer = grind (arith, g.longer)
 
 -- the reasons still hold
 pub gained-reasons : (before store : Store) (old clauses : Clauses) (slot : ℕ) (reasons : List ℕ) (list : List NumberedLiteral) → HasGained before old store clauses slot → HaveReasons (all_of before old) reasons [] list → HaveReasons (all_of store clauses) reasons [] list
@@ -132,155 +118,78 @@ gained-reasons before store old clauses slot reasons list g h = reasons-moved (a
 
 -- no watch of the slot is falsified, and the others are as they were
 gained-keeps : (values : List (Option Bool)) (list : List NumberedLiteral) (before store : Store) (old clauses : Clauses) (slot : ℕ) → Agree values list → HasGained before old store clauses slot → AreFree values clauses.blocks.watches slot → KeepsFallen old clauses list
-gained-keeps values list before store old clauses slot a g free e live failed = elim (cases_eq (e / 2) slot) [
-  | inl here ↦ absurd (both_ways _ (free e here live) (false-listed values list (watch_at clauses.blocks.watches e).literal a ∙ failed))
-  | inr apart ↦
-      let same = g.watched e apart in
-      ((ap (λ (x : Watch). x.live) same, ap (λ (x : Watch). x.literal) same), g.filled (e / 2) apart)
-]
+gained-keeps values list before store old clauses slot a g free e live failed = grind (arith, both_ways, false-listed, clauses.blocks.watches, g.watched, g.filled, cases_eq (e / 2) slot)
 
 -- the root for all forms but the new one
 pub gained-rooted : (store : Store) (clauses : Clauses) (root : Root) (run' : Run) (rests' : Rests) (waiting' : Waiting) (slot : ℕ) → WasRootOf store clauses slot root → slot < length store.stored.items → RunIsWidened root.run run' root.rests rests' root.waiting waiting' slot → IsRooted store clauses run' rests' waiting' root.walked slot
-gained-rooted store clauses root run' rests' waiting' slot (before, old, r, g, free) inside h = record {
-  values = ap (λ (x : Assignment). length x.values.items) h.assignment ∙ r.values ∙ sym g.variables;
-  opens = opens_same;
-  starts = starts_same;
-  open_sizes = a.sizes;
-  start_sizes = a.csizes;
-  counted = λ s d less apart.
-      let was = a.older s less apart in
-      rw h.assignment (a.opens s was apart ∙ r.counted s d was (λ e. absurd (omega (arith, e, was))) ∙ ap (λ (f : Shape). open_sum root.run.assignment.list.items f.terms) (sym (shape s d was apart)));
-  tidy = Tidy-rest opens_same starts_same (length-map store.stored.items stored_shape ∙ sym a.sizes)
-      (λ s d less apart off gone.
-      let was = a.older s (omega (arith, less, length-map store.stored.items stored_shape)) apart in
-      let calm = r.tidy.calm s d (omega (arith, was, length-map before.stored.items stored_shape)) (λ e. absurd (omega (arith, e, was))) (rw h.waits at off) gone in
-      rw (shape s d was apart, a.opens s was apart, a.cands s was apart) calm)
-      (λ s d less k f early within. elim (cases_eq s slot) [
-        | inl one ↦ absurd (omega (arith, early, ap (λ j. get_or run'.candidates.items j 0) one, a.cand_none))
-        | inr apart ↦
-            let was = a.older s (omega (arith, less, length-map store.stored.items stored_shape)) apart in
-            let done = r.tidy.passed s d (omega (arith, was, length-map before.stored.items stored_shape)) k f (omega (arith, early, a.cands s was apart)) (omega (arith, within, ap (λ (x : Shape). length x.terms) (shape s d was apart))) in
-            rw (shape s d was apart, h.assignment) done
-      ])
-      (λ s d less. elim (cases_eq s slot) [
-        | inl one ↦ omega (arith, ap (λ j. get_or run'.candidates.items j 0) one, a.cand_none)
-        | inr apart ↦
-            let was = a.older s (omega (arith, less, length-map store.stored.items stored_shape)) apart in
-            omega (arith, r.tidy.bounded s d (omega (arith, was, length-map before.stored.items stored_shape)), a.cands s was apart, ap (λ (x : Shape). length x.terms) (shape s d was apart))
-      ]);
-  work = ap (λ (v : Vec ℕ Global). v.items) h.work ∙ r.work;
-  trail = ap (λ (v : Vec ℕ Global). v.items) h.trail ∙ r.trail;
-  next = h.next ∙ r.next;
-  reasoned = rw h.assignment (gained-reasons before store old clauses slot root.run.assignment.reasons.items root.run.assignment.list.items g r.reasoned);
-  walks = rw h.assignment (walks-kept old clauses root.run.assignment.list.items root.walked (gained-keeps root.run.assignment.values.items root.run.assignment.list.items before store old clauses slot root.run.assignment.agrees g free) r.walks);
-  positions = h.positions (r.positions ∙ sym r.open_sizes) ∙ a.sizes;
-  live = λ i s at. form-kept before store s (λ one. g.empty (subst (HasForm before) one (r.live i s (rw h.waits at at)))) (g.kept s) (r.live i s (rw h.waits at at));
-}
-  where
-    a : Arrived before store root.run run' slot
-    a = arrived store clauses root run' rests' waiting' slot (before, old, r, g, free) inside h
-
-    opens_same : run'.opens.items ≡ rests'.opens.items
-    opens_same = elim h.lists [
+gained-rooted store clauses root run' rests' waiting' slot (before, old, r, g, free) inside h =
+    let a = arrived store clauses root run' rests' waiting' slot (before, old, r, g, free) inside h in
+    let list = root.run.assignment.list.items in
+    let long = length-map store.stored.items stored_shape in
+    let was_long = length-map before.stored.items stored_shape in
+    let opened : run'.opens.items ≡ rests'.opens.items = elim h.lists [
       | inl stay ↦ stay.1 ∙ r.opens ∙ sym stay.3
       | inr grown ↦ grown.1 ∙ ap (λ (xs : List ℕ). xs ++ (0 ∷ [])) r.opens ∙ sym grown.3
-    ]
-
-    starts_same : run'.candidates.items ≡ rests'.starts.items
-    starts_same = elim h.lists [
+    ] in
+    let started : run'.candidates.items ≡ rests'.starts.items = elim h.lists [
       | inl stay ↦ stay.2 ∙ r.starts ∙ sym stay.4
       | inr grown ↦ grown.2 ∙ ap (λ (xs : List ℕ). xs ++ (0 ∷ [])) r.starts ∙ sym grown.4
-    ]
-
-    shape : (s : ℕ) (d : Shape) → s < length before.stored.items → (s ≡ slot → ⊥) → get_or (shapes_of store.stored.items) s d ≡ get_or (shapes_of before.stored.items) s d
-    shape s d less apart = same-shape store.stored.items before.stored.items s d less (g.kept s apart)
+    ] in
+    let shape = λ (s : ℕ) (d : Shape) (less : s < length before.stored.items) (apart : s ≡ slot → ⊥). same-shape store.stored.items before.stored.items s d less (g.kept s apart) in
+    let counted : AreRootSums store run' slot = λ s d less apart.
+    let was = a.older s less apart in
+    rw h.assignment (a.opens s was apart ∙ r.counted s d was (λ e. absurd (omega (arith, e, was))) ∙ ap (λ (f : Shape). open_sum list f.terms) (sym (shape s d was apart))) in
+    let tidy : IsTidyRoot store run' rests' waiting' slot = Tidy-rest opened started (long ∙ sym a.sizes)
+    (λ s d less apart off gone.
+    let was = a.older s (omega (arith, less, long)) apart in
+    let calm = r.tidy.calm s d (omega (arith, was, was_long)) (λ e. absurd (omega (arith, e, was))) (rw h.waits at off) gone in
+    rw (shape s d was apart, a.opens s was apart, a.cands s was apart) calm)
+    (λ s d less k f early within. grind (arith, less, early, within, a.cand_none, long, was_long, a.older s, a.cands s, shape s d, h.assignment, r.tidy.passed s d))
+    (λ s d less. grind (arith, less, a.cand_none, long, was_long, a.older s, r.tidy.bounded s d, a.cands s, shape s d)) in
+    let reasoned : HaveReasons (all_of store clauses) run'.assignment.reasons.items [] run'.assignment.list.items = rw h.assignment (gained-reasons before store old clauses slot root.run.assignment.reasons.items list g r.reasoned) in
+    let walks : IsWalkedTo clauses run'.assignment.list.items root.walked = rw h.assignment (walks-kept old clauses list root.walked (gained-keeps root.run.assignment.values.items list before store old clauses slot root.run.assignment.agrees g free) r.walks) in
+    let live : (i s : ℕ) → slice_get waiting'.list.items i ≡ Some s → HasForm store s = λ i s at.
+    let was = r.live i s (rw h.waits at at) in
+    form-kept before store s (λ one. g.empty (subst (HasForm before) one was)) (g.kept s) was in
+    let values = ap (λ (x : Assignment). length x.values.items) h.assignment ∙ r.values ∙ sym g.variables in
+    let work = ap (λ (v : Vec ℕ Global). v.items) h.work ∙ r.work in
+    let trail = ap (λ (v : Vec ℕ Global). v.items) h.trail ∙ r.trail in
+    search (rules, a.sizes, a.csizes, values, work, trail, h.next ∙ r.next, h.positions (r.positions ∙ sym r.open_sizes) ∙ a.sizes)
 
 -- a slot without a clause has no watch
 pub no-watch : (clauses : List (List ℕ)) (ws : List Watch) (ls : List (List ℕ)) (slot e : ℕ) → AreStored clauses ws ls → list_at clauses slot ≡ [] → e / 2 ≡ slot → (watch_at ws e).live ≡ true → ⊥
-no-watch clauses ws ls slot e stored none here live =
-    let there = stored.watched e live in
-    omega (arith, there.1, ap length (ap (list_at clauses) here ∙ none))
+no-watch clauses ws ls slot e stored none here live = grind (arith, stored.watched)
 
 -- two literals that are not falsified are watched
 pub pair-free : (values : List (Option Bool)) (old new : List Watch) (s : ℕ) (literals : List ℕ) (p : Pair) → IsFreePair values literals p → AreSet old new s literals p → AreFree values new s
-pair-free values old new s literals p free set e here live = elim (set.mine e here) [
-  | inl is ↦ ap (false_at values) is ∙ free.first
-  | inr is ↦ ap (false_at values) is ∙ free.second
-]
+pair-free values old new s literals p free set e here live = grind (arith, set.mine e here, free)
 
 -- a clause adds nothing to the occurrence lists
 pub clause-rooted : (store : Store) (clauses : Clauses) (run : Run) (rests : Rests) (waiting : Waiting) (walked : Walked) (slot : ℕ) → slot < length store.stored.items → ((d : Shape) → ((get_or (shapes_of store.stored.items) slot d).terms ≡ []) × ((get_or (shapes_of store.stored.items) slot d).degree ≡ 0)) → get_or run.opens.items slot 0 ≡ 0 → IsRooted store clauses run rests waiting walked slot → IsRooted store clauses run rests waiting walked (length store.stored.items)
-clause-rooted store clauses run rests waiting walked slot inside bare none r = record {
-  values = r.values;
-  opens = r.opens;
-  starts = r.starts;
-  open_sizes = r.open_sizes;
-  start_sizes = r.start_sizes;
-  counted = λ s d less apart. elim (cases_eq s slot) [
-    | inl one ↦ ap (λ j. get_or run.opens.items j 0) one ∙ none ∙ sym (ap (λ j. open_sum run.assignment.list.items (get_or (shapes_of store.stored.items) j d).terms) one ∙ ap (open_sum run.assignment.list.items) (bare d).0)
-    | inr other ↦ r.counted s d less other
-  ];
-  tidy = Tidy-rest r.opens r.starts (length-map store.stored.items stored_shape ∙ sym r.open_sizes)
-      (λ s d less apart off gone. elim (cases_eq s slot) [
-        | inl one ↦
-            let terms = ap (λ j. (get_or (shapes_of store.stored.items) j d).terms) one ∙ (bare d).0 in
-            let degree = ap (λ j. (get_or (shapes_of store.stored.items) j d).degree) one ∙ (bare d).1 in
-            record { met = omega (arith, degree); waiting = λ e h. absurd (omega (arith, h, ap length terms)) }
-        | inr other ↦ r.tidy.calm s d less other off gone
-      ])
-      r.tidy.passed r.tidy.bounded;
-  work = r.work;
-  trail = r.trail;
-  next = r.next;
-  reasoned = r.reasoned;
-  walks = r.walks;
-  positions = r.positions;
-  live = r.live;
-}
+clause-rooted store clauses run rests waiting walked slot inside bare none r = grind (arith, r.counted, r.opens, r.starts, length-map, r.open_sizes, r.tidy.calm, r.tidy.passed, r.tidy.bounded)
 
 -- what a propagation needs once a form has its open sum under the root
 pub slot-counted : (forms : List Shape) (opens lowered : List ℕ) (list : List NumberedLiteral) (n : ℕ) → n < length opens → ((s : ℕ) (d : Shape) → s < length forms → (s ≡ n → ⊥) → get_or opens s 0 ≡ open_sum list (get_or forms s d).terms) → ((d : Shape) → lowered ≡ set opens n (open_sum list (get_or forms n d).terms)) → IsCounted forms lowered list []
-slot-counted forms opens lowered list n room counted low = record {
-  each = λ s d inside.
-      let none : weight_in s [] ≡ 0 = refl in
-      elim (cases_eq s n) [
-        | inl one ↦
-            let now : get_or lowered s 0 ≡ open_sum list (get_or forms s d).terms = ap (λ xs. get_or xs s 0) (low d) ∙ rw one (get_or-set_same opens n (open_sum list (get_or forms n d).terms) 0 room) in
-            omega (arith, now, none)
-        | inr other ↦
-            let now = ap (λ xs. get_or xs s 0) (low d) ∙ get_or-set_other opens n s (open_sum list (get_or forms n d).terms) 0 other in
-            omega (arith, now, counted s d inside other, none)
-      ];
-}
-
--- the work list after a form was put to it if it needs that
-pub grown-off : {P : Type 0} (n : ℕ) (w : List ℕ) → Grown P n [] w → (s : ℕ) → (s ≡ n → ⊥) → IsAbsent w 0 s
-grown-off n _ pushed s other i from less found =
-    let first : i ≡ 0 = omega (arith, less) in
-    other (sym found ∙ ap (λ j. get_or (n ∷ []) j 0) first)
-grown-off n _ (spared calm) s other i from less found = absurd (omega (arith, less))
+slot-counted forms opens lowered list n room counted low = grind (arith, get_or-set_at, get_or-set_other)
 
 pub slot-tidy : (rests : Rests) (aside : List ℕ) (forms : List Shape) (opens cands lowered : List ℕ) (list : List NumberedLiteral) (work trail : List ℕ) (n : ℕ) → n < length forms → n < length opens → IsTidy (beside rests aside) forms opens cands list [] [] 0 n → ((d : Shape) → lowered ≡ set opens n (open_sum list (get_or forms n d).terms)) →
     Grown ((d : Shape) (c : ℕ) → IsCalm (get_or forms n d) (open_sum list (get_or forms n d).terms) c) n [] work → trail ≡ n ∷ [] → IsTidy (beside rests aside) forms lowered cands list work trail 0 (length forms)
 slot-tidy rests aside forms opens cands lowered list work trail n inside_n room tidy low queued noted = record {
-  calm = λ s d inside idle off gone. elim (cases_eq s n) [
-    | inl one ↦
-        let calm = needless work queued gone one d (get_or cands s 0) in
-        let moved : IsCalm (get_or forms s d) (open_sum list (get_or forms s d).terms) (get_or cands s 0) = subst (λ k. IsCalm (get_or forms k d) (open_sum list (get_or forms k d).terms) (get_or cands s 0)) (sym one) calm in
-        subst (λ o. IsCalm (get_or forms s d) o (get_or cands s 0)) (sym (at_slot s d one)) moved
-    | inr other ↦ rw (open_other s d other) (tidy.calm s d inside other off (λ i from short. absurd (omega (arith, short))))
-  ];
+  calm = λ s d inside idle off gone.
+      let was = λ (other : s ≡ n → ⊥). tidy.calm s d inside other off (λ i from short. absurd (omega (arith, short))) in
+      let needless = λ (one : s ≡ n). grown-new n [] work 0 s (omega arith) one queued gone d (get_or cands s 0) in
+      grind (arith, was, needless, at_slot s d, open_other s d);
   passed = tidy.passed;
   bounded = tidy.bounded;
   clean = λ s d inside gone.
       let other : s ≡ n → ⊥ = λ e. gone 0 (omega arith) (omega (arith, ap length noted)) (ap (λ xs. get_or xs 0 0) noted ∙ sym e) in
       let was = tidy.clean s d inside (λ i from short. absurd (omega (arith, short))) in
       (open_other s d other ∙ was.0, was.1);
-  named = all_work work queued;
-  marked = rw noted (one_less (λ s. s < length forms) n inside_n);
+  named = grown-all (λ s. s < length forms) n [] work inside_n queued (λ i d less. absurd (omega (arith, less)));
+  marked = rw noted (All-push (λ s. s < length forms) [] n (λ i d less. absurd (omega (arith, less))) inside_n);
   traced = λ s gone.
       let other : s ≡ n → ⊥ = λ e. gone 0 (omega arith) (omega (arith, ap length noted)) (ap (λ xs. get_or xs 0 0) noted ∙ sym e) in
-      grown-off n work queued s other;
+      grown-still n [] work s other queued (λ i from less. absurd (omega (arith, less)));
 }
   where
     at_slot : (s : ℕ) (d : Shape) → s ≡ n → get_or lowered s 0 ≡ open_sum list (get_or forms s d).terms
@@ -288,16 +197,3 @@ slot-tidy rests aside forms opens cands lowered list work trail n inside_n room 
 
     open_other : (s : ℕ) (d : Shape) → (s ≡ n → ⊥) → get_or lowered s 0 ≡ get_or opens s 0
     open_other s d other = ap (λ xs. get_or xs s 0) (low d) ∙ get_or-set_other opens n s (open_sum list (get_or forms n d).terms) 0 other
-
-    needless : (w : List ℕ) → Grown ((d : Shape) (c : ℕ) → IsCalm (get_or forms n d) (open_sum list (get_or forms n d).terms) c) n [] w → {s : ℕ} → IsAbsent w 0 s → s ≡ n → (d : Shape) (c : ℕ) → IsCalm (get_or forms n d) (open_sum list (get_or forms n d).terms) c
-    needless _ pushed gone one = absurd (gone 0 (omega arith) (omega arith) (sym one))
-    needless _ (spared calm) gone one = calm
-
-    one_less : (P : ℕ → Type 0) (x : ℕ) → P x → All P (x ∷ [])
-    one_less P x p i d less =
-        let first : 0 ≡ i = omega (arith, less) in
-        subst (λ j. P (get_or (x ∷ []) j d)) first p
-
-    all_work : (w : List ℕ) → Grown ((d : Shape) (c : ℕ) → IsCalm (get_or forms n d) (open_sum list (get_or forms n d).terms) c) n [] w → All (λ s. s < length forms) w
-    all_work _ pushed = one_less (λ s. s < length forms) n inside_n
-    all_work _ (spared calm) = λ i d less. absurd (omega (arith, less))

@@ -1,12 +1,12 @@
 -- The last literal of a list is removed.
-use Rattle.pb_propagate.proofs.Common.{ℕ, ◌++◌, ◌+◌, ◌<◌, ◌∙◌, ◌∷◌, ◌≡◌, ◌≤◌, [], ap, arith, Bool, drop, false, get_or}
-use Rattle.pb_propagate.proofs.Common.{get_or-set_same, inl, inr, length, length-append, length-set, List, min, None, refl, set, subst, suc, sym}
-use Rattle.pb_propagate.proofs.Common.{take, true, zero, Option, Some, sum_by, both_ways, cases_Bool, cases_eq, cases_lt, length-take-le, set_past}
-use Rattle.pb_propagate.proofs.Common.{take_all, take_more, sum_by-set, NumberedLiteral, negation, has, vacancy}
+use Rattle.pb_propagate.proofs.Common.{rules, ℕ, ◌++◌, ◌+◌, ◌<◌, ◌∙◌, ◌∷◌, ◌≡◌, ◌≤◌, [], ap, arith, Bool, drop, false, get_or}
+use Rattle.pb_propagate.proofs.Common.{length, length-append, length-set, List, min, None, set, subst, suc, sym, take, true, zero, Option, sum_by, cases_Bool}
+use Rattle.pb_propagate.proofs.Common.{length-take-le, set_past, take_all, take_more, sum_by-set, NumberedLiteral, negation, has, vacancy}
 use Rattle.std.proofs.lemmas.List.{take-take}
+use Rattle.std.proofs.lemmas.Grind.{get_or-set_at}
 use Rattle.pb_propagate.specs.engine.engine.Lists.{says}
 use Rattle.pb_propagate.proofs.lemmas.engine.Literals.{has-push_old, has-push_new, has-push_cases}
-use Rattle.pb_propagate.proofs.lemmas.engine.Values.{Agree, Forgotten, has-neither, says-apart, says-none, says-inside, opposite, forget-next, forget-none, vacancy-none}
+use Rattle.pb_propagate.proofs.lemmas.engine.Values.{Agree, Forgotten, has-elsewhere, has-neither, says-apart, says-none, says-inside, opposite, forget-next, forget-none, vacancy-none}
 
 -- a list has a literal for each variable with a value, so it is at least as long
 long-from : (n i : ℕ) (values : List (Option Bool)) (list : List NumberedLiteral) → length list ≡ i + n → Forgotten values (drop i list) → length values ≤ n + sum_by vacancy values
@@ -19,63 +19,29 @@ long-from (suc n) i values list e f =
     omega (arith, rest, length-set values v None, more_vacant v)
   where
     more_vacant : (v : ℕ) → sum_by vacancy (set values v None) ≤ sum_by vacancy values + 1
-    more_vacant v = elim (cases_lt v (length values)) [
-      | inl inside ↦ omega (arith, sum_by-set vacancy values v None None inside)
-      | inr past ↦ omega (arith, ap (sum_by vacancy) (set_past values v None past))
-    ]
+    more_vacant v = grind (arith, sum_by-set vacancy values v None None, set_past values v None)
 
 pub long-enough : (values : List (Option Bool)) (list : List NumberedLiteral) → Forgotten values list → length values ≤ length list + sum_by vacancy values
 long-enough values list f = long-from (length list) 0 values list (omega arith) f
 
 -- each literal of a list with room for all is on it once
 pub last-fresh : (values : List (Option Bool)) (xs : List NumberedLiteral) (l : NumberedLiteral) → Agree values (xs ++ (l ∷ [])) → length (xs ++ (l ∷ [])) + sum_by vacancy values ≡ length values → has xs l ≡ false
-last-fresh values xs l a room = elim (cases_Bool (has xs l)) [
-  | inr fresh ↦ fresh
-  | inl twice ↦
-      let enough = long-enough values xs (λ k h. elim (has-push_cases xs l k (a k ∙ h)) [
-        | inl old ↦ old
-        | inr is ↦ ap (has xs) (sym is) ∙ twice
-      ]) in
-      absurd (omega (arith, enough, room, length-append xs (l ∷ [])))
-]
+last-fresh values xs l a room = grind (arith, long-enough, has-push_cases, length-append, cases_Bool (has xs l))
 
 pub absent-before : (xs : List NumberedLiteral) (l k : NumberedLiteral) → has (xs ++ (l ∷ [])) k ≡ false → has xs k ≡ false
-absent-before xs l k h = elim (cases_Bool (has xs k)) [
-  | inl there ↦ absurd (both_ways _ h (has-push_old xs l k there))
-  | inr gone ↦ gone
-]
-
-has-elsewhere : (xs : List NumberedLiteral) (l k : NumberedLiteral) → (k.variable ≡ l.variable → ⊥) → has (xs ++ (l ∷ [])) k ≡ has xs k
-has-elsewhere xs l k apart = by (has (xs ++ (l ∷ [])) k) refl
-  where
-    by : (b : Bool) → has (xs ++ (l ∷ [])) k ≡ b → has (xs ++ (l ∷ [])) k ≡ has xs k
-    by false h = h ∙ sym (absent-before xs l k h)
-    by true h = elim (has-push_cases xs l k h) [
-      | inl old ↦ h ∙ sym old
-      | inr is ↦ absurd (apart (ap (λ (q : NumberedLiteral). q.variable) (sym is)))
-    ]
+absent-before xs l k h = grind (arith, has-push_old xs l k)
 
 pub Agree-pop : (values : List (Option Bool)) (xs : List NumberedLiteral) (l : NumberedLiteral) → Agree values (xs ++ (l ∷ [])) → has xs l ≡ false → Agree (set values l.variable None) xs
-Agree-pop values xs l a fresh k = elim (cases_eq k.variable l.variable) [
-  | inr apart ↦ sym (has-elsewhere xs l k apart) ∙ a k ∙ sym (says-apart values l.variable None k apart)
-  | inl here ↦ has-neither xs l k fresh opposed here ∙ sym (says-none (set values l.variable None) k (cleared here))
-]
-  where
-    opposed : has xs (negation l) ≡ false
-    opposed = absent-before xs l (negation l) (opposite values (xs ++ (l ∷ [])) l a (has-push_new xs l))
-
-    cleared : k.variable ≡ l.variable → get_or (set values l.variable None) k.variable None ≡ None
-    cleared here = ap (λ v. get_or (set values l.variable None) v None) here ∙ get_or-set_same values l.variable None None (says-inside values l (sym (a l) ∙ has-push_new xs l))
+Agree-pop values xs l a fresh k =
+    let on : says values l ≡ true = sym (a l) ∙ has-push_new xs l in
+    let opposed : has xs (negation l) ≡ false = absent-before xs l (negation l) (opposite values (xs ++ (l ∷ [])) l a (has-push_new xs l)) in
+    grind (arith, has-elsewhere xs l k, a k, says-apart values l.variable None k, has-neither xs l k fresh opposed, says-none (set values l.variable None) k, get_or-set_at values l.variable k.variable None None, says-inside values l on)
 
 pub vacancy-pop : (values : List (Option Bool)) (xs : List NumberedLiteral) (l : NumberedLiteral) → Agree values (xs ++ (l ∷ [])) → sum_by vacancy (set values l.variable None) ≡ sum_by vacancy values + 1
 vacancy-pop values xs l a =
     let on : says values l ≡ true = sym (a l) ∙ has-push_new xs l in
-    let change = sum_by-set vacancy values l.variable None None (says-inside values l on) in
-    omega (arith, change, valued (get_or values l.variable None) refl on)
-  where
-    valued : (o : Option Bool) → get_or values l.variable None ≡ o → says values l ≡ true → vacancy (get_or values l.variable None) ≡ 0
-    valued None h on = absurd (both_ways _ (says-none values l h) on)
-    valued (Some m) h on = ap vacancy h
+    let valued : vacancy (get_or values l.variable None) ≡ 0 = grind (arith, says-none values l) in
+    omega (arith, sum_by-set vacancy values l.variable None None (says-inside values l on), valued)
 
 -- a list cut to its first literals, and its values
 pub record IsCut (values0 : List (Option Bool)) (list0 : List NumberedLiteral) (count : ℕ) (values : List (Option Bool)) (list : List NumberedLiteral) : Type 0 where
@@ -101,11 +67,6 @@ cut-next values0 list0 count values list n l more e is c =
     let agree = subst (Agree values) split c.agrees in
     let room = subst (λ xs. length xs + sum_by vacancy values ≡ length values) split c.room in
     let short : length (take n list) ≡ n = length-take-le n list (omega (arith, e)) in
-    record {
-      agrees = Agree-pop values (take n list) l agree (last-fresh values (take n list) l agree room);
-      room = omega (arith, c.room, e, short, vacancy-pop values (take n list) l agree, length-set values l.variable None);
-      sizes = length-set values l.variable None ∙ c.sizes;
-      first = ap (take n) c.first ∙ take-take n (length list) list0 (omega (arith, e)) ∙ ap (λ k. take k list0) (sym short);
-      within = omega (arith, short, e, c.within);
-      enough = omega (arith, short, e, more);
-    }
+    let agrees = Agree-pop values (take n list) l agree (last-fresh values (take n list) l agree room) in
+    let first = ap (take n) c.first ∙ take-take n (length list) list0 (omega (arith, e)) ∙ ap (λ k. take k list0) (sym short) in
+    search (rules, vacancy-pop values (take n list) l agree, length-set values l.variable None)

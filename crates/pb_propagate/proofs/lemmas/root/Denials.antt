@@ -1,11 +1,10 @@
 -- A clause that is asked about, by its literals.
-use Rattle.pb_propagate.proofs.Common.{ℕ, ◌++◌, ◌+◌, ◌-◌, ◌<◌, ◌^◌, ◌∙◌, ◌∷◌, ◌≡◌, ◌≤◌, [], ap, arith, false, get_or, inl, inr, length, length-append}
-use Rattle.pb_propagate.proofs.Common.{List, map, min, refl, subst, suc, sym, true, zero, All, Contains, both_ways, cases_Bool, cases_eq, or_cases}
-use Rattle.pb_propagate.proofs.Common.{get_or-map, get_or_default, length-map, Contains-append_left, Contains-push, Contains-push_cases, IsPermutation-refl}
-use Rattle.pb_propagate.proofs.Common.{sum_by-cons, Entry, NumberedLiteral, each, Form, IsNormal, total, negation, negation_of, opposite, Term}
-use Rattle.pb_propagate.proofs.Common.{AreJoined, joined, added, Adopted, AreFound, kept, AreDenied, denial_of, IsDisjunction, IsHit, IsOne, as_term}
-use Rattle.pb_propagate.proofs.Common.{entry_of, IsStoredAs, broken, Conflicts, Derives, has, IsSettled, IsWithin, open_part, open_sum, opposed, put}
-use Rattle.pb_propagate.proofs.Common.{Shape, AreSettled}
+use Rattle.pb_propagate.proofs.Common.{ℕ, ◌++◌, ◌+◌, ◌-◌, ◌<◌, ◌^◌, ◌∙◌, ◌∷◌, ◌≡◌, ◌≤◌, [], ap, arith, false, get_or, inl, inr, length, length-append, List}
+use Rattle.pb_propagate.proofs.Common.{map, min, refl, subst, suc, true, zero, All, Contains, both_ways, get_or-map, get_or_default, length-map}
+use Rattle.pb_propagate.proofs.Common.{Contains-append_left, Contains-push, Contains-push_cases, IsPermutation-refl, sum_by-cons, Entry, NumberedLiteral, each}
+use Rattle.pb_propagate.proofs.Common.{Form, IsNormal, total, negation, negation_of, opposite, Term, AreJoined, joined, added, Adopted, AreFound, kept}
+use Rattle.pb_propagate.proofs.Common.{AreDenied, denial_of, IsDisjunction, IsHit, IsOne, as_term, entry_of, IsStoredAs, broken, Conflicts, Derives, has}
+use Rattle.pb_propagate.proofs.Common.{IsSettled, IsWithin, open_part, open_sum, opposed, put, Shape, AreSettled}
 use Rattle.pb_normal.proofs.lemmas.terms.Maps.{IsNormal-negation}
 use Rattle.pb_propagate.proofs.lemmas.clauses.Shapes.{conflicts-joined}
 use Rattle.pb_propagate.proofs.lemmas.engine.Derivations.{one_itself, settled-of_terms, derivation-then}
@@ -39,10 +38,7 @@ denial-most list (e ∷ es) light =
     omega (arith, rest, part t one, sum_by-cons (open_part list) t (map as_term (map opposite es)))
   where
     part : (t : Term) → t.coefficient ≡ 1 → open_part list t ≤ 1
-    part t one = elim (cases_Bool (has list (negation t.literal))) [
-      | inl gone ↦ omega (arith, open_part-falsified list t gone)
-      | inr there ↦ omega (arith, open_part-open list t there, one)
-    ]
+    part t one = grind (arith, open_part-falsified list t, open_part-open list t)
 
 -- a literal of the clause that is true takes 1
 denial-hit : (list : List NumberedLiteral) (goal : List Entry) (k : ℕ) (d : Entry) → k < length goal → All IsOne goal → has list (literal_of (get_or goal k d)) ≡ true → open_sum list (map as_term (map opposite goal)) < length goal
@@ -60,8 +56,7 @@ denial-whole list (e ∷ es) light sided denied =
     let one : e.coefficient ≡ 1 = light 0 e (omega arith) in
     let t = as_term (opposite e) in
     let mine : has list (negation (literal_of e)) ≡ true = denied 0 e (omega arith) in
-    let part = open_part-open list t (sided (negation (literal_of e)) mine) in
-    omega (arith, rest, one, part, sum_by-cons (open_part list) t (map as_term (map opposite es)))
+    omega (arith, rest, one, open_part-open list t (sided (negation (literal_of e)) mine), sum_by-cons (open_part list) t (map as_term (map opposite es)))
 
 pub denial-settled : (list : List NumberedLiteral) (goal : List Entry) → All IsOne goal → ((l : NumberedLiteral) → has list l ≡ true → has list (negation l) ≡ false) → AreDenied goal list → IsSettled (denial_of goal) list
 denial-settled list goal light sided denied = settled-of_terms (denial_of goal) list (denial-whole list goal light sided denied) (λ k d less low absent unfalsified.
@@ -86,10 +81,7 @@ denied-next goal start old _ k d inside light (added absent opened) derived = pu
 })
 
 pub adopted-denied : (l : NumberedLiteral) (old new : List NumberedLiteral) → has old l ≡ false → Adopted (negation l) old new → has new (negation l) ≡ true
-adopted-denied l old _ off (kept done) = elim (or_cases (has old (negation l)) (has old (negation (negation l))) done) [
-  | inl there ↦ there
-  | inr on ↦ absurd (both_ways _ off (sym (ap (has old) (negation-negation l)) ∙ on))
-]
+adopted-denied l old _ off (kept done) = grind (arith, negation-negation l)
 adopted-denied l old _ off (added absent opened) = has-push_new old (negation l)
 
 -- the literal is paid by its visit
@@ -104,10 +96,8 @@ adopted-keeps l old _ (added absent opened) = λ k h. has-push_old old l k h
 -- one literal more is on the list as false
 pub denied-more : (goal : List Entry) (l : NumberedLiteral) (old new : List NumberedLiteral) (i : ℕ) (d : Entry) → i < length goal → l ≡ literal_of (get_or goal i d) → Adopted (negation l) old new → has new (negation l) ≡ true → ((k : ℕ) (e : Entry) → k < i → has old (negation (literal_of (get_or goal k e))) ≡ true) →
     (k : ℕ) (e : Entry) → k < i + 1 → has new (negation (literal_of (get_or goal k e))) ≡ true
-denied-more goal l old new i d inside is adopted here before k e less = elim (cases_eq k i) [
-  | inl one ↦ ap (λ j. has new (negation (literal_of (get_or goal j e)))) one ∙ ap (λ x. has new (negation (literal_of x))) (get_or_default goal i e d inside) ∙ sym (ap (λ x. has new (negation x)) is) ∙ here
-  | inr other ↦ adopted-keeps (negation l) old new adopted _ (before k e (grind (arith, less, other)))
-]
+denied-more goal l old new i d inside is adopted here before k e less =
+    grind (arith, less, before k e, here, is, get_or_default goal i e d inside, adopted-keeps (negation l) old new adopted (negation (literal_of (get_or goal k e))))
 
 pub conflicts-within : (a b : List Shape) (list : List NumberedLiteral) → ((x : Shape) → Contains a x → Contains b x) → Conflicts a list → Conflicts b list
 conflicts-within a b list more (opposed l here there) = opposed l here there

@@ -1,6 +1,6 @@
 -- Lists to which literals were added.
-use Rattle.pb_propagate.proofs.Common.{ℕ, ◌++◌, ◌||◌, ◌∙◌, ◌∷◌, ◌≡◌, ◌≤◌, [], ap, arith, Bool, cond, drop, false, get_or, length, List, map, refl}
-use Rattle.pb_propagate.proofs.Common.{subst, sym, take, true, ◌==◌, count_by, both_ways, append-nil, append_assoc, map-append, take-append-drop}
+use Rattle.pb_propagate.proofs.Common.{take_all, ℕ, ◌++◌, ◌∙◌, ◌∷◌, ◌≡◌, ◌≤◌, [], ap, arith, cond, drop, get_or, length, List, map, refl}
+use Rattle.pb_propagate.proofs.Common.{subst, sym, take, true, count_by, both_ways, append-nil, append_assoc, map-append, take-append-drop}
 use Rattle.pb_propagate.proofs.Common.{sum_by-append, sum_by-cons, NumberedLiteral, negation, Long, Short, Heads, fallen, falsified_code, killed}
 use Rattle.pb_propagate.proofs.Common.{place, spent, Extends, IsWithin, reached, same, Weighted, list_any, list_any-append, or_left}
 use Rattle.pb_propagate.specs.engine.clauses.Walked.{has}
@@ -28,32 +28,18 @@ spent-extends lists a b (r, e) = omega (arith, ap (spent lists) e, sum_by-append
 count-within : (a b : List ℕ) → ((x : ℕ) → has a x ≡ true → has b x ≡ true) → (xs : List ℕ) → count_by (λ x. has a x) xs ≤ count_by (λ x. has b x) xs
 count-within a b h [] = omega arith
 count-within a b h (x ∷ xs) =
-    let rest = count-within a b h xs in
-    let p = sum_by-cons (λ y. cond (has a y) 1 0) x xs in
-    let q = sum_by-cons (λ y. cond (has b y) 1 0) x xs in
-    omega (arith, rest, p, q, one (has a x) (has b x) (h x))
-  where
-    one : (m n : Bool) → (m ≡ true → n ≡ true) → cond m 1 0 ≤ cond n 1 0
-    one false n k = omega arith
-    one true true k = omega arith
-    one true false k = absurd (both_ways _ refl (k refl))
+    grind (arith, count-within a b h xs, h x, sum_by-cons (λ y. cond (has a y) 1 0) x xs, sum_by-cons (λ y. cond (has b y) 1 0) x xs)
 
 pub killed-within : (clauses : List (List ℕ)) (a b : List ℕ) → ((x : ℕ) → has a x ≡ true → has b x ≡ true) → killed clauses a ≤ killed clauses b
 killed-within [] a b h = omega arith
 killed-within (xs ∷ clauses) a b h =
-    let rest = killed-within clauses a b h in
-    let one = count-within a b h xs in
     let p = sum_by-cons (λ ys. count_by (λ x. has a x) ys) xs clauses in
     let q = sum_by-cons (λ ys. count_by (λ x. has b x) ys) xs clauses in
-    omega (arith, rest, one, p, q)
+    omega (arith, killed-within clauses a b h, count-within a b h xs, p, q)
 
 has-prefix : (a b : List ℕ) (x : ℕ) → has a x ≡ true → has (a ++ b) x ≡ true
 has-prefix [] b x h = absurd (both_ways _ refl h)
-has-prefix (y ∷ ys) b x h = by (y == x) (has ys x) h (has-prefix ys b x)
-  where
-    by : (m n : Bool) → (m || n) ≡ true → (n ≡ true → has (ys ++ b) x ≡ true) → (m || has (ys ++ b) x) ≡ true
-    by true n h k = refl
-    by false n h k = k h
+has-prefix (y ∷ ys) b x h = grind (arith, has-prefix ys b x)
 
 pub killed-prefix : (clauses : List (List ℕ)) (a b : List ℕ) → killed clauses a ≤ killed clauses (a ++ b)
 killed-prefix clauses a b = killed-within clauses a (a ++ b) (has-prefix a b)
@@ -71,6 +57,4 @@ reached-extends clauses a b h more =
 
 -- more literals have more codes
 pub killed-longer : (clauses : List (List ℕ)) (f : NumberedLiteral → ℕ) (a b : List NumberedLiteral) → Extends a b → killed clauses (map f a) ≤ killed clauses (map f b)
-killed-longer clauses f a b (r, e) =
-    let codes : map f b ≡ map f a ++ map f r = ap (map f) e ∙ map-append f a r in
-    subst (λ xs. killed clauses (map f a) ≤ killed clauses xs) (sym codes) (killed-prefix clauses (map f a) (map f r))
+killed-longer clauses f a b more = rw (take_all (length a) a (omega arith)) at (killed-first clauses f a b (length a) more)

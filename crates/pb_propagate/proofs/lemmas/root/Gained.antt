@@ -1,14 +1,12 @@
 -- A form came into a slot.
-use Rattle.pb_propagate.proofs.Common.{stored_form}
-use Rattle.pb_propagate.proofs.Common.{ℕ, ◌*◌, ◌+◌, ◌/◌, ◌<◌, ◌∙◌, ◌∷◌, ◌≡◌, ◌⊎◌, [], ap, arith, get_or, get_or-set_other, get_or-set_same, inl}
-use Rattle.pb_propagate.proofs.Common.{inr, length, length-append, length-set, List, None, set, sym, slice_get, Some, cases_eq}
-use Rattle.pb_propagate.proofs.Common.{get_or_past, length-map, get_or_from_slice_get, slice_get_within, Form}
-use Rattle.pb_propagate.proofs.Common.{Clauses, Watch, Store, StoredForm, idle, list_at, watch_at, all_of, clauses_of, joined, slot_shape, forms_of}
-use Rattle.pb_propagate.proofs.Common.{shapes_of, stored_shape, Shape, HasGained, HasWidened, form_at}
+use Rattle.pb_propagate.proofs.Common.{rules, stored_form, ℕ, ◌*◌, ◌+◌, ◌/◌, ◌<◌, ◌∙◌, ◌∷◌, ◌≡◌, ◌⊎◌, [], ap, arith, get_or, get_or-set_other, get_or-set_same, inl}
+use Rattle.pb_propagate.proofs.Common.{inr, length, length-append, length-set, List, None, set, sym, slice_get, Some, get_or_past, length-map}
+use Rattle.pb_propagate.proofs.Common.{get_or_from_slice_get, slice_get_within, Form, Clauses, Watch, Store, StoredForm, idle, list_at, watch_at, all_of}
+use Rattle.pb_propagate.proofs.Common.{clauses_of, joined, slot_shape, forms_of, shapes_of, stored_shape, Shape, HasGained, HasWidened, form_at}
+use Rattle.std.proofs.lemmas.Grind.{get_or-set_at}
 use Rattle.pb_propagate.proofs.lemmas.store.Changes.{forms-filled, forms-length}
 use Rattle.pb_propagate.proofs.lemmas.clauses.Shapes.{joined-at, joined-length}
 use Rattle.pb_propagate.proofs.lemmas.clauses.Slots.{IsVacant}
-use Rattle.pb_propagate.proofs.lemmas.clauses.Truths.{flip-even, same-slot}
 use Rattle.pb_propagate.proofs.lemmas.engine.Sources.{get_or-push_default}
 use Rattle.pb_propagate.proofs.lemmas.store.Gets.{get-set_other, get-push_other}
 
@@ -18,15 +16,8 @@ watches-apart ws mid new slot e a b first second apart =
     ap (λ xs. watch_at xs e) second ∙ get_or-set_other mid (2 * slot + 1) e b idle (λ is. apart (omega (arith, is))) ∙ ap (λ xs. watch_at xs e) first ∙ get_or-set_other ws (2 * slot) e a idle (λ is. apart (omega (arith, is)))
 
 pub watches-mine : (ws mid new : List Watch) (slot e : ℕ) (a b : Watch) → mid ≡ set ws (2 * slot) a → new ≡ set mid (2 * slot + 1) b → 2 * slot + 1 < length ws → e / 2 ≡ slot → (watch_at new e ≡ a) ⊎ (watch_at new e ≡ b)
-watches-mine ws mid new slot e a b first second room here = elim (cases_eq e (2 * slot)) [
-  | inl is ↦ inl (ap (λ xs. watch_at xs e) second ∙ get_or-set_other mid (2 * slot + 1) e b idle (λ h. absurd (omega (arith, is, h))) ∙ ap (λ xs. watch_at xs e) first ∙ ap (λ k. watch_at (set ws (2 * slot) a) k) is ∙ get_or-set_same ws (2 * slot) a idle (omega (arith, room)))
-  | inr other ↦
-      let is : e ≡ 2 * slot + 1 = halves e slot here other in
-      inr (ap (λ xs. watch_at xs e) second ∙ ap (λ k. watch_at (set mid (2 * slot + 1) b) k) is ∙ get_or-set_same mid (2 * slot + 1) b idle (omega (arith, room, ap length first, length-set ws (2 * slot) a)))
-]
-  where
-    halves : (e s : ℕ) → e / 2 ≡ s → (e ≡ 2 * s → ⊥) → e ≡ 2 * s + 1
-    halves e s here other = same-slot e (2 * s) (omega (arith, here)) other ∙ flip-even s
+watches-mine ws mid new slot e a b first second room here =
+    grind (arith, ap (λ xs. watch_at xs e) second, ap (λ xs. watch_at xs e) first, ap length first, length-set ws (2 * slot) a, get_or-set_at mid (2 * slot + 1) e b idle, get_or-set_other mid (2 * slot + 1) e b idle, get_or-set_at ws (2 * slot) e a idle)
 
 -- a vacant slot has no terms
 pub vacant-bare : (xs : List Shape) (clauses : List (List ℕ)) (s : ℕ) (x : Shape) → IsVacant xs clauses s → slice_get (joined xs clauses) s ≡ Some x → x.terms ≡ []
@@ -51,22 +42,10 @@ gained-filled before store old clauses slot k variables keeps filled watched v n
 -- a slot came, and then a form
 pub gained-both : (before mid store : Store) (old between clauses : Clauses) (slot : ℕ) → mid.variables ≡ before.variables → HasWidened before old mid between slot → HasGained mid between store clauses slot → HasGained before old store clauses slot
 gained-both before mid store old between clauses slot variables w g = elim w.kept [
-  | inl same ↦ record {
-    variables = g.variables ∙ variables;
-    longer = rw same.0 at g.longer;
-    kept = λ s apart. g.kept s apart ∙ ap (λ xs. slice_get xs s) same.0;
-    filled = λ s apart. g.filled s apart ∙ ap (λ cs. list_at cs s) same.1;
-    bare = λ x at. g.bare x (ap (λ xs. slice_get (joined (shapes_of xs) (clauses_of between)) slot) same.0 ∙ ap (λ cs. slice_get (joined (shapes_of before.stored.items) cs) slot) same.1 ∙ at);
-    empty = λ h. g.empty (h.0, ap (λ xs. form_at (forms_of xs) slot) same.0 ∙ h.1);
-    full = g.full;
-    watched = λ e apart. g.watched e apart ∙ w.watched e;
-  }
+  | inl same ↦ search (rules, same.0, same.1, w.watched, g.watched, g.kept, g.filled, g.bare, g.empty, g.variables ∙ variables)
   | inr new ↦ record {
     variables = g.variables ∙ variables;
-    longer = elim g.longer [
-      | inl same ↦ inr (same ∙ ap length new.2 ∙ length-append before.stored.items (new.1 ∷ []), new.0)
-      | inr more ↦ absurd (omega (arith, more.1, new.0, ap length new.2, length-append before.stored.items (new.1 ∷ [])))
-    ];
+    longer = grind (arith, g.longer, ap length new.2, length-append before.stored.items (new.1 ∷ []));
     kept = λ s apart. g.kept s apart ∙ ap (λ xs. slice_get xs s) new.2 ∙ get-push_other before.stored.items s new.1 (λ is. apart (is ∙ sym new.0));
     filled = λ s apart. g.filled s apart ∙ ap (λ cs. list_at cs s) new.3 ∙ get_or-push_default (clauses_of old) [] s;
     bare = λ x at. absurd (omega (arith, slice_get_within (all_of before old) slot x at, new.0, joined-length (shapes_of before.stored.items) (clauses_of old), length-map before.stored.items stored_shape));

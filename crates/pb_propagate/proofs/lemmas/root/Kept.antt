@@ -1,11 +1,11 @@
 -- A conflict of the root is kept.
-use Rattle.pb_propagate.proofs.Common.{ℕ, ◌+◌, ◌++◌, ◌<◌, ◌∙◌, ◌∷◌, ◌≡◌, ◌≤◌, [], ap, arith, Bool, false, get_or, inl, inr, length, length-append, List, map, None, refl, set, subst, suc, sym, take, true}
-use Rattle.pb_propagate.proofs.Common.{zero, Contains, Option, slice_get, Some, sum_by, both_ways, sum_by-cons, get_or_from_slice_get, cases_lt, take-append-le, take-append_seam, take_more, get_or_append_left, get_or_push}
+use Rattle.pb_propagate.proofs.Common.{rules, ℕ, ◌+◌, ◌++◌, ◌<◌, ◌∙◌, ◌∷◌, ◌≡◌, ◌≤◌, [], ap, arith, Bool, false, get_or, inl, inr, length, length-append, List, map, None, refl, set, subst, suc, sym, take, true}
+use Rattle.pb_propagate.proofs.Common.{zero, Contains, Option, slice_get, Some, sum_by, both_ways, sum_by-cons, get_or_from_slice_get, take-append-le, take-append_seam, take_more, get_or_append_left, get_or_push}
 use Rattle.pb_propagate.proofs.Common.{slice_get-get_or, slice_get_within, NumberedLiteral, Form, negation, Assignment, Clauses, Store, all_of, AreJoined}
 use Rattle.pb_propagate.proofs.Common.{clause_shape, clauses_of, literal_at, one_term, none, forms_of, IsSound, shapes_of, stored_shape, broken}
 use Rattle.pb_propagate.proofs.Common.{Conflicts, has, HaveReasons, KeepsReasons, open_part, open_sum, opposed, Shape, AreSlots, HasGained, by_reason, from_given}
 use Rattle.pb_propagate.proofs.Common.{HasCleared, IsAnswered, IsConflict, IsFree, IsKeptConflict, IsMet, IsNeedless, IsVacant, form_at}
-use Rattle.pb_propagate.proofs.Common.{alone, HasMet, IsAsked, list_of}
+use Rattle.pb_propagate.proofs.Common.{HasMet, IsAsked, list_of}
 use Rattle.pb_propagate.specs.declared.engine.conflict.Conflict.{Conflict}
 use Rattle.pb_propagate.specs.declared.engine.root.Root.{Root}
 use Rattle.pb_propagate.proofs.lemmas.clauses.Literals.{Agree, false-listed}
@@ -60,10 +60,7 @@ conflict-answered forms visits a few h = record {
 
 -- a question that met a conflict before it began
 pub met-asked : {form : Form} {store : Store} {old clauses : Clauses} {before root : Root} {conflict : Conflict} → before.run.visits ≡ length (list_of before.run) → HasMet store old clauses before root conflict → IsKeptConflict (all_of store old) store.variables conflict → IsAsked form (all_of store old) root.run.visits true
-met-asked {form} {store} {old} {clauses} {before} {root} {conflict} visits met kept =
-    let a = conflict.assignment in
-    let few = found-after (length a.list.items) root.run.visits (length (list_of before.run)) (rw visits at met.found) (omega (arith, a.list.ok.0, a.list.ok.1)) in
-    alone refl (conflict-answered (all_of store old) root.run.visits a few (kept.holds met.met))
+met-asked {form} {store} {old} {clauses} {before} {root} {conflict} visits met kept = grind (arith, conflict.assignment, found-after, root.run.visits, before.run, met.found, conflict-answered, kept.holds, met.met)
 
 pub conflict-few : (store : Store) (clauses : Clauses) (a : Assignment) → IsSound store → AreJoined (shapes_of store.stored.items) (clauses_of clauses) → IsConflict (all_of store clauses) a → length a.list.items ≤ sum_by (λ (f : Shape). length f.terms) (all_of store clauses)
 conflict-few store clauses a sound j h =
@@ -72,44 +69,20 @@ conflict-few store clauses a sound j h =
 
 -- the same of another list with these literals
 pub conflict-same : (forms : List Shape) (a b : Assignment) → b.list.items ≡ a.list.items → KeepsReasons a.list.items a.reasons.items b.reasons.items → IsConflict forms a → IsConflict forms b
-conflict-same forms a b list keeps h = record {
-  reasoned = rw list (reasons-keep a.reasons.items b.reasons.items keeps h.reasoned);
-  slot = h.slot;
-  form = h.form;
-  stored = h.stored;
-  low = rw list h.low;
-}
+conflict-same forms a b list keeps h = grind (arith, reasons-keep, h.reasoned, h.slot, h.stored, h.low)
 
 -- no conflict is kept
 pub vacant-kept : (forms : List Shape) (variables : ℕ) (conflict : Conflict) → IsVacant variables conflict → IsKeptConflict forms variables conflict
-vacant-kept forms variables conflict v = record {
-  values = v.values;
-  none = λ unmet. v.list;
-  holds = λ met. absurd (both_ways _ v.unmet met);
-}
+vacant-kept forms variables conflict v = search (rules, v)
 
 pub met-kept : (forms : List Shape) (variables : ℕ) (conflict : Conflict) → length conflict.assignment.values.items ≡ variables → conflict.met ≡ true → IsConflict forms conflict.assignment → IsKeptConflict forms variables conflict
-met-kept forms variables conflict values met h = record {
-  values = values;
-  none = λ unmet. absurd (both_ways _ unmet met);
-  holds = λ again. h;
-}
+met-kept forms variables conflict values met h = search (rules, h)
 
 -- the literals of a list are put on another one, in their order
 reasons-fresh : {forms : List Shape} {reasons : List ℕ} {list : List NumberedLiteral} (i : ℕ) (d : NumberedLiteral) → HaveReasons forms reasons [] list → i < length list → (has (take i list) (get_or list i d) ≡ false) × (has (take i list) (negation (get_or list i d)) ≡ false)
 reasons-fresh i d from_given inside = absurd (omega (arith, inside))
-reasons-fresh i d (by_reason {list} l s x h at stored puts) inside = elim (cases_lt i (length list)) [
-  | inl earlier ↦
-      let one = reasons-fresh i d h earlier in
-      let first : take i (list ++ (l ∷ [])) ≡ take i list = take-append-le i list (l ∷ []) (omega (arith, earlier)) in
-      let same : get_or (list ++ (l ∷ [])) i d ≡ get_or list i d = get_or_append_left list (l ∷ []) d i earlier in
-      rw (first, same) one
-  | inr past ↦
-      let here : i ≡ length list = omega (arith, past, inside, length-append list (l ∷ [])) in
-      let first : take i (list ++ (l ∷ [])) ≡ list = ap (λ n. take n (list ++ (l ∷ []))) here ∙ take-append_seam list (l ∷ []) in
-      let same : get_or (list ++ (l ∷ [])) i d ≡ l = ap (λ n. get_or (list ++ (l ∷ [])) n d) here ∙ get_or_push list l d (length list) refl in
-      rw (first, same) (puts.absent, puts.not_falsified)
-]
+reasons-fresh i d (by_reason {list} l s x h at stored puts) inside =
+    grind (arith, inside, reasons-fresh i d h, take-append-le i list (l ∷ []), get_or_append_left list (l ∷ []) d i, take-append_seam list (l ∷ []), get_or_push list l d i, length-append list (l ∷ []), puts.absent, puts.not_falsified)
 
 pub listed-inside : (a : Assignment) (i : ℕ) (l : NumberedLiteral) → i < length a.list.items → l ≡ get_or a.list.items i l → l.variable < length a.values.items
 listed-inside a i l inside is = says-inside a.values.items l (sym (a.agrees l) ∙ ap (has a.list.items) is ∙ has-get a.list.items i l inside)

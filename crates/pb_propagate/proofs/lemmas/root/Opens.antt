@@ -1,15 +1,11 @@
 -- Open sums under the values of some literals.
-use Rattle.pb_propagate.proofs.Common.{ℕ, ◌+◌, ◌<◌, ◌∙◌, ◌≡◌, ◌≤◌, ap, arith, Bool, false, get_or, length, List, None, not, refl, sym, take}
-use Rattle.pb_propagate.proofs.Common.{true, Option, Some, sum_by_more, sum_by_more_le, beq, NumberedLiteral, negation, Term, open_part}
-use Rattle.pb_propagate.proofs.Common.{open_sum, says, size}
+use Rattle.pb_propagate.proofs.Common.{ℕ, ◌+◌, ◌<◌, ◌∙◌, ◌≡◌, ◌≤◌, ap, arith, Bool, false, get_or, length, List, None, not, sym, take, true, Option, Some}
+use Rattle.pb_propagate.proofs.Common.{sum_by_more, sum_by_more_le, beq, NumberedLiteral, negation, Term, open_part, open_sum, says, size}
 use Rattle.pb_propagate.proofs.lemmas.engine.Literals.{open_part-falsified, open_part-open}
 use Rattle.pb_propagate.proofs.lemmas.engine.Values.{Agree, says-some}
 
 beq-flipped : (m n : Bool) → beq (not m) (not n) ≡ beq m n
-beq-flipped true true = refl
-beq-flipped true false = refl
-beq-flipped false true = refl
-beq-flipped false false = refl
+beq-flipped m n = grind arith
 
 -- a literal is falsified if its variable has the other value
 pub falsified-some : (values : List (Option Bool)) (l : NumberedLiteral) (m : Bool) → get_or values l.variable None ≡ Some m → says values (negation l) ≡ beq m l.negated
@@ -28,16 +24,7 @@ pub record IsSummed (values : List (Option Bool)) (terms : List Term) (i sum : �
   pub small : sum ≤ size (take i terms)
 
 pub summed-next : (values : List (Option Bool)) (terms : List Term) (i sum part : ℕ) (t : Term) → i < length terms → t ≡ get_or terms i t → ((list : List NumberedLiteral) → Agree values list → part ≡ open_part list t) → part ≤ t.coefficient → IsSummed values terms i sum → IsSummed values terms (i + 1) (sum + part)
-summed-next values terms i sum part t inside is open_here small s = record {
-  each = λ list a. (
-      let more = sum_by_more (open_part list) terms i t inside in
-      omega (arith, more, s.each list a, open_here list a, ap (open_part list) is)
-      );
-  small = (
-      let more = sum_by_more (λ (x : Term). x.coefficient) terms i t inside in
-      omega (arith, more, s.small, small, ap (λ (x : Term). x.coefficient) is)
-      );
-}
+summed-next values terms i sum part t inside is open_here small s = grind (arith, sum_by_more, s.each, s.small)
 
 pub summed-fits : (values : List (Option Bool)) (terms : List Term) (i sum part : ℕ) (t : Term) → i < length terms → t ≡ get_or terms i t → part ≤ t.coefficient → IsSummed values terms i sum → sum + part ≤ size terms
 summed-fits values terms i sum part t inside is small s =

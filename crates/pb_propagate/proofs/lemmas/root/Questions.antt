@@ -1,15 +1,13 @@
 -- A question that continues from the root.
-use Rattle.pb_propagate.proofs.Common.{stored_total}
+use Rattle.pb_propagate.proofs.Common.{stored_total, ℕ, ◌*◌, ◌++◌, ◌+◌, ◌-◌, ◌<◌, ◌^◌, ◌∙◌, ◌∷◌, ◌≡◌, ◌≤◌, [], ap, arith, get_or, Global, length}
+use Rattle.pb_propagate.proofs.Common.{length-append, List, map, refl, set, suc, sym, take, Vec, zero, sum, sum_by, ext_get_or, get_or-take}
+use Rattle.pb_propagate.proofs.Common.{get_or_append_left, get_or_default, get_or_past, get_or_push, length-map, length-take, map-append, take_all}
+use Rattle.pb_propagate.proofs.Common.{Contains-append_left, length_permutation, sum_by-append, sum_by-cons, NumberedLiteral, Form, negation, Long, Short}
+use Rattle.pb_propagate.proofs.Common.{Clauses, Heads, heads_at, reached, Rests, Run, Occurrence, Store, StoredForm, AreJoined, clauses_of, code_in, joined}
+use Rattle.pb_propagate.proofs.Common.{fallen, AreFound, AreSingle, beside, Grown, IsCalm, IsCounted, IsTidy, IsUndone, place, rest_open, spent, AreLonger}
+use Rattle.pb_propagate.proofs.Common.{entries_of, HasEntered, IsSound, lists_of, shapes_of, spots_of, stored_shape, entry_of, IsStoredAs, weighted, Derives}
+use Rattle.pb_propagate.proofs.Common.{Extends, open_sum, Shape, size, RunSpends, UpdateCosts, list_of, values_of}
 use Rattle.pb_propagate.proofs.lemmas.store.Stored.{stored-sum}
-use Rattle.pb_propagate.proofs.Common.{ℕ, ◌*◌, ◌++◌, ◌+◌, ◌-◌, ◌<◌, ◌^◌, ◌∙◌, ◌∷◌, ◌≡◌, ◌≤◌, [], ap, arith, get_or, Global, inl, inr}
-use Rattle.pb_propagate.proofs.Common.{length, length-append, List, map, refl, set, suc, sym, take, Vec, zero, sum, sum_by, cases_eq, cases_lt}
-use Rattle.pb_propagate.proofs.Common.{ext_get_or, get_or-take, get_or_append_left, get_or_default, get_or_past, get_or_push, length-map, length-take, map-append}
-use Rattle.pb_propagate.proofs.Common.{take_all, Contains-append_left, length_permutation, sum_by-append, sum_by-cons}
-use Rattle.pb_propagate.proofs.Common.{NumberedLiteral, Form, negation, Long, Short, Clauses, Heads, heads_at, reached, Rests, Run, Occurrence, Store, StoredForm}
-use Rattle.pb_propagate.proofs.Common.{AreJoined, clauses_of, code_in, joined, fallen, AreFound, AreSingle, beside, Grown, IsCalm, IsCounted, IsTidy}
-use Rattle.pb_propagate.proofs.Common.{IsUndone, place, rest_open, spent, AreLonger, entries_of, HasEntered, IsSound, lists_of, shapes_of, spots_of}
-use Rattle.pb_propagate.proofs.Common.{stored_shape, entry_of, IsStoredAs, weighted, Derives, Extends, open_sum, Shape, size, RunSpends}
-use Rattle.pb_propagate.proofs.Common.{UpdateCosts, list_of, values_of}
 use Rattle.pb_propagate.specs.declared.engine.root.Root.{Root}
 use Rattle.pb_propagate.specs.engine.engine.Root.{HasUpdated, IsRootOf, IsStanding, terms_of_all}
 use Rattle.pb_propagate.proofs.lemmas.engine.Reasoned.{reasons-derive}
@@ -51,10 +49,7 @@ module _ {g : Form} {store store' : Store} {root : Root} {run' : Run} {n : ℕ} 
 
   -- the other forms are those before it
   below : (s : ℕ) → s < length (shapes_of store'.stored.items) → (s ≡ n → ⊥) → s < n
-  below s inside other = elim (cases_lt s n) [
-    | inl less ↦ less
-    | inr past ↦ absurd (other (omega (arith, past, inside, entered-length)))
-  ]
+  below s inside other = grind (arith, entered-length)
 
   was : (s : ℕ) → s < n → s < length (shapes_of store.stored.items)
   was s less = omega (arith, less, e.at, length-map store.stored.items stored_shape)
@@ -90,27 +85,11 @@ module _ {g : Form} {store store' : Store} {root : Root} {run' : Run} {n : ℕ} 
     calm = λ s d inside idle off gone.
         let less = below s inside idle in
         rw (shape s d less, open-other s less, start-other s less) (e.rooted.tidy.calm s d (was s less) (λ same. absurd (omega (arith, same, less, e.at))) (rw e.none (λ i from short. absurd (omega (arith, short)))) gone);
-    passed = λ s d inside k f before within. elim (cases_eq s n) [
-      | inl one ↦ absurd (omega (arith, before, start-goal s one))
-      | inr other ↦
-          let less = below s inside other in
-          let old = e.rooted.tidy.passed s d (was s less) k f in
-          rw (shape s d less) (old (omega (arith, before, start-other s less)) (omega (arith, within, ap (λ (x : Shape). length x.terms) (shape s d less))))
-    ];
-    bounded = λ s d inside. elim (cases_eq s n) [
-      | inl one ↦ omega (arith, start-goal s one)
-      | inr other ↦
-          let less = below s inside other in
-          let old = e.rooted.tidy.bounded s d (was s less) in
-          omega (arith, old, start-other s less, ap (λ (x : Shape). length x.terms) (shape s d less))
-    ];
-    clean = λ s d inside gone. elim (cases_eq s n) [
-      | inl one ↦ (open-goal s d one, start-goal s one ∙ sym (get_or_past root.rests.starts.items s 0 (omega (arith, one, start-size, ap length e.rooted.starts))))
-      | inr other ↦
-          let less = below s inside other in
-          let old = e.rooted.tidy.clean s d (was s less) gone in
-          (open-other s less ∙ old.0 ∙ ap (λ x. rest_open root.rests s x) (sym (shape s d less)), start-other s less ∙ old.1)
-    ];
+    passed = λ s d inside k f before within. grind (arith, before, within, start-goal s, below s inside, was s, start-other s, shape s d, e.rooted.tidy.passed s d);
+    bounded = λ s d inside. grind (arith, start-goal s, below s inside, was s, e.rooted.tidy.bounded s d, start-other s, shape s d);
+    clean = λ s d inside gone.
+        let old = λ (less : s < n). e.rooted.tidy.clean s d (was s less) gone in
+        grind (arith, below s inside, open-goal s d, start-goal s, open-other s, start-other s, shape s d, old, get_or_past root.rests.starts.items s 0, start-size, ap length e.rooted.starts);
     named = λ i d less. absurd (omega (arith, less));
     marked = λ i d less. absurd (omega (arith, less));
     traced = λ s gone. gone;
@@ -149,10 +128,7 @@ kept-terms f x k = omega (arith, length_permutation (map entry_of x.terms) f.ter
 
 -- each literal of the list was visited
 pub found-after : (n v r : ℕ) → AreFound r n r v → n < 2 ^ 64 → n ≤ v
-found-after n v r found small = elim (cases_lt v (2 ^ 64 - 1)) [
-  | inl below ↦ let few = found below in omega (arith, few)
-  | inr top ↦ omega (arith, top, small)
-]
+found-after n v r found small = grind (arith, found)
 
 -- The number of visits: the literals of the root are true terms of the forms that forced them, and no true term is
 -- falsified later.
@@ -169,10 +145,7 @@ question-most store clauses old new v w c sound j single one (more, e) d bounded
 
 -- the same of a run in two parts
 pub found-both : (n0 n1 n1' n2 v0 v1 v1' v2 : ℕ) → v0 ≡ n0 → n1' ≡ n1 → v1' ≡ v1 → AreFound n0 n1 v0 v1 → AreFound n1' n2 v1' v2 → v1' ≤ v2 → AreFound n0 n2 n0 v2
-found-both n0 n1 n1' n2 v0 v1 v1' v2 begun same visits first second rising few =
-    let two = second few in
-    let one = first (omega (arith, few, rising, visits)) in
-    omega (arith, one, two, begun, same, visits)
+found-both n0 n1 n1' n2 v0 v1 v1' v2 begun same visits first second rising few = grind (arith)
 
 -- as many entries are against a list of literals if lists got longer
 pub spent-longer : (forms forms' : List Shape) (occ occ' : List (Vec Occurrence Global)) (list : List NumberedLiteral) → AreLonger occ occ' → spent (entries_of forms occ) list ≤ spent (entries_of forms' occ') list

@@ -1,9 +1,8 @@
 -- Reasons that are replaced by others.
-use Rattle.pb_propagate.proofs.Common.{stored_terms}
-use Rattle.pb_propagate.proofs.Common.{ℕ, ◌<◌, ◌∙◌, ◌≡◌, [], ap, arith, get_or, Global, inl, inr, length, List, map, refl, set, subst, sym, true, Vec}
-use Rattle.pb_propagate.proofs.Common.{Contains, slice_get, Some, cases_eq, get_or_default, length-map, NumberedLiteral, Assignment, Clauses, Store, StoredForm, AreInside, IsSound}
-use Rattle.pb_propagate.proofs.Common.{Term, list_at, all_of, AreJoined, clause_shape, clauses_of, joined, literal_at, one_term, slot_shape}
-use Rattle.pb_propagate.proofs.Common.{shapes_of, stored_shape, terms_at, has, HaveReasons, IsDue, Shape, HasOtherReasons, IsNeedless, IsOtherUnit}
+use Rattle.pb_propagate.proofs.Common.{stored_terms, ℕ, ◌<◌, ◌∙◌, ◌≡◌, [], ap, arith, get_or, Global, inl, inr, length, List, map, refl, set, subst, sym, true}
+use Rattle.pb_propagate.proofs.Common.{Vec, Contains, slice_get, Some, cases_eq, get_or_default, length-map, NumberedLiteral, Assignment, Clauses, Store}
+use Rattle.pb_propagate.proofs.Common.{StoredForm, AreInside, IsSound, Term, list_at, all_of, AreJoined, clause_shape, clauses_of, joined, literal_at, one_term}
+use Rattle.pb_propagate.proofs.Common.{slot_shape, shapes_of, stored_shape, terms_at, has, HaveReasons, IsDue, Shape, HasOtherReasons, IsNeedless, IsOtherUnit}
 use Rattle.pb_propagate.proofs.lemmas.clauses.Shapes.{shape-some}
 use Rattle.pb_propagate.proofs.lemmas.engine.Reasoned.{IsMoved, moved-same, reasons-moved, due-term}
 use Rattle.pb_propagate.proofs.lemmas.engine.Values.{one-literal}

@@ -1,15 +1,14 @@
 -- The last literal of the root's list is taken off.
-use Rattle.pb_propagate.proofs.Common.{stored_form}
-use Rattle.pb_propagate.proofs.Common.{ℕ, ◌++◌, ◌+◌, ◌<◌, ◌∙◌, ◌∷◌, ◌≡◌, ◌≤◌, [], ap, arith, Bool, false, get_or, inl, inr, Global, length, Vec}
-use Rattle.pb_propagate.proofs.Common.{cases_eq, coefficient_at, drop, drop_more, get_or-set_other, get_or-set_same, if◌then◌else◌, set, sum_by-le-sum_by, list_of}
-use Rattle.pb_propagate.proofs.Common.{List, None, refl, subst, sym, take, true, Option, slice_get, Some, cases_lt}
-use Rattle.pb_propagate.proofs.Common.{or_cases, or_left, or_right, get_or_default, get_or_from_slice_get, get_or_past, length-map, length-append, slice_get-get_or}
-use Rattle.pb_propagate.proofs.Common.{sum_by-cons, take_all, take-append-le, get_or-map, map, Occurrence, weighted, Waiting, Rests, NumberedLiteral, negation, Form, Assignment, Clauses, Store, Term, all_of, clauses_of}
-use Rattle.pb_propagate.proofs.Common.{IsCalm, place, weight_in, entries_of, forms_of, IsSound, shapes_of, spots_of, stored_shape, terms_at}
-use Rattle.pb_propagate.proofs.Common.{HaveReasons, open_sum, Shape, size, Weighted, AreSlots, HasForm, IsWalkedTo, from_given, by_reason}
-use Rattle.pb_propagate.proofs.Common.{Walked}
+use Rattle.pb_propagate.proofs.Common.{rules, stored_form, ℕ, ◌++◌, ◌+◌, ◌<◌, ◌∙◌, ◌∷◌, ◌≡◌, ◌≤◌, [], ap, arith, false, get_or, inl, inr, Global, length, Vec}
+use Rattle.pb_propagate.proofs.Common.{coefficient_at, drop, drop_more, get_or-set_other, set, sum_by-le-sum_by, List, None}
+use Rattle.pb_propagate.proofs.Common.{refl, subst, sym, take, Option, slice_get, Some, cases_lt, or_cases, or_left, or_right, get_or_default}
+use Rattle.pb_propagate.proofs.Common.{get_or_from_slice_get, get_or_past, length-map, length-append, slice_get-get_or, sum_by-cons, take_all, take-append-le}
+use Rattle.pb_propagate.proofs.Common.{get_or-map, map, Occurrence, weighted, Waiting, Rests, NumberedLiteral, negation, Form, Assignment, Clauses, Store, Term}
+use Rattle.pb_propagate.proofs.Common.{all_of, clauses_of, IsCalm, place, weight_in, entries_of, forms_of, IsSound, shapes_of, spots_of, stored_shape, terms_at}
+use Rattle.pb_propagate.proofs.Common.{HaveReasons, open_sum, Shape, size, Weighted, AreSlots, HasForm, IsWalkedTo, from_given, by_reason, Walked}
+use Rattle.std.proofs.lemmas.Grind.{get_or-set_at}
 use Rattle.pb_propagate.specs.declared.engine.root.Root.{Root}
-use Rattle.pb_propagate.specs.engine.engine.Counts.{entry_weight, IsDone}
+use Rattle.pb_propagate.specs.engine.engine.Counts.{IsDone}
 use Rattle.pb_propagate.specs.engine.engine.Lists.{has, open_part}
 use Rattle.pb_propagate.specs.engine.engine.Refreshed.{AreRefreshed, IsRefreshed, Lacks}
 use Rattle.pb_propagate.specs.engine.engine.Root.{IsRootOf, IsSized}
@@ -17,7 +16,9 @@ use Rattle.pb_propagate.proofs.lemmas.clauses.Slots.{slots-vacant}
 use Rattle.pb_propagate.proofs.lemmas.engine.Literals.{has-push_cases, negation-negation}
 use Rattle.pb_propagate.proofs.lemmas.engine.Runs.{Tidy-rest, entry_weight-other, entry_weight-same, open_sum-push}
 use Rattle.pb_propagate.proofs.lemmas.engine.Puts.{entries-at, form-within, place-inside}
+use Rattle.pb_propagate.proofs.lemmas.engine.Rests.{Element, element}
 use Rattle.pb_propagate.proofs.lemmas.root.Rooted.{term-entry}
+use Rattle.pb_propagate.proofs.lemmas.root.Roots.{AreRootSums, IsTidyRoot}
 use Rattle.pb_propagate.proofs.lemmas.store.Weights.{index-within}
 
 pub refreshed-stays : (store : Store) (b c : Root) (s : ℕ) → AreRefreshed store b c → IsRefreshed store b s → IsRefreshed store c s
@@ -57,26 +58,22 @@ refreshed-then store a b c p q = record {
 
 -- a slot with terms has a form
 terms-form : (store : Store) (clauses : Clauses) (s : ℕ) → AreSlots (forms_of store.stored.items) (all_of store clauses) → 0 < length (terms_at (shapes_of store.stored.items) s) → HasForm store s
-terms-form store clauses s slots some = by (slice_get (forms_of store.stored.items) s) refl
+terms-form store clauses s slots some = by e.value (e.at None) e.got
   where
     bare : Shape
     bare = record { terms = []; degree = 0 }
 
     inside : s < length (forms_of store.stored.items)
-    inside = elim (cases_lt s (length (shapes_of store.stored.items))) [
-      | inl less ↦ omega (arith, less, length-map store.stored.items stored_shape, length-map store.stored.items stored_form)
-      | inr past ↦ absurd (omega (arith, some, ap (λ (x : Shape). length x.terms) (past-default past)))
-    ]
-      where
-        past-default : length (shapes_of store.stored.items) ≤ s → get_or (shapes_of store.stored.items) s bare ≡ bare
-        past-default h = get_or_past (shapes_of store.stored.items) s bare h
+    inside = grind (arith, get_or_past (shapes_of store.stored.items) s bare, length-map store.stored.items stored_shape, length-map store.stored.items stored_form)
 
-    by : (o : Option (Option Form)) → slice_get (forms_of store.stored.items) s ≡ o → HasForm store s
-    by None is = absurd (let there = slice_get-get_or (forms_of store.stored.items) s None inside in let e : None ≡ Some (get_or (forms_of store.stored.items) s None) = sym is ∙ there in cc)
-    by (Some None) is =
-        let v = slots-vacant (forms_of store.stored.items) (shapes_of store.stored.items) (clauses_of clauses) s slots is in
+    e : Element (forms_of store.stored.items) s
+    e = element (forms_of store.stored.items) s inside
+
+    by : (o : Option Form) → get_or (forms_of store.stored.items) s None ≡ o → slice_get (forms_of store.stored.items) s ≡ Some o → HasForm store s
+    by None is got =
+        let v = slots-vacant (forms_of store.stored.items) (shapes_of store.stored.items) (clauses_of clauses) s slots got in
         absurd (omega (arith, some, ap length (v.terms bare)))
-    by (Some (Some f)) is = (f, get_or_from_slice_get (forms_of store.stored.items) s (Some f) None is)
+    by (Some f) is got = (f, is)
 
 -- the first literals have the same reasons
 pub reasons-first : {forms : List Shape} {reasons : List ℕ} (list : List NumberedLiteral) (n : ℕ) → HaveReasons forms reasons [] list → HaveReasons forms reasons [] (take n list)
@@ -109,77 +106,47 @@ AllRefreshed store r l = (j : ℕ) (e : Weighted) → slice_get (get_or (entries
 -- after the cut the open sums lack the coefficients of the literal that was falsified
 pub cut-lacks : (store : Store) (clauses : Clauses) (old mid : Root) (first : List NumberedLiteral) (l : NumberedLiteral) → old.run.assignment.list.items ≡ first ++ (l ∷ []) → has first l ≡ false → IsSound store → IsRootOf store clauses old → IsCut old mid first →
     Lacks store mid (get_or (entries_of (shapes_of store.stored.items) store.occurrences.items) (place (negation l)) [])
-cut-lacks store clauses old mid first l listed absent sound r cut s d less =
-    let terms = (get_or (shapes_of store.stored.items) s d).terms in
-    let was = r.counted s d less (λ e. absurd (omega (arith, e, less))) in
-    let sum = open_sum-push first l absent terms in
-    let link = sound.whole.linked s d (negation l) (omega (arith, less, length-map store.stored.items stored_shape)) in
-    let same = ap (λ (v : Vec ℕ Global). get_or v.items s 0) cut.opens in
-    omega (arith, was, sum, link, same, ap (λ xs. open_sum xs terms) listed, ap (λ xs. open_sum xs terms) cut.list)
+cut-lacks store clauses old mid first l listed absent sound r cut s d less = grind (arith, r.counted, open_sum-push, sound.whole.linked, length-map, cut.opens, cut.list)
 
 pub retracted-rooted : (store : Store) (clauses : Clauses) (old mid new : Root) (first : List NumberedLiteral) (l : NumberedLiteral) → old.run.assignment.list.items ≡ first ++ (l ∷ []) → has first l ≡ false → HaveReasons (all_of store clauses) old.run.assignment.reasons.items [] first → IsSound store → AreSlots (forms_of store.stored.items) (all_of store clauses) →
     IsRootOf store clauses old → AreRefreshed store mid new → IsCut old mid first → AllRefreshed store new l → AllRefreshed store new (negation l) → IsWalkedTo clauses first mid.walked → Lacks store new [] → IsRootOf store clauses new
-retracted-rooted store clauses old mid new first l listed absent reasoned sound slots r f cut mine theirs walks lacks = record {
-  values = ap (λ (a : Assignment). length a.values.items) f.assignment ∙ cut.values ∙ r.values;
-  opens = opens_same;
-  starts = starts_same;
-  open_sizes = f.sized.opens;
-  start_sizes = f.sized.candidates;
-  counted = λ s d less apart.
-      let none : weight_in s [] ≡ 0 = refl in
-      omega (arith, lacks s d less, none);
-  tidy = Tidy-rest opens_same starts_same (long ∙ sym f.sized.opens)
-      (λ s d less idle off gone. elim (f.each s) [
-        | inl u ↦
-            let calm = r.tidy.calm s d less idle (rw (ap (λ (w : Waiting). w.list.items) cut.waiting) at (u.absent off)) gone in
-            rw (u.opened ∙ was-open s, u.passed ∙ was-start s) calm
-        | inr n ↦ n.calm off d (get_or new.run.candidates.items s 0)
-      ])
-      (λ s d less k t early within. elim (f.each s) [
-        | inl u ↦
-            let done = r.tidy.passed s d less k t (omega (arith, early, u.passed, was-start s)) within in
-            rw now (done-first s d k t less within early (rw listed at done))
-        | inr n ↦ absurd (omega (arith, early, n.passed))
-      ])
-      (λ s d less. elim (f.each s) [
-        | inl u ↦ omega (arith, r.tidy.bounded s d less, u.passed, was-start s)
-        | inr n ↦ omega (arith, n.passed)
-      ]);
-  work = ap (λ (v : Vec ℕ Global). v.items) (f.work ∙ cut.work) ∙ r.work;
-  trail = ap (λ (v : Vec ℕ Global). v.items) (f.trail ∙ cut.trail) ∙ r.trail;
-  next = f.next ∙ cut.next ∙ r.next;
-  reasoned = rw (f.assignment, cut.list, cut.reasons) reasoned;
-  walks = rw (f.walked, now) walks;
-  positions = f.sized.positions;
-  live = λ i s at. elim (f.live i s at) [
-    | inl some ↦ terms-form store clauses s slots some
-    | inr was ↦ r.live was.0 s (rw (ap (λ (w : Waiting). w.list.items) cut.waiting) at was.1)
-  ];
-}
+retracted-rooted store clauses old mid new first l listed absent reasoned sound slots r f cut mine theirs walks lacks =
+    let now : new.run.assignment.list.items ≡ first = ap (λ (a : Assignment). a.list.items) f.assignment ∙ cut.list in
+    let opened = f.opens (ap (λ (v : Vec ℕ Global). v.items) cut.opens ∙ r.opens ∙ ap (λ (v : Rests). v.opens.items) (sym cut.rests)) in
+    let started = f.starts (ap (λ (v : Vec ℕ Global). v.items) cut.candidates ∙ r.starts ∙ ap (λ (v : Rests). v.starts.items) (sym cut.rests)) in
+    let was_open = λ (s : ℕ). ap (λ (v : Vec ℕ Global). get_or v.items s 0) cut.opens in
+    let was_start = λ (s : ℕ). ap (λ (v : Vec ℕ Global). get_or v.items s 0) cut.candidates in
+    let waiting = ap (λ (w : Waiting). w.list.items) cut.waiting in
+    let counted : AreRootSums store new.run (length store.stored.items) = λ s d less apart.
+    let none : weight_in s [] ≡ 0 = refl in
+    omega (arith, lacks s d less, none) in
+    let tidy : IsTidyRoot store new.run new.rests new.waiting (length store.stored.items) = Tidy-rest opened started (length-map store.stored.items stored_shape ∙ sym f.sized.opens)
+    (λ s d less idle off gone. elim (f.each s) [
+      | inl u ↦
+          let calm = r.tidy.calm s d less idle (rw waiting at (u.absent off)) gone in
+          rw (u.opened ∙ was_open s, u.passed ∙ was_start s) calm
+      | inr n ↦ n.calm off d (get_or new.run.candidates.items s 0)
+    ])
+    (λ s d less k t early within. elim (f.each s) [
+      | inl u ↦
+          let done = r.tidy.passed s d less k t (omega (arith, early, u.passed, was_start s)) within in
+          rw now (done-first s d k t less within early (rw listed at done))
+      | inr n ↦ absurd (omega (arith, early, n.passed))
+    ])
+    (λ s d less. grind (arith, f.each s, r.tidy.bounded s d less, was_start s)) in
+    let reasons : HaveReasons (all_of store clauses) new.run.assignment.reasons.items [] new.run.assignment.list.items = rw (f.assignment, cut.list, cut.reasons) reasoned in
+    let walked : IsWalkedTo clauses new.run.assignment.list.items new.walked = rw (f.walked, now) walks in
+    let live : (i s : ℕ) → slice_get new.waiting.list.items i ≡ Some s → HasForm store s = λ i s at. elim (f.live i s at) [
+      | inl some ↦ terms-form store clauses s slots some
+      | inr was ↦ r.live was.0 s (rw waiting at was.1)
+    ] in
+    let values = ap (λ (a : Assignment). length a.values.items) f.assignment ∙ cut.values ∙ r.values in
+    let work = ap (λ (v : Vec ℕ Global). v.items) (f.work ∙ cut.work) ∙ r.work in
+    let trail = ap (λ (v : Vec ℕ Global). v.items) (f.trail ∙ cut.trail) ∙ r.trail in
+    search (rules, values, work, trail, f.next ∙ cut.next ∙ r.next, f.sized.opens, f.sized.candidates, f.sized.positions)
   where
     shapes : List Shape
     shapes = shapes_of store.stored.items
-
-    lists : List (List Weighted)
-    lists = entries_of (shapes_of store.stored.items) store.occurrences.items
-
-    long : length (shapes_of store.stored.items) ≡ length store.stored.items
-    long = length-map store.stored.items stored_shape
-
-    now : new.run.assignment.list.items ≡ first
-    now = ap (λ (a : Assignment). a.list.items) f.assignment ∙ cut.list
-
-    opens_same : new.run.opens.items ≡ new.rests.opens.items
-    opens_same = f.opens (ap (λ (v : Vec ℕ Global). v.items) cut.opens ∙ r.opens ∙ ap (λ (v : Rests). v.opens.items) (sym cut.rests))
-
-    starts_same : new.run.candidates.items ≡ new.rests.starts.items
-    starts_same = f.starts (ap (λ (v : Vec ℕ Global). v.items) cut.candidates ∙ r.starts ∙ ap (λ (v : Rests). v.starts.items) (sym cut.rests))
-
-    was-open : (s : ℕ) → get_or mid.run.opens.items s 0 ≡ get_or old.run.opens.items s 0
-    was-open s = ap (λ (v : Vec ℕ Global). get_or v.items s 0) cut.opens
-
-    was-start : (s : ℕ) → get_or mid.run.candidates.items s 0 ≡ get_or old.run.candidates.items s 0
-    was-start s = ap (λ (v : Vec ℕ Global). get_or v.items s 0) cut.candidates
 
     -- a term of the literal's variable is none before the candidate
     none-passed : (s k : ℕ) (t : Term) → s < length (shapes_of store.stored.items) → slice_get (terms_at (shapes_of store.stored.items) s) k ≡ Some t → AllRefreshed store new t.literal → k < get_or new.run.candidates.items s 0 → ⊥
@@ -215,10 +182,7 @@ pub record IsOccurrence (store : Store) (l : NumberedLiteral) (items : List Occu
 
 -- the list of a literal, as the program reads it
 pub listed-entries : (store : Store) (l : NumberedLiteral) (q : ℕ) (v : Vec Occurrence Global) → IsSound store → l.variable < store.variables → q ≡ place l → v ≡ get_or store.occurrences.items q v → get_or (entries_of (shapes_of store.stored.items) store.occurrences.items) (place l) [] ≡ map (weighted (shapes_of store.stored.items)) v.items
-listed-entries store l q v sound inside at read =
-    let forms = shapes_of store.stored.items in
-    let there : q < length store.occurrences.items = omega (arith, place-inside l store.variables inside, at, sound.places, length-map store.occurrences.items (λ (w : Vec Occurrence Global). map (weighted forms) w.items)) in
-    entries-at forms store.occurrences.items (place l) q v there read at
+listed-entries store l q v sound inside at read = grind (arith, place-inside, store.variables, sound.places, length-map, entries-at)
 
 pub occurrence-read : (store : Store) (l : NumberedLiteral) (q : ℕ) (v : Vec Occurrence Global) (j : ℕ) (o : Occurrence) → IsSound store → l.variable < store.variables → q ≡ place l → v ≡ get_or store.occurrences.items q v → o ≡ get_or v.items j o → j < length v.items → IsOccurrence store l v.items j o
 occurrence-read store l q v j o sound inside at read item less =
@@ -226,14 +190,7 @@ occurrence-read store l q v j o sound inside at read item less =
     let same = listed-entries store l q v sound inside at read in
     let form = form-within forms (get_or (entries_of forms store.occurrences.items) (place l) []) v.items j o (length forms) same item less (sound.named (place l)) in
     let index = index-within forms (spots_of store.spots.items) store.occurrences.items (place l) j v.items o same item less sound.whole in
-    record {
-      read = item;
-      inside = less;
-      form = omega (arith, form, length-map store.stored.items stored_shape);
-      index = index;
-      some = omega (arith, index);
-      entries = same;
-    }
+    search (rules, length-map store.stored.items stored_shape)
 
 -- one more entry is refreshed
 pub all-next : (store : Store) (l : NumberedLiteral) (items : List Occurrence) (b c : Root) (i : ℕ) (o : Occurrence) → IsOccurrence store l items i o → AreRefreshed store b c → IsRefreshed store c o.form →
@@ -256,33 +213,17 @@ ahead-entry store items j o item inside =
     drop_more es j (weighted forms o) (omega (arith, inside, length-map items (weighted forms))) ∙ ap (λ x. x ∷ drop (j + 1) es) (get_or-map (weighted forms) items j o (weighted forms o) inside ∙ ap (weighted forms) (sym item))
 
 -- an open sum is at most the sum of all coefficients
-open_part-small : (list : List NumberedLiteral) (t : Term) → open_part list t ≤ t.coefficient
-unfolding open_part
-open_part-small list t = by (has list (negation t.literal))
-  where
-    by : (b : Bool) → (if b then 0 else t.coefficient) ≤ t.coefficient
-    by true = omega arith
-    by false = omega arith
-
 open_sum-small : (list : List NumberedLiteral) (terms : List Term) → open_sum list terms ≤ size terms
-open_sum-small list terms = sum_by-le-sum_by (open_part list) (λ t. t.coefficient) terms (open_part-small list)
+unfolding open_part
+open_sum-small list terms = sum_by-le-sum_by (open_part list) (λ t. t.coefficient) terms (λ t. grind arith)
 
 -- an entry is added to the open sum of its form
 lifted : (store : Store) (a b : Root) (e : Weighted) (rest : List Weighted) → e.form < length a.run.opens.items → b.run.opens.items ≡ set a.run.opens.items e.form (get_or a.run.opens.items e.form 0 + e.coefficient) → b.run.assignment ≡ a.run.assignment → Lacks store a (e ∷ rest) → Lacks store b rest
-lifted store a b e rest room opens same lacks s d less =
-    let terms = (get_or (shapes_of store.stored.items) s d).terms in
-    let sum = sum_by-cons (entry_weight s) e rest in
-    let list = ap (λ (x : Assignment). open_sum x.list.items terms) same in
-    elim (cases_eq s e.form) [
-      | inl here ↦ omega (arith, lacks s d less, sum, list, entry_weight-same s e (sym here), ap (λ xs. get_or xs s 0) opens, ap (λ n. get_or (set a.run.opens.items e.form (get_or a.run.opens.items e.form 0 + e.coefficient)) n 0) here, get_or-set_same a.run.opens.items e.form (get_or a.run.opens.items e.form 0 + e.coefficient) 0 room, ap (λ n. get_or a.run.opens.items n 0) here)
-      | inr other ↦ omega (arith, lacks s d less, sum, list, entry_weight-other s e other, ap (λ xs. get_or xs s 0) opens, get_or-set_other a.run.opens.items e.form s (get_or a.run.opens.items e.form 0 + e.coefficient) 0 other)
-    ]
+lifted store a b e rest room opens same lacks s d less = grind (arith, sum_by-cons, entry_weight-same, entry_weight-other, get_or-set_at, get_or-set_other)
 
 -- a coefficient that an open sum lacks fits beside it
 pub lacks-fits : (store : Store) (a : Root) (e : Weighted) (rest : List Weighted) (d : Shape) → e.form < length store.stored.items → Lacks store a (e ∷ rest) → get_or a.run.opens.items e.form 0 + e.coefficient ≤ size (get_or (shapes_of store.stored.items) e.form d).terms
-lacks-fits store a e rest d less lacks =
-    let terms = (get_or (shapes_of store.stored.items) e.form d).terms in
-    omega (arith, lacks e.form d less, sum_by-cons (entry_weight e.form) e rest, entry_weight-same e.form e refl, open_sum-small (list_of a.run) terms)
+lacks-fits store a e rest d less lacks = grind (arith, sum_by-cons, entry_weight-same, open_sum-small, a.run)
 
 -- what is still to be added after one more entry
 pub lacks-next : (store : Store) (l : NumberedLiteral) (items : List Occurrence) (a b : Root) (j : ℕ) (o : Occurrence) → IsOccurrence store l items j o → IsSized store a → b.run.opens.items ≡ set a.run.opens.items o.form (get_or a.run.opens.items o.form 0 + coefficient_at (shapes_of store.stored.items) o.form o.index) → b.run.assignment ≡ a.run.assignment →

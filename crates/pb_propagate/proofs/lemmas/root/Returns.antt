@@ -1,10 +1,9 @@
 -- What a question on the root costs, and how it comes back to the root.
-use Rattle.pb_propagate.proofs.Common.{ℕ, ◌*◌, ◌+◌, ◌<◌, ◌∙◌, ◌≡◌, ◌≤◌, [], ap, arith, length, List, refl, sym, take, sum}
-use Rattle.pb_propagate.proofs.Common.{sum_by, take-append_seam, length-map, NumberedLiteral}
-use Rattle.pb_propagate.proofs.Common.{Assignment, Long, Short, Clauses, Waiting, Rests, Run, Store, Heads, Walked, IsWalkedTo, AreWithin, Grows, passed_of, clauses_of}
-use Rattle.pb_propagate.proofs.Common.{fallen, falsified_code, heads_at, reached, AreSingle, IsCounted, spent, weight_in, RunRefutes, entries_of}
-use Rattle.pb_propagate.proofs.Common.{shapes_of, stored_shape, Extends, HaveReasons, all_of, KeepsReasons, same, Advances, Costs, database, progress}
-use Rattle.pb_propagate.proofs.Common.{RunSpends, IsRooted, GoesBack, Propagates, list_of, reasons_of, values_of, Global, Vec, subst}
+use Rattle.pb_propagate.proofs.Common.{rules, ℕ, ◌*◌, ◌+◌, ◌∙◌, ◌≡◌, ◌≤◌, [], ap, arith, length, List, refl, sym, take, sum, sum_by, take-append_seam}
+use Rattle.pb_propagate.proofs.Common.{length-map, NumberedLiteral, Assignment, Long, Short, Clauses, Waiting, Rests, Run, Store, Heads, Walked, IsWalkedTo}
+use Rattle.pb_propagate.proofs.Common.{AreWithin, Grows, passed_of, clauses_of, fallen, falsified_code, heads_at, reached, AreSingle, IsCounted, spent}
+use Rattle.pb_propagate.proofs.Common.{RunRefutes, entries_of, shapes_of, stored_shape, Extends, HaveReasons, all_of, KeepsReasons, same, Advances}
+use Rattle.pb_propagate.proofs.Common.{Costs, database, progress, RunSpends, IsRooted, GoesBack, Propagates, list_of, reasons_of, values_of, Global, Vec, subst}
 use Rattle.pb_propagate.specs.declared.engine.root.Root.{Root}
 use Rattle.pb_propagate.specs.engine.engine.Root.{HasUpdated, IsRootOf}
 use Rattle.pb_propagate.proofs.lemmas.clauses.Heads.{visits-back, walks-kept}
@@ -23,16 +22,7 @@ fallen-extends clauses a b more = omega (arith, killed-longer clauses (falsified
 
 -- literals were assigned, and nothing was propagated
 pub refutes-short : (store : Store) (rests : Rests) (c : Clauses) (count : ℕ) (old new : Run) → AreWithin (passed_of c) (clauses_of c) → AreSingle old.assignment.list.items → sum new.candidates.items ≤ sum_by (λ f. length f.terms) (shapes_of store.stored.items) → Costs (database store rests) 0 count (progress old) (progress new) → RunRefutes store rests c count old new
-refutes-short store rests c count old new within single bounded costs =
-    let few = passed-most (passed_of c) (clauses_of c) within in
-    let fell = fallen-extends (clauses_of c) old.assignment.list.items new.assignment.list.items costs.extends in
-    let more = spent-extends (database store rests).lists old.assignment.list.items new.assignment.list.items costs.extends in
-    record {
-      extends = costs.extends;
-      single = costs.single single;
-      bounded = bounded;
-      upper = omega (arith, costs.paid, few, fell, more);
-    }
+refutes-short store rests c count old new within single bounded costs = grind (arith, passed-most, fallen-extends, costs.extends, spent-extends, costs.single)
 
 -- and then what follows was propagated
 pub refutes-long : (store : Store) (rests : Rests) (c : Clauses) (count : ℕ) (from : Heads) (old mid new : Run) → from ≡ heads_at (length old.assignment.list.items) → old.work.items ≡ [] → old.next ≡ 0 → Advances (database store rests) 0 count (progress old) (progress mid) → RunSpends store rests c from [] mid new → RunRefutes store rests c count old new
@@ -41,31 +31,17 @@ refutes-long store rests c count from old mid new start work next a s =
     let walked : take (length old.assignment.list.items) mid.assignment.list.items ≡ old.assignment.list.items =
     ap (take (length old.assignment.list.items)) e.1 ∙ take-append_seam old.assignment.list.items e.0 in
     let same : reached (clauses_of c) from mid.assignment.list.items ≡ fallen (clauses_of c) old.assignment.list.items = ap (λ k. reached (clauses_of c) k mid.assignment.list.items) start ∙ ap (fallen (clauses_of c)) walked in
-    record {
-      extends = extends-then old.assignment.list.items mid.assignment.list.items new.assignment.list.items e s.extends;
-      single = s.single;
-      bounded = s.bounded;
-      upper = omega (arith, s.upper, a.costs.paid, a.work, ap length work, same);
-    }
+    search (rules, extends-then old.assignment.list.items mid.assignment.list.items new.assignment.list.items e s.extends, ap length work)
 
 -- The visits of an update and a question after it: what the first has read is not paid again.
 pub both-costs : (store : Store) (clauses between : Clauses) (old mid : Root) (count : ℕ) (new : Run) → clauses_of between ≡ clauses_of clauses → old.run.work.items ≡ [] → old.run.visits ≡ length (list_of old.run) →
     HasUpdated store clauses between old mid → RunRefutes store mid.rests between count mid.run new →
     new.visits ≤ length (list_of old.run) + (length old.waiting.list.items + count) + sum new.candidates.items + 2 * spent (entries_of (shapes_of store.stored.items) store.occurrences.items) new.assignment.list.items + 2 * fallen (clauses_of clauses) new.assignment.list.items + sum_by length (clauses_of clauses)
-both-costs store clauses between old mid count new same work begun first second =
-    let seen_mid : fallen (clauses_of between) (list_of mid.run) ≡ fallen (clauses_of clauses) (list_of mid.run) = ap (λ cs. fallen cs (list_of mid.run)) same in
-    let seen_new : fallen (clauses_of between) new.assignment.list.items ≡ fallen (clauses_of clauses) new.assignment.list.items = ap (λ cs. fallen cs new.assignment.list.items) same in
-    let sizes : sum_by length (clauses_of between) ≡ sum_by length (clauses_of clauses) = ap (sum_by length) same in
-    omega (arith, first.pays.upper, second.upper, seen_mid, seen_new, sizes, ap length work, begun)
+both-costs store clauses between old mid count new same work begun first second = grind (arith, mid.run, first.pays.upper, second.upper)
 
 -- the open sums of the root are those of its list
 pub root-counted : (store : Store) (clauses : Clauses) (run : Run) (rests : Rests) (waiting : Waiting) (walked : Walked) → IsRooted store clauses run rests waiting walked (length store.stored.items) → IsCounted (shapes_of store.stored.items) run.opens.items run.assignment.list.items []
-root-counted store clauses run rests waiting walked r = record {
-  each = λ s d less.
-      let inside : s < length store.stored.items = omega (arith, less, length-map store.stored.items stored_shape) in
-      let none : weight_in s [] ≡ 0 = refl in
-      omega (arith, none, r.counted s d inside (λ e. absurd (omega (arith, e, inside))));
-}
+root-counted store clauses run rests waiting walked r = grind (arith, length-map, r.counted)
 
 -- a question that was undone leaves the root
 pub back-rooted : (root : Root) {store : Store} {between mid after : Clauses} {done last : Run} {walked' : Walked} {count : ℕ} → IsRootOf store between root → Propagates store root.rests between mid root.run done → GoesBack store root.rests mid after count done last → count ≡ length (list_of root.run) → mid.blocks.literals ≡ between.blocks.literals → IsWalkedTo after (list_of root.run) walked' → IsRooted store after last root.rests root.waiting walked' (length store.stored.items)
@@ -78,22 +54,8 @@ back-rooted root {store} {between} {mid} {after} {done} {last} {walked'} {count}
     let starts_is : last.candidates.items ≡ run.candidates.items = sym same.1 ∙ sym r.starts in
     let list_is : list_of last ≡ list_of run = b.list ∙ ap (λ n. take n (list_of done)) count_is ∙ ap (take (length (list_of run))) p.extends.1 ∙ take-append_seam (list_of run) p.extends.0 in
     let reasons = subst (λ (v : Vec ℕ Global). KeepsReasons (list_of run) (reasons_of run) v.items) (sym b.reasons) p.reasons in
-    record {
-      values = b.values ∙ p.values ∙ r.values;
-      opens = sym same.0;
-      starts = sym same.1;
-      open_sizes = b.opens;
-      start_sizes = b.candidates;
-      counted = rw (opens_is, list_is) r.counted;
-      tidy = rw (opens_is, starts_is, list_is) r.tidy;
-      work = b.work;
-      trail = b.trail;
-      next = b.next;
-      reasoned = rw (b.literals ∙ literals, list_is) (reasons-keep (reasons_of run) (reasons_of last) reasons r.reasoned);
-      walks = rw list_is walks;
-      positions = r.positions;
-      live = r.live;
-    }
+    let reasoned = reasons-keep (reasons_of run) (reasons_of last) reasons r.reasoned in
+    search (rules, opens_is, starts_is, list_is, b.literals ∙ literals, same.0, same.1)
 
 -- the same if its literals are walked as before
 pub question-back : (root : Root) {store : Store} {between mid after : Clauses} {done last : Run} {count : ℕ} → IsRootOf store between root → Propagates store root.rests between mid root.run done → GoesBack store root.rests mid after count done last → count ≡ length (list_of root.run) → mid.blocks.literals ≡ between.blocks.literals → IsRooted store after last root.rests root.waiting root.walked (length store.stored.items)

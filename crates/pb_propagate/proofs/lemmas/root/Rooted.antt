@@ -1,10 +1,9 @@
 -- Literals that forms force with nothing assumed.
-use Rattle.pb_propagate.proofs.Common.{ℕ, ◌++◌, ◌+◌, ◌<◌, ◌∙◌, ◌∷◌, ◌≡◌, ◌≤◌, [], ap, arith, Bool, false, get_or, get_or-set_other, inl, inr, length}
-use Rattle.pb_propagate.proofs.Common.{length-append, List, map, set, subst, sym, true, Contains, slice_get, slice_index_or, Some, sum_by}
-use Rattle.pb_propagate.proofs.Common.{both_ways, get_or-map, get_or_default, length-map}
-use Rattle.pb_propagate.proofs.Common.{sum_by_push, slice_get-get_or, slice_get_within, NumberedLiteral, negation, Long, Short}
-use Rattle.pb_propagate.proofs.Common.{Term, list_at, code_in, joined, literal_at, one_term, AreSingle, more, none, place, spent}
-use Rattle.pb_propagate.proofs.Common.{IsStored, term_cross, terms_at, begin, Derives, put, Puts, Shape, Weighted}
+use Rattle.pb_propagate.proofs.Common.{ℕ, ◌++◌, ◌+◌, ◌<◌, ◌∙◌, ◌∷◌, ◌≡◌, ◌≤◌, [], ap, arith, false, get_or, get_or-set_other, inl, inr, length, length-append}
+use Rattle.pb_propagate.proofs.Common.{List, map, set, subst, sym, true, Contains, slice_get, slice_index_or, Some, sum_by, both_ways, get_or-map}
+use Rattle.pb_propagate.proofs.Common.{get_or_default, length-map, sum_by_push, slice_get-get_or, slice_get_within, NumberedLiteral, negation, Long, Short}
+use Rattle.pb_propagate.proofs.Common.{Term, list_at, code_in, joined, literal_at, one_term, AreSingle, more, none, place, spent, IsStored, term_cross}
+use Rattle.pb_propagate.proofs.Common.{terms_at, begin, Derives, put, Puts, Shape, Weighted}
 use Rattle.pb_propagate.specs.engine.engine.Lists.{has}
 use Rattle.pb_propagate.proofs.lemmas.engine.Derivations.{puts-other}
 use Rattle.pb_propagate.proofs.lemmas.engine.Literals.{negation-negation, has-push_old, has-push_new}
@@ -42,8 +41,7 @@ stored-listed forms spots lists variables f l c stored (s, inside, is) (i, withi
     let here : terms_at forms s ≡ f.terms = ap (λ (x : Shape). x.terms) (get_or_default forms s (record { terms = []; degree = 0 }) f inside ∙ is) in
     let term : slice_get (terms_at forms s) i ≡ Some t = ap (λ (xs : List Term). slice_get xs i) here ∙ slice_get-get_or f.terms i t within ∙ ap (λ (x : Term). Some x) at in
     let e = term-entry s i t stored inside term in
-    let less = slice_get_within (get_or lists (place l) []) e.0 e.1 e.2 in
-    omega (arith, less)
+    omega (arith, slice_get_within (get_or lists (place l) []) e.0 e.1 e.2)
 
 -- a term of a clause is one of its literals, with coefficient 1
 pub clause-term : (codes : List ℕ) (l : NumberedLiteral) (c : ℕ) → Contains (map one_term codes) (record { literal = l; coefficient = c }) → (x : ℕ) × Contains codes x × (literal_at x ≡ l) × (c ≡ 1)
@@ -75,35 +73,22 @@ puts-owned forms spots lists variables clauses list l stored m = elim (joined-so
 pub root-short : (forms : List Shape) (spots : List (List ℕ)) (lists : List (List Weighted)) (variables : ℕ) (clauses : List (List ℕ)) (list : List NumberedLiteral) → IsStored forms spots lists variables → Derives (joined forms clauses) [] list → length list ≤ owned lists list + risen clauses list
 root-short forms spots lists variables clauses _ stored begin = omega arith
 root-short forms spots lists variables clauses _ stored (put {list} l d m) =
-    let rest = root-short forms spots lists variables clauses list stored d in
     let here = puts-owned forms spots lists variables clauses list l stored m in
     let entries = sum_by_push (λ k. length (get_or lists (place k) [])) list l in
-    let killings = risen-push clauses list l m.absent in
-    omega (arith, rest, here, entries, killings, length-append list (l ∷ []))
+    omega (arith, root-short forms spots lists variables clauses list stored d, here, entries, risen-push clauses list l m.absent, length-append list (l ∷ []))
 
 -- the lists of a literal and of its negation, which are different lists, are emptied
 abbrev without : List (List Weighted) → NumberedLiteral → List (List Weighted)
 without lists l = set (set lists (place (negation l)) []) (place l) []
 
 without-other : (lists : List (List Weighted)) (l k : NumberedLiteral) → (k ≡ l → ⊥) → (k ≡ negation l → ⊥) → length (get_or lists (place k) []) ≡ length (get_or (without lists l) (place k) [])
-without-other lists l k n m =
-    let outer = get_or-set_other (set lists (place (negation l)) []) (place l) (place k) [] [] (λ e. n (place-injective k l e)) in
-    let inner = get_or-set_other lists (place (negation l)) (place k) [] [] (λ e. m (place-injective k (negation l) e)) in
-    ap length (sym (outer ∙ inner))
+without-other lists l k n m = grind (arith, get_or-set_other, place-injective)
 
 not-itself : (l : NumberedLiteral) → place l ≡ place (negation l) → ⊥
-not-itself l = by_sign l.variable l.negated
-  where
-    by_sign : (v : ℕ) (b : Bool) → place (record { variable = v; negated = b }) ≡ place (negation (record { variable = v; negated = b })) → ⊥
-    by_sign v true e = omega (arith, e)
-    by_sign v false e = omega (arith, e)
+not-itself l e = grind arith
 
 without-total : (lists : List (List Weighted)) (l : NumberedLiteral) → sum_by length (without lists l) + length (get_or lists (place (negation l)) []) + length (get_or lists (place l) []) ≡ sum_by length lists
-without-total lists l =
-    let first = lists-clear lists (place (negation l)) in
-    let second = lists-clear (set lists (place (negation l)) []) (place l) in
-    let other = ap length (get_or-set_other lists (place (negation l)) (place l) [] [] (not-itself l)) in
-    omega (arith, first, second, other)
+without-total lists l = grind (arith, lists-clear, get_or-set_other, not-itself)
 
 pub one_sided-before : (list : List NumberedLiteral) (l : NumberedLiteral) → IsOneSided (list ++ (l ∷ [])) → IsOneSided list
 one_sided-before list l one k h = absent-before list l (negation k) (one k (has-push_old list l k h))
@@ -111,7 +96,6 @@ one_sided-before list l one k h = absent-before list l (negation k) (one k (has-
 pub both-le : (lists : List (List Weighted)) (list : List NumberedLiteral) → AreSingle list → IsOneSided list → spent lists list + owned lists list ≤ sum_by length lists
 both-le lists _ none one = omega arith
 both-le lists _ (more {list} l d absent) one =
-    let earlier = both-le (without lists l) list d (one_sided-before list l one) in
     let opposed : has list (negation l) ≡ false = absent-before list l (negation l) (one l (has-push_new list l)) in
     let apart : (k : NumberedLiteral) → has list k ≡ true → k ≡ l → ⊥ = λ k h e. both_ways _ absent (ap (has list) (sym e) ∙ h) in
     let apart' : (k : NumberedLiteral) → has list k ≡ true → k ≡ negation l → ⊥ = λ k h e. both_ways _ opposed (ap (has list) (sym e) ∙ h) in
@@ -119,4 +103,4 @@ both-le lists _ (more {list} l d absent) one =
     let b : owned lists list ≡ owned (without lists l) list = sum_by-agree (λ k. length (get_or lists (place k) [])) (λ k. length (get_or (without lists l) (place k) [])) list (λ k h. without-other lists l k (apart k h) (apart' k h)) in
     let left = sum_by_push (λ k. length (get_or lists (place (negation k)) [])) list l in
     let right = sum_by_push (λ k. length (get_or lists (place k) [])) list l in
-    omega (arith, earlier, a, b, left, right, without-total lists l)
+    omega (arith, both-le (without lists l) list d (one_sided-before list l one), a, b, left, right, without-total lists l)

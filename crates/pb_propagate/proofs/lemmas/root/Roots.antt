@@ -1,9 +1,9 @@
 -- The state to which questions return becomes that of the run.
-use Rattle.pb_propagate.proofs.Common.{ℕ, ◌+◌, ◌<◌, ◌∙◌, ◌≡◌, ◌≤◌, ◌⊎◌, [], ap, arith, get_or, get_or-set_other, get_or-set_same, inl, inr, length}
-use Rattle.pb_propagate.proofs.Common.{List, set, sym, slice_get, slice_get_within, Some, cases_eq, ext_get_or, get_or_default, get_or_read}
-use Rattle.pb_propagate.proofs.Common.{length-map, Assignment, Clauses, Waiting, Rests, Run, Store, all_of, Walked, IsWalkedTo}
-use Rattle.pb_propagate.proofs.Common.{heads_at, IsAbsent, IsCounted, IsUndone, rest_open, rest_start, shapes_of, stored_shape}
-use Rattle.pb_propagate.proofs.Common.{HaveReasons, KeepsReasons, Shape, size, from_given, HasForm, IsRooted}
+use Rattle.pb_propagate.proofs.Common.{IsTidy, beside, rules, ℕ, ◌+◌, ◌<◌, ◌∙◌, ◌≡◌, ◌≤◌, [], ap, arith, get_or, get_or-set_other, length, List, set, sym}
+use Rattle.pb_propagate.proofs.Common.{slice_get, slice_get_within, Some, ext_get_or, get_or_default, get_or_read, length-map, Assignment, Clauses, Waiting}
+use Rattle.pb_propagate.proofs.Common.{Rests, Run, Store, all_of, Walked, IsWalkedTo, heads_at, IsAbsent, IsCounted, IsUndone, rest_open, rest_start, shapes_of}
+use Rattle.pb_propagate.proofs.Common.{stored_shape, HaveReasons, KeepsReasons, Shape, size, from_given, HasForm, IsRooted, open_sum}
+use Rattle.std.proofs.lemmas.Grind.{get_or-set_at}
 use Rattle.pb_propagate.specs.engine.engine.Progress.{RunIsCalm}
 use Rattle.pb_propagate.specs.engine.engine.Propagation.{IsSaved}
 use Rattle.pb_propagate.proofs.lemmas.clauses.Heads.{walks-none}
@@ -11,20 +11,23 @@ use Rattle.pb_propagate.proofs.lemmas.engine.Reasoned.{reasons-keep}
 use Rattle.pb_propagate.proofs.lemmas.engine.Runs.{Tidy-rest, absent-from}
 use Rattle.pb_propagate.proofs.lemmas.engine.VisitSteps.{open-now}
 
+-- the forms of a root, and its open sums, with one form left out
+abbrev pub IsTidyRoot : Store → Run → Rests → Waiting → ℕ → Type 0
+IsTidyRoot store run rests waiting busy = IsTidy (beside rests waiting.list.items) (shapes_of store.stored.items) run.opens.items run.candidates.items run.assignment.list.items [] [] 0 busy
+
+abbrev pub AreRootSums : Store → Run → ℕ → Type 0
+AreRootSums store run busy = (s : ℕ) (d : Shape) → s < length store.stored.items → (s ≡ busy → ⊥) → get_or run.opens.items s 0 ≡ open_sum run.assignment.list.items (get_or (shapes_of store.stored.items) s d).terms
+
 -- one form more
 pub keep-next : (rests rests' : Rests) (forms : List Shape) (opens cands trail : List ℕ) (i form o c : ℕ) → i < length trail → form ≡ get_or trail i form → form < length opens → form < length cands → o ≡ get_or opens form o → c ≡ get_or cands form c → length rests.opens.items ≡ length opens → length rests.starts.items ≡ length cands →
     rests'.opens.items ≡ set rests.opens.items form o → rests'.starts.items ≡ set rests.starts.items form c → IsUndone rests forms opens cands trail i → IsUndone rests' forms opens cands trail (i + 1)
-keep-next rests rests' forms opens cands trail i form o c inside is room roomc open_is cand_is sizes ssizes opened started u = record { clean = λ s d less gone. clean_at s d less gone (cases_eq s form); named = u.named }
-  where
-    clean_at : (s : ℕ) (d : Shape) → s < length forms → IsAbsent trail (i + 1) s → (s ≡ form) ⊎ (s ≡ form → ⊥) → (get_or opens s 0 ≡ rest_open rests' s (get_or forms s d)) × (get_or cands s 0 ≡ rest_start rests' s)
-    clean_at s d less gone (inl one) =
-        let here : get_or rests'.opens.items s (size (get_or forms s d).terms) ≡ o = ap (λ xs. get_or xs s (size (get_or forms s d).terms)) opened ∙ rw one (get_or-set_same rests.opens.items form o (size (get_or forms form d).terms) (omega (arith, room, sizes))) in
-        let start : get_or rests'.starts.items s 0 ≡ c = ap (λ xs. get_or xs s 0) started ∙ rw one (get_or-set_same rests.starts.items form c 0 (omega (arith, roomc, ssizes))) in
-        (ap (λ k. get_or opens k 0) one ∙ sym (get_or_read opens form o room open_is 0) ∙ sym here, ap (λ k. get_or cands k 0) one ∙ sym (get_or_read cands form c roomc cand_is 0) ∙ sym start)
-    clean_at s d less gone (inr other) =
-        let before = absent-from trail i s (λ e. other (sym e ∙ sym (get_or_read trail i form inside is 0))) gone in
-        let was = u.clean s d less before in
-        (was.0 ∙ sym (ap (λ xs. get_or xs s (size (get_or forms s d).terms)) opened ∙ get_or-set_other rests.opens.items form s o (size (get_or forms s d).terms) other), was.1 ∙ sym (ap (λ xs. get_or xs s 0) started ∙ get_or-set_other rests.starts.items form s c 0 other))
+keep-next rests rests' forms opens cands trail i form o c inside is room roomc open_is cand_is sizes ssizes opened started u = record {
+  clean = λ s d less gone.
+      let sum = size (get_or forms s d).terms in
+      let before = λ (other : s ≡ form → ⊥). u.clean s d less (absent-from trail i s (λ e. other (sym e ∙ sym (get_or_read trail i form inside is 0))) gone) in
+      grind (arith, before, ap (λ xs. get_or xs s sum) opened, ap (λ xs. get_or xs s 0) started, get_or_read opens form o room open_is 0, get_or_read cands form c roomc cand_is 0, get_or-set_at rests.opens.items form s o sum, get_or-set_other rests.opens.items form s o sum, get_or-set_at rests.starts.items form s c 0, get_or-set_other rests.starts.items form s c 0);
+  named = u.named;
+}
 
 -- all of them
 pub keep-all : (rests : Rests) (forms : List Shape) (opens cands trail : List ℕ) (i : ℕ) → length trail ≤ i → length forms ≡ length opens → length cands ≡ length opens → length rests.opens.items ≡ length opens → length rests.starts.items ≡ length cands → IsUndone rests forms opens cands trail i → (rests.opens.items ≡ opens) × (rests.starts.items ≡ cands)
@@ -56,22 +59,10 @@ pub kept-rooted : (store : Store) (clauses : Clauses) (run run' : Run) (rests re
     IsRooted store clauses run' rests' waiting' walked (length store.stored.items)
 kept-rooted store clauses run run' rests rests' aside waiting' walked e tidy waits k positions live =
     let long = length-map store.stored.items stored_shape in
-    record {
-      values = rw k.assignment e.values;
-      opens = rw k.opens (sym k.rest_opens);
-      starts = rw k.candidates (sym k.rest_starts);
-      open_sizes = rw k.opens e.opens;
-      start_sizes = rw k.candidates e.candidates;
-      counted = λ s d less apart. rw (k.opens, k.assignment) (open-now (shapes_of store.stored.items) run.opens.items run.assignment.list.items s d (omega (arith, less, long)) e.counted);
-      tidy = rw (k.opens, k.candidates, k.assignment) (Tidy-rest (sym k.rest_opens) (sym k.rest_starts) (long ∙ sym e.opens) (λ s d less idle off gone. let w = waits s off in tidy.calm s d less idle w.0 w.1) tidy.passed tidy.bounded);
-      work = k.work;
-      trail = k.trail;
-      next = k.next;
-      reasoned = rw k.assignment e.reasoned;
-      walks = rw k.assignment e.walks;
-      positions = positions;
-      live = live;
-    }
+    let counted = λ (s : ℕ) (d : Shape) (less : s < length store.stored.items). open-now (shapes_of store.stored.items) run.opens.items run.assignment.list.items s d (omega (arith, less, long)) e.counted in
+    let calm : IsTidyRoot store run rests' waiting' (length store.stored.items) =
+    Tidy-rest (sym k.rest_opens) (sym k.rest_starts) (long ∙ sym e.opens) (λ s d less idle off gone. let w = waits s off in tidy.calm s d less idle w.0 w.1) tidy.passed tidy.bounded in
+    search (rules, k.opens, k.candidates, k.assignment, counted)
 
 -- the root of no forms over no variables
 pub new-rooted : (store : Store) (clauses : Clauses) (run : Run) (rests : Rests) (waiting : Waiting) (walked : Walked) → store.stored.items ≡ [] → store.variables ≡ 0 → run.assignment.values.items ≡ [] → run.assignment.list.items ≡ [] → run.opens.items ≡ [] → run.candidates.items ≡ [] → run.work.items ≡ [] → run.trail.items ≡ [] → run.next ≡ 0 →
@@ -79,60 +70,19 @@ pub new-rooted : (store : Store) (clauses : Clauses) (run : Run) (rests : Rests)
 new-rooted store clauses run rests waiting walked none variables values list opens cands work trail next rest_opens rest_starts waits positions heads marks =
     let empty = ap length none in
     let shapes = length-map store.stored.items stored_shape in
-    record {
-      values = ap length values ∙ sym variables;
-      opens = opens ∙ sym rest_opens;
-      starts = cands ∙ sym rest_starts;
-      open_sizes = ap length opens ∙ sym empty;
-      start_sizes = ap length cands ∙ sym empty;
-      counted = λ s d less apart. absurd (omega (arith, less, empty));
-      tidy = Tidy-rest (opens ∙ sym rest_opens) (cands ∙ sym rest_starts) (shapes ∙ empty ∙ sym (ap length opens)) (λ s d less. absurd (omega (arith, less, empty, shapes))) (λ s d less. absurd (omega (arith, less, empty, shapes))) (λ s d less. absurd (omega (arith, less, empty, shapes)));
-      work = work;
-      trail = trail;
-      next = next;
-      reasoned = rw list from_given;
-      walks = rw list (walks-none clauses walked heads marks);
-      positions = ap length positions ∙ sym empty;
-      live = λ i s at. absurd (omega (arith, slice_get_within waiting.list.items i s at, ap length waits));
-    }
+    let tidy : IsTidyRoot store run rests waiting (length store.stored.items) =
+    Tidy-rest (opens ∙ sym rest_opens) (cands ∙ sym rest_starts) (shapes ∙ empty ∙ sym (ap length opens)) (λ s d less. absurd (omega (arith, less, empty, shapes))) (λ s d less. absurd (omega (arith, less, empty, shapes))) (λ s d less. absurd (omega (arith, less, empty, shapes))) in
+    let walks : IsWalkedTo clauses run.assignment.list.items walked = rw list (walks-none clauses walked heads marks) in
+    let reasoned : HaveReasons (all_of store clauses) run.assignment.reasons.items [] run.assignment.list.items = rw list from_given in
+    let live : (i s : ℕ) → slice_get waiting.list.items i ≡ Some s → HasForm store s = λ i s at. absurd (omega (arith, slice_get_within waiting.list.items i s at, ap length waits)) in
+    search (rules, ap length values, ap length opens, ap length cands, ap length positions)
 
 -- other reasons for the same literals, another count of visits, and the same forms that wait
 pub rooted-as : {store : Store} {clauses : Clauses} {run : Run} {rests : Rests} {waiting : Waiting} {walked : Walked} {busy : ℕ} (a : Assignment) (visits : ℕ) (waiting' : Waiting) → a.list ≡ run.assignment.list → a.values ≡ run.assignment.values → HaveReasons (all_of store clauses) a.reasons.items [] a.list.items → waiting'.list ≡ waiting.list → waiting'.positions ≡ waiting.positions → IsRooted store clauses run rests waiting walked busy →
     IsRooted store clauses (record run { assignment = a; visits = visits }) rests waiting' walked busy
-rooted-as a visits waiting' list values reasoned waits positions r = record {
-  values = rw values r.values;
-  opens = r.opens;
-  starts = r.starts;
-  open_sizes = r.open_sizes;
-  start_sizes = r.start_sizes;
-  counted = rw list r.counted;
-  tidy = rw (list, waits) r.tidy;
-  work = r.work;
-  trail = r.trail;
-  next = r.next;
-  reasoned = reasoned;
-  walks = rw list r.walks;
-  positions = rw positions r.positions;
-  live = rw waits r.live;
-}
+rooted-as a visits waiting' list values reasoned waits positions r = search (rules, list, values, waits, positions)
 
 -- one more variable, which has no value
 pub widened-rooted : (store store' : Store) (clauses clauses' : Clauses) (run : Run) (assignment : Assignment) (rests : Rests) (waiting : Waiting) (walked : Walked) → store'.stored ≡ store.stored → store'.variables ≡ store.variables + 1 → clauses'.blocks.literals ≡ clauses.blocks.literals → clauses'.blocks.watches ≡ clauses.blocks.watches → assignment.list.items ≡ run.assignment.list.items → length assignment.values.items ≡ length run.assignment.values.items + 1 → KeepsReasons run.assignment.list.items run.assignment.reasons.items assignment.reasons.items →
     IsRooted store clauses run rests waiting walked (length store.stored.items) → IsRooted store' clauses' (record run { assignment = assignment }) rests waiting walked (length store'.stored.items)
-widened-rooted store store' clauses clauses' run assignment rests waiting walked stored variables literals watches list values keeps r =
-    record {
-      values = omega (arith, values, r.values, variables);
-      opens = r.opens;
-      starts = r.starts;
-      open_sizes = rw stored r.open_sizes;
-      start_sizes = rw stored r.start_sizes;
-      counted = rw (stored, list) r.counted;
-      tidy = rw (stored, list) r.tidy;
-      work = r.work;
-      trail = r.trail;
-      next = r.next;
-      reasoned = rw (stored, literals, list) (reasons-keep run.assignment.reasons.items assignment.reasons.items keeps r.reasoned);
-      walks = record { now = rw (list, literals, watches) r.walks.now; marks = rw (list, literals, watches) r.walks.marks; level = rw list r.walks.level };
-      positions = rw stored r.positions;
-      live = rw stored r.live;
-    }
+widened-rooted store store' clauses clauses' run assignment rests waiting walked stored variables literals watches list values keeps r = grind (arith, reasons-keep, r.reasoned)

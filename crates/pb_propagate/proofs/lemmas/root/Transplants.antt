@@ -1,8 +1,7 @@
 -- What the root forces is derived again from given literals, which may be opposite to some of it.
-use Rattle.pb_propagate.proofs.Common.{ℕ, ◌++◌, ◌∙◌, ◌∷◌, ◌≡◌, ◌⊎◌, [], ap, arith, Bool, false, inl, inr, List, None, sym, true, IfNone, IfSome}
-use Rattle.pb_propagate.proofs.Common.{Option, Some, both_ways, cases_Bool, NumberedLiteral, negation, AreJoined, joined, begin, broken, Conflicts}
-use Rattle.pb_propagate.proofs.Common.{Derives, has, IsSettled, IsWithin, opposed, put, Puts, Shape, HasClash, HasEnded, IsCovered, IsFrom, IsMade, derived}
-use Rattle.pb_propagate.proofs.Common.{IsRefuted}
+use Rattle.pb_propagate.proofs.Common.{ℕ, ◌++◌, ◌∙◌, ◌∷◌, ◌≡◌, ◌⊎◌, [], ap, arith, Bool, false, inl, inr, List, None, sym, true, IfNone, IfSome, Option, Some}
+use Rattle.pb_propagate.proofs.Common.{both_ways, cases_Bool, NumberedLiteral, negation, AreJoined, joined, begin, broken, Conflicts, Derives, has, IsSettled}
+use Rattle.pb_propagate.proofs.Common.{IsWithin, opposed, put, Puts, Shape, HasClash, HasEnded, IsCovered, IsFrom, IsMade, derived, IsRefuted}
 use Rattle.std.specs.Cmp.{both_ways as same_answers}
 use Rattle.pb_propagate.proofs.lemmas.clauses.Shapes.{derives-joined, conflicts-joined}
 use Rattle.pb_propagate.proofs.lemmas.engine.Derivations.{derivation-then, derivation-keeps}
@@ -21,26 +20,11 @@ pub data Planted (forms : List Shape) (given list : List NumberedLiteral) : Type
   clashed : (whole : List NumberedLiteral) → Derives forms given whole → Conflicts forms whole → IsOpposed list given → Planted forms given list
 
 opposed-more : (a b : List NumberedLiteral) (l : NumberedLiteral) → IsOpposed a b → IsOpposed (a ++ (l ∷ [])) b
-opposed-more a b l o = record {
-  literal = o.literal;
-  here = has-push_old a l o.literal o.here;
-  there = elim o.there [
-    | inl mine ↦ inl (has-push_old a l (negation o.literal) mine)
-    | inr other ↦ inr other
-  ];
-}
+opposed-more a b l o = grind (arith, has-push_old, o.here, o.there)
 
 -- what may be put still may on a longer list, unless its variable has a value
 puts-longer : (forms : List Shape) (a b : List NumberedLiteral) (l : NumberedLiteral) → IsWithin a b → has b l ≡ false → has b (negation l) ≡ false → Puts forms a l → Puts forms b l
-puts-longer forms a b l within absent free m = record {
-  absent = absent;
-  not_falsified = free;
-  form = m.form;
-  among = m.among;
-  coefficient = m.coefficient;
-  term = m.term;
-  forced = omega (arith, open_sum-within a b within m.form.terms, m.forced);
-}
+puts-longer forms a b l within absent free m = grind (arith, m.among, m.term, open_sum-within, m.form.terms, m.forced)
 
 pub planted : (forms : List Shape) (a b given : List NumberedLiteral) → IsWithin a given → Derives forms a b → Planted forms given b
 planted forms a _ given within begin = grown given begin within (λ l h. inr h)
@@ -76,10 +60,7 @@ conflicts-longer forms a b within (broken f among low) = broken f among (omega (
 
 -- literals of one list or of another
 from-within : (a b list c : List NumberedLiteral) → IsFrom a b list → IsWithin a c → IsWithin b c → IsWithin list c
-from-within a b list c from first second l on = elim (from l on) [
-  | inl forced ↦ first l forced
-  | inr mine ↦ second l mine
-]
+from-within a b list c from first second l on = grind (arith)
 
 -- a conflict after literals that are forced, or given
 pub clash-refuted : (forms : List Shape) (root given : List NumberedLiteral) → Derives forms [] root → HasClash forms root given → (list : List NumberedLiteral) × IsRefuted forms given list
@@ -107,10 +88,7 @@ settled-same f a b ab ba s = record {
 }
   where
     off : (l : NumberedLiteral) → has b l ≡ false → has a l ≡ false
-    off l h = elim (cases_Bool (has a l)) [
-      | inl on ↦ absurd (both_ways _ h (ab l on))
-      | inr gone ↦ gone
-    ]
+    off l h = grind (arith, ab l)
 
 -- what was derived after the root is derived from the given literals alone
 pub ended-made : (forms : List Shape) (root given : List NumberedLiteral) (values : List (Option Bool)) → Derives forms [] root → HasEnded forms root given values → IsMade forms given values
@@ -120,10 +98,8 @@ ended-made forms root given values d h = by (planted forms [] root given (λ l o
     e = h.covered
 
     never : (a b : List NumberedLiteral) → IsWithin a h.list → IsWithin b h.list → IsOpposed a b → ⊥
-    never a b ina inb o = elim o.there [
-      | inl mine ↦ both_ways _ (opposite values h.list o.literal h.agrees (ina o.literal o.here)) (ina (negation o.literal) mine)
-      | inr other ↦ both_ways _ (opposite values h.list o.literal h.agrees (ina o.literal o.here)) (inb (negation o.literal) other)
-    ]
+    never a b ina inb o =
+        grind (arith, o.there, opposite values h.list o.literal h.agrees (ina o.literal o.here), ina (negation o.literal), inb (negation o.literal))
 
     by : Planted forms given root → IsMade forms given values
     by (clashed whole dv c o) = absurd (never root given e.keeps e.covers o)

@@ -1,12 +1,13 @@
 -- The store after a form was added, removed or emptied.
 use Rattle.pb_propagate.proofs.Common.{stored_form, stored_terms}
-use Rattle.pb_propagate.proofs.Common.{ℕ, ◌++◌, ◌+◌, ◌<◌, ◌∙◌, ◌∷◌, ◌≡◌, [], ap, arith, get_or, get_or-set_other, get_or-set_same, Global, inl, inr}
-use Rattle.pb_propagate.proofs.Common.{length, length-append, length-set, List, None, refl, set, subst, suc, sym, take, Vec, zero, Option}
-use Rattle.pb_propagate.proofs.Common.{set-append_seam, cases_eq, cases_lt, get_or-take, get_or_append_left, get_or_past, length-map, length-take-le}
+use Rattle.pb_propagate.proofs.Common.{ℕ, ◌++◌, ◌+◌, ◌<◌, ◌∙◌, ◌∷◌, ◌≡◌, [], ap, arith, get_or, get_or-set_other, get_or-set_same, Global}
+use Rattle.pb_propagate.proofs.Common.{length, length-append, length-set, List, None, refl, set, subst, sym, take, Vec, Option}
+use Rattle.pb_propagate.proofs.Common.{set-append_seam, cases_eq, cases_lt, get_or-take, get_or_append_left, get_or_past, get_or_push, length-map, length-take, length-take-le}
 use Rattle.pb_propagate.proofs.Common.{map-append, map-set, set-set, take-map, take_all, take_more, All-push, All-set, All-take, Form, Occurrence}
 use Rattle.pb_propagate.proofs.Common.{Spots, spots_in, StoredForm, Term, entries_of, forms_of, shapes_of, spots_of, stored_shape, cut, degree_at, IsLinked, IsStored}
 use Rattle.pb_propagate.proofs.Common.{terms_at, AreInside, Shape}
-use Rattle.pb_propagate.proofs.lemmas.store.Gets.{lt_of_apart, last-is}
+use Rattle.std.proofs.lemmas.Grind.{get_or-set_at}
+use Rattle.pb_propagate.proofs.lemmas.store.Gets.{last-is, push-default}
 use Rattle.pb_propagate.proofs.lemmas.store.Places.{entries-length}
 use Rattle.pb_propagate.proofs.lemmas.store.Links.{cut-length}
 use Rattle.pb_propagate.proofs.lemmas.store.Storages.{linked-named, link-start, link-end, link-vacant, cut-all}
@@ -42,16 +43,7 @@ widened-forms keep k sp v occ n empty no_spots old =
       named = linked-named base (spots_of sp ++ ([] ∷ [])) (entries_of base occ) whole;
       places = omega (arith, old.places, entries-length forms occ, entries-length base occ);
       inside = All-push (λ (f : Shape). AreInside n f.terms) forms x old.inside (none_inside n (stored_terms k) empty);
-      rooms = λ s less. elim (cases_lt s (length forms)) [
-        | inl before ↦
-            ap length (get_or_append_left (spots_of sp) ([] ∷ []) [] s (omega (arith, before, old.whole.sizes)))
-            ∙ old.rooms s before ∙ sym (ap (λ (f : Shape). length f.terms) (get_or_append_left forms (x ∷ []) (record { terms = []; degree = 0 }) s before))
-        | inr after ↦
-            let here : s ≡ length forms = omega (arith, after, less, long) in
-            let mine : length (get_or (spots_of sp ++ ([] ∷ [])) s []) ≡ 0 = ap length (last-is (spots_of sp) [] [] s (omega (arith, here, old.whole.sizes))) in
-            let its : length (terms_at base s) ≡ 0 = ap (λ (f : Shape). length f.terms) (last-is forms x (record { terms = []; degree = 0 }) s here) ∙ ap length empty in
-            mine ∙ sym its
-      ];
+      rooms = λ s less. grind (arith, cases_lt s (length forms), push-default (spots_of sp) s [], get_or_append_left, get_or_past, get_or_push, old.rooms s, old.whole.sizes, long, empty);
     })
 
 -- a form in the slot of an empty one
@@ -82,22 +74,14 @@ filled-stored keep k sp v occ occ' n form terms room empty terms_is sizes count 
       named = linked-named base (set (spots_of sp) form (spots_in v)) (entries_of base occ') whole;
       places = omega (arith, old.places, sizes, entries-length forms occ, entries-length base occ');
       inside = All-set (λ (f : Shape). AreInside n f.terms) forms form x inside old.inside;
-      rooms = λ s less. elim (cases_eq s form) [
-        | inl at ↦ rw at (ap length (get_or-set_same (spots_of sp) form (spots_in v) [] wide) ∙ count ∙ sym (ap length terms_here))
-        | inr other ↦ ap length (get_or-set_other (spots_of sp) form s (spots_in v) [] other) ∙ old.rooms s (omega (arith, less, length-set forms form x)) ∙ sym (ap (λ (f : Shape). length f.terms) (get_or-set_other forms form s x none other))
-      ];
+      rooms = λ s less. grind (arith, cases_eq s form, get_or-set_at, get_or-set_other, length-set, here, wide, count, terms_is, less, old.rooms s);
     })
 
 split-last : {X : Type 0} (xs : List X) (n : ℕ) (d : X) → length xs ≡ n + 1 → xs ≡ take n xs ++ (get_or xs n d ∷ [])
 split-last xs n d h = sym (take_all (n + 1) xs (omega (arith, h))) ∙ take_more xs n d (omega (arith, h))
 
 terms-taken : (forms : List Shape) (n k : ℕ) → length forms ≡ n + 1 → (k ≡ n → ⊥) → terms_at (take n forms) k ≡ terms_at forms k
-terms-taken forms n k size other =
-    let e : Shape = record { terms = []; degree = 0 } in
-    elim (cases_lt k n) [
-      | inl less ↦ ap (λ (f : Shape). f.terms) (get_or-take n forms k e less)
-      | inr more ↦ ap (λ (f : Shape). f.terms) (get_or_past (take n forms) k e (omega (arith, length-take-le n forms (omega (arith, size)), more)) ∙ sym (get_or_past forms k e (omega (arith, size, lt_of_apart n k more other))))
-    ]
+terms-taken forms n k size other = grind (arith, cases_lt k n, get_or-take, get_or_past, length-take)
 
 pub left-stored : (keep : List StoredForm) (sp sp0 : List Spots) (occ occ0 : List (Vec Occurrence Global)) (n number : ℕ) → length keep ≡ number + 1 → length occ ≡ length occ0 →
     ((s : ℕ) → length (get_or (spots_of sp) s []) ≡ length (get_or (spots_of sp0) s [])) → IsLinked (cut (shapes_of keep) number 0) (spots_of sp) (entries_of (shapes_of keep) occ) → IsStored (shapes_of keep) (spots_of sp0) (entries_of (shapes_of keep) occ0) n →
@@ -150,28 +134,19 @@ vacated-stored keep k sp sp0 v occ occ0 n form inside empty no_spots sizes rooms
       named = linked-named base (set (spots_of sp) form []) (entries_of base occ) whole;
       places = omega (arith, old.places, sizes, entries-length base occ, entries-length forms occ0);
       inside = All-set (λ (f : Shape). AreInside n f.terms) forms form (stored_shape k) (none_inside n (stored_terms k) empty) old.inside;
-      rooms = λ s less. elim (cases_eq s form) [
-        | inl at ↦ rw at (ap length (get_or-set_same (spots_of sp) form [] [] (omega (arith, here, spots_size))) ∙ sym (ap (λ (f : Shape). length f.terms) (get_or-set_same forms form (stored_shape k) e here) ∙ ap length empty))
-        | inr other ↦ ap length (get_or-set_other (spots_of sp) form s [] [] other) ∙ rooms s ∙ old.rooms s (omega (arith, less, length-set forms form (stored_shape k))) ∙ sym (ap (λ (f : Shape). length f.terms) (get_or-set_other forms form s (stored_shape k) e other))
-      ];
+      rooms = λ s less. grind (arith, cases_eq s form, get_or-set_at, get_or-set_other, length-set, here, spots_size, empty, less, rooms s, old.rooms s);
     })
 
 pub take-at : {X : Type 0} (xs ys : List X) (a b : ℕ) → a ≡ b → xs ≡ ys → take a xs ≡ take b ys
 take-at xs ys a b e f = ap (λ n. take n xs) e ∙ ap (take b) f
 
--- one more empty form is none of the forms
-pub forms-more : (keep keep' : List StoredForm) (k : StoredForm) (s : ℕ) → keep' ≡ keep ++ (k ∷ []) → stored_form k ≡ None → get_or (forms_of keep') s None ≡ get_or (forms_of keep) s None
-forms-more keep keep' k s same e = ap (λ ks. get_or (forms_of ks) s None) same ∙ at keep s
-  where
-    at : (ks : List StoredForm) (n : ℕ) → get_or (forms_of (ks ++ (k ∷ []))) n None ≡ get_or (forms_of ks) n None
-    at [] zero = e
-    at [] (suc n) = refl
-    at (x ∷ ks) zero = refl
-    at (x ∷ ks) (suc n) = at ks n
-
 -- the forms, as one is added or removed
 pub forms-widened : (keep keep' : List StoredForm) (k : StoredForm) → keep' ≡ keep ++ (k ∷ []) → stored_form k ≡ None → forms_of keep' ≡ forms_of keep ++ (None ∷ [])
 forms-widened keep keep' k same e = ap forms_of same ∙ map-append stored_form keep (k ∷ []) ∙ ap (λ o. forms_of keep ++ (o ∷ [])) e
+
+-- one more empty form is none of the forms
+pub forms-more : (keep keep' : List StoredForm) (k : StoredForm) (s : ℕ) → keep' ≡ keep ++ (k ∷ []) → stored_form k ≡ None → get_or (forms_of keep') s None ≡ get_or (forms_of keep) s None
+forms-more keep keep' k s same e = rw (forms-widened keep keep' k same e) (push-default (forms_of keep) s None)
 
 pub forms-filled : (keep keep' : List StoredForm) (k : StoredForm) (s : ℕ) (o : Option Form) → keep' ≡ set keep s k → stored_form k ≡ o → forms_of keep' ≡ set (forms_of keep) s o
 forms-filled keep keep' k s o same e = ap forms_of same ∙ map-set stored_form keep s k ∙ ap (set (forms_of keep) s) e

@@ -1,5 +1,5 @@
 -- What names what, as terms and entries are added and removed.
-use Rattle.pb_propagate.proofs.Common.{ℕ, ◌∙◌, ◌≡◌, ◌⊎◌, ap, arith, inl, inr, None, sym, Option, Some, cases_eq, AreCrossed, Cross}
+use Rattle.pb_propagate.proofs.Common.{ℕ, ◌∙◌, ◌≡◌, ◌⊎◌, arith, inl, inr, None, none-some, sym, Option, Some, cases_eq, AreCrossed, Cross}
 
 abbrev pub Grid : Type 0
 Grid = ℕ → ℕ → Option Cross
@@ -14,45 +14,14 @@ Same a b c d = (a ≡ c) × (b ≡ d)
 abbrev pub Answers : Grid → Grid → Type 0
 Answers f g = (a b c d w : ℕ) → f a b ≡ to c d w → g c d ≡ to a b w
 
-row_of : Option Cross → ℕ
-row_of None = 0
-row_of (Some c) = c.row
-
-column_of : Option Cross → ℕ
-column_of None = 0
-column_of (Some c) = c.column
-
-weight_of : Option Cross → ℕ
-weight_of None = 0
-weight_of (Some c) = c.weight
-
 pub to-parts : (p q w a b c : ℕ) → to p q w ≡ to a b c → (p ≡ a) × (q ≡ b) × (w ≡ c)
-unfolding row_of column_of weight_of
-to-parts p q w a b c e =
-    let r : p ≡ a = ap row_of e in
-    let s : q ≡ b = ap column_of e in
-    let t : w ≡ c = ap weight_of e in
-    (r, s, t)
-
-is_to : Option Cross → ℕ
-is_to None = 0
-is_to (Some c) = 1
+to-parts p q w a b c e = grind (arith)
 
 pub to-none : (a b c : ℕ) → to a b c ≡ None → ⊥
-unfolding is_to
-to-none a b c e =
-    let h : 1 ≡ 0 = ap is_to e in
-    omega (arith, h)
+to-none a b c e = none-some _ (sym e)
 
 pub same-or : (a b c d : ℕ) → Same a b c d ⊎ (Same a b c d → ⊥)
-same-or a b c d =
-    elim (cases_eq a c) [
-      | inr n ↦ inr (λ s. n s.0)
-      | inl e ↦ elim (cases_eq b d) [
-        | inr n ↦ inr (λ s. n s.1)
-        | inl k ↦ inl (e, k)
-      ]
-    ]
+same-or a b c d = grind (arith, cases_eq a c, cases_eq b d)
 
 -- what names two positions, names the same one
 named-once : {x : Option Cross} (a b w p q v : ℕ) → x ≡ to a b w → x ≡ to p q v → Same a b p q
@@ -65,12 +34,7 @@ data Now (f f' g g' : Grid) (a b : ℕ) : Type 0 where
   stays : f' a b ≡ f a b → ((c d w : ℕ) → g c d ≡ to a b w → g' c d ≡ g c d) → Now f f' g g' a b
 
 answers-by : (f f' g g' : Grid) → ((a b : ℕ) → Now f f' g g' a b) → Answers f g → Answers f' g'
-answers-by f f' g g' all old a b c d w h = by (all a b)
-  where
-    by : Now f f' g g' a b → g' c d ≡ to a b w
-    by (gone e) = absurd (to-none c d w (sym h ∙ e))
-    by (named p q v e k) = let is = to-parts c d w p q v (sym h ∙ e) in rw (is.0, is.1, is.2) k
-    by (stays e k) = let before = old a b c d w (sym e ∙ h) in k c d w before ∙ before
+answers-by f f' g g' all old a b c d w h = grind (arith, to-none, to-parts)
 
 crossed-by : (f f' g g' : Grid) → ((a b : ℕ) → Now f f' g g' a b) → ((c d : ℕ) → Now g g' f f' c d) → AreCrossed f g → AreCrossed f' g'
 crossed-by f f' g g' first second old a b c d w = (

@@ -1,13 +1,9 @@
 -- The elements at positions of a list. Offered to other crates.
-use Rattle.pb_propagate.proofs.Common.{get_or-set_same, get_or_from_slice_get, get_or_push, length-append, length-map, length-set, length-take, length-take-le, map-set, option_map, slice_get-get_or, slice_get-map, slice_get_past, swap_remove, take-map, ◌-◌}
-use Rattle.pb_propagate.proofs.Common.{ℕ, ◌++◌, ◌+◌, ◌<◌, ◌∙◌, ◌∷◌, ◌≡◌, ◌≤◌, [], ap, arith, get_or, inl, inr, length, List, map, None, refl, set}
+use Rattle.pb_propagate.proofs.Common.{get_or-set_same, get_or_from_slice_get, get_or_push, length-append, length-map, length-set, length-take, length-take-le, map-set, option_map, slice_get-get_or, slice_get-map, slice_get_past, swap_remove, take-map, get_or_append_left, get_or_past, ◌-◌}
+use Rattle.pb_propagate.proofs.Common.{ℕ, ◌++◌, ◌+◌, ◌<◌, ◌∙◌, ◌∷◌, ◌≡◌, ◌≤◌, [], ap, arith, get_or, length, List, map, None, refl, set}
 use Rattle.std.proofs.Math.ListN.{get_or-map}
 use Rattle.std.proofs.lemmas.Option.{slice_get_read}
 use Rattle.pb_propagate.proofs.Common.{suc, sym, take, zero, Contains, slice_get, Some, cases_lt}
-
--- at least a number, and not that number
-pub lt_of_apart : (a b : ℕ) → a ≤ b → (b ≡ a → ⊥) → a < b
-lt_of_apart a b h n = grind arith
 
 -- the empty list has no element
 pub contains-none : {X : Type 0} (xs : List X) (x : X) → xs ≡ [] → Contains xs x → ⊥
@@ -25,14 +21,14 @@ pub get-take_past : {X : Type 0} (xs : List X) (i j : ℕ) → i ≤ j → slice
 get-take_past xs i j h = slice_get_past (take i xs) j (omega (arith, length-take i xs, h))
 
 pub get-take_step : {X : Type 0} (xs : List X) (i j : ℕ) → (j ≡ i → ⊥) → slice_get (take (i + 1) xs) j ≡ slice_get (take i xs) j
-get-take_step xs i j n =
-    elim (cases_lt j i) [
-      | inl less ↦ get-take_less xs (i + 1) j (omega (arith, less)) ∙ sym (get-take_less xs i j less)
-      | inr more ↦ get-take_past xs (i + 1) j (omega (arith, lt_of_apart i j more n)) ∙ sym (get-take_past xs i j more)
-    ]
+get-take_step xs i j n = grind (arith, get-take_less, get-take_past, cases_lt j i)
 
 pub get-set_same : {X : Type 0} (xs : List X) (j : ℕ) (y : X) → j < length xs → slice_get (set xs j y) j ≡ Some y
 get-set_same xs j y h = slice_get-get_or (set xs j y) j y (omega (arith, h, length-set xs j y)) ∙ ap (λ x. Some x) (get_or-set_same xs j y y h)
+
+-- the same at a number that is equal, for `grind`
+pub get-set_at : {X : Type 0} (xs : List X) (j k : ℕ) (y : X) → k ≡ j → j < length xs → slice_get (set xs j y) k ≡ Some y
+get-set_at xs j k y is h = rw is (get-set_same xs j y h)
 
 pub get-set_other : {X : Type 0} (xs : List X) (j k : ℕ) (y : X) → (k ≡ j → ⊥) → slice_get (set xs j y) k ≡ slice_get xs k
 get-set_other [] j k y n = refl
@@ -53,30 +49,20 @@ get-push_less xs k y h = get-push_other xs k y (λ e. absurd (omega (arith, h, e
 pub get-push_same : {X : Type 0} (xs : List X) (k : ℕ) (y : X) → k ≡ length xs → slice_get (xs ++ (y ∷ [])) k ≡ Some y
 get-push_same xs k y h = slice_get-get_or (xs ++ (y ∷ [])) k y (omega (arith, h, length-append xs (y ∷ []))) ∙ ap (λ x. Some x) (get_or_push xs y y k (sym h))
 
-pub get-push_past : {X : Type 0} (xs : List X) (k : ℕ) (y : X) → length xs < k → slice_get (xs ++ (y ∷ [])) k ≡ None
-get-push_past xs k y h = slice_get_past (xs ++ (y ∷ [])) k (omega (arith, h, length-append xs (y ∷ [])))
-
 -- the last element of two lists that differ only there
 pub last-is : {X : Type 0} (xs : List X) (y d : X) (k : ℕ) → k ≡ length xs → get_or (xs ++ (y ∷ [])) k d ≡ y
 last-is xs y d k h = get_or_push xs y d k (sym h)
 
 -- appending the value that is read past the end changes nothing
 pub push-default : {X : Type 0} (xs : List X) (k : ℕ) (d : X) → get_or (xs ++ (d ∷ [])) k d ≡ get_or xs k d
-push-default [] zero d = refl
-push-default [] (suc k) d = refl
-push-default (x ∷ xs) zero d = refl
-push-default (x ∷ xs) (suc k) d = push-default xs k d
+push-default xs k d = grind (arith, get_or_append_left, get_or_past, get_or_push, length-append, cases_lt k (length xs))
 
 pub get-map : {X Y : Type 0} (f : X → Y) (xs : List X) (i : ℕ) (x : X) → i < length xs → x ≡ get_or xs i x → slice_get (map f xs) i ≡ Some (f x)
 get-map f xs i x h e = slice_get-map f xs i ∙ ap (option_map f) (slice_get_read xs (length xs) i x refl h e)
 
 -- a list without one of its entries
 pub swap-other : {X : Type 0} (es : List X) (q k : ℕ) (d : X) → (k ≡ q → ⊥) → (k ≡ length es - 1 → ⊥) → slice_get (swap_remove es q d) k ≡ slice_get es k
-swap-other es q k d n m =
-    elim (cases_lt k (length es - 1)) [
-      | inl less ↦ get-take_less (set es q (get_or es (length es - 1) d)) (length es - 1) k less ∙ get-set_other es q k (get_or es (length es - 1) d) n
-      | inr more ↦ get-take_past (set es q (get_or es (length es - 1) d)) (length es - 1) k more ∙ sym (slice_get_past es k (omega (arith, lt_of_apart (length es - 1) k more m)))
-    ]
+swap-other es q k d n m = grind (arith, get-take_less, get-take_past, get-set_other, slice_get_past, cases_lt k (length es - 1))
 
 pub swap-past : {X : Type 0} (es : List X) (q j : ℕ) (d : X) → length es - 1 ≤ j → slice_get (swap_remove es q d) j ≡ None
 swap-past es q j d past = get-take_past (set es q (get_or es (length es - 1) d)) (length es - 1) j past
@@ -85,16 +71,10 @@ pub swap-last : {X : Type 0} (es : List X) (q : ℕ) (d : X) → slice_get (swap
 swap-last es q d = swap-past es q (length es - 1) d (omega arith)
 
 pub swap-here : {X : Type 0} (es : List X) (q : ℕ) (d e : X) → q + 1 < length es → slice_get es (length es - 1) ≡ Some e → slice_get (swap_remove es q d) q ≡ Some e
-swap-here es q d e more is =
-    get-take_less (set es q (get_or es (length es - 1) d)) (length es - 1) q (omega (arith, more))
-    ∙ get-set_same es q (get_or es (length es - 1) d) (omega (arith, more))
-    ∙ ap (λ x. Some x) (get_or_from_slice_get es (length es - 1) e d is)
+swap-here es q d e more is = grind (arith, get-take_less, get-set_same, get_or_from_slice_get)
 
 pub swap-length : {X : Type 0} (es : List X) (q : ℕ) (d : X) → q < length es → length (swap_remove es q d) + 1 ≡ length es
-swap-length es q d inside =
-    let put = length-set es q (get_or es (length es - 1) d) in
-    let rest = length-take-le (length es - 1) (set es q (get_or es (length es - 1) d)) (omega (arith, put)) in
-    omega (arith, rest, inside)
+swap-length es q d inside = grind (arith, length-set, length-take-le)
 
 pub swap-map : {X Y : Type 0} (f : X → Y) (xs : List X) (q : ℕ) (d : X) → map f (swap_remove xs q d) ≡ swap_remove (map f xs) q (f d)
 swap-map f xs q d =

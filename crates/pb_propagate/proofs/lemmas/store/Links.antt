@@ -5,6 +5,7 @@ use Rattle.pb_propagate.proofs.Common.{cases_eq, length-take-le, sum_by-set, sum
 use Rattle.pb_propagate.proofs.Common.{NumberedLiteral, Term, entry_weight, place, term_weight, weight_in, weight_on, cut, degree_at, entry_at}
 use Rattle.pb_propagate.proofs.Common.{entry_cross, IsLinked, term_at, term_cross, terms_at, same, Shape, Weighted}
 use Rattle.pb_propagate.specs.engine.engine.Counts.{AreLinked}
+use Rattle.std.proofs.lemmas.Grind.{get_or-set_at}
 use Rattle.pb_propagate.proofs.lemmas.engine.Runs.{entry_weight-same, entry_weight-other, term_weight-same, term_weight-other}
 use Rattle.pb_propagate.proofs.lemmas.engine.Literals.{same-true, same-refl}
 use Rattle.pb_propagate.proofs.lemmas.engine.Spent.{place-injective}
@@ -37,10 +38,7 @@ pub record Gains (lists lists' : List (List Weighted)) (p : ℕ) (e : Weighted) 
   pub total : sum_by length lists' ≡ sum_by length lists + 1
 
 term_weight-apart : (l : NumberedLiteral) (t : Term) → (t.literal ≡ l → ⊥) → term_weight l t ≡ 0
-term_weight-apart l t n = elim (cases_Bool (same t.literal l)) [
-  | inl one ↦ absurd (n (same-true t.literal l one))
-  | inr apart ↦ term_weight-other l t apart
-]
+term_weight-apart l t n = grind (arith, cases_Bool (same t.literal l), same-true t.literal l, term_weight-other l t, n)
 
 term_weight-one : (l : NumberedLiteral) (t : Term) → l ≡ t.literal → term_weight l t ≡ t.coefficient
 term_weight-one l t e = term_weight-same l t (rw e (same-refl t.literal))
@@ -52,51 +50,33 @@ record Differs (a a' b b' : ℕ) : Type 0 where
   right : b' ≡ b + by
 
 pub cut-total : (base : List Shape) (s0 i : ℕ) → s0 < length base → i ≤ length (terms_at base s0) → sum_by (λ f. length f.terms) (cut base s0 i) + length (terms_at base s0) ≡ sum_by (λ f. length f.terms) base + i
-cut-total base s0 i inside within =
-    let x : Shape = record { terms = take i (terms_at base s0); degree = degree_at base s0 } in
-    let none_shape : Shape = record { terms = []; degree = 0 } in
-    let change = sum_by-set (λ (f : Shape). length f.terms) base s0 x none_shape inside in
-    omega (arith, change, length-take-le i (terms_at base s0) within)
+cut-total base s0 i inside within = grind (arith, sum_by-set, length-take-le)
 
 module _ {base : List Shape} {s0 i : ℕ} {t : Term} (x : IsTerm base s0 i t) where
+  right_step : (s : ℕ) (d : Shape) (l : NumberedLiteral) → s ≡ s0 → weight_on l (get_or (cut base s0 (i + 1)) s d).terms ≡ weight_on l (get_or (cut base s0 i) s d).terms + term_weight l t
+  right_step s d l here =
+      let more : weight_on l (take (i + 1) (terms_at base s0)) ≡ weight_on l (take i (terms_at base s0)) + term_weight l (get_or (terms_at base s0) i t) = sum_by_more (term_weight l) (terms_at base s0) i t x.within in
+      let item : term_weight l (get_or (terms_at base s0) i t) ≡ term_weight l t = ap (term_weight l) (sym x.is) in
+      rw here (omega (arith, more, item, ap (weight_on l) (cut-here base s0 (i + 1) x.inside d), ap (weight_on l) (cut-here base s0 i x.inside d)))
+
   module _ {lists lists' : List (List Weighted)} (g : Gains lists lists' (place t.literal) (entry_for s0 i t)) where
     differs : (s : ℕ) (d : Shape) (l : NumberedLiteral) → s < length base →
         Differs (weight_in s (get_or lists (place l) [])) (weight_in s (get_or lists' (place l) [])) (weight_on l (get_or (cut base s0 i) s d).terms) (weight_on l (get_or (cut base s0 (i + 1)) s d).terms)
     differs s d l there =
         elim (cases_eq s s0) [
-          | inr other ↦ elim (cases_eq (place l) (place t.literal)) [
-            | inr apart ↦ record { by = 0; left = left_same apart; right = right_other other }
-            | inl one ↦ record { by = 0; left = left_none one other; right = right_other other }
-          ]
-          | inl here ↦ elim (cases_eq (place l) (place t.literal)) [
-            | inr apart ↦ record { by = 0; left = left_same apart; right = right_none here apart }
-            | inl one ↦ record { by = t.coefficient; left = left_more one here; right = right_more here one }
-          ]
+          | inr other ↦
+              let right : weight_on l (get_or (cut base s0 (i + 1)) s d).terms ≡ weight_on l (get_or (cut base s0 i) s d).terms + 0 = omega (arith, ap (λ (f : Shape). weight_on l f.terms) (cut-other base s0 (i + 1) s other d), ap (λ (f : Shape). weight_on l f.terms) (cut-other base s0 i s other d)) in
+              elim (cases_eq (place l) (place t.literal)) [
+                | inr apart ↦ record { by = 0; left = omega (arith, ap (weight_in s) (g.others (place l) apart)); right = right }
+                | inl one ↦ record { by = 0; left = rw one (omega (arith, g.here s, entry_weight-other s (entry_for s0 i t) other)); right = right }
+              ]
+          | inl here ↦
+              let step = right_step s d l here in
+              elim (cases_eq (place l) (place t.literal)) [
+                | inr apart ↦ record { by = 0; left = omega (arith, ap (weight_in s) (g.others (place l) apart)); right = omega (arith, step, term_weight-apart l t (λ h. apart (ap place (sym h)))) }
+                | inl one ↦ record { by = t.coefficient; left = rw one (omega (arith, g.here s, entry_weight-same s (entry_for s0 i t) (sym here))); right = omega (arith, step, term_weight-one l t (place-injective l t.literal one)) }
+              ]
         ]
-      where
-        left_same : (place l ≡ place t.literal → ⊥) → weight_in s (get_or lists' (place l) []) ≡ weight_in s (get_or lists (place l) []) + 0
-        left_same apart = omega (arith, ap (weight_in s) (g.others (place l) apart))
-
-        left_none : place l ≡ place t.literal → (s ≡ s0 → ⊥) → weight_in s (get_or lists' (place l) []) ≡ weight_in s (get_or lists (place l) []) + 0
-        left_none one other = rw one (omega (arith, g.here s, entry_weight-other s (entry_for s0 i t) other))
-
-        left_more : place l ≡ place t.literal → s ≡ s0 → weight_in s (get_or lists' (place l) []) ≡ weight_in s (get_or lists (place l) []) + t.coefficient
-        left_more one here = rw one (omega (arith, g.here s, entry_weight-same s (entry_for s0 i t) (sym here)))
-
-        right_other : (s ≡ s0 → ⊥) → weight_on l (get_or (cut base s0 (i + 1)) s d).terms ≡ weight_on l (get_or (cut base s0 i) s d).terms + 0
-        right_other other = omega (arith, ap (λ (f : Shape). weight_on l f.terms) (cut-other base s0 (i + 1) s other d), ap (λ (f : Shape). weight_on l f.terms) (cut-other base s0 i s other d))
-
-        right_step : s ≡ s0 → weight_on l (get_or (cut base s0 (i + 1)) s d).terms ≡ weight_on l (get_or (cut base s0 i) s d).terms + term_weight l t
-        right_step here =
-            let more : weight_on l (take (i + 1) (terms_at base s0)) ≡ weight_on l (take i (terms_at base s0)) + term_weight l (get_or (terms_at base s0) i t) = sum_by_more (term_weight l) (terms_at base s0) i t x.within in
-            let item : term_weight l (get_or (terms_at base s0) i t) ≡ term_weight l t = ap (term_weight l) (sym x.is) in
-            rw here (omega (arith, more, item, ap (weight_on l) (cut-here base s0 (i + 1) x.inside d), ap (weight_on l) (cut-here base s0 i x.inside d)))
-
-        right_none : s ≡ s0 → (place l ≡ place t.literal → ⊥) → weight_on l (get_or (cut base s0 (i + 1)) s d).terms ≡ weight_on l (get_or (cut base s0 i) s d).terms + 0
-        right_none here apart = omega (arith, right_step here, term_weight-apart l t (λ h. apart (ap place (sym h))))
-
-        right_more : s ≡ s0 → place l ≡ place t.literal → weight_on l (get_or (cut base s0 (i + 1)) s d).terms ≡ weight_on l (get_or (cut base s0 i) s d).terms + t.coefficient
-        right_more here one = omega (arith, right_step here, term_weight-one l t (place-injective l t.literal one))
 
     pub linked-more : AreLinked (cut base s0 i) lists → AreLinked (cut base s0 (i + 1)) lists'
     linked-more old s d l there =
@@ -125,14 +105,7 @@ module _ {base : List Shape} {s0 i : ℕ} {t : Term} (x : IsTerm base s0 i t) wh
       ap (λ o. term_cross o (slice_get (get_or spots s0 []) i)) got
 
   pub terms-step : (s j : ℕ) → (Same s j s0 i → ⊥) → slice_get (terms_at (cut base s0 (i + 1)) s) j ≡ slice_get (terms_at (cut base s0 i) s) j
-  terms-step s j n =
-      let e : Shape = record { terms = []; degree = 0 } in
-      elim (cases_eq s s0) [
-        | inr other ↦ ap (λ (f : Shape). slice_get f.terms j) (cut-other base s0 (i + 1) s other e ∙ sym (cut-other base s0 i s other e))
-        | inl here ↦
-            let apart : j ≡ i → ⊥ = λ h. n (here, h) in
-            rw here (ap (λ xs. slice_get xs j) (cut-here base s0 (i + 1) x.inside e) ∙ get-take_step (terms_at base s0) i j apart ∙ sym (ap (λ xs. slice_get xs j) (cut-here base s0 i x.inside e)))
-      ]
+  terms-step s j n = grind (arith, cases_eq s s0, cases_eq j i, get_or-set_at, get_or-set_other, get-take_step, x.inside, n)
 
   pub term-other : (spots spots' : List (List ℕ)) (s j : ℕ) → (Same s j s0 i → ⊥) → slice_get (get_or spots' s []) j ≡ slice_get (get_or spots s []) j → term_at (cut base s0 (i + 1)) spots' s j ≡ term_at (cut base s0 i) spots s j
   term-other spots spots' s j n same_spot =
@@ -158,10 +131,7 @@ module _ {base : List Shape} {s0 i : ℕ} {t : Term} (x : IsTerm base s0 i t) wh
             (record {
               was = ap entry_cross (slice_get_past es (length es) (omega arith));
               now = ap (λ (xs : List Weighted). entry_cross (slice_get xs (length es))) now ∙ ap entry_cross (get-push_same es (length es) e refl);
-              others = λ q k n. elim (cases_eq q p) [
-                | inr other ↦ ap (λ (xs : List Weighted). entry_cross (slice_get xs k)) (apart q other)
-                | inl here ↦ rw here (ap (λ (xs : List Weighted). entry_cross (slice_get xs k)) now ∙ ap entry_cross (get-push_other es k e (λ h. n (here, h))))
-              ];
+              others = λ q k n. grind (arith, cases_eq q p, cases_eq k (length es), now, apart q, get-push_other, n);
             })
             old.crossed;
         sizes = sizes ∙ old.sizes ∙ cut-length base s0 i ∙ sym (cut-length base s0 (i + 1));

@@ -1,19 +1,16 @@
 -- The forms by number, which are stored by slot.
-use Rattle.pb_propagate.proofs.Common.{stored_form}
 use Rattle.pb_propagate.proofs.Common.{ℕ, ◌++◌, ◌-◌, ◌<◌, ◌^◌, ◌∙◌, ◌∷◌, ◌≡◌, ◌≤◌, ◌⊎◌, [], ap, arith, get_or, get_or-set_other, get_or-set_same, inl}
 use Rattle.pb_propagate.proofs.Common.{inr, length, length-append, length-set, List, None, refl, set, suc, sym, zero, Option, slice_get, Some, sum_by}
-use Rattle.pb_propagate.proofs.Common.{cases_eq, cases_lt, get_or-map, get_or_append_left, get_or_past, length-map, map-append, set-get_or}
+use Rattle.pb_propagate.proofs.Common.{cases_eq, get_or-map, get_or_append_left, get_or_past, length-map, map-append, set-get_or}
 use Rattle.pb_propagate.proofs.Common.{sum_by-cons, sum_by-set, sum_by_push, get_or_from_slice_get, slice_get-get_or, slice_get_within, Form}
 use Rattle.pb_propagate.proofs.Common.{StoredForm, forms_of, Shape, Live, ArePlaced, form_at, numbered, With}
+use Rattle.std.proofs.lemmas.Grind.{get_or-set_at}
 use Rattle.pb_propagate.proofs.lemmas.engine.Bridge.{AreKept}
-use Rattle.pb_propagate.proofs.lemmas.store.Gets.{get-set_same, get-set_other, get-push_less, get-push_same}
-use Rattle.pb_propagate.proofs.lemmas.store.Options.{some-one, none-some}
+use Rattle.pb_propagate.proofs.lemmas.store.Gets.{get-set_at, get-set_same, get-set_other, get-push_less, get-push_other, get-push_same}
+use Rattle.pb_propagate.proofs.lemmas.store.Options.{some-one}
 
 at-inside : (forms : List (Option Form)) (s : ℕ) (f : Form) → form_at forms s ≡ Some f → s < length forms
-at-inside forms s f h = elim (cases_lt s (length forms)) [
-  | inl less ↦ less
-  | inr past ↦ absurd (none-some (form_at forms s) f (get_or_past forms s None past) h)
-]
+at-inside forms s f h = grind (arith, get_or_past)
 
 at-any : (forms : List (Option Form)) (s : ℕ) (d : Option Form) → s < length forms → get_or forms s d ≡ form_at forms s
 at-any forms s d less = sym (get_or_from_slice_get forms s (get_or forms s d) None (slice_get-get_or forms s d less))
@@ -28,10 +25,7 @@ numbered-length forms places = length-map places (form_at forms)
 
 -- the live forms are those of the slots
 pub live-forth : (forms : List (Option Form)) (places : List ℕ) (f : Form) → ArePlaced forms places → Live forms f → Live (numbered forms places) f
-live-forth forms places f p (i, inside, is) =
-    let at : form_at forms i ≡ Some f = sym (at-any forms i (Some f) inside) ∙ is in
-    let found = p.placed i f at in
-    (found.0, omega (arith, slice_get_within places found.0 i found.1, numbered-length forms places), numbered-at forms places found.0 i (Some f) found.1 ∙ at)
+live-forth forms places f p (i, inside, is) = grind (arith, at-any, p.placed, slice_get_within, numbered-length, numbered-at)
 
 pub live-back : (forms : List (Option Form)) (places : List ℕ) (f : Form) → Live (numbered forms places) f → Live forms f
 live-back forms places f (n, inside, is) =
@@ -70,48 +64,26 @@ numbered-same forms forms' (p ∷ ps) h = rw (h 0 p refl, numbered-same forms fo
 
 agree-sum : (w : Option Form → ℕ) → w None ≡ 0 → (xs ys : List (Option Form)) → ((s : ℕ) → form_at xs s ≡ form_at ys s) → sum_by w xs ≡ sum_by w ys
 agree-sum w z [] [] h = refl
-agree-sum w z [] (y ∷ ys) h =
-    let rest = agree-sum w z [] ys (λ s. h (suc s)) in
-    let first : None ≡ y = h 0 in
-    omega (arith, rest, sum_by-cons w y ys, ap w first, z)
-agree-sum w z (x ∷ xs) [] h =
-    let rest = agree-sum w z xs [] (λ s. h (suc s)) in
-    let first : x ≡ None = h 0 in
-    omega (arith, rest, sum_by-cons w x xs, ap w first, z)
-agree-sum w z (x ∷ xs) (y ∷ ys) h =
-    let rest = agree-sum w z xs ys (λ s. h (suc s)) in
-    let first : x ≡ y = h 0 in
-    omega (arith, rest, sum_by-cons w x xs, sum_by-cons w y ys, ap w first)
+agree-sum w z [] (y ∷ ys) h = omega (arith, agree-sum w z [] ys (λ s. h (suc s)), sum_by-cons w y ys, ap w (h 0), z)
+agree-sum w z (x ∷ xs) [] h = omega (arith, agree-sum w z xs [] (λ s. h (suc s)), sum_by-cons w x xs, ap w (h 0), z)
+agree-sum w z (x ∷ xs) (y ∷ ys) h = omega (arith, agree-sum w z xs ys (λ s. h (suc s)), sum_by-cons w x xs, sum_by-cons w y ys, ap w (h 0))
 
 pub placed-agree : (forms forms' : List (Option Form)) (places : List ℕ) → ((s : ℕ) → form_at forms' s ≡ form_at forms s) → ArePlaced forms places → ArePlaced forms' places
-placed-agree forms forms' places h p = record {
-  live = λ n s k. elim (p.live n s k) [
-    | inl none ↦ inl none
-    | inr found ↦ inr (found.0, h s ∙ found.1)
-  ];
-  single = λ m n s f j k e. p.single m n s f j k (sym (h s) ∙ e);
-  placed = λ s f e. p.placed s f (sym (h s) ∙ e);
-  alike = λ w z. ap (sum_by w) (numbered-same forms forms' places (λ n s k. h s)) ∙ p.alike w z ∙ sym (agree-sum w z forms' forms h);
-}
+placed-agree forms forms' places h p = grind (arith, p.live, p.single, p.placed, numbered-same, p.alike, agree-sum)
 
 -- a form is stored in an empty slot
 slot-empty : (forms : List (Option Form)) (slot : ℕ) → slice_get forms slot ≡ Some None → form_at forms slot ≡ None
 slot-empty forms slot h = get_or_from_slice_get forms slot None None h
 
 slot-free : (forms : List (Option Form)) (places : List ℕ) (slot n : ℕ) → slice_get forms slot ≡ Some None → slot < 2 ^ 64 - 1 → ArePlaced forms places → slice_get places n ≡ Some slot → ⊥
-slot-free forms places slot n none small p h = elim (p.live n slot h) [
-  | inl past ↦ omega (arith, past, small)
-  | inr found ↦ none-some (form_at forms slot) found.0 (slot-empty forms slot none) found.1
-]
+slot-free forms places slot n none small p h = grind (arith, p.live n slot h, slot-empty forms slot none, small)
 
 pub numbered-filled : (forms : List (Option Form)) (places : List ℕ) (slot : ℕ) (f : Form) → slice_get forms slot ≡ Some None → slot < 2 ^ 64 - 1 → ArePlaced forms places → numbered (set forms slot (Some f)) places ≡ numbered forms places
 numbered-filled forms places slot f none small p =
     numbered-same forms (set forms slot (Some f)) places (λ n s h. get_or-set_other forms slot s (Some f) None (λ e. slot-free forms places slot n none small p (h ∙ ap (λ z. Some z) e)))
 
 pub numbered-grown : (forms : List (Option Form)) (places : List ℕ) (slot : ℕ) (f : Form) → slice_get forms slot ≡ Some None → slot < 2 ^ 64 - 1 → ArePlaced forms places → numbered (set forms slot (Some f)) (places ++ (slot ∷ [])) ≡ numbered forms places ++ (Some f ∷ [])
-numbered-grown forms places slot f none small p =
-    let here : form_at (set forms slot (Some f)) slot ≡ Some f = get_or-set_same forms slot (Some f) None (slice_get_within forms slot None none) in
-    map-append (form_at (set forms slot (Some f))) places (slot ∷ []) ∙ ap (λ (o : Option Form). numbered (set forms slot (Some f)) places ++ (o ∷ [])) here ∙ ap (λ (xs : List (Option Form)). xs ++ (Some f ∷ [])) (numbered-filled forms places slot f none small p)
+numbered-grown forms places slot f none small p = grind (arith, get_or-set_same, slice_get_within, map-append, numbered-filled)
 
 pub placed-filled : (forms : List (Option Form)) (places : List ℕ) (slot : ℕ) (f : Form) → slice_get forms slot ≡ Some None → slot < 2 ^ 64 - 1 → ArePlaced forms places → ArePlaced (set forms slot (Some f)) (places ++ (slot ∷ []))
 placed-filled forms places slot f none small p = record {
@@ -122,16 +94,7 @@ placed-filled forms places slot f none small p = record {
     ]
     | inr new ↦ inr (f, ap (form_at (set forms slot (Some f))) new.1 ∙ here)
   ];
-  single = λ m n s g h k e. elim (which m s h) [
-    | inl old ↦ elim (which n s k) [
-      | inl old_2 ↦ p.single m n s g old old_2 (sym (get_or-set_other forms slot s (Some f) None (taken m s old)) ∙ e)
-      | inr new ↦ absurd (taken m s old new.1)
-    ]
-    | inr new ↦ elim (which n s k) [
-      | inl old ↦ absurd (taken n s old new.1)
-      | inr new_2 ↦ new.0 ∙ sym new_2.0
-    ]
-  ];
+  single = λ m n s g h k e. grind (arith, cases_eq m (length places), cases_eq n (length places), cases_eq s slot, get-push_other, get-push_same, get_or-set_other, p.single m n s g, free m, free n);
   placed = λ s g e. elim (cases_eq s slot) [
     | inl same ↦ (length places, get-push_same places (length places) slot refl ∙ ap (λ z. Some z) (sym same))
     | inr other ↦
@@ -149,15 +112,16 @@ placed-filled forms places slot f none small p = record {
     here : form_at (set forms slot (Some f)) slot ≡ Some f
     here = get_or-set_same forms slot (Some f) None inside
 
+    free : (n : ℕ) → slice_get places n ≡ Some slot → ⊥
+    free n h = slot-free forms places slot n none small p h
+
     taken : (n s : ℕ) → slice_get places n ≡ Some s → s ≡ slot → ⊥
-    taken n s h e = slot-free forms places slot n none small p (h ∙ ap (λ z. Some z) e)
+    taken n s h e = free n (h ∙ ap (λ z. Some z) e)
 
     which : (n s : ℕ) → slice_get (places ++ (slot ∷ [])) n ≡ Some s → (slice_get places n ≡ Some s) ⊎ ((n ≡ length places) × (s ≡ slot))
-    which n s h = elim (cases_lt n (length places)) [
-      | inl less ↦ inl (sym (get-push_less places n slot less) ∙ h)
-      | inr more ↦
-          let end : n ≡ length places = omega (arith, more, slice_get_within (places ++ (slot ∷ [])) n s h, length-append places (slot ∷ [])) in
-          inr (end, some-one (slice_get (places ++ (slot ∷ [])) n) s slot h (get-push_same places n slot end))
+    which n s h = elim (cases_eq n (length places)) [
+      | inl end ↦ inr (end, grind (arith, get-push_same))
+      | inr other ↦ inl (sym (get-push_other places n slot other) ∙ h)
     ]
 
 -- a form is removed from its slot
@@ -173,20 +137,13 @@ pub record IsTaken (forms : List (Option Form)) (places : List ℕ) (number slot
   pub short : length forms ≤ 2 ^ 64 - 1
 
 pub taken-by : (forms : List (Option Form)) (places : List ℕ) (number s : ℕ) → number < length places → s ≡ get_or places number s → s < length forms → length forms ≤ 2 ^ 64 - 1 → ArePlaced forms places → IsTaken forms places number s
-taken-by forms places number s inside is less short p =
-    let got : slice_get places number ≡ Some s = slice_get-get_or places number s inside ∙ ap (λ z. Some z) (sym is) in
-    elim (p.live number s got) [
-      | inl past ↦ absurd (omega (arith, past, less, short))
-      | inr found ↦ record { form = found.0; got = got; at = found.1; short = short }
-    ]
+taken-by forms places number s inside is less short p = grind (arith, slice_get-get_or, p.live)
 
 none-past : (forms : List (Option Form)) (s : ℕ) → length forms ≤ 2 ^ 64 - 1 → form_at (set forms s None) (2 ^ 64 - 1) ≡ None
 none-past forms s short = get_or_past (set forms s None) (2 ^ 64 - 1) None (omega (arith, short, length-set forms s None))
 
 pub numbered-left : (forms : List (Option Form)) (places : List ℕ) (number slot : ℕ) → (t : IsTaken forms places number slot) → ArePlaced forms places → numbered (set forms slot None) (set places number (2 ^ 64 - 1)) ≡ set (numbered forms places) number None
-numbered-left forms places number slot t p =
-    numbered-set forms (set forms slot None) places number (2 ^ 64 - 1) (none-past forms slot t.short)
-    (λ n s other h. get_or-set_other forms slot s None None (λ e. other (p.single n number slot t.form (h ∙ ap (λ z. Some z) e) t.got t.at)))
+numbered-left forms places number slot t p = grind (arith, numbered-set, none-past, t.short, get_or-set_other, p.single, t.got, t.at)
 
 pub placed-left : (forms : List (Option Form)) (places : List ℕ) (number slot : ℕ) → (t : IsTaken forms places number slot) → ArePlaced forms places → ArePlaced (set forms slot None) (set places number (2 ^ 64 - 1))
 placed-left forms places number slot t p = record {
@@ -202,7 +159,7 @@ placed-left forms places number slot t p = record {
   single = λ m n s g h k e. p.single m n s g (still m s g h e) (still n s g k e) (before s g e);
   placed = λ s g e.
       let found = p.placed s g (before s g e) in
-      (found.0, get-set_other places number found.0 (2 ^ 64 - 1) (λ at. away s g e (some-one (slice_get places number) s slot (ap (slice_get places) (sym at) ∙ found.1) t.got)) ∙ found.1);
+      (found.0, grind (arith, cases_eq found.0 number, cases_eq s slot, get-set_other, get_or-set_at, at-inside forms slot t.form t.at, t.got, found.1, e));
   alike = λ w z.
       let room : number < length (numbered forms places) = omega (arith, inside, numbered-length forms places) in
       let one = sum_by-set w (numbered forms places) number None None room in
@@ -213,19 +170,11 @@ placed-left forms places number slot t p = record {
     inside : number < length places
     inside = slice_get_within places number slot t.got
 
-    away : (s : ℕ) (g : Form) → form_at (set forms slot None) s ≡ Some g → s ≡ slot → ⊥
-    away s g e same = none-some (form_at (set forms slot None) s) g (ap (form_at (set forms slot None)) same ∙ get_or-set_same forms slot None None (at-inside forms slot t.form t.at)) e
-
     before : (s : ℕ) (g : Form) → form_at (set forms slot None) s ≡ Some g → form_at forms s ≡ Some g
-    before s g e = sym (get_or-set_other forms slot s None None (away s g e)) ∙ e
+    before s g e = grind (arith, cases_eq s slot, get_or-set_at, get_or-set_other, at-inside forms slot t.form t.at)
 
     still : (n s : ℕ) (g : Form) → slice_get (set places number (2 ^ 64 - 1)) n ≡ Some s → form_at (set forms slot None) s ≡ Some g → slice_get places n ≡ Some s
-    still n s g h e = elim (cases_eq n number) [
-      | inr other ↦ sym (get-set_other places number n (2 ^ 64 - 1) other) ∙ h
-      | inl here ↦
-          let past : s ≡ 2 ^ 64 - 1 = some-one (slice_get (set places number (2 ^ 64 - 1)) n) s (2 ^ 64 - 1) h (ap (slice_get (set places number (2 ^ 64 - 1))) here ∙ get-set_same places number (2 ^ 64 - 1) inside) in
-          absurd (none-some (form_at (set forms slot None) s) g (ap (form_at (set forms slot None)) past ∙ none-past forms slot t.short) e)
-    ]
+    still n s g h e = grind (arith, cases_eq n number, get-set_at, get-set_other, inside, none-past forms slot t.short)
 
 -- removing the form of a number without a slot changes nothing
 pub numbered-none : (forms : List (Option Form)) (places : List ℕ) (number s : ℕ) → number < length places → s ≡ get_or places number s → length forms ≤ s → numbered forms places ≡ set (numbered forms places) number None
@@ -236,13 +185,7 @@ numbered-none forms places number s inside is past =
 
 -- one more form, which no number names
 numbered-more : (forms : List (Option Form)) (o : Option Form) (places : List ℕ) → length forms < 2 ^ 64 - 1 → ArePlaced forms places → numbered (forms ++ (o ∷ [])) places ≡ numbered forms places
-numbered-more forms o places small p = numbered-same forms (forms ++ (o ∷ [])) places (λ n s h. elim (p.live n s h) [
-  | inl past ↦ get_or_past (forms ++ (o ∷ [])) s None (omega (arith, past, small, length-append forms (o ∷ []))) ∙ sym (get_or_past forms s None (omega (arith, past, small)))
-  | inr found ↦ get_or_append_left forms (o ∷ []) None s (at-inside forms s found.0 found.1)
-])
+numbered-more forms o places small p = numbered-same forms (forms ++ (o ∷ [])) places (λ n s h. grind (arith, p.live n s h, at-inside forms s, get_or_past, get_or_append_left, length-append, small))
 
 pub numbered-entered : (keep keep' : List StoredForm) (k : StoredForm) (places : List ℕ) → keep' ≡ keep ++ (k ∷ []) → length keep < 2 ^ 64 - 1 → ArePlaced (forms_of keep) places → numbered (forms_of keep') places ≡ numbered (forms_of keep) places
-numbered-entered keep keep' k places same small p =
-    let form : StoredForm → Option Form = stored_form in
-    let more : forms_of keep' ≡ forms_of keep ++ (form k ∷ []) = ap forms_of same ∙ map-append form keep (k ∷ []) in
-    rw more (numbered-more (forms_of keep) (form k) places (omega (arith, small, length-map keep form)) p)
+numbered-entered keep keep' k places same small p = grind (arith, map-append, numbered-more, length-map)

@@ -1,13 +1,13 @@
 -- Adding and removing terms, in terms of what the program reads.
 use Rattle.pb_propagate.proofs.Common.{AreLonger, length-append, IsSound, Store, stored_terms, ℕ, ◌++◌, ◌+◌, ◌-◌, ◌<◌, ◌∙◌, ◌∷◌, ◌≡◌, ◌≤◌}
-use Rattle.pb_propagate.proofs.Common.{◌⊎◌, [], ap, arith, false, get_or, get_or-set_other, get_or-set_same, Global, inl, inr, length, length-set}
+use Rattle.pb_propagate.proofs.Common.{[], ap, arith, false, get_or, get_or-set_other, get_or-set_same, Global, length, length-set}
 use Rattle.pb_propagate.proofs.Common.{List, map, refl, set, subst, sym, Vec, slice_get, Some, swap_remove, cases_eq, cases_lt, get_or-map}
 use Rattle.pb_propagate.proofs.Common.{get_or_default, length-map, map-set, set_past, get_or_from_slice_get, slice_get-get_or, slice_get_within}
 use Rattle.pb_propagate.proofs.Common.{Occurrence, StoredForm, Term, place, entries_of, Spots, spots_in, lists_of, shapes_of, spots_of, stored_shape}
 use Rattle.pb_propagate.proofs.Common.{cut, IsLinked, last, Moved, terms_at, weighted, Shape}
 use Rattle.pb_propagate.specs.engine.engine.Links.{none}
+use Rattle.std.proofs.lemmas.Grind.{get_or-set_at}
 use Rattle.pb_propagate.proofs.lemmas.store.Gets.{get-push_same, get-push_other, swap-here, swap-length}
-use Rattle.pb_propagate.proofs.lemmas.store.Crosses.{Same}
 use Rattle.pb_propagate.proofs.lemmas.store.Links.{IsTerm, entry_for, link-next, cut-length}
 use Rattle.pb_propagate.proofs.lemmas.store.Unlinks.{unlink-next, named-spot, named-entry, Leaving}
 use Rattle.pb_propagate.proofs.lemmas.store.Positions.{taken-is}
@@ -27,17 +27,14 @@ pushed-lists occ p v0 v1 o room value pushed =
     map-set (λ (v : Vec Occurrence Global). v.items) occ p v1 ∙ ap (λ xs. set (lists_of occ) p xs) (pushed ∙ ap (λ xs. xs ++ (o ∷ [])) (sym (lists-at occ p p v0 room value refl)))
 
 pub longer-push : (occ occ' : List (Vec Occurrence Global)) (p : ℕ) (o : Occurrence) → p < length occ → lists_of occ' ≡ set (lists_of occ) p (get_or (lists_of occ) p [] ++ (o ∷ [])) → AreLonger occ occ'
-longer-push occ occ' p o room pushed q = elim (cases_eq q p) [
-  | inl here ↦ rw (here, pushed, get_or-set_same (lists_of occ) p (get_or (lists_of occ) p [] ++ (o ∷ [])) [] (omega (arith, room, lists-length occ))) (omega (arith, length-append (get_or (lists_of occ) p []) (o ∷ [])))
-  | inr other ↦ rw (pushed, get_or-set_other (lists_of occ) p q (get_or (lists_of occ) p [] ++ (o ∷ [])) [] other) (omega arith)
-]
+longer-push occ occ' p o room pushed q = grind (arith, cases_eq q p, pushed, get_or-set_at, get_or-set_other, lists-length occ, length-append)
 
 pub link-by : {base : List Shape} {form i : ℕ} {t : Term} (all : List (List ℕ)) (occ occ' : List (Vec Occurrence Global)) (spots spots' : List ℕ) → IsTerm base form i t → form < length all → place t.literal < length occ →
     lists_of occ' ≡ set (lists_of occ) (place t.literal) (get_or (lists_of occ) (place t.literal) [] ++ (record { form = form; index = i } ∷ [])) → spots' ≡ spots ++ (length (get_or (lists_of occ) (place t.literal) []) ∷ []) → length spots ≡ i →
     IsLinked (cut base form i) (set all form spots) (entries_of base occ) → IsLinked (cut base form (i + 1)) (set all form spots') (entries_of base occ')
 link-by {base} {form} {i} {t} all occ occ' spots spots' x wide room longer pushed size old =
     link-next x (set all form spots) (set all form spots') (entries_of base occ) (entries_of base occ') (omega (arith, room, entries-length base occ)) grown spot_now
-    (λ s j n. agree s j n (cases_eq s form)) (omega (arith, length-set all form spots, length-set all form spots')) old
+    (λ s j n. grind (arith, cases_eq s form, cases_eq j (length spots), get_or-set_at, get_or-set_other, get-push_other, pushed, size, n, wide)) (omega (arith, length-set all form spots, length-set all form spots')) old
   where
     weight : weighted base (record { form = form; index = i }) ≡ entry_for form i t
     weight = ap (entry_for form i) (get_or_default (terms_at base form) i (record { literal = record { variable = 0; negated = false }; coefficient = 0 }) t x.within ∙ sym x.is)
@@ -49,10 +46,6 @@ link-by {base} {form} {i} {t} all occ occ' spots spots' x wide room longer pushe
     spot_now =
         ap (λ (xs : List ℕ). slice_get xs i) (get_or-set_same all form spots' [] wide ∙ pushed) ∙ get-push_same spots i (length (get_or (lists_of occ) (place t.literal) [])) (sym size)
         ∙ ap (λ n. Some n) (sym (entries-size base occ (place t.literal)))
-
-    agree : (s j : ℕ) → (Same s j form i → ⊥) → (s ≡ form) ⊎ (s ≡ form → ⊥) → slice_get (get_or (set all form spots') s []) j ≡ slice_get (get_or (set all form spots) s []) j
-    agree s j n (inr other) = ap (λ (xs : List ℕ). slice_get xs j) (get_or-set_other all form s spots' [] other ∙ sym (get_or-set_other all form s spots [] other))
-    agree s j n (inl here) = rw here (ap (λ (xs : List ℕ). slice_get xs j) (get_or-set_same all form spots' [] wide ∙ pushed) ∙ get-push_other spots j (length (get_or (lists_of occ) (place t.literal) [])) (λ h. n (here, h ∙ size)) ∙ ap (λ (xs : List ℕ). slice_get xs j) (sym (get_or-set_same all form spots [] wide)))
 
 -- an entry is removed
 pub taken-lists : (occ : List (Vec Occurrence Global)) (p q : ℕ) (v0 v1 : Vec Occurrence Global) (e : Occurrence) → p < length occ → v0 ≡ get_or occ p v0 → e ≡ get_or v0.items q e → v1.items ≡ swap_remove v0.items q e → (x : Occurrence) × (x ≡ get_or (get_or (lists_of occ) p []) q x) × (lists_of (set occ p v1) ≡ set (lists_of occ) p (swap_remove (get_or (lists_of occ) p []) q x))
@@ -68,15 +61,7 @@ taken-last occ p q v0 v1 e spots room value gone inside short =
 
 pub taken-moved : (occ : List (Vec Occurrence Global)) (p q : ℕ) (v0 v1 : Vec Occurrence Global) (e m : Occurrence) → p < length occ → v0 ≡ get_or occ p v0 → v1.items ≡ swap_remove v0.items q e → q < length (get_or (lists_of occ) p []) → q < length v1.items → m ≡ get_or v1.items q m →
     (q + 1 < length (get_or (lists_of occ) p [])) × (slice_get (get_or (lists_of occ) p []) (length (get_or (lists_of occ) p []) - 1) ≡ Some m)
-taken-moved occ p q v0 v1 e m room value gone inside more item =
-    let es = lists-at occ p p v0 room value refl in
-    let inside_v0 : q < length v0.items = omega (arith, inside, ap length es) in
-    let beyond : q + 1 < length v0.items = omega (arith, swap-length v0.items q e inside_v0, ap length gone, more) in
-    let last_at : slice_get v0.items (length v0.items - 1) ≡ Some (get_or v0.items (length v0.items - 1) m) = slice_get-get_or v0.items (length v0.items - 1) m (omega (arith, beyond)) in
-    let here = swap-here v0.items q e (get_or v0.items (length v0.items - 1) m) beyond last_at in
-    let read : get_or v1.items q m ≡ get_or v0.items (length v0.items - 1) m = ap (λ (xs : List Occurrence). get_or xs q m) gone ∙ get_or_from_slice_get (swap_remove v0.items q e) q (get_or v0.items (length v0.items - 1) m) m here in
-    let is : m ≡ get_or v0.items (length v0.items - 1) m = item ∙ read in
-    (rw es beyond, rw es (last_at ∙ ap (λ x. Some x) (sym is)))
+taken-moved occ p q v0 v1 e m room value gone inside more item = grind (arith, lists-at, swap-length, slice_get-get_or, swap-here, get_or_from_slice_get)
 
 pub spots-moved : (spots : List Spots) (es : List Occurrence) (q : ℕ) (m : Occurrence) (w0 w1 : Spots) → m.form < length spots → w0 ≡ get_or spots m.form w0 → spots_in w1 ≡ set (spots_in w0) m.index q → q + 1 < length es → slice_get es (length es - 1) ≡ Some m → Moved es q (spots_of spots) (spots_of (set spots m.form w1))
 spots-moved spots es q m w0 w1 room value put more at =
@@ -89,9 +74,7 @@ pub set-read : {X : Type 0} (xs : List X) (p : ℕ) (y z : X) → p < length xs 
 set-read xs p y z room is = is ∙ get_or-set_same xs p y z room
 
 pub spots-read : (spots : List Spots) (s i : ℕ) (w0 : Spots) → s < length spots → w0 ≡ get_or spots s w0 → i < length (get_or (spots_of spots) s []) → i < length (spots_in w0)
-spots-read spots s i w0 room value h =
-    let those : get_or (spots_of spots) s [] ≡ (spots_in w0) = get_or-map spots_in spots s w0 [] room ∙ ap spots_in (sym value) in
-    omega (arith, h, ap length those)
+spots-read spots s i w0 room value h = grind (arith, get_or-map)
 
 -- the terms of a form from `left` on are removed
 pub record IsUnlinking (store now : Store) (form left : ℕ) : Type 0 where
@@ -150,15 +133,12 @@ unlink-read {store} {now} {form} {left} k t w q p0 sound u some inside kept_is i
     })
 
 -- a move does not change the sizes
+rooms-kept : (spots : List (List ℕ)) (f i q s : ℕ) → length (get_or (set spots f (set (get_or spots f []) i q)) s []) ≡ length (get_or spots s [])
+rooms-kept spots f i q s = grind (arith, cases_eq s f, cases_lt f (length spots), get_or-set_at, get_or-set_other, set_past, length-set)
+
 pub moved-rooms : (es : List Occurrence) (q : ℕ) (spots spots' : List (List ℕ)) → Moved es q spots spots' → (s : ℕ) → length (get_or spots' s []) ≡ length (get_or spots s [])
 moved-rooms es q spots _ (none end) s = refl
-moved-rooms es q spots _ (last m more at) s = elim (cases_eq s m.form) [
-  | inr other ↦ ap length (get_or-set_other spots m.form s (set (get_or spots m.form []) m.index q) [] other)
-  | inl here ↦ elim (cases_lt m.form (length spots)) [
-    | inl inside ↦ rw here (ap length (get_or-set_same spots m.form (set (get_or spots m.form []) m.index q) [] inside) ∙ length-set (get_or spots m.form []) m.index q)
-    | inr past ↦ ap (λ (xs : List (List ℕ)). length (get_or xs s [])) (set_past spots m.form (set (get_or spots m.form []) m.index q) past)
-  ]
-]
+moved-rooms es q spots _ (last m more at) s = rooms-kept spots m.form m.index q s
 
 pub taken-length : (occ occ' : List (Vec Occurrence Global)) (p q : ℕ) → ((e : Occurrence) × (e ≡ get_or (get_or (lists_of occ) p []) q e) × (lists_of occ' ≡ set (lists_of occ) p (swap_remove (get_or (lists_of occ) p []) q e))) → length occ' ≡ length occ
 taken-length occ occ' p q taken =

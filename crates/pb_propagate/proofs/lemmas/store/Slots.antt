@@ -14,10 +14,7 @@ pub record IsBare (keep : List StoredForm) (s : ℕ) : Type 0 where
   pub terms : terms_at (shapes_of keep) s ≡ []
 
 pub vacant-bare : (keep : List StoredForm) (clauses : List (List ℕ)) (s : ℕ) → IsVacant (shapes_of keep) clauses s → IsBare keep s
-vacant-bare keep clauses s v = record {
-  inside = omega (arith, v.inside, length-map keep stored_shape);
-  terms = v.terms (record { terms = []; degree = 0 });
-}
+vacant-bare keep clauses s v = grind (arith, v.inside, length-map, v.terms)
 
 pub slots-bare : (os : List (Option Form)) (keep : List StoredForm) (clauses : List (List ℕ)) (s : ℕ) → AreSlots os (joined (shapes_of keep) clauses) → slice_get os s ≡ Some None → IsBare keep s
 slots-bare os keep clauses s a h = vacant-bare keep clauses s (slots-vacant os (shapes_of keep) clauses s a h)
@@ -54,10 +51,7 @@ rest-filled store store' clauses forms f s sound none h variables r =
 
 -- a clause in the slot of an empty form
 shape-made : (a b : Shape) → a.terms ≡ b.terms → a.degree ≡ b.degree → a ≡ b
-shape-made a b p q =
-    let first : record { terms = a.terms; degree = a.degree } ≡ record { terms = b.terms; degree = a.degree } = ap (λ ts. let x : Shape = record { terms = ts; degree = a.degree } in x) p in
-    let second : record { terms = b.terms; degree = a.degree } ≡ record { terms = b.terms; degree = b.degree } = ap (λ n. let x : Shape = record { terms = b.terms; degree = n } in x) q in
-    first ∙ second
+shape-made a b p q = grind (arith, a.terms, a.degree, b.terms, b.degree)
 
 pub shapes-watched : (keep keep' : List StoredForm) (k : StoredForm) (clauses : List (List ℕ)) (s : ℕ) → IsVacant (shapes_of keep) clauses s → IsUnlisted k → keep' ≡ set keep s k → shapes_of keep' ≡ shapes_of keep
 shapes-watched keep keep' k clauses s v e keeps =
@@ -103,11 +97,4 @@ rest-removed store store' clauses clauses' forms k s less sound e keeps variable
 
 -- only the room in the blocks of clauses is another
 pub rest-refitted : (store : Store) (clauses clauses' : Clauses) (forms : List (Option Form)) → IsRefitted clauses clauses' → IsAtRest store clauses forms → IsAtRest store clauses' forms
-rest-refitted store clauses clauses' forms same r = record {
-  sound = r.sound;
-  slots = rw same.literals r.slots;
-  joined = rw same.literals r.joined;
-  ready = same.ready;
-  widths = rw same.lists r.widths;
-  known = rw same.literals r.known;
-}
+rest-refitted store clauses clauses' forms same r = grind (arith, r.sound, same.literals, r.slots, r.joined, same.ready, same.lists, r.widths, r.known)

@@ -1,5 +1,5 @@
 -- A form's terms, as they are read and sorted.
-use Rattle.pb_propagate.proofs.Common.{ℕ, ◌++◌, ◌+◌, ◌-◌, ◌<◌, ◌^◌, ◌∙◌, ◌∷◌, ◌≡◌, ◌≤◌, [], ap, arith, false, FitsSigned, get_or, length, List, map}
+use Rattle.pb_propagate.proofs.Common.{ℕ, ◌++◌, ◌+◌, ◌-◌, ◌<◌, ◌^◌, ◌∙◌, ◌∷◌, ◌≡◌, ◌≤◌, [], ap, arith, false, get_or, length, List, map}
 use Rattle.pb_propagate.proofs.Common.{of_z, pos, refl, subst, sym, take, to_z, ℤ, All, IsPermutation, sum_by, unsigned_abs, get_or-map}
 use Rattle.pb_propagate.proofs.Common.{get_or_default, length-map, map-append, take_all, take_more, All-push, IsPermutation-map, IsPermutation-sym}
 use Rattle.pb_propagate.proofs.Common.{sum_by-IsPermutation, get_or-le-sum_by, sum_by-cons, w128, Entry, each, total, Rank, Term, AreFalling, IsCalm}
@@ -70,12 +70,7 @@ picked-even es places same none i d inside =
 
 -- equal coefficients
 pub equal-even : (es : List Entry) (places : List ℕ) → ((i j : ℕ) (d : Entry) → i < length es → j < length es → (get_or es i d).coefficient ≡ (get_or es j d).coefficient) → places ≡ [] → AreEven (in_order es places)
-equal-even es places equal none i d inside =
-    let bare : length places ≡ 0 = ap length none in
-    let least : i < length es = omega (arith, inside, form-length es places bare) in
-    let here = form-read es places i d bare inside in
-    let first = form-read es places 0 d bare (omega (arith, inside)) in
-    omega (arith, ap (λ (t : Term). t.coefficient) here, ap (λ (t : Term). t.coefficient) first, equal i 0 (record { variable = 0; negated = false; coefficient = 0 }) least (omega (arith, least)))
+equal-even es places equal none i d inside = grind (arith, form-length, form-read)
 
 pub even-falls : (terms : List Term) → AreEven terms → AreFalling terms
 even-falls terms even i j d less inside = omega (arith, even i d (omega (arith, less, inside)), even j d inside)
@@ -127,24 +122,18 @@ ranked-falling es ranks m up small all i j d less inside =
 sum_by-entries : (ts : List Term) → sum_by (λ e. e.coefficient) (map entry_of ts) ≡ sum_by (λ t. t.coefficient) ts
 sum_by-entries [] = refl
 sum_by-entries (t ∷ ts) =
-    let rest = sum_by-entries ts in
-    omega (arith, rest, sum_by-cons (λ (x : Term). x.coefficient) t ts, sum_by-cons (λ (x : Entry). x.coefficient) (entry_of t) (map entry_of ts))
+    omega (arith, sum_by-entries ts, sum_by-cons (λ (x : Term). x.coefficient) t ts, sum_by-cons (λ (x : Entry). x.coefficient) (entry_of t) (map entry_of ts))
 
 pub total-each : (es : List Entry) → total each es ≡ sum_by (λ e. e.coefficient) es
 total-each [] = refl
-total-each (e ∷ es) =
-    let rest = total-each es in
-    omega (arith, rest, sum_by-cons (λ (x : Entry). x.coefficient) e es)
+total-each (e ∷ es) = omega (arith, total-each es, sum_by-cons (λ (x : Entry). x.coefficient) e es)
 
 pub kept-size : (ts : List Term) (es : List Entry) → IsPermutation (map entry_of ts) es → sum_by (λ t. t.coefficient) ts ≡ total each es
 kept-size ts es p =
     omega (arith, sum_by-entries ts, total-each es, sum_by-IsPermutation (λ (e : Entry). e.coefficient) (map entry_of ts) es p)
 
 pub degree-read : (u : ℕ) (r : ℤ) (d : ℕ) → u ≡ unsigned_abs (to_z w128 (of_z w128 r)) → r ≡ pos d → d < 2 ^ 127 → u ≡ d
-degree-read u r d e is small =
-    let abs : unsigned_abs r ≡ d = ap unsigned_abs is in
-    let fits : FitsSigned w128 r = fits_signed_from_abs w128 r (omega (arith, abs, small)) in
-    e ∙ ap unsigned_abs (to_z-of_z w128 r fits) ∙ abs
+degree-read u r d e is small = grind (arith, fits_signed_from_abs, to_z-of_z)
 
 -- with an open sum of its degree and its largest coefficient a form is calm, whatever its candidate
 pub bound-calm : (terms : List Term) (degree bound : ℕ) (e : Term) → AreFalling terms → 0 < length terms → bound ≡ degree + (get_or terms 0 e).coefficient → (opened c : ℕ) → bound ≤ opened → IsCalm (record { terms = terms; degree = degree }) opened c

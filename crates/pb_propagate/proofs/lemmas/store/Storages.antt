@@ -1,12 +1,13 @@
 -- The store when a form was added or removed.
-use Rattle.pb_propagate.proofs.Common.{ℕ, ◌++◌, ◌+◌, ◌<◌, ◌∙◌, ◌∷◌, ◌≡◌, ◌≤◌, [], ap, arith, get_or, get_or-set_other, get_or-set_same, inl, inr}
+use Rattle.pb_propagate.proofs.Common.{ℕ, ◌++◌, ◌+◌, ◌<◌, ◌∙◌, ◌∷◌, ◌≡◌, ◌≤◌, [], ap, arith, get_or, get_or-set_other, inl, inr}
 use Rattle.pb_propagate.proofs.Common.{length, length-append, length-set, List, map, refl, set, suc, sym, All, IsPermutation, slice_get, sum_by}
 use Rattle.pb_propagate.proofs.Common.{cases_eq, cases_lt, get_or-map, get_or_append_left, get_or_past, length-map, set-get_or, take_all}
 use Rattle.pb_propagate.proofs.Common.{All-permutation, IsPermutation-sym, sum_by-cons, sum_by-set, sum_by_push, slice_get-get_or, slice_get_within}
 use Rattle.pb_propagate.proofs.Common.{Term, entry_weight, NameForms, place, weight_in, weight_on, entry_of, AreCrossed, cut, degree_at, entry_at}
 use Rattle.pb_propagate.proofs.Common.{IsLinked, term_at, term_cross, terms_at, AreInside, Shape, Weighted}
+use Rattle.std.proofs.lemmas.Grind.{get_or-set_at}
 use Rattle.pb_normal.specs.declared.entry.Entry.{Entry as Given}
-use Rattle.pb_propagate.proofs.lemmas.store.Gets.{lt_of_apart, last-is}
+use Rattle.pb_propagate.proofs.lemmas.store.Gets.{last-is}
 use Rattle.pb_propagate.proofs.lemmas.engine.Runs.{entry_weight-other}
 use Rattle.pb_propagate.proofs.lemmas.store.Links.{cut-here, cut-other, cut-length, cut-total}
 use Rattle.pb_propagate.proofs.lemmas.store.Unlinks.{named-term}
@@ -26,40 +27,21 @@ weight-none : (s : ℕ) (es : List Weighted) → All (λ e. e.form < s) es → w
 weight-none s [] all = refl
 weight-none s (e ∷ es) all =
     let here : e.form < s = all 0 e (omega arith) in
-    let rest = weight-none s es (λ k d h. all (suc k) d (omega (arith, h))) in
-    omega (arith, rest, sum_by-cons (entry_weight s) e es, entry_weight-other s e (λ h. absurd (omega (arith, h, here))))
+    omega (arith, weight-none s es (λ k d h. all (suc k) d (omega (arith, h))), sum_by-cons (entry_weight s) e es, entry_weight-other s e (λ h. absurd (omega (arith, h, here))))
 
 pub linked-named : (forms : List Shape) (spots : List (List ℕ)) (lists : List (List Weighted)) → IsLinked forms spots lists → NameForms (length forms) lists
 linked-named forms spots lists old p k d h =
     let e = get_or (get_or lists p []) k d in
     let named = named-term forms spots lists p k e (slice_get-get_or (get_or lists p []) k d h) old in
     let inside = slice_get_within (terms_at forms e.form) e.index named.term named.is in
-    elim (cases_lt e.form (length forms)) [
-      | inl less ↦ less
-      | inr past ↦ absurd (omega (arith, inside, ap (λ (f : Shape). length f.terms) (get_or_past forms e.form (record { terms = []; degree = 0 }) past)))
-    ]
+    grind (arith, get_or_past, inside)
 
 -- a last form without terms names nothing
+terms-end : (forms : List Shape) (x : Shape) (s : ℕ) → terms_at (cut (forms ++ (x ∷ [])) (length forms) 0) s ≡ terms_at forms s
+terms-end forms x s = grind (arith, cases_eq s (length forms), get_or_append_left, get_or_past, get_or-set_at, get_or-set_other, length-append, length-set)
+
 end-same : (forms : List Shape) (others : List (List ℕ)) (x : Shape) (y : List ℕ) (s i : ℕ) → length others ≡ length forms → term_at (cut (forms ++ (x ∷ [])) (length forms) 0) (others ++ (y ∷ [])) s i ≡ term_at forms others s i
-end-same forms others x y s i sizes =
-    let base = forms ++ (x ∷ []) in
-    let e : Shape = record { terms = []; degree = 0 } in
-    let long : length base ≡ length forms + 1 = length-append forms (x ∷ []) in
-    elim (cases_lt s (length forms)) [
-      | inl less ↦
-          let same_form : get_or (cut base (length forms) 0) s e ≡ get_or forms s e = cut-other base (length forms) 0 s (λ h. absurd (omega (arith, h, less))) e ∙ get_or_append_left forms (x ∷ []) e s less in
-          let same_spots : get_or (others ++ (y ∷ [])) s [] ≡ get_or others s [] = get_or_append_left others (y ∷ []) [] s (omega (arith, less, sizes)) in
-          ap (λ (f : Shape). term_cross (slice_get f.terms i) (slice_get (get_or (others ++ (y ∷ [])) s []) i)) same_form ∙ ap (λ (ys : List ℕ). term_cross (slice_get (terms_at forms s) i) (slice_get ys i)) same_spots
-      | inr more ↦
-          let nothing : terms_at forms s ≡ [] = ap (λ (f : Shape). f.terms) (get_or_past forms s e more) in
-          ap (λ (ts : List Term). term_cross (slice_get ts i) (slice_get (get_or (others ++ (y ∷ [])) s []) i)) (cut_nothing base s more long) ∙ sym (ap (λ (ts : List Term). term_cross (slice_get ts i) (slice_get (get_or others s []) i)) nothing)
-    ]
-  where
-    cut_nothing : (b : List Shape) (k : ℕ) → length forms ≤ k → length b ≡ length forms + 1 → terms_at (cut b (length forms) 0) k ≡ []
-    cut_nothing b k past long = elim (cases_eq k (length forms)) [
-      | inl here ↦ rw here (cut-here b (length forms) 0 (omega (arith, long)) (record { terms = []; degree = 0 }))
-      | inr other ↦ ap (λ (f : Shape). f.terms) (get_or_past (cut b (length forms) 0) k (record { terms = []; degree = 0 }) (omega (arith, cut-length b (length forms) 0, long, lt_of_apart (length forms) k past other)))
-    ]
+end-same forms others x y s i sizes = grind (arith, terms-end, get_or_append_left, get_or_past, cases_lt s (length forms))
 
 end-total : (forms : List Shape) (x : Shape) → sum_by (λ f. length f.terms) (cut (forms ++ (x ∷ [])) (length forms) 0) ≡ sum_by (λ f. length f.terms) forms
 end-total forms x =
@@ -104,10 +86,7 @@ cut-all base s i all =
 
 -- an empty form in the slot of the cut one
 vacant-terms : (base : List Shape) (s : ℕ) (x : Shape) → s < length base → x.terms ≡ [] → (k : ℕ) (d : Shape) → (get_or (set base s x) k d).terms ≡ (get_or (cut base s 0) k d).terms
-vacant-terms base s x inside e k d = elim (cases_eq k s) [
-  | inl here ↦ rw here (ap (λ (f : Shape). f.terms) (get_or-set_same base s x d inside) ∙ e ∙ sym (cut-here base s 0 inside d))
-  | inr other ↦ ap (λ (f : Shape). f.terms) (get_or-set_other base s k x d other ∙ sym (cut-other base s 0 k other d))
-]
+vacant-terms base s x inside e k d = grind (arith, cases_eq k s, get_or-set_at, get_or-set_other)
 
 pub link-vacant : (base : List Shape) (spots : List (List ℕ)) (lists : List (List Weighted)) (s : ℕ) (x : Shape) → s < length base → x.terms ≡ [] → IsLinked (cut base s 0) spots lists → IsLinked (set base s x) (set spots s []) lists
 link-vacant base spots lists s x inside e old = record {

@@ -1,9 +1,10 @@
 -- A term's entry is removed.
-use Rattle.pb_propagate.proofs.Common.{subst, ℕ, ◌+◌, ◌-◌, ◌<◌, ◌∙◌, ◌≡◌, [], ap, arith, get_or, get_or-set_other, get_or-set_same, inl, inr, length}
-use Rattle.pb_propagate.proofs.Common.{length-set, List, None, refl, set, sym, Option, slice_get, Some, sum_by, swap_remove, cases_eq, cases_lt}
+use Rattle.pb_propagate.proofs.Common.{subst, ℕ, ◌+◌, ◌-◌, ◌<◌, ◌∙◌, ◌≡◌, [], ap, arith, get_or, get_or-set_other, get_or-set_same, length}
+use Rattle.pb_propagate.proofs.Common.{length-set, List, None, refl, set, sym, Option, slice_get, Some, sum_by, swap_remove, cases_eq}
 use Rattle.pb_propagate.proofs.Common.{get_or_past, sum_by-set, sum_by-swap_remove, get_or_from_slice_get, same_Some, slice_get_within, Term}
 use Rattle.pb_propagate.proofs.Common.{entry_weight, place, weight_in, AreCrossed, cut, entry_at, entry_cross, IsLinked, term_at, term_cross}
 use Rattle.pb_propagate.proofs.Common.{terms_at, Shape, Weighted}
+use Rattle.std.proofs.lemmas.Grind.{get_or-set_at}
 use Rattle.pb_propagate.proofs.lemmas.store.Gets.{get-set_same, get-set_other, swap-other, swap-last, swap-here, swap-length}
 use Rattle.pb_propagate.proofs.lemmas.store.Links.{Gains, IsTerm, entry_for, linked-less, totals-next, term-here, term-none, term-other, terms-step, cut-length}
 use Rattle.pb_propagate.proofs.lemmas.store.Crosses.{to, to-parts, to-none, Same, crossed-drop, crossed-move}
@@ -58,10 +59,7 @@ named-spot forms spots lists p q e is old =
     (outer spots e.form e.index inner, inner)
   where
     outer : (ss : List (List ℕ)) (s i : ℕ) → i < length (get_or ss s []) → s < length ss
-    outer ss s i h = elim (cases_lt s (length ss)) [
-      | inl inside ↦ inside
-      | inr past ↦ absurd (omega (arith, h, ap length (get_or_past ss s [] past)))
-    ]
+    outer ss s i h = grind (arith, get_or_past)
 
 -- what removing an entry from a list does to the positions that terms name
 pub data Shifted (es : List Weighted) (q : ℕ) (spots : List (List ℕ)) : List (List ℕ) → Type 0 where
@@ -104,11 +102,7 @@ module _ {base : List Shape} {spots : List (List ℕ)} {lists lists' : List (Lis
   }
 
   leaving-entry : (r k : ℕ) → (Same r k p q → ⊥) → (Same r k p (length es - 1) → ⊥) → entry_at lists' r k ≡ entry_at lists r k
-  leaving-entry r k n m =
-      elim (cases_eq r p) [
-        | inr other ↦ ap (λ (xs : List Weighted). entry_cross (slice_get xs k)) (others r other)
-        | inl here ↦ rw here (ap (λ (xs : List Weighted). entry_cross (slice_get xs k)) now ∙ ap entry_cross (swap-other es q k (entry_for s0 i t) (λ h. n (here, h)) (λ h. m (here, h))) ∙ ap (λ (xs : List Weighted). entry_cross (slice_get xs k)) l.those)
-      ]
+  leaving-entry r k n m = grind (arith, cases_eq r p, cases_eq k q, cases_eq k (length es - 1), now, l.those, others r, swap-other, n, m)
 
   leaving-none : (k : ℕ) → k ≡ length es - 1 → entry_at lists' p k ≡ None
   leaving-none k h = rw h (ap (λ (xs : List Weighted). entry_cross (slice_get xs (length es - 1))) now ∙ ap entry_cross (swap-last es q (entry_for s0 i t)))
@@ -120,11 +114,8 @@ module _ {base : List Shape} {spots : List (List ℕ)} {lists lists' : List (Lis
   leaving-crossed _ (stays end) =
       crossed-drop (term_at (cut base s0 (i + 1)) spots) (term_at (cut base s0 i) spots) (entry_at lists) (entry_at lists') s0 i p q t.coefficient
       (record { was = leaving-here; now = term-none l.term spots; others = λ s j n. sym (term-other l.term spots spots s j n refl) })
-      (record { was = leaving-is; now = leaving-none q (omega (arith, end)); others = λ r k n. leaving-entry r k n (λ h. n (h.0, ends k (length es) h.1 end)) })
+      (record { was = leaving-is; now = leaving-none q (omega (arith, end)); others = λ r k n. leaving-entry r k n (λ h. n (h.0, omega (arith, h.1, end))) })
       l.old.crossed
-    where
-      ends : (a b : ℕ) → a ≡ b - 1 → q + 1 ≡ b → a ≡ q
-      ends a b h k = omega (arith, h, k)
   leaving-crossed _ (goes m more at) =
       crossed-move (term_at (cut base s0 (i + 1)) spots) (term_at (cut base s0 i) spots') (entry_at lists) (entry_at lists') (record { row = s0; column = i; weight = t.coefficient }) (record { row = m.form; column = m.index; weight = m.coefficient }) p q (length es - 1)
       (record {
@@ -159,10 +150,7 @@ module _ {base : List Shape} {spots : List (List ℕ)} {lists lists' : List (Lis
       spot_here = ap (λ (xs : List ℕ). slice_get xs m.index) (get_or-set_same spots m.form (set (get_or spots m.form []) m.index q) [] places.0) ∙ get-set_same (get_or spots m.form []) m.index q places.1
 
       spot_other : (s j : ℕ) → (Same s j m.form m.index → ⊥) → slice_get (get_or spots' s []) j ≡ slice_get (get_or spots s []) j
-      spot_other s j n = elim (cases_eq s m.form) [
-        | inr other ↦ ap (λ (xs : List ℕ). slice_get xs j) (get_or-set_other spots m.form s (set (get_or spots m.form []) m.index q) [] other)
-        | inl here ↦ rw here (ap (λ (xs : List ℕ). slice_get xs j) (get_or-set_same spots m.form (set (get_or spots m.form []) m.index q) [] places.0) ∙ get-set_other (get_or spots m.form []) m.index j q (λ h. n (here, h)))
-      ]
+      spot_other s j n = grind (arith, cases_eq s m.form, cases_eq j m.index, get_or-set_at, get_or-set_other, get-set_other, places.0, n)
 
       apart : Same m.form m.index s0 i → ⊥
       apart h =

@@ -1,7 +1,7 @@
 -- Entries and the coefficients of their terms.
-use Rattle.pb_propagate.proofs.Common.{map-append, ℕ, ◌++◌, ◌-◌, ◌<◌, ◌∙◌, ◌∷◌, ◌≡◌, [], ap, arith, false, get_or, get_or-set_other, Global, length}
+use Rattle.pb_propagate.proofs.Common.{cases_lt, get_or_append_left, get_or_past, length-append, map-append, ℕ, ◌++◌, ◌-◌, ◌<◌, ◌∙◌, ◌∷◌, ◌≡◌, [], ap, arith, get_or, get_or-set_other, Global, length}
 use Rattle.pb_propagate.proofs.Common.{List, map, refl, set, suc, sym, Vec, zero, All, option_map, slice_get, Some, swap_remove, get_or_default}
-use Rattle.pb_propagate.proofs.Common.{length-map, map-set, slice_get-get_or, slice_get-map, slice_get_within, Occurrence, Term, NameForms}
+use Rattle.pb_propagate.proofs.Common.{length-map, map-set, slice_get-get_or, slice_get-map, slice_get_within, Occurrence, NameForms}
 use Rattle.pb_propagate.proofs.Common.{entries_of, lists_of, cut, IsLinked, last, Moved, terms_at, weighted, Shape, Weighted}
 use Rattle.std.proofs.Math.ListN.{get_or-map}
 use Rattle.std.proofs.lemmas.Simd.{map-map}
@@ -26,9 +26,7 @@ entries-size forms occ p = ap length (entries-get forms occ p) ∙ length-map (g
 
 -- an entry that is removed, and the one that moves
 entries-set : (forms : List Shape) (occ occ' : List (Vec Occurrence Global)) (p : ℕ) (os : List Occurrence) → lists_of occ' ≡ set (lists_of occ) p os → entries_of forms occ' ≡ set (entries_of forms occ) p (map (weighted forms) os)
-entries-set forms occ occ' p os h =
-    let w = weighted forms in
-    entries-lists forms occ' ∙ ap (map (map w)) h ∙ map-set (map w) (lists_of occ) p os ∙ ap (λ ys. set ys p (map w os)) (sym (entries-lists forms occ))
+entries-set forms occ occ' p os h = grind (arith, entries-lists, map-set)
 
 pub entries-taken : (forms : List Shape) (occ occ' : List (Vec Occurrence Global)) (p q : ℕ) (o : Occurrence) → lists_of occ' ≡ set (lists_of occ) p (swap_remove (get_or (lists_of occ) p []) q o) → entries_of forms occ' ≡ set (entries_of forms occ) p (swap_remove (get_or (entries_of forms occ) p []) q (weighted forms o))
 entries-taken forms occ occ' p q o h =
@@ -67,16 +65,11 @@ abbrev pub NameOthers : ℕ → List (Vec Occurrence Global) → Type 0
 NameOthers s occ = (p : ℕ) → All (λ o. o.form ≡ s → ⊥) (get_or (lists_of occ) p [])
 
 weighted-same : (forms forms' : List Shape) (o : Occurrence) → terms_at forms' o.form ≡ terms_at forms o.form → weighted forms' o ≡ weighted forms o
-weighted-same forms forms' o h =
-    let t : Term = record { literal = record { variable = 0; negated = false }; coefficient = 0 } in
-    ap (λ (ts : List Term). record { form = o.form; index = o.index; coefficient = (get_or ts o.index t).coefficient }) h
+weighted-same forms forms' o h = grind (arith)
 
 map-agree : {X Y : Type 0} (f g : X → Y) (xs : List X) → All (λ x. f x ≡ g x) xs → map f xs ≡ map g xs
 map-agree f g [] all = refl
-map-agree f g (x ∷ xs) all =
-    let here : f x ≡ g x = all zero x (omega arith) in
-    let rest : map f xs ≡ map g xs = map-agree f g xs (λ k d h. all (suc k) d (omega (arith, h))) in
-    rw (here, rest) refl
+map-agree f g (x ∷ xs) all = rw (all zero x (omega arith), map-agree f g xs (λ k d h. all (suc k) d (omega (arith, h)))) refl
 
 -- if one form is replaced, the entries that do not name it stay as they were
 pub entries-apart : (forms forms' : List Shape) (occ : List (Vec Occurrence Global)) (s : ℕ) → ((k : ℕ) → (k ≡ s → ⊥) → terms_at forms' k ≡ terms_at forms k) → NameOthers s occ → entries_of forms' occ ≡ entries_of forms occ
@@ -106,10 +99,7 @@ others-past forms occ s named p k d h here =
 
 -- the terms of the other forms
 pub terms-before : (forms : List Shape) (x : Shape) (k : ℕ) → (k ≡ length forms → ⊥) → terms_at (forms ++ (x ∷ [])) k ≡ terms_at forms k
-terms-before [] x zero n = absurd (n refl)
-terms-before [] x (suc k) n = refl
-terms-before (f ∷ fs) x zero n = refl
-terms-before (f ∷ fs) x (suc k) n = terms-before fs x k (λ e. n (omega (arith, e)))
+terms-before forms x k n = grind (arith, get_or_append_left, get_or_past, length-append, cases_lt k (length forms))
 
 pub terms-set : (forms : List Shape) (s : ℕ) (x : Shape) (k : ℕ) → (k ≡ s → ⊥) → terms_at (set forms s x) k ≡ terms_at forms k
 terms-set forms s x k n = ap (λ (f : Shape). f.terms) (get_or-set_other forms s k x (record { terms = []; degree = 0 }) n)

@@ -1,13 +1,10 @@
-use Rattle.pb_propagate.proofs.Common.{ℕ, ◌-◌, ◌∙◌, [], ap, arith, get_or, get_or-set_same, length, refl, set, subst, sym, get_or_read, IsCalm}
-use Rattle.pb_propagate.proofs.Common.{shapes_of, Shape}
+use Rattle.pb_propagate.proofs.Common.{ℕ, ◌-◌, ◌∙◌, ap, arith, get_or, get_or-set_same, refl, set, subst, sym, get_or_read, IsCalm}
+use Rattle.pb_propagate.proofs.Common.{shapes_of}
 use Rattle.pb_propagate.proofs.lemmas.engine.VisitSteps.{grown-by, idle-at, changed-at, shape-at, weight-read}
 use Rattle.pb_propagate.proofs.run.lower.Goals as goal
 
 pub weight_of-requires : goal.weight_of-requires
-weight_of-requires c =
-    let e = c.args.entry in
-    let shape = shape-at c.args.store.now.stored.items e.form c.index-kept.result.now c.requires.form c.index-kept.ensures (record { terms = []; degree = 0 }) in
-    omega (arith, c.requires.index, ap (λ (f : Shape). length f.terms) shape)
+weight_of-requires c = grind (arith, shape-at, c.index-kept.ensures)
 
 pub returns-clause-lowers : goal.returns-clause-lowers
 returns-clause-lowers c =
@@ -27,8 +24,4 @@ returns-clause-lowers c =
     }
 
 pub returns-clause-falsified : goal.returns-clause-falsified
-returns-clause-falsified c = λ found d.
-    let opens = c.args.run.now.opens.items in
-    let e = c.args.entry in
-    let shape = shape-at c.args.store.now.stored.items e.form c.index-kept.result.now c.requires.form c.index-kept.ensures d in
-    omega (arith, c.is_below.ensures.below found, ap (λ (f : Shape). f.degree) shape, c.sums-sums.ensures.degree, get_or-set_same opens e.form (c.index-opened.result.now - c.weight_of.result) 0 c.requires.inside)
+returns-clause-falsified c = grind (arith, shape-at, c.index-kept.ensures, c.is_below.ensures.below, c.sums-sums.ensures.degree, get_or-set_same, c.requires.inside)

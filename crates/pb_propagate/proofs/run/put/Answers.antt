@@ -1,4 +1,4 @@
-use Rattle.pb_propagate.proofs.Common.{ℕ, ◌+◌, ◌∙◌, ap, arith, Global, refl, sym, Vec, length-map, negation, Assignment, place, shapes_of}
+use Rattle.pb_propagate.proofs.Common.{rules, ℕ, ◌+◌, ◌∙◌, ap, arith, Global, refl, sym, Vec, length-map, negation, Assignment, place, shapes_of}
 use Rattle.pb_propagate.proofs.Common.{stored_shape, assigned_to, database, entries_against, progress}
 use Rattle.pb_propagate.proofs.lemmas.store.Places.{entries-length}
 use Rattle.pb_propagate.proofs.lemmas.engine.Runs.{Counted-put}
@@ -12,21 +12,13 @@ pub entries-init : goal.entries-init
 entries-init c =
     let d = database c.args.store.now c.args.rests.now in
     let run = c.args.run.now in
-    record {
-      assignment = refl;
-      candidates = refl;
-      next = refl;
-      putting = putting-start d (entries_against d c.args.literal) (assigned_to c.put.new.self.values.items c.put.new.self.list.items (progress run))
-          (Counted-put d.forms run.opens.items run.assignment.list.items c.put.new.self.list.items c.args.literal _ c.in_ok-put.ensures.ok c.requires.absent (λ s f inside. c.requires.store.whole.linked s f (negation c.args.literal) inside) c.requires.sums.counted)
-          (c.requires.sums.opens ∙ sym (length-map c.args.store.now.stored.items stored_shape));
-    }
+    let putting = putting-start d (entries_against d c.args.literal) (assigned_to c.put.new.self.values.items c.put.new.self.list.items (progress run))
+    (Counted-put d.forms run.opens.items run.assignment.list.items c.put.new.self.list.items c.args.literal _ c.in_ok-put.ensures.ok c.requires.absent (λ s f inside. c.requires.store.whole.linked s f (negation c.args.literal) inside) c.requires.sums.counted)
+    (c.requires.sums.opens ∙ sym (length-map c.args.store.now.stored.items stored_shape)) in
+    search rules
 
 pub place_of-requires : goal.place_of-requires
-place_of-requires c =
-    let store = c.args.store.now in
-    let inside = place-inside (negation c.args.literal) store.variables c.requires.inside in
-    let small = store.occurrences.ok.0 in
-    rw c.negation.ensures (omega (arith, inside, c.requires.store.places, entries-length (shapes_of store.stored.items) store.occurrences.items, small))
+place_of-requires c = grind (arith, place-inside, c.requires.inside, c.negation.ensures, c.requires.store.places, entries-length)
 
 pub index-entries-requires : goal.index-entries-requires
 index-entries-requires c =
@@ -38,30 +30,20 @@ index-entries-requires c =
 read : (c : After-visit-entry) → IsRead (database c.args.store.now c.args.rests.now) (entries_against (database c.args.store.now c.args.rests.now) c.args.literal) c.visit-entry.result c.entries.j
 read c = entry-read c.args.store.now c.args.rests.now c.args.literal c.place_of.result c.index-entries.result.now c.deref.result.now c.entries.j c.visit-entry.result c.requires.store c.requires.inside (c.place_of.ensures.place ∙ ap place c.negation.ensures) c.index-entries.ensures c.deref.ensures.value c.visit-entry.ensures.item (omega (arith, c.entries-test.true, c.len-j-end.ensures, c.deref.ensures.len))
 
-pub lower-requires-clause-form : goal.lower-requires-clause-form
-lower-requires-clause-form c =
-    omega (arith, (read (goal.at.lower-requires-clause-form c).After-visit-entry).form, length-map c.args.store.now.stored.items stored_shape)
-
-pub lower-requires-clause-inside : goal.lower-requires-clause-inside
-lower-requires-clause-inside c =
-    omega (arith, (read (goal.at.lower-requires-clause-inside c).After-visit-entry).form, c.entries.invariant.putting.sizes)
-
-pub lower-requires-clause-index : goal.lower-requires-clause-index
-lower-requires-clause-index c =
-    (read (goal.at.lower-requires-clause-index c).After-visit-entry).index
-
-pub lower-requires-clause-fits : goal.lower-requires-clause-fits
-lower-requires-clause-fits c =
-    putting-fits c.visit-entry.result (read (goal.at.lower-requires-clause-fits c).After-visit-entry) c.entries.invariant.putting
+pub lower-requires : goal.lower-requires
+lower-requires c =
+    let r = read (goal.at.lower-requires c).After-visit-entry in
+    record {
+      form = omega (arith, r.form, length-map c.args.store.now.stored.items stored_shape);
+      index = r.index;
+      inside = omega (arith, r.form, c.entries.invariant.putting.sizes);
+      fits = putting-fits c.visit-entry.result r c.entries.invariant.putting;
+    }
 
 pub entries-preserved : goal.entries-preserved
 entries-preserved c =
-    record {
-      assignment = c.lower.ensures.assignment ∙ c.entries.invariant.assignment;
-      candidates = c.lower.ensures.candidates ∙ c.entries.invariant.candidates;
-      next = c.lower.ensures.next ∙ c.entries.invariant.next;
-      putting = putting-next c.visit-entry.new.visits c.visit-entry.result (progress c.lower.new.run) (read (goal.at.entries-preserved c).After-visit-entry) c.requires.sums.next c.visit-entry.ensures.count c.visit-entry.ensures.rising c.entries.invariant.putting c.in_ok-lower.ensures.lowers (ap (λ (a : Assignment). a.values.items) c.lower.ensures.assignment) c.lower.ensures.visits;
-    }
+    let putting = putting-next c.visit-entry.new.visits c.visit-entry.result (progress c.lower.new.run) (read (goal.at.entries-preserved c).After-visit-entry) c.requires.sums.next c.visit-entry.ensures.count c.visit-entry.ensures.rising c.entries.invariant.putting c.in_ok-lower.ensures.lowers (ap (λ (a : Assignment). a.values.items) c.lower.ensures.assignment) c.lower.ensures.visits in
+    search (rules, c.lower.ensures.assignment ∙ c.entries.invariant.assignment, c.lower.ensures.candidates ∙ c.entries.invariant.candidates, c.lower.ensures.next ∙ c.entries.invariant.next)
 
 pub returns-in_err-put-clause-costs : goal.returns-in_err-put-clause-costs
 returns-in_err-put-clause-costs c = on-err _ (costs-none (progress c.args.run.now) (assigned_to c.put.new.self.values.items c.put.new.self.list.items (progress c.args.run.now)) c.in_err-put.ensures.err refl refl)

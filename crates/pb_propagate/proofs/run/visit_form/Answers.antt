@@ -1,8 +1,7 @@
-use Rattle.pb_propagate.proofs.Common.{stored_degree, stored_terms}
+use Rattle.pb_propagate.proofs.Common.{stored_degree, stored_terms, ℕ, ◌+◌, ◌<◌, ap, arith, get_or, Global, length, refl, set, Vec, get_or_read, rules}
+use Rattle.pb_propagate.proofs.Common.{length-map, get_or-le-sum_by, Term, shapes_of, stored_shape, database, list_of, passed_to, progress, reasons_of, ◌≤◌}
+use Rattle.pb_propagate.proofs.Common.{IsTidyAt, RunReasons}
 use Rattle.pb_propagate.proofs.lemmas.store.Stored.{stored-small, stored-low}
-use Rattle.pb_propagate.proofs.Common.{ℕ, ◌+◌, ◌<◌, ◌∙◌, ap, arith, get_or, Global, length, refl, set, sym, Vec, sum, get_or_read, length-map}
-use Rattle.pb_propagate.proofs.Common.{get_or-le-sum_by, Term, shapes_of, stored_shape, database, list_of, passed_to, progress, reasons_of}
-use Rattle.pb_propagate.proofs.Common.{◌≤◌, IsTidyAt, RunReasons}
 use Rattle.pb_propagate.proofs.lemmas.engine.Advances.{advances-visit, advances-then, costs-then, on-err}
 use Rattle.pb_propagate.proofs.lemmas.engine.VisitSteps.{IsVisiting, visiting-start, visiting-next, visiting-reasons, forced-read, calm-by, waiting-by, visiting-settled, Visiting-conflict, shape-at, term-inside}
 use Rattle.pb_propagate.proofs.lemmas.root.Ready.{open-later, visiting-visits}
@@ -12,14 +11,7 @@ use Rattle.pb_propagate.proofs.run.visit_form.Goals.{After-index-candidate, In_o
 use Rattle.pb_propagate.proofs.run.visit_form.Goals as goal
 
 pub terms-init : goal.terms-init
-terms-init c =
-    let store = c.args.store.now in
-    let sizes = length-map store.stored.items stored_shape in
-    record {
-      counted = c.requires.sums.counted;
-      reasons = run-reasons-none (shapes_of store.stored.items) c.args.run.now;
-      in_visit = visiting-start (database store c.args.rests.now) c.args.waiting.now c.args.form (progress c.args.run.now) c.requires.tidy c.requires.there (c.requires.sums.opens ∙ sym sizes) (c.requires.sums.candidates ∙ sym sizes);
-    }
+terms-init c = search (rules, length-map, c.requires.sums.counted, run-reasons-none, visiting-start, c.requires.tidy, c.requires.there, c.requires.sums.opens, c.requires.sums.candidates)
 
 -- where a further form is falsified: the term is passed
 passed : (c : In_ok-found) → IsVisiting (database c.args.store.now c.args.rests.now) c.args.waiting.now c.args.form (progress c.args.run.now) (passed_to (set c.try_put.new.run.candidates.items c.args.form (c.index-candidate.result.now + 1)) (progress c.try_put.new.run))
@@ -99,9 +91,7 @@ returns-in_err-found-clause-costs c =
     on-err _ (costs-then c.terms.invariant.in_visit.advances.costs (costs-then (advances-visit (database c.args.store.now c.args.rests.now) (progress c.terms.run) c.visit_term-term.new.visits 0 1 visit.rising (omega (arith, visit.count))).costs c.in_err-found.ensures.costs))
 
 pub returns-in_err-found-clause-bounded : goal.returns-in_err-found-clause-bounded
-returns-in_err-found-clause-bounded c =
-    let same = ap (λ (v : Vec ℕ Global). sum v.items) c.try_put.ensures.candidates in
-    omega (arith, same, sum-bounded (shapes_of c.args.store.now.stored.items) c.terms.run.candidates.items c.terms.invariant.in_visit.candidates c.terms.invariant.in_visit.tidy.bounded)
+returns-in_err-found-clause-bounded c = grind (arith, c.try_put.ensures.candidates, sum-bounded, c.terms.invariant.in_visit.candidates, c.terms.invariant.in_visit.tidy.bounded)
 
 pub returns-then-found-clause-conflict : goal.returns-then-found-clause-conflict
 returns-then-found-clause-conflict c = λ found. c.in_ok-found.ensures.conflict c.if-found.true
@@ -128,15 +118,7 @@ pub returns-then-candidate-len-clause-visits : goal.returns-then-candidate-len-c
 returns-then-candidate-len-clause-visits c = visiting-visits c.args.run.now c.terms.run c.terms.invariant.in_visit c.terms.invariant.reasons
 
 pub returns-then-not-demands-clause-visits : goal.returns-then-not-demands-clause-visits
-returns-then-not-demands-clause-visits c =
-    let visit = c.visit_term-term.ensures in
-    let v = c.terms.invariant.in_visit in
-    record {
-      advances = advances-then v.advances (advances-visit (database c.args.store.now c.args.rests.now) (progress c.terms.run) c.visit_term-term.new.visits 0 1 visit.rising (omega (arith, visit.count)));
-      reasons = record { kept = c.terms.invariant.reasons.kept; added = c.terms.invariant.reasons.added };
-      undone = record { clean = v.tidy.clean; named = v.tidy.marked };
-      found = λ small. let before = v.found (omega (arith, small, visit.rising)) in omega (arith, before, visit.rising);
-    }
+returns-then-not-demands-clause-visits c = grind (arith, c.visit_term-term.ensures, c.terms.invariant.in_visit, advances-then, advances-visit, c.terms.invariant.reasons.kept, c.terms.invariant.reasons.added)
 
 pub returns-then-found-clause-visits : goal.returns-then-found-clause-visits
 returns-then-found-clause-visits c = visiting-visits c.args.run.now _ (passed (goal.at.returns-then-found-clause-visits c).In_ok-found) (record { kept = (reasoned (goal.at.returns-then-found-clause-visits c).In_ok-found).kept; added = (reasoned (goal.at.returns-then-found-clause-visits c).In_ok-found).added })

@@ -1,5 +1,4 @@
-use Rattle.pb_propagate.proofs.Common.{stored_terms}
-use Rattle.pb_propagate.proofs.Common.{◌-◌, get_or, length, shapes_of, database, IsOpen, progress, RunReasons}
+use Rattle.pb_propagate.proofs.Common.{stored_terms, ◌-◌, get_or, length, shapes_of, database, IsOpen, progress, RunReasons}
 use Rattle.pb_propagate.proofs.lemmas.engine.VisitSteps.{IsVisiting}
 use Rattle.pb_propagate.proofs.run.visit_form.Given as goal
 

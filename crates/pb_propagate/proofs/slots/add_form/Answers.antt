@@ -1,5 +1,5 @@
 use Rattle.pb_propagate.proofs.Common.{ℕ, ◌∙◌, [], ap, arith, get_or-set_other, length, List, rules, Some}
-use Rattle.pb_propagate.proofs.Common.{list_at, watch_at, watch_lists, clauses_of, codes_of_terms, forms_of, shapes_of}
+use Rattle.pb_propagate.proofs.Common.{list_at, watch_at, clauses_of, codes_of_terms, forms_of, shapes_of}
 use Rattle.pb_propagate.proofs.lemmas.store.Changes.{forms-filled}
 use Rattle.pb_propagate.proofs.lemmas.store.Slots.{slots-bare, rest-filled, rest-watched, rest-refitted}
 use Rattle.pb_propagate.proofs.lemmas.clauses.Slots.{slots-vacant}
@@ -13,9 +13,7 @@ fill-requires-clause-slot c =
     bare.inside
 
 pub fill-requires-clause-empty : goal.fill-requires-clause-empty
-fill-requires-clause-empty c =
-    let bare = slots-bare (forms_of c.args.store.now.stored.items) c.args.store.now.stored.items (clauses_of c.args.clauses.now) c.args.slot c.requires.rest.slots c.requires.slot in
-    bare.terms
+fill-requires-clause-empty c = grind (arith, slots-bare)
 
 pub returns-clause-rest : goal.returns-clause-rest
 returns-clause-rest c =
@@ -26,14 +24,10 @@ returns-clause-rest c =
     (rest-filled c.args.store.now c.fill.new.store c.plan.new.clauses (forms_of keep) c.args.form c.args.slot reported.sound c.requires.slot h c.fill.ensures.variables (rest-refitted c.args.store.now c.args.clauses.now c.plan.new.clauses (forms_of keep) c.plan.ensures.clauses c.requires.rest))
 
 pub returns-clause-forms : goal.returns-clause-forms
-returns-clause-forms c =
-    let h = c.in_ok-fill.ensures.filled in
-    forms-filled c.args.store.now.stored.items c.fill.new.store.stored.items h.kept c.args.slot (Some c.args.form) h.keeps h.form
+returns-clause-forms c = grind (arith, forms-filled)
 
 pub returns-in_err-fill-clause-refused : goal.returns-in_err-fill-clause-refused
-returns-in_err-fill-clause-refused c =
-    let reported = ap forms_of c.in_err-fill.ensures.unchanged in
-    search (rules, reported)
+returns-in_err-fill-clause-refused c = grind arith
 
 pub returns-in-Some-clause-rest : goal.returns-in-Some-clause-rest
 returns-in-Some-clause-rest c =
@@ -47,21 +41,13 @@ returns-in-Some-clause-rest c =
     rest.0 rest.1 rest.2 (rw c.form-2.ensures at planned.0.normal) (rw c.form-2.ensures at planned.0.clause) reported.ready reported.literals reported.lists (rest-refitted c.args.store.now c.args.clauses.now c.plan.new.clauses (forms_of keep) c.plan.ensures.clauses c.requires.rest))
 
 pub returns-in-Some-clause-forms : goal.returns-in-Some-clause-forms
-returns-in-Some-clause-forms c =
-    let k = c.in_ok-watch.ensures.kept in
-    forms-filled c.args.store.now.stored.items c.watch.new.store.stored.items k.0 c.args.slot (Some c.args.form) k.3 k.1
+returns-in-Some-clause-forms c = grind (arith, forms-filled)
 
 pub returns-in_err-watch-clause-refused : goal.returns-in_err-watch-clause-refused
-returns-in_err-watch-clause-refused c =
-    let reported = ap forms_of c.in_err-watch.ensures.unchanged in
-    search (rules, reported)
+returns-in_err-watch-clause-refused c = grind arith
 
 pub returns-clause-gained : goal.returns-clause-gained
-returns-clause-gained c =
-    let store = c.args.store.now in
-    let h = c.in_ok-fill.ensures.filled in
-    let vacant = slots-vacant (forms_of store.stored.items) (shapes_of store.stored.items) (clauses_of c.args.clauses.now) c.args.slot c.requires.rest.slots c.requires.slot in
-    gained-filled store c.fill.new.store c.args.clauses.now c.plan.new.clauses c.args.slot h.kept c.fill.ensures.variables h.keeps (λ s apart. ap (λ (cs : List (List ℕ)). list_at cs s) c.plan.ensures.clauses.literals) (λ e apart. ap (λ ws. watch_at ws e) c.plan.ensures.clauses.watches) vacant c.requires.slot c.args.form h.form
+returns-clause-gained c = search (rules, c.in_ok-fill.ensures.filled, slots-vacant, c.requires.rest.slots, c.requires.slot, gained-filled, c.fill.ensures.variables, c.plan.ensures.clauses.literals, c.plan.ensures.clauses.watches)
 
 pub returns-in-Some-clause-gained : goal.returns-in-Some-clause-gained
 returns-in-Some-clause-gained c =
@@ -72,16 +58,10 @@ returns-in-Some-clause-gained c =
     gained-filled store c.watch.new.store c.args.clauses.now c.watch.new.clauses c.args.slot k.0 c.watch.ensures.rest.2 k.3 (λ s apart. ap (λ (cs : List (List ℕ)). list_at cs s) reported.literals ∙ get_or-set_other (clauses_of c.plan.new.clauses) c.args.slot s (codes_of_terms c.args.form.terms) [] apart ∙ ap (λ (cs : List (List ℕ)). list_at cs s) c.plan.ensures.clauses.literals) (λ e apart. reported.watches.others e apart ∙ ap (λ ws. watch_at ws e) c.plan.ensures.clauses.watches) vacant c.requires.slot c.args.form k.1
 
 pub returns-clause-free : goal.returns-clause-free
-returns-clause-free c =
-    let store = c.args.store.now in
-    let clauses = c.plan.new.clauses in
-    let none = ap (λ (cs : List (List ℕ)). list_at cs c.args.slot) c.plan.ensures.clauses.literals ∙ (slots-vacant (forms_of store.stored.items) (shapes_of store.stored.items) (clauses_of c.args.clauses.now) c.args.slot c.requires.rest.slots c.requires.slot).clause in
-    λ e here live. absurd (no-watch (clauses_of clauses) clauses.blocks.watches (watch_lists clauses.lists.items) c.args.slot e c.plan.ensures.clauses.ready.stored none here live)
+returns-clause-free c = grind (arith, slots-vacant, no-watch)
 
 pub returns-in-Some-clause-free : goal.returns-in-Some-clause-free
-returns-in-Some-clause-free c =
-    let free = rw c.in-Some.is at c.in_ok-planned.ensures.free in
-    pair-free _ _ _ _ _ _ free c.in_ok-watch.ensures.watches
+returns-in-Some-clause-free c = grind (arith, pair-free)
 
 pub plan-requires-clause-slot : goal.plan-requires-clause-slot
 plan-requires-clause-slot c =

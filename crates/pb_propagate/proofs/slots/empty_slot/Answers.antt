@@ -21,6 +21,4 @@ returns-clause-slot c =
     (get-push_same (forms_of keep.items) c.len-slot.result None (omega (arith, c.len-slot.ensures, keep.ok.0, length-map keep.items stored_form)))
 
 pub returns-clause-forms : goal.returns-clause-forms
-returns-clause-forms c = λ s.
-    let k = c.in_ok-widen.ensures.kept in
-    forms-more c.args.store.now.stored.items c.widen.new.store.stored.items k.0 s k.2 k.1.form
+returns-clause-forms c = grind (arith, forms-more)

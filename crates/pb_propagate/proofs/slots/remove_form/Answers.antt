@@ -13,6 +13,4 @@ returns-clause-rest c =
     (rest-removed c.args.store.now c.clear_slot.new.store c.args.clauses.now c.empty.new.self (forms_of keep) k.0 c.args.slot (omega (arith, c.requires.slot, length-map keep stored_form)) reported.sound k.1 k.2 reported.variables c.empty.ensures.rest c.empty.ensures.literals c.empty.ensures.lists c.requires.rest)
 
 pub returns-clause-forms : goal.returns-clause-forms
-returns-clause-forms c =
-    let k = c.clear_slot.ensures.kept in
-    forms-filled c.args.store.now.stored.items c.clear_slot.new.store.stored.items k.0 c.args.slot None k.2 k.1.form
+returns-clause-forms c = grind (arith, forms-filled)

@@ -1,4 +1,4 @@
-use Rattle.pb_propagate.proofs.Common.{ℕ, ◌++◌, ◌-◌, ◌^◌, ◌∙◌, ◌∷◌, [], ap, arith, Bool, false, length, length-append, List, true, Option, slice_get}
+use Rattle.pb_propagate.proofs.Common.{ℕ, ◌++◌, ◌∙◌, ◌∷◌, [], ap, arith, Bool, false, length, length-append, List, true, Option}
 use Rattle.pb_propagate.proofs.Common.{slice_get_within}
 use Rattle.pb_propagate.proofs.lemmas.engine.Values.{Agree-widen_if, vacancy-widen_if}
 use Rattle.pb_propagate.proofs.lemmas.clauses.Marks.{marked-wider}
@@ -20,7 +20,4 @@ invariant_of-self-2 c =
     }
 
 pub returns-clause-reasons : goal.returns-clause-reasons
-returns-clause-reasons c = λ l s on at.
-    let old = c.args.self.now.reasons.items in
-    let more = c.push_reserved-5.ensures.items ∙ ap (λ (xs : List ℕ). xs ++ ((2 ^ 64 - 1) ∷ [])) c.reserve-2.ensures.items in
-    ap (λ xs. slice_get xs l.variable) more ∙ get-push_less old l.variable (2 ^ 64 - 1) (slice_get_within old l.variable s at) ∙ at
+returns-clause-reasons c = grind (arith, get-push_less, slice_get_within)

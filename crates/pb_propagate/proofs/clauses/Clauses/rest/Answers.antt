@@ -3,9 +3,3 @@ use Rattle.pb_propagate.proofs.clauses.Clauses.rest.Goals as goal
 
 pub returns-clause-rest : goal.returns-clause-rest
 returns-clause-rest c = rest-ready c.requires.running.0 c.args.self.now c.renew.new.self c.requires.running.1 c.renew.ensures
-
-pub returns-clause-literals : goal.returns-clause-literals
-returns-clause-literals c = c.renew.ensures.literals
-
-pub returns-clause-watches : goal.returns-clause-watches
-returns-clause-watches c = c.renew.ensures.watches

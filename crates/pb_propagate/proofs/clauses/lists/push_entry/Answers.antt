@@ -1,13 +1,9 @@
-use Rattle.pb_propagate.proofs.Common.{◌++◌, ◌∙◌, ◌∷◌, ◌≡◌, [], ap, List, map, subst, sym, slice_get, Some, map-append, Listed}
+use Rattle.pb_propagate.proofs.Common.{◌≡◌, List, subst, slice_get, Some, map-append, Listed, arith}
 use Rattle.pb_propagate.proofs.lemmas.clauses.Listed.{watch-here, watch-set, list-older, push-older}
 use Rattle.pb_propagate.proofs.clauses.lists.push_entry.Goals as goal
 
 pub returns-clause-lists : goal.returns-clause-lists
-returns-clause-lists c =
-    let occ = c.args.lists.now.items in
-    let v = c.index_mut-list.result.now in
-    watch-set occ c.args.literal c.append.new.list _
-    (ap (map (λ (x : Listed). x.watch)) c.in_ok-append.ensures ∙ map-append (λ (x : Listed). x.watch) v.items (c.args.entry ∷ []) ∙ ap (λ xs. xs ++ (c.args.entry.watch ∷ [])) (sym (watch-here occ c.args.literal v c.requires.literal c.index_mut-list.ensures.value)))
+returns-clause-lists c = grind (arith, watch-set, map-append, watch-here)
 
 pub returns-clause-more : goal.returns-clause-more
 returns-clause-more c =

@@ -4,10 +4,7 @@ use Rattle.pb_propagate.proofs.lemmas.root.Released.{released-same, released-the
 use Rattle.pb_propagate.proofs.clauses.reasons.release_by_codes.Goals as goal
 
 pub literals-init : goal.literals-init
-literals-init c = record {
-  released = released-same c.args.store.now c.args.slot c.args.root.now (some-sized c.args.store.now c.args.root.now c.requires.rooted);
-  needless = λ k d less. absurd (omega (arith, less));
-}
+literals-init c = grind (arith, released-same, some-sized)
 
 pub release_literal-requires : goal.release_literal-requires
 release_literal-requires c =
@@ -32,6 +29,3 @@ literals-preserved c =
         | inr apart ↦ i.needless k d (grind (arith, less, apart)) (next.released.fewer (literal_at (get_or c.args.codes.now k d)) due)
       ];
     }
-
-pub returns-clause-needless : goal.returns-clause-needless
-returns-clause-needless c = λ k d less. c.literals.invariant.needless k d (omega (arith, less, c.literals-test.false))

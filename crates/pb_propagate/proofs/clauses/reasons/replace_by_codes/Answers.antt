@@ -1,20 +1,10 @@
-use Rattle.pb_propagate.proofs.Common.{◌∙◌, ◌≡◌, ap, arith, Bool, get_or, Global, inl, inr, length, subst, sym, Vec, Option, cases_eq, get_or_default}
-use Rattle.pb_propagate.proofs.Common.{NumberedLiteral, literal_at, shapes_of, IsDue}
+use Rattle.pb_propagate.proofs.Common.{◌∙◌, ◌≡◌, ap, arith, get_or, inl, inr, subst, sym, cases_eq, get_or_default}
+use Rattle.pb_propagate.proofs.Common.{literal_at, IsDue}
 use Rattle.pb_propagate.proofs.lemmas.root.Replaced.{same-reasons, other-then}
 use Rattle.pb_propagate.proofs.clauses.reasons.replace_by_codes.Goals as goal
 
 pub literals-init : goal.literals-init
-literals-init c = record {
-  reasons = same-reasons (shapes_of c.args.store.now.stored.items) c.args.slot c.args.assignment.now;
-  needless = λ k d less. absurd (omega (arith, less));
-}
-
-pub replace_reason-requires-clause-inside : goal.replace_reason-requires-clause-inside
-replace_reason-requires-clause-inside c =
-    let all = c.requires.inside c.literals.i 0 c.literals-test.true in
-    let is = ap (λ (l : NumberedLiteral). l.variable) c.literal_of.ensures in
-    let widths = ap (λ (v : Vec (Option Bool) Global). length v.items) c.literals.invariant.reasons.values in
-    omega (arith, all, is, widths)
+literals-init c = grind (arith, same-reasons)
 
 pub literals-preserved : goal.literals-preserved
 literals-preserved c =
@@ -32,6 +22,3 @@ literals-preserved c =
 
 pub returns-then-not-replace_reason-clause-reasons : goal.returns-then-not-replace_reason-clause-reasons
 returns-then-not-replace_reason-clause-reasons c = other-then c.literals.invariant.reasons c.replace_reason.ensures.reasons
-
-pub returns-clause-needless : goal.returns-clause-needless
-returns-clause-needless c = λ yes k d less. c.literals.invariant.needless k d (omega (arith, less, c.literals-test.false))

@@ -1,5 +1,5 @@
-use Rattle.pb_propagate.proofs.Common.{ℕ, ◌/◌, ◌<◌, ◌^◌, ◌∙◌, ◌≤◌, ap, arith, get_or, inl, length, subst, sym, Search}
-use Rattle.pb_propagate.proofs.Common.{rules, Contents, rewatched, AreLinked, list_at, watch_lists, IsRound}
+use Rattle.pb_propagate.proofs.Common.{◌/◌, ◌∙◌, ap, arith, get_or, inl, length, subst, sym}
+use Rattle.pb_propagate.proofs.Common.{rules, Contents, rewatched, AreLinked, list_at, watch_lists}
 use Rattle.pb_propagate.proofs.lemmas.clauses.Readings.{Reading, Resuming, reading-slot, reading-small, resuming-within, resuming-round, resuming-inside}
 use Rattle.pb_propagate.proofs.lemmas.clauses.Searches.{round-inside}
 use Rattle.pb_propagate.proofs.lemmas.clauses.Visited.{IsSought, visited-falsified, visited-forces, visited-leaves, sought-round, sought-covered, sought-bounded}
@@ -39,23 +39,8 @@ pub falsifies-requires : goal.falsifies-requires
 falsifies-requires c =
     reading-small c.requires.running (reading (goal.at.falsifies-requires c).After-read-clause)
 
-pub seek-requires-clause-block : goal.seek-requires-clause-block
-seek-requires-clause-block c = inl (omega (arith, c.advance-stop.ensures.position, ap length c.read-clause.ensures.literals))
-
-pub seek-requires-clause-small : goal.seek-requires-clause-small
-seek-requires-clause-small c = (omega (arith, c.advance-stop.ensures.position, c.read-clause.ensures.small), omega (arith, c.advance-stop.ensures.within.1, c.read-clause.ensures.small))
-
-pub seek-requires-2-clause-block : goal.seek-requires-2-clause-block
-seek-requires-2-clause-block c = inl (omega (arith, c.advance-stop.ensures.position, ap length c.read-clause.ensures.literals))
-
 pub seek-requires-2-clause-small : goal.seek-requires-2-clause-small
-seek-requires-2-clause-small c =
-    let round = sought-round (sought (goal.at.seek-requires-2-clause-small c).After-advance-stop) c.next-next.result (omega (arith, c.if-stop-literals.false)) c.next-next.ensures.position c.next-next.ensures.passed in
-    let most : c.next-next.result.passed ≤ length c.read-clause.result.literals.now = omega (arith, c.next-next.ensures.passed, c.if-stop-literals.false) in
-    (round-below (get_or c.requires.running.starts (c.args.watch / 2) 0) c.next-next.result (length c.read-clause.result.literals.now) round most c.read-clause.ensures.small, omega (arith, most, c.read-clause.ensures.small))
-  where
-    round-below : (start : ℕ) (x : Search) (count : ℕ) → IsRound start x count → x.passed ≤ count → count < 2 ^ 32 → x.position < 2 ^ 32
-    round-below start x count r most small = omega (arith, round-inside start x count r most, small)
+seek-requires-2-clause-small c = grind (arith, sought-round, round-inside)
 
 pub shift-requires-clause-inside : goal.shift-requires-clause-inside
 shift-requires-clause-inside c =

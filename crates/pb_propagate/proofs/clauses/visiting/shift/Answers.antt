@@ -1,11 +1,9 @@
-use Rattle.pb_propagate.proofs.Common.{◌∙◌, ap, arith, get_or-set_same, inl, inr, Watch, Contents, idle, watch_at}
+use Rattle.pb_propagate.proofs.Common.{get_or-set_same, inl, inr, rules}
 use Rattle.pb_propagate.proofs.lemmas.clauses.Linked.{sits-within}
 use Rattle.pb_propagate.proofs.clauses.visiting.shift.Goals as goal
 
 pub put_in-requires-clause-watch : goal.put_in-requires-clause-watch
-put_in-requires-clause-watch c =
-    let h = sits-within c.args.blocks.now.watches c.args.watch c.args.literal c.args.index (c.requires.linked.named c.args.watch c.args.literal c.args.index c.requires.item) in
-    omega (arith, h, c.take_out.ensures.sizes.0)
+put_in-requires-clause-watch c = search (rules, sits-within, c.requires.linked.named, c.requires.item, c.take_out.ensures.sizes.0)
 
 pub put_in-requires-clause-small : goal.put_in-requires-clause-small
 put_in-requires-clause-small c = c.requires.linked.small c.args.watch (c.requires.linked.named c.args.watch c.args.literal c.args.index c.requires.item).live
@@ -17,7 +15,4 @@ returns-clause-more c = λ x there. elim (c.in_ok-put_in.ensures.more x there) [
 ]
 
 pub returns-clause-moved : goal.returns-clause-moved
-returns-clause-moved c =
-    let h = sits-within c.args.blocks.now.watches c.args.watch c.args.literal c.args.index (c.requires.linked.named c.args.watch c.args.literal c.args.index c.requires.item) in
-    let now = ap (λ (b : Contents). watch_at b.watches c.args.watch) c.in_ok-put_in.ensures.watches ∙ get_or-set_same c.take_out.new.blocks.watches c.args.watch _ idle (omega (arith, h, c.take_out.ensures.sizes.0)) in
-    (ap (λ (w : Watch). w.literal) now, ap (λ (w : Watch). w.live) now)
+returns-clause-moved c = search (rules, sits-within, c.requires.linked.named, c.requires.item, c.in_ok-put_in.ensures.watches, get_or-set_same, c.take_out.ensures.sizes.0)

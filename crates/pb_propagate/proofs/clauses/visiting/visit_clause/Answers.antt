@@ -1,4 +1,4 @@
-use Rattle.pb_propagate.proofs.Common.{◌∙◌, ap, arith, refl, sym, watch_at}
+use Rattle.pb_propagate.proofs.Common.{◌∙◌, ap, refl, sym, watch_at, arith}
 use Rattle.pb_propagate.proofs.lemmas.clauses.Readings.{Reading, reading-small, running-bounded, other-watched}
 use Rattle.pb_propagate.proofs.lemmas.clauses.Visited.{running-blocked, visited-stays, blocker-small}
 use Rattle.pb_propagate.proofs.clauses.visiting.visit_clause.Goals as goal
@@ -6,15 +6,8 @@ use Rattle.pb_propagate.proofs.clauses.visiting.visit_clause.Goals as goal
 pub satisfies-requires : goal.satisfies-requires
 satisfies-requires c = blocker-small c.args.clauses.now c.args.assignment.now.values.items c.visit_entry-entry.result c.requires.running c.visit_entry-entry.ensures.listed
 
-pub opposite-requires : goal.opposite-requires
-opposite-requires c =
-    let live = (c.requires.running.stored.linked.named c.visit_entry-entry.result.watch c.args.literal c.args.index c.visit_entry-entry.ensures.item).live in
-    omega (arith, c.requires.running.stored.linked.small c.visit_entry-entry.result.watch live)
-
 pub visit_watch-other-requires : goal.visit_watch-other-requires
-visit_watch-other-requires c =
-    let live = (c.requires.running.stored.linked.named c.visit_entry-entry.result.watch c.args.literal c.args.index c.visit_entry-entry.ensures.item).live in
-    ap (λ k. (watch_at c.args.clauses.now.blocks.watches k).live) c.opposite.ensures ∙ c.requires.running.stored.paired c.visit_entry-entry.result.watch live
+visit_watch-other-requires c = grind arith
 
 pub satisfies-requires-2 : goal.satisfies-requires-2
 satisfies-requires-2 c =
@@ -23,9 +16,6 @@ satisfies-requires-2 c =
 
 pub search_clause-requires-clause-other : goal.search_clause-requires-clause-other
 search_clause-requires-clause-other c = c.visit_watch-other.ensures.item ∙ ap (λ k. (watch_at c.args.clauses.now.blocks.watches k).literal) c.opposite.ensures
-
-pub search_clause-requires-clause-untrue : goal.search_clause-requires-clause-untrue
-search_clause-requires-clause-untrue c = sym c.satisfies-2.ensures ∙ c.if-satisfies-2.false
 
 pub returns-then-satisfies-clause-watch : goal.returns-then-satisfies-clause-watch
 returns-then-satisfies-clause-watch c =

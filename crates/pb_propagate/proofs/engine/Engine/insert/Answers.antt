@@ -1,10 +1,10 @@
-use Rattle.pb_propagate.proofs.Common.{◌++◌, ◌-◌, ◌<◌, ◌^◌, ◌∙◌, ◌∷◌, ◌≡◌, [], ap, arith, None, rules, set, Some, slice_get_within}
+use Rattle.pb_propagate.proofs.Common.{◌-◌, ◌<◌, ◌^◌, ◌∙◌, ◌≡◌, ap, arith, None, rules, set, Some, slice_get_within}
 use Rattle.pb_propagate.proofs.Common.{ArePlaced, forms_of, Standing, numbered}
 use Rattle.pb_propagate.proofs.lemmas.store.Changes.{forms-length}
 use Rattle.pb_propagate.proofs.lemmas.store.Placed.{numbered-same, numbered-filled, numbered-grown, placed-agree, placed-filled}
 use Rattle.pb_propagate.proofs.lemmas.root.Kept.{gained-kept}
 use Rattle.pb_propagate.proofs.lemmas.root.Gained.{gained-both}
-use Rattle.pb_propagate.proofs.engine.Engine.insert.Goals.{In_ok-slot}
+use Rattle.pb_propagate.proofs.engine.Engine.insert.Goals.{After-empty_slot, In_ok-slot}
 use Rattle.pb_propagate.proofs.engine.Engine.insert.Goals as goal
 
 -- the numbers have their slots still, and the new slot is none that says "no form"
@@ -25,48 +25,28 @@ invariant_of-self-2 c = λ ready.
     let places = open-places (goal.at.invariant_of-self-2 c).In_ok-slot in
     (c.in_ok-add_form.ensures.rest, rw (c.in_ok-add_form.ensures.forms, c.in_ok-push.ensures.items) (placed-filled forms e.places.items slot c.args.form c.in_ok-slot.ensures.slot places.0 places.1), c.in_ok-add.ensures, gained-kept e.store c.add_form.new.store e.clauses c.add_form.new.clauses slot e.conflict r.0.slots (gained-both e.store c.empty_slot.new.store c.add_form.new.store e.clauses c.empty_slot.new.clauses c.add_form.new.clauses slot c.empty_slot.ensures.variables c.in_ok-slot.ensures.widened c.in_ok-add_form.ensures.gained) r.3)
 
+-- no number has another form yet
+same-forms : (c : After-empty_slot) → numbered (forms_of c.empty_slot.new.store.stored.items) c.self.inside.places.items ≡ c.args.self.now.forms
+same-forms c = grind (arith, numbered-same, c.empty_slot.ensures.forms, c.self.view_is)
+
 pub returns-in_err-slot-clause-unchanged : goal.returns-in_err-slot-clause-unchanged
-returns-in_err-slot-clause-unchanged c =
-    let e = c.self.inside in
-    let was = forms_of e.store.stored.items in
-    let same : numbered (forms_of c.empty_slot.new.store.stored.items) e.places.items ≡ c.args.self.now.forms =
-    numbered-same was (forms_of c.empty_slot.new.store.stored.items) e.places.items (λ n s h. c.empty_slot.ensures.forms s) ∙ ap (λ (v : Standing). v.forms) c.self.view_is in
-    search (rules, same)
+returns-in_err-slot-clause-unchanged c = let same = same-forms (goal.at.returns-in_err-slot-clause-unchanged c).After-empty_slot in search (rules, same)
 
 pub returns-in_err-add_form-clause-unchanged : goal.returns-in_err-add_form-clause-unchanged
-returns-in_err-add_form-clause-unchanged c =
-    let e = c.self.inside in
-    let forms = forms_of c.empty_slot.new.store.stored.items in
-    let was = forms_of e.store.stored.items in
-    let same : numbered forms e.places.items ≡ c.args.self.now.forms = numbered-same was forms e.places.items (λ n s h. c.empty_slot.ensures.forms s) ∙ ap (λ (v : Standing). v.forms) c.self.view_is in
-    let reported : numbered (forms_of c.add_form.new.store.stored.items) e.places.items ≡ c.args.self.now.forms = ap (λ fs. numbered fs e.places.items) c.in_err-add_form.ensures.refused ∙ same in
-    search (rules, reported)
+returns-in_err-add_form-clause-unchanged c = grind (arith, c.in_err-add_form.ensures.refused, same-forms)
 
 -- the forms were the same before the number was pushed
-same-forms : (c : In_ok-slot) → numbered (set (forms_of c.empty_slot.new.store.stored.items) c.in_ok-slot.slot (Some c.args.form)) c.self.inside.places.items ≡ c.args.self.now.forms
-same-forms c =
-    let e = c.self.inside in
-    let forms = forms_of c.empty_slot.new.store.stored.items in
-    let was = forms_of e.store.stored.items in
-    let slot = c.in_ok-slot.slot in
-    let places = open-places c in
-    numbered-filled forms e.places.items slot c.args.form c.in_ok-slot.ensures.slot places.0 places.1 ∙ numbered-same was forms e.places.items (λ n s h. c.empty_slot.ensures.forms s) ∙ ap (λ (v : Standing). v.forms) c.self.view_is
+filled-forms : (c : In_ok-slot) → numbered (forms_of c.empty_slot.new.store.stored.items) c.self.inside.places.items ≡ c.args.self.now.forms → numbered (set (forms_of c.empty_slot.new.store.stored.items) c.in_ok-slot.slot (Some c.args.form)) c.self.inside.places.items ≡ c.args.self.now.forms
+filled-forms c same = grind (arith, open-places, numbered-filled, c.in_ok-slot.ensures.slot)
 
 pub returns-in_err-push-clause-unchanged : goal.returns-in_err-push-clause-unchanged
-returns-in_err-push-clause-unchanged c = let same = same-forms (goal.at.returns-in_err-push-clause-unchanged c).In_ok-slot in search (rules, same)
+returns-in_err-push-clause-unchanged c = let same = filled-forms (goal.at.returns-in_err-push-clause-unchanged c).In_ok-slot (same-forms (goal.at.returns-in_err-push-clause-unchanged c).After-empty_slot) in search (rules, same)
 
 pub returns-in_err-add-clause-unchanged : goal.returns-in_err-add-clause-unchanged
-returns-in_err-add-clause-unchanged c = let same = same-forms (goal.at.returns-in_err-add-clause-unchanged c).In_ok-slot in search (rules, same)
+returns-in_err-add-clause-unchanged c = let same = filled-forms (goal.at.returns-in_err-add-clause-unchanged c).In_ok-slot (same-forms (goal.at.returns-in_err-add-clause-unchanged c).After-empty_slot) in search (rules, same)
 
 pub returns-clause-forms : goal.returns-clause-forms
-returns-clause-forms c =
-    let e = c.self.inside in
-    let forms = forms_of c.empty_slot.new.store.stored.items in
-    let was = forms_of e.store.stored.items in
-    let slot = c.in_ok-slot.slot in
-    let places = open-places (goal.at.returns-clause-forms c).In_ok-slot in
-    let same = numbered-same was forms e.places.items (λ n s h. c.empty_slot.ensures.forms s) ∙ ap (λ (v : Standing). v.forms) c.self.view_is in
-    rw (c.in_ok-add_form.ensures.forms, c.in_ok-push.ensures.items) (numbered-grown forms e.places.items slot c.args.form c.in_ok-slot.ensures.slot places.0 places.1 ∙ ap (λ xs. xs ++ (Some c.args.form ∷ [])) same)
+returns-clause-forms c = grind (arith, open-places, same-forms, c.in_ok-add_form.ensures.forms, numbered-grown, c.in_ok-slot.ensures.slot)
 
 pub add-requires-clause-gained : goal.add-requires-clause-gained
 add-requires-clause-gained c =

@@ -1,4 +1,4 @@
-use Rattle.pb_propagate.proofs.Common.{◌<◌, ◌∙◌, ap, arith, length, None, set, sym, forms_of, Standing}
+use Rattle.pb_propagate.proofs.Common.{◌<◌, ap, arith, length, forms_of, Standing}
 use Rattle.pb_propagate.proofs.lemmas.store.Changes.{forms-length}
 use Rattle.pb_propagate.proofs.lemmas.store.Placed.{numbered-length, numbered-none, numbered-left, placed-left, taken-by}
 use Rattle.pb_propagate.proofs.lemmas.root.Kept.{lost-kept}
@@ -19,15 +19,7 @@ invariant_of-self c = λ ready.
     )
 
 pub returns-then-slot-len-clause-forms : goal.returns-then-slot-len-clause-forms
-returns-then-slot-len-clause-forms c =
-    let e = c.self.inside in
-    let inside : c.args.number < length e.places.items = omega (arith, c.requires.number, ap (λ (v : Standing). length v.forms) c.self.view_is, numbered-length (forms_of e.store.stored.items) e.places.items) in
-    sym (ap (λ (v : Standing). v.forms) c.self.view_is) ∙ numbered-none (forms_of e.store.stored.items) e.places.items c.args.number c.index-slot.result.now inside c.index-slot.ensures (omega (arith, c.if-slot-len.true, c.len.ensures, e.store.stored.ok.0, forms-length e.store.stored.items)) ∙ ap (λ (v : Standing). set v.forms c.args.number None) c.self.view_is
+returns-then-slot-len-clause-forms c = grind (arith, c.requires.number, c.self.view_is, numbered-length, numbered-none, c.index-slot.ensures, c.if-slot-len.true, c.len.ensures, forms-length)
 
 pub returns-clause-forms : goal.returns-clause-forms
-returns-clause-forms c =
-    let e = c.self.inside in
-    let r = c.self.invariant (ap (λ (v : Standing). v.spent) c.self.view_is ∙ c.requires.ready) in
-    let inside : c.args.number < length e.places.items = omega (arith, c.requires.number, ap (λ (v : Standing). length v.forms) c.self.view_is, numbered-length (forms_of e.store.stored.items) e.places.items) in
-    let t = taken-by (forms_of e.store.stored.items) e.places.items c.args.number c.index-slot.result.now inside c.index-slot.ensures (omega (arith, c.if-slot-len.false, c.len.ensures, e.store.stored.ok.0, forms-length e.store.stored.items)) (omega (arith, e.store.stored.ok.0, e.store.stored.ok.1, forms-length e.store.stored.items)) r.1 in
-    rw c.remove_form.ensures.forms (numbered-left (forms_of e.store.stored.items) e.places.items c.args.number c.index-slot.result.now t r.1 ∙ ap (λ (v : Standing). set v.forms c.args.number None) c.self.view_is)
+returns-clause-forms c = grind (arith, c.self.view_is, c.requires.ready, c.requires.number, numbered-length, taken-by, c.index-slot.ensures, c.if-slot-len.false, c.len.ensures, forms-length, c.remove_form.ensures.forms, numbered-left)

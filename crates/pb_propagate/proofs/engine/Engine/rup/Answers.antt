@@ -44,13 +44,7 @@ returns-clause-completion c = λ found.
 
 -- the visits of the question
 asked-most : (c : After-ask) → c.ask.new.visits ≤ 3 * (sum_by terms_in c.args.self.now.forms + length c.args.goal.now.terms) + (sum_by one_in c.args.self.now.forms + 1)
-asked-most c =
-    let e = c.self.inside in
-    let both = c.self.invariant (ap (λ (v : Standing). v.spent) c.self.view_is ∙ c.requires.ready) in
-    let forms = forms_of e.store.stored.items in
-    let terms = slots-terms forms (all_of e.store e.clauses) both.0.slots in
-    let same : numbered forms e.places.items ≡ c.args.self.now.forms = ap (λ (v : Standing). v.forms) c.self.view_is in
-    rw (← same) (omega (arith, c.ask.ensures.most, terms, both.1.alike terms_in refl, both.1.alike one_in refl))
+asked-most c = grind (arith, c.self.view_is, c.requires.ready, slots-terms, c.ask.ensures.most)
 
 pub returns-clause-most : goal.returns-clause-most
 returns-clause-most c = asked-most (goal.at.returns-clause-most c).After-ask
@@ -75,11 +69,4 @@ pub returns-then-self-clause-conflict : goal.returns-then-self-clause-conflict
 returns-then-self-clause-conflict c = λ found. rw (← c.self.view_is) (inr (kept (goal.at.returns-then-self-clause-conflict c).After-of-self-inside))
 
 pub returns-then-self-clause-most : goal.returns-then-self-clause-most
-returns-then-self-clause-most c =
-    let e = c.self.inside in
-    let both = c.self.invariant (ap (λ (v : Standing). v.spent) c.self.view_is ∙ c.requires.ready) in
-    let forms = forms_of e.store.stored.items in
-    let terms = slots-terms forms (all_of e.store e.clauses) both.0.slots in
-    let few = conflict-few e.store e.clauses e.conflict.assignment both.0.sound both.0.joined (both.3.holds c.if-self.true) in
-    let same : numbered forms e.places.items ≡ c.args.self.now.forms = ap (λ (v : Standing). v.forms) c.self.view_is in
-    rw (← same) (omega (arith, few, terms, c.of-self-inside.ensures, c.len.ensures, e.conflict.assignment.list.ok.0, both.1.alike terms_in refl))
+returns-then-self-clause-most c = grind (arith, c.self.view_is, c.requires.ready, slots-terms, conflict-few, c.if-self.true, c.of-self-inside.ensures, c.len.ensures)

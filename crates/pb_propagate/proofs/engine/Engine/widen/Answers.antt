@@ -32,10 +32,4 @@ invariant_of-self-2 c = λ ready.
     )
 
 pub returns-clause-variables : goal.returns-clause-variables
-returns-clause-variables c =
-    let e = c.self.inside in
-    let both = c.self.invariant (ap (λ (v : Standing). v.spent) c.self.view_is ∙ c.requires.ready) in
-    let occ = e.store.occurrences.items in
-    let count = half c.len.result (length c.push-2.new.self.items) e.store.variables (omega (arith, c.len.ensures, c.push-2.new.self.ok.0))
-    (omega (arith, ap length c.in_ok-push.ensures.items, ap length c.in_ok-push-2.ensures.items, length-append occ (c.new.result ∷ []), length-append c.push.new.self.items (c.new-2.result ∷ []), entries-length (shapes_of e.store.stored.items) occ, both.0.sound.places)) in
-    omega (arith, count, ap (λ (v : Standing). v.variables) c.self.view_is)
+returns-clause-variables c = grind (arith, c.self.view_is, c.requires.ready, half, c.len.ensures, c.push-2.new.self.ok.0, length-append, entries-length)

@@ -1,17 +1,10 @@
-use Rattle.pb_propagate.proofs.Common.{◌+◌, ◌≡◌, false, get_or, inl, true, NumberedLiteral, negation, shapes_of, begin, has}
+use Rattle.pb_propagate.proofs.Common.{rules, ◌+◌, ◌≡◌, false, get_or, NumberedLiteral, negation, begin, has, arith}
 use Rattle.pb_propagate.proofs.lemmas.engine.Assumed.{Assumed, assumed-next, none-assumed, opposed-clash}
 use Rattle.pb_propagate.proofs.lemmas.root.Ready.{puts-none, puts-then}
 use Rattle.pb_propagate.proofs.engine.completion.assume.Goals as goal
 
 pub given-init : goal.given-init
-given-init c =
-    let list = c.args.run.now.assignment.list.items in
-    record {
-      puts = puts-none c.args.store.now c.args.rests.now c.args.run.now;
-      sums = c.requires.sums;
-      within = λ l h. inl h;
-      covers = none-assumed list;
-    }
+given-init c = search (rules, puts-none c.args.store.now c.args.rests.now c.args.run.now, c.requires.sums, none-assumed c.args.run.now.assignment.list.items)
 
 -- the literal was tried
 tried : (c : goal.Then-branch) → Assumed c.args.run.now.assignment.list.items c.args.given.now c.try_put.new.run.assignment.list.items (c.given.i + 1)
@@ -23,11 +16,7 @@ tried c =
     assumed-next c.args.run.now.assignment.list.items c.args.given.now c.given.run.assignment.list.items c.try_put.new.run.assignment.list.items c.given.i d c.given-test.true free c.in_ok-try_put.ensures.adopted (record { within = i.within; covers = i.covers })
 
 pub returns-then-contains-clause-clash : goal.returns-then-contains-clause-clash
-returns-then-contains-clause-clash c = λ found.
-    let d : NumberedLiteral = record { variable = 0; negated = false } in
-    let l = get_or c.args.given.now c.given.i d in
-    let on : has c.given.run.assignment.list.items (negation l) ≡ true = cc (c.contains.ensures, c.if-contains.true, c.negation.ensures) in
-    opposed-clash (shapes_of c.args.store.now.stored.items) c.args.run.now.assignment.list.items c.args.given.now c.given.run.assignment.list.items c.given.i d c.given-test.true on c.given.invariant.within
+returns-then-contains-clause-clash c = grind (arith, c.contains.ensures, c.if-contains.true, c.negation.ensures, opposed-clash, c.given-test.true, c.given.invariant.within)
 
 pub given-preserved : goal.given-preserved
 given-preserved c =

@@ -1,4 +1,4 @@
-use Rattle.pb_propagate.proofs.Common.{◌++◌, ◌∙◌, ◌≡◌, ap, arith, length, all_of, clauses_of, shapes_of}
+use Rattle.pb_propagate.proofs.Common.{◌++◌, ◌∙◌, ◌≡◌, ap, arith, length, all_of, clauses_of, shapes_of, rules}
 use Rattle.pb_propagate.proofs.lemmas.clauses.Heads.{heads-is}
 use Rattle.pb_propagate.proofs.lemmas.engine.Derivations.{derivation-keeps}
 use Rattle.pb_propagate.proofs.lemmas.root.Extends.{extends-within}
@@ -12,19 +12,14 @@ returns-then-branch-clause-clash c =
     clash-joined (shapes_of c.args.store.now.stored.items) (clauses_of c.args.clauses.now) c.args.run.now.assignment.list.items c.args.given.now c.requires.ready.joined (c.in_ok-assume.ensures.clash c.if-branch.true)
 
 pub returns-then-branch-2-clause-clash : goal.returns-then-branch-2-clause-clash
-returns-then-branch-2-clause-clash c = record {
-  list = c.propagate.new.run.assignment.list.items;
-  reached = record { first = c.assume.new.run.assignment.list.items; within = c.in_ok-assume.ensures.within c.if-branch.false; derived = (reasons-derive c.in_ok-propagate.ensures.reasons.added) };
-  conflict = c.in_ok-propagate.ensures.conflict c.if-branch-2.true;
-}
+returns-then-branch-2-clause-clash c = search (rules, c.in_ok-assume.ensures.within, c.if-branch.false, reasons-derive, c.in_ok-propagate.ensures.reasons.added, c.in_ok-propagate.ensures.conflict, c.if-branch-2.true)
 
 pub returns-clause-ended : goal.returns-clause-ended
 returns-clause-ended c =
-    let start = c.args.run.now.assignment.list.items in
     let mid = c.assume.new.run.assignment.list.items in
     let done = c.propagate.new.run.assignment in
     let later = derivation-keeps (all_of c.args.store.now c.args.clauses.now) mid done.list.items (reasons-derive c.in_ok-propagate.ensures.reasons.added) in
-    let first = extends-within start mid c.in_ok-assume.ensures.puts.advances.costs.extends in
+    let first = extends-within c.args.run.now.assignment.list.items mid c.in_ok-assume.ensures.puts.advances.costs.extends in
     let copy : c.extend_from_slice.new.self.items ≡ done.values.items = c.in_ok-extend_from_slice.ensures.items ∙ ap (λ xs. xs ++ c.as_slice-2.result.now) c.new-values.ensures.items ∙ c.as_slice-2.ensures.value in
     record {
       list = done.list.items;

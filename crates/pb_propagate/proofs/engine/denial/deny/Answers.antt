@@ -1,4 +1,4 @@
-use Rattle.pb_propagate.proofs.Common.{◌∙◌, ◌≡◌, ap, arith, false, inr, true, or_right, negation, kept, has, database, progress}
+use Rattle.pb_propagate.proofs.Common.{rules, ◌∙◌, ◌≡◌, ap, arith, inr, true, or_right, negation, kept, has, database, progress}
 use Rattle.pb_propagate.proofs.lemmas.engine.Advances.{advances-visit, advances-then, costs-then, on-err}
 use Rattle.pb_propagate.proofs.lemmas.engine.Literals.{negation-negation}
 use Rattle.pb_propagate.proofs.lemmas.root.Denials.{adopted-denied, adopted-found}
@@ -15,9 +15,7 @@ returns-then-contains-clause-adopted c =
     kept (or_right (has list (negation c.args.literal)) (has list (negation (negation c.args.literal))) (ap (has list) (negation-negation c.args.literal) ∙ on))
 
 pub returns-clause-denied : goal.returns-clause-denied
-returns-clause-denied c = λ free.
-    let off : has c.args.run.now.assignment.list.items c.args.literal ≡ false = cc (c.contains.ensures, c.if-contains.false) in
-    adopted-denied c.args.literal c.args.run.now.assignment.list.items c.try_put.new.run.assignment.list.items off (rw c.negation.ensures at c.in_ok-found.ensures.adopted)
+returns-clause-denied c = grind (arith, c.contains.ensures, c.if-contains.false, adopted-denied, c.negation.ensures, c.in_ok-found.ensures.adopted)
 
 pub returns-clause-found : goal.returns-clause-found
 returns-clause-found c = adopted-found (negation c.args.literal) c.args.run.now.assignment.list.items c.try_put.new.run.assignment.list.items c.args.run.now.visits c.count.new.self c.try_put.new.run.visits c.count.ensures.count c.in_ok-found.ensures.puts.advances.rising (rw c.negation.ensures at c.in_ok-found.ensures.adopted)
@@ -26,11 +24,7 @@ pub returns-clause-conflict : goal.returns-clause-conflict
 returns-clause-conflict c = λ found. inr (c.in_ok-found.ensures.conflict found)
 
 pub returns-then-contains-clause-puts : goal.returns-then-contains-clause-puts
-returns-then-contains-clause-puts c = record {
-  advances = advances-visit (database c.args.store.now c.args.rests.now) (progress c.args.run.now) c.count.new.self 0 1 c.count.ensures.rising (omega (arith, c.count.ensures.count));
-  tidy = λ aside busy t. t;
-  kept = λ l s on at. at;
-}
+returns-then-contains-clause-puts c = let advances = advances-visit (database c.args.store.now c.args.rests.now) (progress c.args.run.now) c.count.new.self 0 1 c.count.ensures.rising (omega (arith, c.count.ensures.count)) in search rules
 
 pub returns-clause-puts : goal.returns-clause-puts
 returns-clause-puts c =

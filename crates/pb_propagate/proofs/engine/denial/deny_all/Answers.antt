@@ -1,4 +1,4 @@
-use Rattle.pb_propagate.proofs.Common.{◌∙◌, ap, arith, false, refl, subst, Entry, NumberedLiteral, negation, Term, Adopted, as_term, IsHit, shapes_of, begin}
+use Rattle.pb_propagate.proofs.Common.{rules, ◌∙◌, ap, arith, false, subst, Entry, NumberedLiteral, negation, Term, Adopted, as_term, IsHit, shapes_of, begin}
 use Rattle.pb_propagate.proofs.lemmas.engine.Advances.{costs-then, costs-as, on-err}
 use Rattle.pb_propagate.proofs.lemmas.root.Denials.{denied-next, denied-more, hit-conflicts}
 use Rattle.pb_propagate.proofs.lemmas.root.Ready.{puts-as, puts-none, puts-then}
@@ -8,15 +8,7 @@ abbrev bare : Entry
 bare = record { variable = 0; negated = false; coefficient = 0 }
 
 pub literals-init : goal.literals-init
-literals-init c = record {
-  within = omega arith;
-  puts = puts-none c.args.store.now c.args.rests.now c.args.run.now;
-  candidates = refl;
-  sums = c.requires.sums;
-  derived = begin;
-  denied = λ k d less. absurd (omega (arith, less));
-  found = λ few. omega arith;
-}
+literals-init c = search (rules, puts-none c.args.store.now c.args.rests.now c.args.run.now, c.requires.sums, begin)
 
 pub literals-preserved : goal.literals-preserved
 literals-preserved c =
@@ -39,10 +31,7 @@ returns-in_err-deny-clause-costs c =
     on-err _ (costs-as 0 _ (omega (arith, c.literals-test.true, c.len-i-end.ensures.length)) (costs-then c.literals.invariant.puts.advances.costs c.in_err-deny.ensures.costs))
 
 pub returns-then-branch-clause-derived : goal.returns-then-branch-clause-derived
-returns-then-branch-clause-derived c =
-    let is = ap (λ (t : Term). t.literal) c.term_of-term.ensures ∙ ap (λ (e : Entry). (as_term e).literal) (c.get-entry.ensures.read bare) in
-    let adopted = subst (λ (l : NumberedLiteral). Adopted (negation l) c.literals.run.assignment.list.items c.deny.new.run.assignment.list.items) is c.in_ok-deny.ensures.adopted in
-    denied-next c.args.goal.now c.args.run.now.assignment.list.items c.literals.run.assignment.list.items c.deny.new.run.assignment.list.items c.literals.i bare (omega (arith, c.literals-test.true, c.len-i-end.ensures.length)) c.requires.light adopted c.literals.invariant.derived
+returns-then-branch-clause-derived c = grind (arith, c.term_of-term.ensures, c.get-entry.ensures.read, c.in_ok-deny.ensures.adopted, denied-next, c.literals-test.true, c.len-i-end.ensures.length, c.requires.light, c.literals.invariant.derived)
 
 pub returns-then-branch-clause-conflict : goal.returns-then-branch-clause-conflict
 returns-then-branch-clause-conflict c = λ found.

@@ -1,5 +1,5 @@
-use Rattle.pb_propagate.proofs.Common.{ℕ, ◌∙◌, ◌≡◌, ap, arith, Global, length, sym, Vec, sum, length-map, all_of, clauses_of, denial_of, shapes_of}
-use Rattle.pb_propagate.proofs.Common.{stored_shape, begin, Costs, database, progress, RunRefutes}
+use Rattle.pb_propagate.proofs.Common.{◌∙◌, ◌≡◌, arith, length, length-map, all_of, clauses_of, denial_of, shapes_of, rules}
+use Rattle.pb_propagate.proofs.Common.{begin, Costs, database, progress, RunRefutes}
 use Rattle.pb_propagate.proofs.lemmas.clauses.Readings.{running-bounded}
 use Rattle.pb_propagate.proofs.lemmas.clauses.Heads.{heads-is}
 use Rattle.pb_propagate.proofs.lemmas.engine.Derivations.{derivation-keeps}
@@ -22,13 +22,7 @@ returns-then-branch-clause-conflict c = λ found.
 
 -- the cost if nothing is propagated
 short : (c : After-deny_all) → Costs (database c.args.store.now c.args.rests.now) 0 (length c.args.goal.now) (progress c.args.run.now) (progress c.deny_all.new.run) → RunRefutes c.args.store.now c.args.rests.now c.args.clauses.now (length c.args.goal.now) c.args.run.now c.deny_all.new.run
-short c costs =
-    let store = c.args.store.now in
-    let run = c.args.run.now in
-    let ready = c.requires.ready in
-    let same = ap (λ (v : Vec ℕ Global). sum v.items) c.deny_all.ensures.candidates in
-    let bounded = sum-bounded (shapes_of store.stored.items) run.candidates.items (ready.sums.candidates ∙ sym (length-map store.stored.items stored_shape)) ready.tidy.bounded in
-    refutes-short store c.args.rests.now c.args.clauses.now (length c.args.goal.now) run c.deny_all.new.run (running-bounded c.args.clauses.now run.assignment.values.items ready.running) ready.single (omega (arith, bounded, same)) costs
+short c costs = search (rules, c.requires.ready, c.deny_all.ensures.candidates, sum-bounded, length-map, refutes-short, running-bounded)
 
 pub returns-then-branch-clause-costs : goal.returns-then-branch-clause-costs
 returns-then-branch-clause-costs c = short (goal.at.returns-then-branch-clause-costs c).After-deny_all c.in_ok-deny_all.ensures.puts.advances.costs

@@ -1,9 +1,7 @@
-use Rattle.pb_propagate.proofs.Common.{stored_total}
-use Rattle.pb_propagate.proofs.Common.{ℕ, ◌++◌, ◌+◌, ◌∙◌, ◌∷◌, ◌≡◌, [], ap, arith, get_or, Global, length, length-append, length-set, List}
-use Rattle.pb_propagate.proofs.Common.{rules, set, subst, sym, take, Vec, Contains, sum, sum_by, take-append_seam, length-map, sum_by_push}
-use Rattle.pb_propagate.proofs.Common.{NumberedLiteral, Assignment, Listed, KeepsWalked, IsMark, all_of, clauses_of, joined, none}
-use Rattle.pb_propagate.proofs.Common.{forms_of, shapes_of, stored_shape, Conflicts, Derives, KeepsReasons, open_sum, Shape, list_of, reasons_of}
-use Rattle.pb_propagate.proofs.Common.{posed, ArePlaced, numbered, ◌*◌, ◌≤◌}
+use Rattle.pb_propagate.proofs.Common.{stored_total, ℕ, ◌++◌, ◌+◌, ◌∙◌, ◌∷◌, ◌≡◌, [], ap, arith, get_or, Global, length, length-append, length-set, List, rules}
+use Rattle.pb_propagate.proofs.Common.{set, subst, sym, take, Vec, Contains, sum, sum_by, take-append_seam, length-map, sum_by_push, NumberedLiteral}
+use Rattle.pb_propagate.proofs.Common.{Assignment, Listed, KeepsWalked, IsMark, all_of, clauses_of, joined, none, forms_of, shapes_of, stored_shape, Conflicts}
+use Rattle.pb_propagate.proofs.Common.{Derives, KeepsReasons, open_sum, Shape, list_of, reasons_of, posed, ArePlaced, numbered, ◌*◌, ◌≤◌, HaveReasons, IsWalkedTo, HasForm, slice_get, Some}
 use Rattle.pb_propagate.proofs.lemmas.clauses.Heads.{heads-is, visits-back, walks-kept}
 use Rattle.pb_propagate.proofs.lemmas.clauses.Slots.{joined-push}
 use Rattle.pb_propagate.proofs.lemmas.engine.Derivations.{derivation-then}
@@ -14,6 +12,7 @@ use Rattle.pb_propagate.proofs.lemmas.engine.Values.{opposite}
 use Rattle.pb_propagate.proofs.lemmas.root.Extends.{extends-then}
 use Rattle.pb_propagate.proofs.lemmas.root.Kept.{met-asked}
 use Rattle.pb_propagate.proofs.lemmas.root.Questions.{IsEntered, entered-shapes, opened-counted, opened-tidy, undone-same, derives-entered, kept-terms, found-after, found-both, question-most, updated-most, both-parts}
+use Rattle.pb_propagate.proofs.lemmas.root.Roots.{AreRootSums, IsTidyRoot}
 use Rattle.pb_propagate.proofs.lemmas.store.Placed.{numbered-entered}
 use Rattle.pb_propagate.proofs.lemmas.engine.Reasoned.{reasons-derive, reasons-keep}
 use Rattle.pb_propagate.specs.engine.engine.Root.{terms_of_all}
@@ -82,11 +81,8 @@ posed-most c =
 pub returns-in_err-found-clause-most : goal.returns-in_err-found-clause-most
 returns-in_err-found-clause-most c = posed-most (goal.at.returns-in_err-found-clause-most c).After-propagate
 
-pub returns-clause-most : goal.returns-clause-most
-returns-clause-most c = let most = posed-most (goal.at.returns-clause-most c).After-propagate in omega (arith, most, c.back.ensures.visits, c.leave.ensures.rest.3)
-
-pub returns-clause-asked : goal.returns-clause-asked
-returns-clause-asked c =
+pub returns : goal.returns
+returns c =
     let store = c.args.store.now in
     let keep = store.stored.items in
     let root = c.update.new.self in
@@ -106,30 +102,8 @@ returns-clause-asked c =
     let reported = c.in_ok-found.ensures in
     let derived : Derives (all_of new.store c.args.clauses.now) run.assignment.list.items done.assignment.list.items = rw (opened_is, lit) at (reasons-derive reported.reasons.added) in
     let all = derivation-then (all_of new.store c.args.clauses.now) [] run.assignment.list.items done.assignment.list.items start derived in
-    posed (stored_shape h.kept) h.is (record {
-      list = done.assignment.list.items;
-      derived = rw whole at all;
-      few = omega (arith, found-after (length done.assignment.list.items) done.visits (length c.args.root.now.run.assignment.list.items) (found-both (length c.args.root.now.run.assignment.list.items) (length run.assignment.list.items) (length c.open_form.new.run.assignment.list.items) (length done.assignment.list.items) c.args.root.now.run.visits run.visits c.open_form.new.run.visits done.visits c.requires.visits (ap length opened_is) (c.open_form.ensures.visits ∙ c.enter.ensures.rest.3) (c.in_ok-update.ensures.updated c.if-branch.false).found reported.gains.found c.in_ok-found.ensures.gains.rising) (omega (arith, done.assignment.list.ok.0, done.assignment.list.ok.1)), c.back.ensures.visits, c.leave.ensures.rest.3);
-      one_sided = λ l on. opposite done.assignment.values.items done.assignment.list.items l done.assignment.agrees on;
-      conflict = λ found. subst (λ xs. Conflicts xs done.assignment.list.items) (whole_now) (reported.conflict found);
-      settled = λ found f has. (reported.settled found).settled f (subst (λ xs. Contains xs f) (sym whole_now) has);
-    })
-
-pub returns-clause-left : goal.returns-clause-left
-returns-clause-left c =
-    let store = c.args.store.now in
-    let keep = store.stored.items in
-    let root = c.update.new.self in
-    let run = root.run in
     let rests = root.rests in
-    let between = c.update.new.clauses in
-    let r = c.in_ok-update.ensures.rooted in
-    let new = c.enter.new in
-    let h = c.in_ok-enter.ensures.entered in
-    let opened_is = ap (λ (a : Assignment). a.list.items) (c.open_form.ensures.assignment ∙ c.enter.ensures.rest.0) in
     let count_is : c.len-count.result ≡ length run.assignment.list.items = omega (arith, c.len-count.ensures, run.assignment.list.ok.0) in
-    let done = c.propagate.new.run in
-    let reported = c.in_ok-found.ensures in
     let b = c.back.new in
     let last = c.leave.new in
     let extends = rw opened_is at c.propagate.ensures.costs.extends in
@@ -140,35 +114,43 @@ returns-clause-left c =
     let starts_is : last.run.candidates.items ≡ rests.starts.items = c.leave.ensures.candidates ∙ same.1 in
     let cut : b.run.assignment.list.items ≡ run.assignment.list.items = c.back.ensures.list ∙ ap (λ xs. take c.len-count.result xs) extends.1 ∙ ap (λ n. take n (run.assignment.list.items ++ extends.0)) count_is ∙ take-append_seam run.assignment.list.items extends.0 in
     let end_is : last.run.assignment.list.items ≡ run.assignment.list.items = ap (λ (a : Assignment). a.list.items) c.leave.ensures.rest.0 ∙ cut in
-    let lit : clauses_of b.clauses ≡ clauses_of between = (c.back.ensures.literals ∙ c.propagate.ensures.literals) in
+    let lit_back : clauses_of b.clauses ≡ clauses_of between = (c.back.ensures.literals ∙ c.propagate.ensures.literals) in
     let mine : c.open_form.new.run.assignment ≡ run.assignment = c.open_form.ensures.assignment ∙ c.enter.ensures.rest.0 in
     let last_is : reasons_of last.run ≡ reasons_of done = ap (λ (a : Assignment). a.reasons.items) c.leave.ensures.rest.0 ∙ ap (λ (v : Vec ℕ Global). v.items) c.back.ensures.reasons in
     let keeps : KeepsReasons (list_of run) (reasons_of run) (reasons_of last.run) = subst (λ xs. KeepsReasons (list_of run) (reasons_of run) xs) (sym last_is) (subst (λ (a : Assignment). KeepsReasons a.list.items a.reasons.items (reasons_of done)) mine reported.left.reasons) in
     let values_is = ap (λ (a : Assignment). a.values.items) (c.open_form.ensures.assignment ∙ c.enter.ensures.rest.0) in
     let moved = subst (λ vs. KeepsWalked vs between c.propagate.new.clauses) values_is reported.left.kept in
-    let fallen = visits-back run.assignment.values.items between c.propagate.new.clauses b.clauses run.assignment.list.items run.assignment.agrees lit c.back.ensures.watches moved in
+    let fallen = visits-back run.assignment.values.items between c.propagate.new.clauses b.clauses run.assignment.list.items run.assignment.agrees lit_back c.back.ensures.watches moved in
+    let variables = c.leave.ensures.variables ∙ c.enter.ensures.variables in
+    let counted : AreRootSums last.store last.run (length last.store.stored.items) = rw (kept_is, opens_is ∙ sym r.opens, end_is) r.counted in
+    let tidy : IsTidyRoot last.store last.run rests root.waiting (length last.store.stored.items) = rw (kept_is, opens_is ∙ sym r.opens, starts_is ∙ sym r.starts, end_is) r.tidy in
+    let reasoned : HaveReasons (all_of last.store b.clauses) last.run.assignment.reasons.items [] last.run.assignment.list.items = rw (kept_is, lit_back, end_is) (reasons-keep (reasons_of run) (reasons_of last.run) keeps r.reasoned) in
+    let walks : IsWalkedTo b.clauses last.run.assignment.list.items root.walked = rw end_is (walks-kept between b.clauses run.assignment.list.items root.walked fallen r.walks) in
+    let live : (i s : ℕ) → slice_get root.waiting.list.items i ≡ Some s → HasForm last.store s = rw kept_is r.live in
+    let values_end = ap (λ (a : Assignment). length a.values.items) c.leave.ensures.rest.0 ∙ c.back.ensures.values ∙ reported.left.values ∙ ap length values_is ∙ r.values ∙ sym variables in
+    let work_end = ap (λ (v : Vec ℕ Global). v.items) c.leave.ensures.rest.1 ∙ c.back.ensures.work in
+    let trail_end = ap (λ (v : Vec ℕ Global). v.items) c.leave.ensures.trail ∙ c.back.ensures.trail in
     record {
-      sound = c.leave.ensures.sound;
-      kept = kept_is;
-      ready = c.back.ensures.ready;
-      lists = omega (arith, ap (λ (v : Vec (Vec Listed Global) Global). length v.items) c.back.ensures.lists, reported.left.running.sizes, reported.left.values, ap length values_is, r.values, c.requires.standing.widths);
-      conflict = c.in_ok-update.ensures.kept;
-      rooted = record {
-        values = ap (λ (a : Assignment). length a.values.items) c.leave.ensures.rest.0 ∙ c.back.ensures.values ∙ reported.left.values ∙ ap (λ (a : Assignment). length a.values.items) (c.open_form.ensures.assignment ∙ c.enter.ensures.rest.0) ∙ r.values ∙ sym (c.leave.ensures.variables ∙ c.enter.ensures.variables);
-        opens = opens_is;
-        starts = starts_is;
-        open_sizes = ap length (opens_is ∙ sym r.opens) ∙ r.open_sizes ∙ sym (ap length kept_is);
-        start_sizes = ap length (starts_is ∙ sym r.starts) ∙ r.start_sizes ∙ sym (ap length kept_is);
-        counted = rw (kept_is, opens_is ∙ sym r.opens, end_is) r.counted;
-        tidy = rw (kept_is, opens_is ∙ sym r.opens, starts_is ∙ sym r.starts, end_is) r.tidy;
-        work = ap (λ (v : Vec ℕ Global). v.items) c.leave.ensures.rest.1 ∙ c.back.ensures.work;
-        trail = ap (λ (v : Vec ℕ Global). v.items) c.leave.ensures.trail ∙ c.back.ensures.trail;
-        next = c.leave.ensures.rest.2 ∙ c.back.ensures.next;
-        reasoned = rw (kept_is, lit, end_is) (reasons-keep (reasons_of run) (reasons_of last.run) keeps r.reasoned);
-        walks = rw end_is (walks-kept between b.clauses run.assignment.list.items root.walked fallen r.walks);
-        positions = r.positions ∙ sym (ap length kept_is);
-        live = rw kept_is r.live;
+      forms = tt;
+      variables = variables;
+      literals = c.back.ensures.literals ∙ c.propagate.ensures.literals ∙ c.update.ensures.literals;
+      left = record {
+        sound = c.leave.ensures.sound;
+        kept = kept_is;
+        ready = c.back.ensures.ready;
+        lists = omega (arith, ap (λ (v : Vec (Vec Listed Global) Global). length v.items) c.back.ensures.lists, reported.left.running.sizes, reported.left.values, ap length values_is, r.values, c.requires.standing.widths);
+        conflict = c.in_ok-update.ensures.kept;
+        rooted = search (rules, values_end, opens_is, starts_is, kept_is, end_is, work_end, trail_end, c.leave.ensures.rest.2 ∙ c.back.ensures.next);
       };
+      asked = posed (stored_shape h.kept) h.is (record {
+        list = done.assignment.list.items;
+        derived = rw whole at all;
+        few = omega (arith, found-after (length done.assignment.list.items) done.visits (length c.args.root.now.run.assignment.list.items) (found-both (length c.args.root.now.run.assignment.list.items) (length run.assignment.list.items) (length c.open_form.new.run.assignment.list.items) (length done.assignment.list.items) c.args.root.now.run.visits run.visits c.open_form.new.run.visits done.visits c.requires.visits (ap length opened_is) (c.open_form.ensures.visits ∙ c.enter.ensures.rest.3) (c.in_ok-update.ensures.updated c.if-branch.false).found reported.gains.found c.in_ok-found.ensures.gains.rising) (omega (arith, done.assignment.list.ok.0, done.assignment.list.ok.1)), c.back.ensures.visits, c.leave.ensures.rest.3);
+        one_sided = λ l on. opposite done.assignment.values.items done.assignment.list.items l done.assignment.agrees on;
+        conflict = λ found. subst (λ xs. Conflicts xs done.assignment.list.items) (whole_now) (reported.conflict found);
+        settled = λ found f has. (reported.settled found).settled f (subst (λ xs. Contains xs f) (sym whole_now) has);
+      });
+      most = (let most = posed-most (goal.at.returns c).After-propagate in omega (arith, most, c.back.ensures.visits, c.leave.ensures.rest.3));
     }
 
 pub propagate-requires-clause-ready : goal.propagate-requires-clause-ready

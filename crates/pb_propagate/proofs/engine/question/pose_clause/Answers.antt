@@ -1,4 +1,4 @@
-use Rattle.pb_propagate.proofs.Common.{◌++◌, ◌+◌, ◌∷◌, ◌≡◌, [], ap, arith, Global, length, List, refl, subst, Vec, sum, Entry, Listed, all_of}
+use Rattle.pb_propagate.proofs.Common.{◌++◌, ◌+◌, ◌∷◌, ◌≡◌, [], ap, arith, length, List, refl, subst, sum, Entry, all_of}
 use Rattle.pb_propagate.proofs.Common.{clauses_of, joined, denial_of, shapes_of, Conflicts, Derives, AreSettled, posed, ◌*◌, ◌≤◌}
 use Rattle.pb_propagate.proofs.lemmas.engine.Derivations.{derivation-then}
 use Rattle.pb_propagate.proofs.lemmas.engine.Values.{opposite}
@@ -6,8 +6,8 @@ use Rattle.pb_propagate.proofs.lemmas.root.Denials.{denial-stored}
 use Rattle.pb_propagate.proofs.lemmas.root.Extends.{extends-then}
 use Rattle.pb_propagate.proofs.lemmas.root.Kept.{met-asked}
 use Rattle.pb_propagate.proofs.lemmas.root.Questions.{derives-entered, found-after, found-both, question-most, updated-most}
-use Rattle.pb_propagate.proofs.lemmas.root.Ready.{standing-left, updated-ready}
-use Rattle.pb_propagate.proofs.lemmas.root.Returns.{both-costs, question-back}
+use Rattle.pb_propagate.proofs.lemmas.root.Ready.{undone-left, updated-ready}
+use Rattle.pb_propagate.proofs.lemmas.root.Returns.{both-costs}
 use Rattle.pb_propagate.proofs.lemmas.engine.Reasoned.{reasons-derive}
 use Rattle.pb_propagate.specs.engine.engine.Root.{terms_of_all}
 use Rattle.pb_propagate.proofs.engine.question.pose_clause.Goals.{After-refute}
@@ -73,9 +73,4 @@ refute-requires-clause-ready c = updated-ready c.in_ok-update.ensures.rooted (rw
 
 pub returns-clause-left : goal.returns-clause-left
 returns-clause-left c =
-    let run = c.update.new.self.run in
-    let left = c.in_ok-found.ensures.left in
-    let r = c.in_ok-update.ensures.rooted in
-    let lists = ap (λ (v : Vec (Vec Listed Global) Global). length v.items) c.back.ensures.lists in
-    standing-left c.requires.standing c.back.ensures.ready (omega (arith, lists, left.running.sizes, left.values, r.values, c.requires.standing.widths))
-    (question-back c.update.new.self r left c.back.ensures (omega (arith, c.len-count.ensures, run.assignment.list.ok.0)) c.refute.ensures.literals) c.in_ok-update.ensures.kept
+    undone-left c.requires.standing c.in_ok-update.ensures.rooted c.in_ok-found.ensures.left c.back.ensures (omega (arith, c.len-count.ensures, c.update.new.self.run.assignment.list.ok.0)) c.refute.ensures.literals c.in_ok-update.ensures.kept

@@ -1,5 +1,4 @@
-use Rattle.pb_propagate.proofs.Common.{[], ap, arith, length, length-map, Form, all_of, clauses_of, none}
-use Rattle.pb_normal.specs.meaning.Rules.{opposite as opposite_entry}
+use Rattle.pb_propagate.proofs.Common.{[], ap, arith, length-map, Form, all_of, clauses_of, none}
 use Rattle.pb_propagate.proofs.lemmas.engine.Rests.{opposite-inside}
 use Rattle.pb_propagate.proofs.lemmas.engine.Spent.{derivation-single}
 use Rattle.pb_propagate.proofs.lemmas.engine.Values.{opposite}
@@ -20,11 +19,7 @@ returns-in_default-clause-most c =
     omega (arith, few, c.requires.visits)
 
 pub returns-clause-most : goal.returns-clause-most
-returns-clause-most c =
-    let terms = ap (λ (f : Form). length f.terms) c.in-Ok.ensures.negation in
-    omega (arith, c.pose.ensures.most, terms, length-map c.args.goal.now.terms opposite_entry)
+returns-clause-most c = grind (arith, c.in-Ok.ensures.negation, c.pose.ensures.most, length-map)
 
 pub returns-in_err-found-2-clause-most : goal.returns-in_err-found-2-clause-most
-returns-in_err-found-2-clause-most c =
-    let terms = ap (λ (f : Form). length f.terms) c.in-Ok.ensures.negation in
-    omega (arith, c.pose.ensures.most, terms, length-map c.args.goal.now.terms opposite_entry)
+returns-in_err-found-2-clause-most c = grind (arith, c.in-Ok.ensures.negation, c.pose.ensures.most, length-map)

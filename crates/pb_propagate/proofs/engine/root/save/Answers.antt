@@ -27,14 +27,4 @@ returns c =
     let rests = c.forms.rests in
     let u = c.forms.invariant.undone in
     let kept = keep-all rests u.0 run.opens.items run.candidates.items run.trail.items c.forms.i (omega (arith, c.forms-test.false, c.len-i-end.ensures, run.trail.ok.0)) u.1 c.requires.sizes c.forms.invariant.opens c.forms.invariant.starts u.2 in
-    record {
-      opens = search rules;
-      candidates = search rules;
-      assignment = search rules;
-      work = search rules;
-      trail = search rules;
-      next = search rules;
-      visits = search rules;
-      rest_opens = kept.0;
-      rest_starts = kept.1;
-    }
+    search (rules, kept.0, kept.1)

@@ -2,17 +2,8 @@ use Rattle.pb_propagate.proofs.Common.{◌+◌, ap, arith, get_or-le-sum_by, Ter
 use Rattle.pb_propagate.proofs.lemmas.store.Sorted.{bound-calm, bound-none}
 use Rattle.pb_propagate.proofs.store.occurrence_lists.bound_of.Goals as goal
 
-pub returns-then-len-eq0-clause-first : goal.returns-then-len-eq0-clause-first
-returns-then-len-eq0-clause-first c = λ d some. absurd (omega (arith, some, c.len.ensures, c.if-len-eq0.true))
-
 pub overflow_add-result : goal.overflow_add-result
-overflow_add-result c =
-    let t = c.term-first.result in
-    let top = get_or-le-sum_by (λ (x : Term). x.coefficient) (terms_of c.args.terms.now) 0 t (omega (arith, c.len.ensures, c.if-len-eq0.false)) in
-    omega (arith, ap (λ (x : Term). x.coefficient) (c.term-first.ensures t), top, c.requires.size, c.requires.small)
-
-pub returns-clause-first : goal.returns-clause-first
-returns-clause-first c = λ d some. ap (λ (t : Term). c.args.degree + t.coefficient) (c.term-first.ensures d)
+overflow_add-result c = grind (arith, get_or-le-sum_by)
 
 pub returns-then-len-eq0-clause-calm : goal.returns-then-len-eq0-clause-calm
 returns-then-len-eq0-clause-calm c = bound-none (terms_of c.args.terms.now) c.args.degree (omega (arith, c.len.ensures, c.if-len-eq0.true))

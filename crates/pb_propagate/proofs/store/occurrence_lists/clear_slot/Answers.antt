@@ -1,4 +1,4 @@
-use Rattle.pb_propagate.proofs.Common.{ap, Global, List, refl, set, Vec, StoredForm}
+use Rattle.pb_propagate.proofs.Common.{ap, Global, refl, Vec, StoredForm}
 use Rattle.pb_propagate.specs.declared.store.spots.Spots.TheVariants.{Empty}
 use Rattle.pb_propagate.proofs.lemmas.store.Changes.{vacated-stored}
 use Rattle.pb_propagate.proofs.store.occurrence_lists.clear_slot.Goals as goal
@@ -9,8 +9,3 @@ returns-clause-sound c =
     let same = ap (λ (v : Vec StoredForm Global). v.items) c.unlink.ensures.kept in
     rw c.unlink.ensures.variables (rw same (vacated-stored store.stored.items c.empty_stored.result c.unlink.new.store.spots.items store.spots.items Empty c.unlink.new.store.occurrences.items store.occurrences.items store.variables c.args.form
     c.requires.form c.empty_stored.ensures.terms refl c.unlink.ensures.lists c.unlink.ensures.rooms (rw same at c.unlink.ensures.linked) c.requires.sound))
-
-pub returns-clause-kept : goal.returns-clause-kept
-returns-clause-kept c =
-    let same = ap (λ (v : Vec StoredForm Global). v.items) c.unlink.ensures.kept in
-    (c.empty_stored.result, c.empty_stored.ensures, ap (λ (xs : List StoredForm). set xs c.args.form c.empty_stored.result) same)

@@ -22,9 +22,4 @@ returns-clause-sound c =
     (kept-inside ts c.args.form.terms store.variables c.in_ok-kept.ensures.is.terms c.requires.inside) (rw (← c.in_ok-positions.ensures) at c.in_ok-link.ensures.linked) c.requires.sound
 
 pub returns-clause-filled : goal.returns-clause-filled
-returns-clause-filled c = record {
-  kept = c.in_ok-kept.kept;
-  is = c.in_ok-kept.ensures.is;
-  form = c.in_ok-kept.ensures.form;
-  keeps = refl;
-}
+returns-clause-filled c = grind arith

@@ -12,16 +12,10 @@ place_of-place-requires c =
     omega (arith, inside, ap (λ (x : Term). place x.literal) (c.term-term.ensures t), c.args.lists.now.ok.0)
 
 pub index-requires : goal.index-requires
-index-requires c =
-    let t = c.term-term.result in
-    let inside = c.requires.inside c.terms.i t (omega (arith, c.terms-test.true, c.len-i-end.ensures)) in
-    omega (arith, inside, ap (λ (x : Term). place x.literal) (c.term-term.ensures t), c.place_of-place.ensures.place, c.terms.invariant.sizes, c.terms.lists.ok.0)
+index-requires c = grind (arith, c.requires.inside, c.terms-test.true, c.len-i-end.ensures, c.term-term.ensures, c.place_of-place.ensures.place, c.terms.invariant.sizes, c.terms.lists.ok.0)
 
 pub index_mut-requires : goal.index_mut-requires
-index_mut-requires c =
-    let t = c.term-term.result in
-    let inside = c.requires.inside c.terms.i t (omega (arith, c.terms-test.true, c.len-i-end.ensures)) in
-    omega (arith, inside, ap (λ (x : Term). place x.literal) (c.term-term.ensures t), c.place_of-place.ensures.place, c.terms.invariant.sizes, c.terms.lists.ok.0)
+index_mut-requires c = grind (arith, c.requires.inside, c.terms-test.true, c.len-i-end.ensures, c.term-term.ensures, c.place_of-place.ensures.place, c.terms.invariant.sizes, c.terms.lists.ok.0)
 
 pub terms-preserved : goal.terms-preserved
 terms-preserved c =

@@ -1,4 +1,4 @@
-use Rattle.pb_propagate.proofs.Common.{Some, slice_get, ◌+◌, ◌≡◌, ◌-◌, ◌<◌, [], ap, arith, get_or, length, lists_of, spots_of}
+use Rattle.pb_propagate.proofs.Common.{Some, slice_get, ◌+◌, ◌≡◌, ◌-◌, ◌<◌, [], arith, get_or, length, lists_of}
 use Rattle.pb_propagate.proofs.lemmas.store.Places.{taken-lists, taken-last, taken-moved, spots-moved, set-read, spots-read}
 use Rattle.pb_propagate.proofs.store.occurrence_lists.take_out.Goals.{After-index-moved}
 use Rattle.pb_propagate.proofs.store.occurrence_lists.take_out.Goals as goal
@@ -8,30 +8,18 @@ returns-then-spot-len-clause-lists c =
     taken-lists c.args.lists.now.items c.args.place c.args.spot c.index_mut.result.now c.swap_remove.new.self c.swap_remove.result c.requires.place c.index_mut.ensures.value c.swap_remove.ensures.value c.swap_remove.ensures.items
 
 pub returns-then-spot-len-clause-spots : goal.returns-then-spot-len-clause-spots
-returns-then-spot-len-clause-spots c =
-    let same = set-read c.args.lists.now.items c.args.place c.swap_remove.new.self c.index.result.now c.requires.place c.index.ensures in
-    taken-last c.args.lists.now.items c.args.place c.args.spot c.index_mut.result.now c.swap_remove.new.self c.swap_remove.result (spots_of c.args.spots.now.items) c.requires.place c.index_mut.ensures.value c.swap_remove.ensures.items c.requires.spot
-    (omega (arith, c.if-spot-len.true, c.len.ensures, c.index.result.now.ok.0, ap (λ v. length v.items) same))
+returns-then-spot-len-clause-spots c = grind (arith, set-read, taken-last)
 
 -- the entry that moves
 moved : (c : After-index-moved) → (c.args.spot + 1 < length (get_or (lists_of c.args.lists.now.items) c.args.place [])) ×
     (slice_get (get_or (lists_of c.args.lists.now.items) c.args.place []) (length (get_or (lists_of c.args.lists.now.items) c.args.place []) - 1) ≡ Some c.index-moved.result.now)
-moved c =
-    let same = set-read c.args.lists.now.items c.args.place c.swap_remove.new.self c.index.result.now c.requires.place c.index.ensures in
-    let same_2 = set-read c.args.lists.now.items c.args.place c.swap_remove.new.self c.index-2.result.now c.requires.place c.index-2.ensures in
-    taken-moved c.args.lists.now.items c.args.place c.args.spot c.index_mut.result.now c.swap_remove.new.self c.swap_remove.result c.index-moved.result.now c.requires.place c.index_mut.ensures.value c.swap_remove.ensures.items c.requires.spot
-    (omega (arith, c.if-spot-len.false, c.len.ensures, c.index.result.now.ok.0, ap (λ v. length v.items) same)) (rw same_2 at c.index-moved.ensures)
+moved c = grind (arith, set-read, taken-moved)
 
 pub index_mut-requires-2 : goal.index_mut-requires-2
-index_mut-requires-2 c =
-    let named = c.requires.named c.index-moved.result.now (moved (goal.at.index_mut-requires-2 c).After-index-moved).1 in
-    omega (arith, named.0, c.args.spots.now.ok.0)
+index_mut-requires-2 c = grind (arith, moved)
 
 pub set-requires : goal.set-requires
-set-requires c =
-    let m = c.index-moved.result.now in
-    let named = c.requires.named m (moved (goal.at.set-requires c).After-index-moved).1 in
-    spots-read c.args.spots.now.items m.form m.index c.index_mut-2.result.now named.0 c.index_mut-2.ensures.value named.1
+set-requires c = grind (arith, moved, spots-read)
 
 pub returns-clause-lists : goal.returns-clause-lists
 returns-clause-lists c =

@@ -1,16 +1,13 @@
 use Rattle.pb_propagate.proofs.Common.{stored_terms}
-use Rattle.pb_propagate.proofs.Common.{◌∙◌, ◌≡◌, [], ap, arith, get_or, inl, inr, length, List, subst, sym, cases_eq, Term, shapes_of, terms_at}
-use Rattle.pb_propagate.proofs.Common.{IsDue, Shape}
+use Rattle.pb_propagate.proofs.Common.{◌∙◌, ◌≡◌, ap, arith, get_or, inl, inr, subst, sym, cases_eq, Term}
+use Rattle.pb_propagate.proofs.Common.{IsDue}
 use Rattle.pb_propagate.proofs.lemmas.engine.VisitSteps.{shape-at}
 use Rattle.pb_propagate.proofs.lemmas.root.Replaced.{terms-inside}
 use Rattle.pb_propagate.proofs.lemmas.root.Released.{released-same, released-then, some-released, some-sized}
 use Rattle.pb_propagate.proofs.store.reasons.release_by_terms.Goals as goal
 
 pub terms-init : goal.terms-init
-terms-init c = record {
-  released = released-same c.args.store.now c.args.slot c.args.root.now (some-sized c.args.store.now c.args.root.now c.requires.rooted);
-  needless = λ k d less. absurd (omega (arith, less));
-}
+terms-init c = grind (arith, released-same, some-sized)
 
 pub release_literal-requires : goal.release_literal-requires
 release_literal-requires c =
@@ -38,8 +35,4 @@ terms-preserved c =
     }
 
 pub returns-clause-needless : goal.returns-clause-needless
-returns-clause-needless c = λ k d less due.
-    let store = c.args.store.now in
-    let new = c.terms.root in
-    let is : terms_at (shapes_of store.stored.items) c.args.slot ≡ stored_terms c.index-kept.result.now = ap (λ (f : Shape). f.terms) (shape-at store.stored.items c.args.slot c.index-kept.result.now c.requires.slot c.index-kept.ensures (record { terms = []; degree = 0 })) in
-    c.terms.invariant.needless k d (omega (arith, less, ap length is, c.terms-test.false, c.len-i-end.ensures)) (subst (λ (ts : List Term). IsDue c.args.slot new.run.assignment.list.items new.run.assignment.reasons.items (get_or ts k d).literal) is due)
+returns-clause-needless c = grind (arith, shape-at)

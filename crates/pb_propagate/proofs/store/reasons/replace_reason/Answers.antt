@@ -8,6 +8,4 @@ returns-clause-reasons c =
     (record { on = (c.is_due.ensures.yes c.if-not-is_due.false).0; inside = omega (arith, c.requires.inside, c.args.assignment.now.known); apart = c.in-Some.ensures.apart; list = c.explain.ensures.list; values = c.explain.ensures.values; reasons = c.explain.ensures.reasons })
 
 pub returns-clause-needless : goal.returns-clause-needless
-returns-clause-needless c = λ yes.
-    explained-needless c.args.slot c.in-Some.unit c.args.literal c.args.assignment.now c.explain.new.self
-    (record { on = (c.is_due.ensures.yes c.if-not-is_due.false).0; inside = omega (arith, c.requires.inside, c.args.assignment.now.known); apart = c.in-Some.ensures.apart; list = c.explain.ensures.list; values = c.explain.ensures.values; reasons = c.explain.ensures.reasons })
+returns-clause-needless c = grind (arith, explained-needless)

@@ -1,11 +1,9 @@
-use Rattle.pb_propagate.proofs.Common.{clauses_of}
+use Rattle.pb_propagate.proofs.Common.{clauses_of, arith}
 use Rattle.pb_propagate.proofs.lemmas.root.Replaced.{needless-codes, needless-terms}
 use Rattle.pb_propagate.proofs.store.reasons.replace_reasons.Goals as goal
 
 pub returns-clause-needless : goal.returns-clause-needless
-returns-clause-needless c = λ yes.
-    let next = c.replace_by_terms.ensures in
-    needless-terms c.args.store.now c.args.clauses.now c.args.slot c.replace_by_terms.new.assignment c.requires.slot (c.is_filled.ensures.no c.if-is_filled.false) (next.reasons.reasoned (clauses_of c.args.clauses.now) c.requires.joined c.requires.reasoned) (next.needless yes)
+returns-clause-needless c = grind (arith, needless-terms)
 
 pub returns-then-is_filled-clause-needless : goal.returns-then-is_filled-clause-needless
 returns-then-is_filled-clause-needless c = λ yes.

@@ -1,5 +1,5 @@
 use Rattle.pb_propagate.proofs.lemmas.store.Stored.{stored-small}
-use Rattle.pb_propagate.proofs.Common.{ℕ, ◌+◌, ◌∙◌, [], drop, drop_all, get_or, get_or_read, map, set, size, stored_shape, subst, Shape, Term, ap, arith, length, length-map, shapes_of, weighted, slice_get_within}
+use Rattle.pb_propagate.proofs.Common.{ℕ, ◌+◌, ◌∙◌, drop, drop_all, get_or, get_or_read, map, set, size, stored_shape, subst, Shape, Term, ap, arith, length, length-map, shapes_of, weighted, slice_get_within}
 use Rattle.pb_propagate.proofs.lemmas.root.Retracted.{ahead-entry, all-next, lacks-fits, lacks-next, listed-entries, IsOccurrence, occurrence-read, refreshed-then}
 use Rattle.pb_propagate.proofs.lemmas.engine.VisitSteps.{shape-at, weight-read}
 use Rattle.pb_propagate.specs.engine.engine.Refreshed.{Lacks}
@@ -12,13 +12,7 @@ read c = occurrence-read c.args.store.now c.args.literal c.place_of.result c.ind
     (omega (arith, c.entries-test.true, c.len-j-end.ensures, c.index-entries.result.now.ok.0))
 
 pub refresh-requires : goal.refresh-requires
-refresh-requires c =
-    let o = read (goal.at.refresh-requires c).After-index-entry in
-    record {
-      form = o.form;
-      some = o.some;
-      sized = c.entries.invariant.each.sized;
-    }
+refresh-requires c = grind (arith, read)
 
 pub entries-preserved : goal.entries-preserved
 entries-preserved c =
@@ -45,10 +39,7 @@ pub index-before-requires : goal.index-before-requires
 index-before-requires c = omega (arith, (read (goal.at.index-before-requires c).After-index-entry).form, c.entries.invariant.each.sized.opens, c.entries.root.run.opens.ok.0)
 
 pub term-requires : goal.term-requires
-term-requires c =
-    let o = read (goal.at.term-requires c).After-index-entry in
-    let shape = shape-at c.args.store.now.stored.items c.index-entry.result.now.form c.index-kept.result.now o.form c.index-kept.ensures (record { terms = []; degree = 0 }) in
-    omega (arith, o.index, ap (λ (f : Shape). length f.terms) shape)
+term-requires c = grind (arith, read, shape-at)
 
 pub overflow_add-opened : goal.overflow_add-opened
 overflow_add-opened c =
@@ -66,9 +57,7 @@ overflow_add-opened c =
     omega (arith, fits, read, weight, ap (λ (f : Shape). size f.terms) shape, stored-small k)
 
 pub returns-clause-lacks : goal.returns-clause-lacks
-returns-clause-lacks c =
-    let es = map (weighted (shapes_of c.args.store.now.stored.items)) c.index-entries.result.now.items in
-    subst (Lacks c.args.store.now c.entries.root) (drop_all c.entries.j es (omega (arith, c.entries-test.false, c.len-j-end.ensures, c.index-entries.result.now.ok.0, length-map c.index-entries.result.now.items (weighted (shapes_of c.args.store.now.stored.items))))) c.entries.invariant.lacks
+returns-clause-lacks c = grind (arith, drop_all, length-map)
 
 pub index-kept-requires : goal.index-kept-requires
 index-kept-requires c = omega (arith, (read (goal.at.index-kept-requires c).After-index-entry).form, c.args.store.now.stored.ok.0)

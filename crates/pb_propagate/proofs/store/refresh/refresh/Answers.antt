@@ -56,6 +56,3 @@ returns-clause-each c =
         | inr old ↦ inr old
       ];
     }
-
-pub returns-clause-opens : goal.returns-clause-opens
-returns-clause-opens c = refl

@@ -9,13 +9,7 @@ read c = occurrence-read c.args.store.now c.args.literal c.place_of.result c.ind
     (omega (arith, c.entries-test.true, c.len-j-end.ensures, c.index-entries.result.now.ok.0))
 
 pub refresh-requires : goal.refresh-requires
-refresh-requires c =
-    let o = read (goal.at.refresh-requires c).After-index-entry in
-    record {
-      form = o.form;
-      some = o.some;
-      sized = c.entries.invariant.each.sized;
-    }
+refresh-requires c = grind (arith, read)
 
 pub entries-preserved : goal.entries-preserved
 entries-preserved c =

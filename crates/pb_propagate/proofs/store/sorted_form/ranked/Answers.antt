@@ -2,10 +2,6 @@ use Rattle.pb_propagate.proofs.Common.{◌-◌, ◌^◌, arith, rules, All-permu
 use Rattle.pb_propagate.proofs.lemmas.store.Sorted.{ranked-same, ranked-falling}
 use Rattle.pb_propagate.proofs.store.sorted_form.ranked.Goals as goal
 
-pub returns-clause-placed : goal.returns-clause-placed
-returns-clause-placed c =
-    All-permutation (IsPlaced c.args.entries.now) c.in_ok-ranks.ranks.items c.sort_unstable_by_key.new.self.items c.sort_unstable_by_key.ensures.permutation c.in_ok-ranks.ensures.0
-
 pub returns-clause-same : goal.returns-clause-same
 returns-clause-same c =
     ranked-same c.args.entries.now c.in_ok-ranks.ranks.items c.sort_unstable_by_key.new.self.items c.in_ok-ranks.ensures.1 c.sort_unstable_by_key.ensures.permutation

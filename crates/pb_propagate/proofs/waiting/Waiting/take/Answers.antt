@@ -47,18 +47,7 @@ index_mut-requires c =
     omega (arith, slice_get_within me.positions.items m (length me.list.items - 1) (me.positioned (length me.list.items - 1) m last.1), me.positions.ok.0)
 
 pub invariant_of-self-2 : goal.invariant_of-self-2
-invariant_of-self-2 c =
-    let me = c.args.self.now in
-    let position = c.index-position.result.now in
-    let now = c.swap_remove.new.self in
-    let m = c.index-moved.result.now in
-    let got = position-got me.list.items me.positions.items c.args.form position c.requires.there me.positioned c.index-position.ensures in
-    let inside = slice_get_within me.list.items position c.args.form got in
-    let last = moved-last me.list.items now.items position c.swap_remove.result m inside c.swap_remove.ensures.items (omega (arith, c.len.ensures, now.ok.0, c.if-position-len.false)) c.index-moved.ensures in
-    record {
-      positioned = rw c.swap_remove.ensures.items (positioned-moved me.list.items me.positions.items position c.swap_remove.result m last.0 last.1 me.positioned);
-      room = omega (arith, me.room, c.swap_remove.ensures.capacity, length-set me.positions.items m position);
-    }
+invariant_of-self-2 c = grind (arith, position-got, slice_get_within, moved-last, positioned-moved, length-set)
 
 pub returns-clause-list : goal.returns-clause-list
 returns-clause-list c =

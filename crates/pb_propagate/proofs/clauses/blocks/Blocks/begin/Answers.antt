@@ -4,11 +4,7 @@ use Rattle.pb_propagate.proofs.lemmas.clauses.BlocksWritten.{begin-written, shar
 use Rattle.pb_propagate.proofs.clauses.blocks.Blocks.begin.Goals as goal
 
 pub index-requires : goal.index-requires
-index-requires c = omega (
-  arith,
-  slot-stored c.self.invariant c.self.view_is c.args.slot c.requires,
-  c.self.inside.starts.ok.0,
-)
+index-requires c = grind (arith, slot-stored)
 
 pub index_mut-requires : goal.index_mut-requires
 index_mut-requires c =
@@ -26,6 +22,4 @@ returns-then-start-gt0 c =
     (own-by c.self.invariant c.args.slot c.index.result.now room c.index.ensures)).is
 
 pub returns-else-start-gt0 : goal.returns-else-start-gt0
-returns-else-start-gt0 c =
-    let b = slot-block c.self.invariant c.self.view_is c.args.slot c.index.result.now c.requires c.index.ensures in
-    shared-begun c.args.slot c.self.invariant c.self.view_is b.slot (omega (arith, b.at, c.if-start-gt0.false))
+returns-else-start-gt0 c = grind (arith, slot-block, shared-begun)

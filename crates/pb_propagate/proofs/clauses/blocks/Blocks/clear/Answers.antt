@@ -1,28 +1,16 @@
-use Rattle.pb_propagate.proofs.Common.{arith, inl}
+use Rattle.pb_propagate.proofs.Common.{arith, inl, rules}
 use Rattle.pb_propagate.proofs.lemmas.clauses.Blocks.{own-at, own-slot}
 use Rattle.pb_propagate.proofs.lemmas.clauses.BlocksWritten.{clear-written}
 use Rattle.pb_propagate.proofs.clauses.blocks.Blocks.clear.Goals as goal
 
 pub index-requires : goal.index-requires
-index-requires c = omega (
-  arith,
-  own-slot c.self.invariant c.self.view_is c.args.slot (inl c.requires),
-  c.self.inside.starts.ok.0,
-)
+index-requires c = grind (arith, own-slot)
 
 pub index_mut-requires : goal.index_mut-requires
-index_mut-requires c =
-    omega (
-      arith,
-      (own-at c.self.invariant c.self.view_is c.args.slot c.index.result.now
-          (inl c.requires) c.index.ensures).end,
-      c.self.inside.words.ok.0,
-    )
+index_mut-requires c = grind (arith, own-at)
 
 pub invariant_of-self : goal.invariant_of-self
-invariant_of-self c =
-    (clear-written c.self.invariant c.self.view_is
-    (own-at c.self.invariant c.self.view_is c.args.slot c.index.result.now (inl c.requires) c.index.ensures)).blocks
+invariant_of-self c = search (rules, clear-written, c.self.view_is, own-at, c.requires, c.index.ensures)
 
 pub returns : goal.returns
 returns c =

@@ -1,23 +1,17 @@
-use Rattle.pb_propagate.proofs.Common.{◌≡◌, ◌≤◌, ap, arith, get_or-set_same, sym, leb-true, get_or_read, Contents, number_at}
+use Rattle.pb_propagate.proofs.Common.{arith, get_or-set_same, leb-true, get_or_read}
 use Rattle.pb_propagate.proofs.lemmas.clauses.Blocks.{slot-stored}
 use Rattle.pb_propagate.proofs.lemmas.clauses.BlocksFitted.{HasFitted, fitted-from}
 use Rattle.pb_propagate.proofs.clauses.blocks.Blocks.fit.Goals.{In_ok-append}
 use Rattle.pb_propagate.proofs.clauses.blocks.Blocks.fit.Goals as goal
 
 pub index-requires : goal.index-requires
-index-requires c =
-    let slot = slot-stored c.self.invariant c.self.view_is c.args.slot c.requires.slot in
-    omega (arith, slot, c.self.invariant.sizes, c.self.inside.rooms.ok.0)
+index-requires c = grind (arith, slot-stored)
 
 pub index_mut-requires : goal.index_mut-requires
-index_mut-requires c =
-    let slot = slot-stored c.self.invariant c.self.view_is c.args.slot c.requires.slot in
-    omega (arith, slot, c.self.inside.starts.ok.0)
+index_mut-requires c = grind (arith, slot-stored)
 
 pub index_mut-requires-2 : goal.index_mut-requires-2
-index_mut-requires-2 c =
-    let slot = slot-stored c.self.invariant c.self.view_is c.args.slot c.requires.slot in
-    omega (arith, slot, c.self.invariant.sizes, c.self.inside.rooms.ok.0)
+index_mut-requires-2 c = grind (arith, slot-stored)
 
 -- the block is new
 fitted : (c : In_ok-append) → HasFitted c.append.new.words.items c.self.inside.starts.items c.self.inside.rooms.items
@@ -45,24 +39,7 @@ pub returns-clause-watches : goal.returns-clause-watches
 returns-clause-watches c = (fitted (goal.at.returns-clause-watches c).In_ok-append).watches
 
 pub returns-then-held-gt0-clause-fits : goal.returns-then-held-gt0-clause-fits
-returns-then-held-gt0-clause-fits c = λ fits.
-    let slot = slot-stored c.self.invariant c.self.view_is c.args.slot c.requires.slot in
-    let held = get_or_read c.self.inside.rooms.items c.args.slot c.index.result.now
-    (omega (arith, slot, c.self.invariant.sizes)) c.index.ensures 0 in
-    let room : number_at c.args.self.now.rooms c.args.slot ≡ number_at c.self.inside.rooms.items c.args.slot =
-    ap (λ (v : Contents). number_at v.rooms c.args.slot) (sym c.self.view_is) in
-    let most : c.args.count ≤ c.index.result.now = leb-true c.args.count c.index.result.now fits in (
-      omega (arith, most, held, room),
-      omega (arith, c.if-count-ge2147483648.false),
-      c.self.invariant.small c.args.slot (omega (arith, held, c.if-held-gt0.true)),
-    )
+returns-then-held-gt0-clause-fits c = grind (arith, slot-stored, get_or_read, leb-true)
 
 pub returns-clause-fits : goal.returns-clause-fits
-returns-clause-fits c = λ same.
-    let slot = slot-stored c.self.invariant c.self.view_is c.args.slot c.requires.slot in
-    let room = get_or-set_same c.self.inside.rooms.items c.args.slot c.room_of-room.result 0
-    (omega (arith, slot, c.self.invariant.sizes)) in (
-      omega (arith, room, c.room_of-room.ensures),
-      omega (arith, c.if-count-ge2147483648.false),
-      omega (arith, c.if-slot-ge2147483647.false),
-    )
+returns-clause-fits c = grind (arith, slot-stored, get_or-set_same)

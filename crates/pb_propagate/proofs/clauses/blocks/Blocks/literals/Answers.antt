@@ -1,13 +1,9 @@
-use Rattle.pb_propagate.proofs.Common.{◌+◌, ◌-◌, ◌∙◌, ◌≡◌, ◌≤◌, ap, arith, drop, get_or_read, length, number_at, take}
+use Rattle.pb_propagate.proofs.Common.{◌+◌, ◌-◌, ◌∙◌, ◌≡◌, ap, arith, drop, get_or_read, number_at, take, rules}
 use Rattle.pb_propagate.proofs.lemmas.clauses.Blocks.{clause-stored, slot-block, slot-stored}
 use Rattle.pb_propagate.proofs.clauses.blocks.Blocks.literals.Goals as goal
 
 pub index-requires : goal.index-requires
-index-requires c = omega (
-  arith,
-  slot-stored c.self.invariant c.self.view_is c.args.slot c.requires,
-  c.self.inside.starts.ok.0,
-)
+index-requires c = grind (arith, slot-stored)
 
 pub index-requires-2 : goal.index-requires-2
 index-requires-2 c =
@@ -18,13 +14,7 @@ index-requires-2 c =
     )
 
 pub slice_bounds-result-end : goal.slice_bounds-result-end
-slice_bounds-result-end c =
-    let b = slot-block c.self.invariant c.self.view_is c.args.slot c.index.result.now c.requires c.index.ensures in
-    let count = get_or_read c.self.inside.words.items _ c.index-2.result.now
-    (omega (arith, b.end)) c.index-2.ensures 0 in
-    let end : c.index.result.now + 8 + c.index-2.result.now ≤ length c.deref.result.now =
-    omega (arith, count, b.count, b.end, ap length c.deref.ensures.value) in
-    end
+slice_bounds-result-end c = search (rules, slot-block, c.self.view_is, c.requires, c.index.ensures, get_or_read, c.index-2.ensures, c.deref.ensures.value)
 
 pub returns-clause-literals : goal.returns-clause-literals
 returns-clause-literals c =

@@ -11,10 +11,7 @@ index-requires c = omega (
 )
 
 pub index_mut-requires : goal.index_mut-requires
-index_mut-requires c =
-    let l = live-stored c.self.invariant c.self.view_is c.args.watch c.requires.live in
-    let at = place-at c.self.inside.starts.items c.args.watch c.index.result.now _ l.slot c.index.ensures c.place_in-place.ensures in
-    omega (arith, at, l.place, c.self.inside.words.ok.0)
+index_mut-requires c = grind (arith, live-stored, place-at)
 
 pub invariant_of-self : goal.invariant_of-self
 invariant_of-self c =

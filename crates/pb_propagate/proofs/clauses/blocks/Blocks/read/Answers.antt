@@ -9,11 +9,7 @@ word-at : (words ws : List ℕ) (a k : ℕ) → ws ≡ words → k < 8 →
 word-at words ws a k same h = slice-at ws a (a + 8 - a) k (omega (arith, h)) ∙ ap (λ xs. number_at xs (a + k)) same
 
 pub index-requires : goal.index-requires
-index-requires c = omega (
-  arith,
-  slot-stored c.self.invariant c.self.view_is c.args.slot c.requires,
-  c.self.inside.starts.ok.0,
-)
+index-requires c = grind (arith, slot-stored)
 
 pub slice_bounds-header-end : goal.slice_bounds-header-end
 slice_bounds-header-end c =
@@ -32,13 +28,7 @@ slice_bounds-result-end c =
     end
 
 pub passed_in-requires : goal.passed_in-requires
-passed_in-requires c =
-    let b = slot-block c.self.invariant c.self.view_is c.args.slot c.index.result.now c.requires c.index.ensures in
-    omega (
-      arith,
-      slice-length c.deref.result.now c.index.result.now (c.index.result.now + 8 - c.index.result.now)
-          (omega (arith, b.end, ap length c.deref.ensures.value)),
-    )
+passed_in-requires c = grind (arith, slot-block, slice-length)
 
 pub returns-clause-search : goal.returns-clause-search
 returns-clause-search c =

@@ -1,14 +1,10 @@
-use Rattle.pb_propagate.proofs.Common.{arith}
+use Rattle.pb_propagate.proofs.Common.{arith, rules}
 use Rattle.pb_propagate.proofs.lemmas.clauses.Blocks.{own-at, own-slot}
 use Rattle.pb_propagate.proofs.lemmas.clauses.BlocksWritten.{seek-written}
 use Rattle.pb_propagate.proofs.clauses.blocks.Blocks.seek.Goals as goal
 
 pub index-requires : goal.index-requires
-index-requires c = omega (
-  arith,
-  own-slot c.self.invariant c.self.view_is c.args.slot c.requires.block,
-  c.self.inside.starts.ok.0,
-)
+index-requires c = search (rules, own-slot, c.self.view_is, c.requires.block, c.self.inside.starts.ok.0)
 
 pub index_mut-requires : goal.index_mut-requires
 index_mut-requires c =

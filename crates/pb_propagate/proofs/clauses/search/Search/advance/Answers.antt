@@ -1,4 +1,4 @@
-use Rattle.pb_propagate.proofs.Common.{◌∙◌, ap, arith, get_or, length, sym, false_at}
+use Rattle.pb_propagate.proofs.Common.{arith, get_or, length, sym}
 use Rattle.std.proofs.lemmas.Grind.{get_or_default_zero}
 use Rattle.pb_propagate.proofs.lemmas.clauses.Searches.{round-next, next-inside, passed-next}
 use Rattle.pb_propagate.proofs.clauses.search.Search.advance.Goals as goal
@@ -19,25 +19,4 @@ literals-preserved c =
     }
 
 pub returns-then-may_watch-clause-found : goal.returns-then-may_watch-clause-found
-returns-then-may_watch-clause-found c = λ less d.
-    let two = c.may_watch.ensures.yes c.if-may_watch.true in
-    let item = get_or_default_zero c.args.literals.now c.literals.at.position d c.literals.invariant.position in
-    (ap (false_at c.args.assignment.now.values.items) item ∙ two.0, λ h. two.1 (sym item ∙ h))
-
-pub returns-then-may_watch-clause-rising : goal.returns-then-may_watch-clause-rising
-returns-then-may_watch-clause-rising c = omega (arith, c.literals.invariant.unread, c.add.ensures.rising)
-
-pub returns-then-may_watch-clause-few : goal.returns-then-may_watch-clause-few
-returns-then-may_watch-clause-few c = omega (arith, c.literals.invariant.unread, c.literals.invariant.after, c.literals-test.true, c.add.ensures.count)
-
-pub returns-then-may_watch-clause-count : goal.returns-then-may_watch-clause-count
-returns-then-may_watch-clause-count c = λ small. omega (arith, small, c.literals.invariant.unread, c.literals.invariant.after, c.literals-test.true, c.add.ensures.count)
-
-pub returns-clause-rising : goal.returns-clause-rising
-returns-clause-rising c = omega (arith, c.literals.invariant.unread, c.add-2.ensures.rising)
-
-pub returns-clause-few : goal.returns-clause-few
-returns-clause-few c = omega (arith, c.literals.invariant.unread, c.literals.invariant.after, c.literals.invariant.within, c.literals-test.false, c.add-2.ensures.count)
-
-pub returns-clause-count : goal.returns-clause-count
-returns-clause-count c = λ small. omega (arith, small, c.literals.invariant.unread, c.literals.invariant.after, c.literals.invariant.within, c.literals-test.false, c.add-2.ensures.count)
+returns-then-may_watch-clause-found c = grind (arith, get_or_default_zero)

@@ -1,21 +1,14 @@
 use Rattle.pb_propagate.proofs.lemmas.store.Stored.{stored-small}
-use Rattle.pb_propagate.proofs.Common.{stored_terms}
-use Rattle.pb_propagate.proofs.Common.{◌<◌, ◌∙◌, ap, arith, length, subst, sym, length-map, list_at, clauses_of, slot_shape, shapes_of, stored_shape}
-use Rattle.pb_propagate.proofs.Common.{AreInside, open_sum, says, Shape}
+use Rattle.pb_propagate.proofs.Common.{◌∙◌, ap, arith, sym, list_at, clauses_of, slot_shape, open_sum, says, Shape}
 use Rattle.pb_propagate.proofs.lemmas.clauses.Shapes.{shape-some}
 use Rattle.pb_propagate.proofs.lemmas.engine.VisitSteps.{shape-at}
 use Rattle.pb_propagate.proofs.lemmas.root.Lost.{slot-is}
 use Rattle.pb_propagate.proofs.lemmas.root.Kept.{free-met}
+use Rattle.pb_propagate.proofs.lemmas.root.Replaced.{terms-inside}
 use Rattle.pb_propagate.proofs.engine.conflict.Conflict.is_falsified.Goals as goal
 
 pub open_under-opened-requires-clause-inside : goal.open_under-opened-requires-clause-inside
-open_under-opened-requires-clause-inside c =
-    let store = c.args.store.now in
-    let k = c.index-kept.result.now in
-    let here : c.args.slot < length (shapes_of store.stored.items) = omega (arith, c.requires.slot, length-map store.stored.items stored_shape) in
-    let shape = shape-at store.stored.items c.args.slot k c.requires.slot c.index-kept.ensures (stored_shape k) in
-    let all = subst (λ (f : Shape). AreInside store.variables f.terms) shape (c.requires.sound.inside c.args.slot (stored_shape k) here) in
-    subst (λ n. AreInside n (stored_terms k)) (sym (ap length c.as_slice.ensures.value ∙ c.requires.values)) all
+open_under-opened-requires-clause-inside c = grind (arith, c.as_slice.ensures.value, c.requires.values, terms-inside, c.requires.sound, c.requires.slot, c.index-kept.ensures)
 
 pub returns-then-not-is_filled : goal.returns-then-not-is_filled
 returns-then-not-is_filled c = λ above x at.

@@ -4,37 +4,18 @@ use Rattle.pb_propagate.proofs.lemmas.root.Kept.{kept-next, listed-inside, noted
 use Rattle.pb_propagate.proofs.engine.conflict.Conflict.note.Goals as goal
 
 pub literals-init : goal.literals-init
-literals-init c = record {
-  values = refl;
-  list = c.requires.none;
-  reasons = λ k s on at. absurd (both_ways _ (has-none k) on);
-}
+literals-init c = grind (arith, c.requires.none, both_ways, has-none)
 
 pub index-requires : goal.index-requires
-index-requires c =
+index-requires c = grind (arith, c.literals-test.true, c.len-i-end.ensures, listed-inside, c.index-literal.ensures)
+
+pub put-requires : goal.put-requires
+put-requires c =
     let found = c.args.found.now in
     let inside : c.literals.i < length found.list.items = omega (arith, c.literals-test.true, c.len-i-end.ensures, found.list.ok.0) in
     let room = listed-inside found c.literals.i c.index-literal.result.now inside c.index-literal.ensures in
-    omega (arith, room, found.known, found.reasons.ok.0)
-
-pub put-requires-clause-inside : goal.put-requires-clause-inside
-put-requires-clause-inside c =
-    let found = c.args.found.now in
-    let inside : c.literals.i < length found.list.items = omega (arith, c.literals-test.true, c.len-i-end.ensures, found.list.ok.0) in
-    let room = listed-inside found c.literals.i c.index-literal.result.now inside c.index-literal.ensures in
-    omega (arith, room, c.literals.invariant.values, c.requires.values)
-
-pub put-requires-clause-absent : goal.put-requires-clause-absent
-put-requires-clause-absent c =
-    let found = c.args.found.now in
-    let inside : c.literals.i < length found.list.items = omega (arith, c.literals-test.true, c.len-i-end.ensures, found.list.ok.0) in
-    (noted-fresh found c.literals.self.assignment.list.items c.literals.i c.index-literal.result.now c.requires.reasoned.1 inside c.index-literal.ensures c.literals.invariant.list).0
-
-pub put-requires-clause-not_falsified : goal.put-requires-clause-not_falsified
-put-requires-clause-not_falsified c =
-    let found = c.args.found.now in
-    let inside : c.literals.i < length found.list.items = omega (arith, c.literals-test.true, c.len-i-end.ensures, found.list.ok.0) in
-    (noted-fresh found c.literals.self.assignment.list.items c.literals.i c.index-literal.result.now c.requires.reasoned.1 inside c.index-literal.ensures c.literals.invariant.list).1
+    let fresh = noted-fresh found c.literals.self.assignment.list.items c.literals.i c.index-literal.result.now c.requires.reasoned.1 inside c.index-literal.ensures c.literals.invariant.list in
+    record { inside = omega (arith, room, c.literals.invariant.values, c.requires.values); absent = fresh.0; not_falsified = fresh.1 }
 
 pub literals-preserved : goal.literals-preserved
 literals-preserved c =

@@ -1,9 +1,8 @@
-use Rattle.pb_propagate.proofs.Common.{ℕ, ◌++◌, ◌∙◌, ◌∷◌, ◌≡◌, [], ap, arith, get_or, Global, inl, inr, length, length-set, List, subst, sym, Vec}
-use Rattle.pb_propagate.proofs.Common.{slice_get, cases_eq, length-map, Assignment, beside, IsTidy, shapes_of}
-use Rattle.pb_propagate.proofs.Common.{stored_shape, open_sum, Shape, HasForm, IsRooted}
+use Rattle.pb_propagate.proofs.Common.{ℕ, ◌++◌, ◌∙◌, ◌∷◌, ◌≡◌, [], ap, arith, get_or, Global, inl, inr, length, length-set, List, subst, sym, Vec, slice_get}
+use Rattle.pb_propagate.proofs.Common.{cases_eq, length-map, Assignment, beside, IsTidy, shapes_of, stored_shape, open_sum, Shape, HasForm, IsRooted}
 use Rattle.pb_propagate.proofs.lemmas.root.Roots.{kept-rooted}
-use Rattle.pb_propagate.proofs.lemmas.root.Added.{arrived, gained-rooted, clause-rooted, slot-counted, slot-tidy, grown-off}
-use Rattle.pb_propagate.proofs.lemmas.engine.Runs.{absent-push, absent-new}
+use Rattle.pb_propagate.proofs.lemmas.root.Added.{arrived, gained-rooted, clause-rooted, slot-counted, slot-tidy}
+use Rattle.pb_propagate.proofs.lemmas.engine.Runs.{absent-push, absent-new, grown-still}
 use Rattle.pb_propagate.proofs.lemmas.store.Positions.{get-absent, push-older}
 use Rattle.pb_propagate.proofs.engine.root.Root.add.Goals.{Else-is_filled, In_ok-open_form}
 use Rattle.pb_propagate.proofs.engine.root.Root.add.Goals as goal
@@ -56,27 +55,18 @@ defer-requires-clause-absent c =
     let g = c.requires.gained in
     get-absent c.widen_run.new.waiting.list.items c.args.slot (λ i at. g.3.empty (g.2.live i c.args.slot (rw c.in_ok-widen_run.ensures.waits at at)))
 
-pub save-requires-clause-opens : goal.save-requires-clause-opens
-save-requires-clause-opens c =
-    let r = added (goal.at.save-requires-clause-opens c).Else-is_filled in
-    let opens_now = opened-size (goal.at.save-requires-clause-opens c).In_ok-open_form in
-    sym (ap length r.opens) ∙ r.open_sizes ∙ sym opens_now
-
-pub save-requires-clause-starts : goal.save-requires-clause-starts
-save-requires-clause-starts c =
-    let r = added (goal.at.save-requires-clause-starts c).Else-is_filled in
-    sym (ap length r.starts) ∙ ap (λ (v : Vec ℕ Global). length v.items) (sym c.open_form.ensures.candidates)
-
-pub save-requires-clause-sizes : goal.save-requires-clause-sizes
-save-requires-clause-sizes c =
-    let r = added (goal.at.save-requires-clause-sizes c).Else-is_filled in
-    let opens_now = opened-size (goal.at.save-requires-clause-sizes c).In_ok-open_form in
-    ap (λ (v : Vec ℕ Global). length v.items) c.open_form.ensures.candidates ∙ r.start_sizes ∙ sym opens_now
-
-pub save-requires-clause-undone : goal.save-requires-clause-undone
-save-requires-clause-undone c =
-    let tidy = opened (goal.at.save-requires-clause-undone c).In_ok-open_form in
-    (shapes_of c.args.store.now.stored.items, length-map c.args.store.now.stored.items stored_shape ∙ sym (opened-size (goal.at.save-requires-clause-undone c).In_ok-open_form), record { clean = tidy.clean; named = tidy.marked })
+pub save-requires : goal.save-requires
+save-requires c =
+    let r = added (goal.at.save-requires c).Else-is_filled in
+    let opens_now = opened-size (goal.at.save-requires c).In_ok-open_form in
+    let starts_now = ap (λ (v : Vec ℕ Global). length v.items) c.open_form.ensures.candidates in
+    let tidy = opened (goal.at.save-requires c).In_ok-open_form in
+    record {
+      opens = sym (ap length r.opens) ∙ r.open_sizes ∙ sym opens_now;
+      starts = sym (ap length r.starts) ∙ sym starts_now;
+      sizes = starts_now ∙ r.start_sizes ∙ sym opens_now;
+      undone = (shapes_of c.args.store.now.stored.items, length-map c.args.store.now.stored.items stored_shape ∙ sym opens_now, record { clean = tidy.clean; named = tidy.marked });
+    }
 
 pub returns : goal.returns
 returns c =
@@ -106,7 +96,7 @@ returns c =
       | inr more ↦
           let pushed = rw more at off in
           let other : s ≡ c.args.slot → ⊥ = λ here. absent-new aside c.args.slot 0 s (omega arith) pushed here in
-          (absent-push aside c.args.slot 0 s pushed, rw (c.open_form.ensures.next ∙ r.next) (grown-off c.args.slot run.work.items queued s other))
+          (absent-push aside c.args.slot 0 s pushed, rw (c.open_form.ensures.next ∙ r.next) (grown-still c.args.slot [] run.work.items s other queued (λ i from less. absurd (omega (arith, less)))))
     ])
     c.save.ensures
     (c.defer.ensures.positions ∙ r.positions)

@@ -1,4 +1,4 @@
-use Rattle.pb_propagate.proofs.Common.{◌+◌, ◌-◌, ◌<◌, ◌∙◌, ◌≡◌, [], ap, arith, get_or, length, subst, sym, take, none, all_of, Extends}
+use Rattle.pb_propagate.proofs.Common.{rules, ◌+◌, ◌-◌, ◌<◌, ◌∙◌, ◌≡◌, [], ap, arith, get_or, length, subst, sym, take, none, all_of, Extends}
 use Rattle.pb_propagate.proofs.Common.{NumberedLiteral, Assignment, open_sum, shapes_of}
 use Rattle.pb_propagate.proofs.lemmas.clauses.Heads.{take-whole, walks-cut}
 use Rattle.pb_propagate.proofs.lemmas.clauses.Watching.{fresh-take, listed-small}
@@ -25,28 +25,12 @@ lift_all-requires c =
     record {
       store = c.requires.sound;
       inside = omega (arith, small, ap (λ (k : NumberedLiteral). k.variable) c.index-literal.ensures, ap (λ (k : NumberedLiteral). k.variable) c.negation.ensures, r.values);
-      sized = record {
-        values = c.cut.ensures.values ∙ r.values;
-        opens = r.open_sizes;
-        candidates = r.start_sizes;
-        rest_opens = sym (ap length r.opens) ∙ r.open_sizes;
-        rest_starts = sym (ap length r.starts) ∙ r.start_sizes;
-        positions = r.positions;
-      };
+      sized = search (rules, c.cut.ensures.values ∙ r.values, r.open_sizes, r.start_sizes, ap length r.opens, ap length r.starts, r.positions);
       lacks = rw c.negation.ensures (cut-lacks store clauses me _ (take last list) l (last-split list last l (sym size) c.index-literal.ensures) absent c.requires.sound r (cut-off me c.cut.new.self c.cut-2.new.self c.cut.ensures.list c.cut.ensures.values c.cut.ensures.reasons));
     }
 
 pub refresh_all-requires : goal.refresh_all-requires
-refresh_all-requires c =
-    let me = c.args.self.now in
-    let list = me.run.assignment.list.items in
-    let inside : c.len-count.result - 1 < length list = omega (arith, c.len-count.ensures, me.run.assignment.list.ok.0, c.requires.some) in
-    let small = listed-small me.run.assignment.values.items list (c.len-count.result - 1) c.index-literal.result.now me.run.assignment.agrees inside in
-    record {
-      store = c.requires.sound;
-      inside = omega (arith, small, ap (λ (l : NumberedLiteral). l.variable) c.index-literal.ensures, c.requires.rooted.3.values);
-      sized = c.lift_all.ensures.each.sized;
-    }
+refresh_all-requires c = grind (arith, c.len-count.ensures, c.requires.some, listed-small, c.requires.sound, c.index-literal.ensures, c.requires.rooted.3.values, c.lift_all.ensures.each.sized)
 
 pub returns-clause-shortened : goal.returns-clause-shortened
 returns-clause-shortened c =

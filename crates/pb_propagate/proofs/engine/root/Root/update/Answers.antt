@@ -1,5 +1,5 @@
-use Rattle.pb_propagate.proofs.Common.{ℕ, ◌∙◌, ◌≡◌, [], ap, arith, get_or, Global, length, refl, take, Vec, slice_get-get_or, slice_get_within, all_of}
-use Rattle.pb_propagate.proofs.Common.{◌++◌, ◌-◌, forms_of, Assignment, heads_at}
+use Rattle.pb_propagate.proofs.Common.{ℕ, ◌∙◌, ◌≡◌, [], ap, arith, Global, length, refl, take, Vec, slice_get-get_or, slice_get_within, all_of}
+use Rattle.pb_propagate.proofs.Common.{◌++◌, ◌-◌, Assignment, heads_at}
 use Rattle.std.proofs.Math.ListN.{replicate}
 use Rattle.pb_propagate.proofs.lemmas.clauses.Heads.{heads-is, visits-back, walks-back, walks-ended}
 use Rattle.pb_propagate.proofs.lemmas.clauses.Watching.{ready-running}
@@ -13,12 +13,7 @@ use Rattle.pb_propagate.proofs.lemmas.store.Changes.{forms-length}
 use Rattle.pb_propagate.proofs.engine.root.Root.update.Goals as goal
 
 pub propagate-requires-clause-waiting : goal.propagate-requires-clause-waiting
-propagate-requires-clause-waiting c =
-    let keep = c.args.store.now.stored.items in
-    let list = c.args.self.now.waiting.list.items in
-    rw c.as_slice.ensures.value (λ k d less.
-    let f = c.requires.standing.rooted.live k (get_or list k d) (slice_get-get_or list k d less) in
-    omega (arith, form-inside (forms_of keep) (get_or list k d) f.0 f.1, forms-length keep))
+propagate-requires-clause-waiting c = grind (arith, c.as_slice.ensures.value, c.requires.standing.rooted.live, slice_get-get_or, form-inside, forms-length)
 
 -- an allocation ends it
 pub returns-in_err-found-clause-costs : goal.returns-in_err-found-clause-costs
@@ -89,23 +84,7 @@ pub returns-clause-kept : goal.returns-clause-kept
 returns-clause-kept c = vacant-kept (all_of c.args.store.now c.args.clauses.now) c.args.store.now.variables c.args.conflict.now c.requires.vacant
 
 pub returns-clause-updated : goal.returns-clause-updated
-returns-clause-updated c = λ none.
-    let reported = c.in_ok-found.ensures in
-    let pays = rw c.as_slice.ensures.value at (reported.settled c.if-found.false).pays in
-    let done = c.propagate.new.run in
-    let whole_is : c.len-whole.result ≡ length done.assignment.list.items = omega (arith, c.len-whole.ensures, done.assignment.list.ok.0, ap (λ (a : Assignment). length a.list.items) c.save.ensures.assignment, c.save.new.run.assignment.list.ok.0) in
-    record {
-      running = rw c.save.ensures.assignment reported.left.running;
-      pays = record {
-        extends = rw c.save.ensures.assignment pays.extends;
-        single = rw c.save.ensures.assignment pays.single;
-        bounded = rw c.save.ensures.candidates pays.bounded;
-        upper = rw (c.save.ensures.assignment, c.save.ensures.candidates, c.save.ensures.visits) pays.upper;
-      };
-      found = rw (c.save.ensures.assignment, c.save.ensures.visits) reported.gains.found;
-      none = c.clear.ensures.list;
-      walked = rw c.save.ensures.assignment (heads-is c.finish.new.self.heads (length c.propagate.new.run.assignment.list.items) (c.in_ok-finish.ensures.heads.0 ∙ whole_is) (c.in_ok-finish.ensures.heads.1 ∙ whole_is));
-    }
+returns-clause-updated c = grind (arith, c.in_ok-found.ensures, c.as_slice.ensures.value, c.if-found.false, c.len-whole.ensures, c.save.ensures.assignment, c.save.new.run.assignment.list.ok.0, heads-is, c.in_ok-finish.ensures.heads.0, c.in_ok-finish.ensures.heads.1, c.save.ensures.candidates, c.save.ensures.visits, c.clear.ensures.list)
 
 pub returns-in_err-finish-clause-costs : goal.returns-in_err-finish-clause-costs
 returns-in_err-finish-clause-costs c = record { ended = c.propagate.new.run; spends = rw c.as_slice.ensures.value at c.propagate.ensures.costs; visits = c.save.ensures.visits }

@@ -1,4 +1,4 @@
-use Rattle.pb_propagate.proofs.Common.{◌-◌, ap, arith, length, length-take-le}
+use Rattle.pb_propagate.proofs.Common.{arith, length-take-le}
 use Rattle.pb_propagate.proofs.lemmas.root.Released.{due-some, some-sized, shortened-same, shortened-then}
 use Rattle.pb_propagate.proofs.engine.root.Root.withdraw.Goals as goal
 
@@ -19,10 +19,4 @@ pub literals-preserved : goal.literals-preserved
 literals-preserved c = shortened-then c.literals.invariant c.retract.ensures.shortened
 
 pub literals-smaller : goal.literals-smaller
-literals-smaller c =
-    let old = c.literals.self.run.assignment.list.items in
-    let some = due-some old c.args.literal (c.is_due.ensures.yes c.literals-test.true).0 in
-    omega (arith, some, ap length c.retract.ensures.list, length-take-le (length old - 1) old (omega (arith, some)))
-
-pub returns-clause-needless : goal.returns-clause-needless
-returns-clause-needless c = c.is_due.ensures.no c.literals-test.false
+literals-smaller c = grind (arith, due-some, c.is_due.ensures.yes, c.literals-test.true, c.retract.ensures.list, length-take-le)

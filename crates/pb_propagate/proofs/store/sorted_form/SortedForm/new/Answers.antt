@@ -7,13 +7,4 @@ order_of-requires c =
     omega (arith, total-each c.form-2.result.now.terms, ap (sum_by (λ (e : Entry). e.coefficient)) c.terms.ensures.terms, c.terms.ensures.normal.size_in)
 
 pub invariant_of-result : goal.invariant_of-result
-invariant_of-result c = record {
-  inside = rw (c.terms.ensures.terms, c.form-2.ensures) at c.in_ok-order.ensures.inside;
-  even = rw (c.terms.ensures.terms, c.form-2.ensures) at c.in_ok-order.ensures.even;
-}
-
-pub returns-clause-same : goal.returns-clause-same
-returns-clause-same c = rw (c.terms.ensures.terms, c.form-2.ensures) at c.in_ok-order.ensures.same
-
-pub returns-clause-falling : goal.returns-clause-falling
-returns-clause-falling c = rw (c.terms.ensures.terms, c.form-2.ensures) at c.in_ok-order.ensures.falling
+invariant_of-result c = grind arith

@@ -3,6 +3,4 @@ use Rattle.pb_propagate.proofs.lemmas.store.Stored.{unit-size}
 use Rattle.pb_propagate.proofs.store.unit_form.UnitForm.sums.Goals as goal
 
 pub overflow_add-bound : goal.overflow_add-bound
-overflow_add-bound c =
-    let unit = c.args.self.now in
-    omega (arith, c.degree-degree.ensures, c.total-total.ensures, unit.low, unit-size unit, unit.small)
+overflow_add-bound c = grind (arith, unit-size)

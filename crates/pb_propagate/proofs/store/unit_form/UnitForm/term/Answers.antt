@@ -1,8 +1,5 @@
-use Rattle.pb_propagate.proofs.Common.{◌∙◌, ap, arith, as_term, false, Entry, entry_at_place, Form, get_or-map, length, List, sym}
+use Rattle.pb_propagate.proofs.Common.{◌∙◌, ap, arith, as_term, false, Entry, entry_at_place, Form, get_or-map, List, sym}
 use Rattle.pb_propagate.proofs.store.unit_form.UnitForm.term.Goals as goal
-
-pub get-requires : goal.get-requires
-get-requires c = omega (arith, c.args.self.now.single, ap length c.terms.ensures.terms, ap (λ (x : Form). length x.terms) c.form.ensures)
 
 pub returns : goal.returns
 returns c = λ d.
