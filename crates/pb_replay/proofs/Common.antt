@@ -11,7 +11,7 @@ pub use Rattle.std.proofs.lemmas.Int.{fits_signed_from_abs, ints, to_z-of_z}
 pub use Rattle.std.proofs.lemmas.List.{drop_all, drop_more, ext_get_or, get_or-map, get_or-set_other, get_or-set_same, get_or_append_left}
 pub use Rattle.std.proofs.lemmas.List.{get_or_default, get_or_past, length-map, length-set, length-take-le, map_more, reverse-append}
 pub use Rattle.std.proofs.lemmas.List.{take-append-drop, take-append-le, take_all}
-pub use Rattle.std.proofs.lemmas.List.Elements.{All-cons, All-contains, All-head, All-nil, All-push, All-tail, Contains-append_left, Contains-get_or}
+pub use Rattle.std.proofs.lemmas.List.Elements.{All-cons, All-contains, All-filter, All-head, All-map, All-nil, All-push, All-tail, Contains-append_left, Contains-get_or}
 pub use Rattle.std.proofs.lemmas.List.Elements.{Contains-push, Contains-push_cases}
 pub use Rattle.std.proofs.lemmas.Option.{get_or_from_slice_get, none-some, same_Some, slice_get-get_or}
 pub use Rattle.std.proofs.lemmas.Result.{err_from_is_err_and}

@@ -1,42 +1,42 @@
 -- A conclusion continues after its tests
-use Rattle.pb_replay.proofs.Common.{ℕ, ℤ, ◌∙◌, ◌≡◌, ◌≤ℤ◌, [], ap, arith, Err, inl, inr, List, None, refl, Some, subst, sym, Contains, Ok, Option}
+use Rattle.pb_replay.proofs.Common.{ℕ, ℤ, ◌∙◌, ◌≡◌, ◌≤ℤ◌, [], ap, arith, Err, inl, inr, List, None, refl, Some, subst, sym, Contains, Ok, Option, Verdict, Side}
 use Rattle.pb_replay.proofs.Common.{option_map, Result, ints, NumberedLiteral, Form, Bound, Finite, Infinite, Bounds, Closing, Conclude}
 use Rattle.pb_replay.proofs.Common.{contains-none, Linear, Literal, Term, ok_or_err, largest, GoesAt, HasNamed, IsBest, IsProper, Keeps, problem_of}
 use Rattle.pb_replay.proofs.Common.{state_of, Fault, NoSuchId, NotBound, Running, Both, HasObjective, IsBelow, IsNamed, IsReached, Lower}
 use Rattle.pb_replay.proofs.Common.{objective_at_least, ObjectiveShown, Reached, Refutes, ShownAs, ShownReaches, Upper, upper_of, Answer, gives, need}
 use Rattle.pb_replay.proofs.Common.{contradicted, contradiction, IsShownBy, lower_bound, named, none_left, objective_with, sum, upper_bound, Problem}
 use Rattle.pb_replay.proofs.Common.{IsLive, Logged, normal_form, numbered, State}
-use Rattle.pb_normal.specs.declared.Side.TheVariants.{AtLeast as least}
-use Rattle.pb_replay.specs.declared.verdict.Verdict.TheVariants as verdict
 use Rattle.pb_replay.proofs.lemmas.conclusions.Best.{below}
 use Rattle.pb_replay.proofs.lemmas.names.Going.{form-of}
 use Rattle.pb_replay.proofs.lemmas.rules.Ready.{same_problem}
 use Rattle.pb_replay.proofs.lemmas.rules.States.{same-state}
 
-err-moved : {A B : Type 0} {d e : Fault} → (let r : Result A Fault = Err d in r) ≡ Err e → (let s : Result B Fault = Err d in s) ≡ Err e
-err-moved h = cc
+-- the next answer at the value of another one, and the same fault
+abbrev Moves : {A : Type 0} → Answer A → Result Unit Fault → Result A Fault → Type 0
+Moves {A} next s r = (s ≡ Ok tt → next r) × ((e : Fault) → s ≡ Err e → r ≡ Err e)
 
-contra-then : {A : Type 0} (live : List (Option Form)) (id : Option ℤ) (next : Answer A) (r : Result A Fault) (u : Unit {0}) → contradicted live id (gives (tt {0})) (Ok u) → next r → contradicted live id next r
-contra-then live None next r u (inl (h, k)) n = inl (h, n)
-contra-then live None next r u (inr (h, k)) n = ok_or_err k
-contra-then live (Some i) next r u (inl (f, is, inl (h, k))) n = inl (f, is, inl (h, n))
-contra-then live (Some i) next r u (inl (f, is, inr (h, k))) n = ok_or_err k
-contra-then live (Some i) next r u (inr (h, k)) n = ok_or_err k
+went : {A : Type 0} (next : Answer A) (r : Result A Fault) → next r → Moves next (Ok tt) r
+went next r n = (λ k. n, λ e k. ok_or_err k)
 
-contra-stop : {A : Type 0} (live : List (Option Form)) (id : Option ℤ) (next : Answer A) (e : Fault) → contradicted live id (gives (tt {0})) (Err e) → contradicted live id next (Err e)
-contra-stop live None next e (inl (h, k)) = ok_or_err (sym k)
-contra-stop live None next e (inr (h, k)) = inr (h, err-moved k)
-contra-stop live (Some i) next e (inl (f, is, inl (h, k))) = ok_or_err (sym k)
-contra-stop live (Some i) next e (inl (f, is, inr (h, k))) = inl (f, is, inr (h, err-moved k))
-contra-stop live (Some i) next e (inr (h, k)) = inr (h, err-moved k)
+stopped : {A : Type 0} (next : Answer A) (d : Fault) → Moves next (Err d) (Err d)
+stopped next d = (λ k. ok_or_err (sym k), λ e k. cc)
 
-pub left-then : {A : Type 0} (s : State) (id : Option ℤ) (next : Answer A) (r : Result A Fault) (u : Unit {0}) → none_left s id (gives (tt {0})) (Ok u) → next r → none_left s id next r
-left-then s id next r u (inl (none, h)) n = inl (none, contra-then s.live id next r u h n)
-left-then s id next r u (inr (h, k)) n = ok_or_err k
+contra-moves : {A : Type 0} (live : List (Option Form)) (id : Option ℤ) (next : Answer A) (s : Result Unit Fault) (r : Result A Fault) → Moves next s r → contradicted live id (gives (tt {0})) s → contradicted live id next r
+contra-moves live None next s r m (inl (h, k)) = inl (h, m.0 k)
+contra-moves live None next s r m (inr (h, k)) = inr (h, m.1 _ k)
+contra-moves live (Some i) next s r m (inl (f, is, inl (h, k))) = inl (f, is, inl (h, m.0 k))
+contra-moves live (Some i) next s r m (inl (f, is, inr (h, k))) = inl (f, is, inr (h, m.1 _ k))
+contra-moves live (Some i) next s r m (inr (h, k)) = inr (h, m.1 _ k)
 
-pub left-stop : {A : Type 0} (s : State) (id : Option ℤ) (next : Answer A) (e : Fault) → none_left s id (gives (tt {0})) (Err e) → none_left s id next (Err e)
-left-stop s id next e (inl (none, h)) = inl (none, contra-stop s.live id next e h)
-left-stop s id next e (inr (h, k)) = inr (h, err-moved k)
+left-moves : {A : Type 0} (state : State) (id : Option ℤ) (next : Answer A) (s : Result Unit Fault) (r : Result A Fault) → Moves next s r → none_left state id (gives (tt {0})) s → none_left state id next r
+left-moves state id next s r m (inl (none, h)) = inl (none, contra-moves state.live id next s r m h)
+left-moves state id next s r m (inr (h, k)) = inr (h, m.1 _ k)
+
+pub left-then : {A : Type 0} (state : State) (id : Option ℤ) (next : Answer A) (r : Result A Fault) (u : Unit {0}) → none_left state id (gives (tt {0})) (Ok u) → next r → none_left state id next r
+left-then state id next r u h n = left-moves state id next (Ok u) r (λ k. n, λ e k. ok_or_err k) h
+
+pub left-stop : {A : Type 0} (state : State) (id : Option ℤ) (next : Answer A) (e : Fault) → none_left state id (gives (tt {0})) (Err e) → none_left state id next (Err e)
+left-stop state id next e h = left-moves state id next (Err e) (Err e) (stopped next e) h
 
 -- bounds by the best value
 pub below-to : (logged : List Logged) (best : Option ℤ) (b : ℤ) → IsBest logged best → IsBelow best b → (g : Logged) → Contains logged g → b ≤ℤ g.value
@@ -68,10 +68,10 @@ refuted-shown live f goal (g, e, inl h) = contradiction g e h
 refuted-shown live f goal (g, e, inr h) = sum g e h
 
 module _ (r : Running) (b : ℤ) where
-  pub objective-ok : (f : Option Form) (goal : Form) (result : Result Unit Fault) → HasObjective (largest r.limits) r.names (problem_of r).objective least b (Ok goal) → ShownAs r.engine.forms f goal result → ObjectiveShown r f b result
-  objective-ok f goal (Ok u) made shown = λ o has. let k = form-of (largest r.limits) r.names (problem_of r).objective least b goal made o has in inl (k.0, (goal, k.1, inl (shown, refl)))
+  pub objective-ok : (f : Option Form) (goal : Form) (result : Result Unit Fault) → HasObjective (largest r.limits) r.names (problem_of r).objective Side.AtLeast b (Ok goal) → ShownAs r.engine.forms f goal result → ObjectiveShown r f b result
+  objective-ok f goal (Ok u) made shown = λ o has. let k = form-of (largest r.limits) r.names (problem_of r).objective Side.AtLeast b goal made o has in inl (k.0, (goal, k.1, inl (shown, refl)))
   objective-ok f goal (Err e) made (inl memory) = inl memory
-  objective-ok f goal (Err e) made (inr (is, none)) = inr (λ o has. let k = form-of (largest r.limits) r.names (problem_of r).objective least b goal made o has in inl (k.0, (goal, k.1, inr (none, let to : Fault → Result Unit Fault = λ d. Err d in ap to is))))
+  objective-ok f goal (Err e) made (inr (is, none)) = inr (λ o has. let k = form-of (largest r.limits) r.names (problem_of r).objective Side.AtLeast b goal made o has in inl (k.0, (goal, k.1, inr (none, let to : Fault → Result Unit Fault = λ d. Err d in ap to is))))
 
   module _ (id : Option ℤ) where
     pub lower-late : (IsBelow r.best b → ⊥) → Lower r (Finite b) id (Err NotBound)
@@ -91,47 +91,27 @@ lower-infinite r id (Ok u) h = λ logged o best has. h logged best
 lower-infinite r id (Err e) h = inr (λ logged o best has. h logged best)
 
 -- what comes after a bound
-form-then : {A : Type 0} (limit : ℕ) (names : List (List ℕ)) (linear : Linear) (P : Form → Type 0) (next : Answer A) (r : Result A Fault) (u : Unit {0}) → normal_form limit names least linear (λ g. need (P g) NotBound (gives (tt {0}))) (Ok u) → next r → normal_form limit names least linear (λ g. need (P g) NotBound next) r
-form-then limit names linear P next r u (inl (fits, (g, made, inl (h, k)))) n = inl (fits, (g, made, inl (h, n)))
-form-then limit names linear P next r u (inl (fits, (g, made, inr (h, k)))) n = ok_or_err k
-form-then limit names linear P next r u (inr (late, k)) n = ok_or_err k
+form-moves : {A : Type 0} (limit : ℕ) (names : List (List ℕ)) (linear : Linear) (P : Form → Type 0) (next : Answer A) (s : Result Unit Fault) (r : Result A Fault) → Moves next s r → normal_form limit names Side.AtLeast linear (λ g. need (P g) NotBound (gives (tt {0}))) s → normal_form limit names Side.AtLeast linear (λ g. need (P g) NotBound next) r
+form-moves limit names linear P next s r m (inl (fits, (g, made, inl (h, k)))) = inl (fits, (g, made, inl (h, m.0 k)))
+form-moves limit names linear P next s r m (inl (fits, (g, made, inr (h, k)))) = inl (fits, (g, made, inr (h, m.1 _ k)))
+form-moves limit names linear P next s r m (inr (late, k)) = inr (late, m.1 _ k)
 
-form-stop : {A : Type 0} (limit : ℕ) (names : List (List ℕ)) (linear : Linear) (P : Form → Type 0) (next : Answer A) (e : Fault) → normal_form limit names least linear (λ g. need (P g) NotBound (gives (tt {0}))) (Err e) → normal_form limit names least linear (λ g. need (P g) NotBound next) (Err e)
-form-stop limit names linear P next e (inl (fits, (g, made, inl (h, k)))) = ok_or_err (sym k)
-form-stop limit names linear P next e (inl (fits, (g, made, inr (h, k)))) = inl (fits, (g, made, inr (h, err-moved k)))
-form-stop limit names linear P next e (inr (late, k)) = inr (late, err-moved k)
+lower-moves : {A : Type 0} (limit : ℕ) (state : State) (o : List Term) (b : Bound) (id : Option ℤ) (next : Answer A) (s : Result Unit Fault) (r : Result A Fault) → Moves next s r → lower_bound limit state o b id (gives (tt {0})) s → lower_bound limit state o b id next r
+lower-moves limit state o Infinite id next s r m h = left-moves state id next s r m h
+lower-moves limit state o (Finite b) None next s r m (inl (low, h)) = inl (low, form-moves limit state.names (objective_with o b) (IsShownBy state.live None) next s r m h)
+lower-moves limit state o (Finite b) (Some i) next s r m (inl (low, inl (f, is, h))) =
+    inl (low, inl (f, is, form-moves limit state.names (objective_with o b) (IsShownBy state.live (Some f)) next s r m h))
+lower-moves limit state o (Finite b) (Some i) next s r m (inl (low, inr (none, k))) = inl (low, inr (none, m.1 _ k))
+lower-moves limit state o (Finite b) id next s r m (inr (late, k)) = inr (late, m.1 _ k)
 
-pub lower-then : {A : Type 0} (limit : ℕ) (s : State) (o : List Term) (b : Bound) (id : Option ℤ) (next : Answer A) (r : Result A Fault) (u : Unit {0}) → lower_bound limit s o b id (gives (tt {0})) (Ok u) → next r → lower_bound limit s o b id next r
-lower-then limit s o Infinite id next r u h n = left-then s id next r u h n
-lower-then limit s o (Finite b) None next r u (inl (low, h)) n = inl (low, form-then limit s.names (objective_with o b) (IsShownBy s.live None) next r u h n)
-lower-then limit s o (Finite b) (Some i) next r u (inl (low, inl (f, is, h))) n = inl (low, inl (f, is, form-then limit s.names (objective_with o b) (IsShownBy s.live (Some f)) next r u h n))
-lower-then limit s o (Finite b) (Some i) next r u (inl (low, inr (none, k))) n = ok_or_err k
-lower-then limit s o (Finite b) id next r u (inr (late, k)) n = ok_or_err k
-
-pub lower-stop : {A : Type 0} (limit : ℕ) (s : State) (o : List Term) (b : Bound) (id : Option ℤ) (next : Answer A) (e : Fault) → lower_bound limit s o b id (gives (tt {0})) (Err e) → lower_bound limit s o b id next (Err e)
-lower-stop limit s o Infinite id next e h = left-stop s id next e h
-lower-stop limit s o (Finite b) None next e (inl (low, h)) = inl (low, form-stop limit s.names (objective_with o b) (IsShownBy s.live None) next e h)
-lower-stop limit s o (Finite b) (Some i) next e (inl (low, inl (f, is, h))) = inl (low, inl (f, is, form-stop limit s.names (objective_with o b) (IsShownBy s.live (Some f)) next e h))
-lower-stop limit s o (Finite b) (Some i) next e (inl (low, inr (none, k))) = inl (low, inr (none, err-moved k))
-lower-stop limit s o (Finite b) id next e (inr (late, k)) = inr (late, err-moved k)
-
-pub upper-then : {A : Type 0} (v : Problem) (s : State) (b : Bound) (written : Option (List Literal)) (next : Answer A) (r : Result A Fault) (u : Unit {0}) → upper_of v s.logged b (option_map (numbered s.names) written) (Ok u) → next r → upper_bound v s b written next r
-upper-then v s Infinite written next r u h n = n
-upper-then v s (Finite z) None next r u (inl (some, inl (less, k))) n = inl (some, inl (less, n))
-upper-then v s (Finite z) None next r u (inl (some, inr (late, k))) n = ok_or_err k
-upper-then v s (Finite z) None next r u (inr (late, k)) n = ok_or_err k
-upper-then v s (Finite z) (Some ls) next r u (inl (g, is, inl (less, k))) n = inl (g, is, inl (less, n))
-upper-then v s (Finite z) (Some ls) next r u (inl (g, is, inr (late, k))) n = ok_or_err k
-upper-then v s (Finite z) (Some ls) next r u (inr (late, k)) n = ok_or_err k
-
-pub upper-stop : {A : Type 0} (v : Problem) (s : State) (b : Bound) (written : Option (List Literal)) (next : Answer A) (e : Fault) → upper_of v s.logged b (option_map (numbered s.names) written) (Err e) → upper_bound v s b written next (Err e)
-upper-stop v s Infinite written next e h = ok_or_err (sym h)
-upper-stop v s (Finite z) None next e (inl (some, inl (less, k))) = ok_or_err (sym k)
-upper-stop v s (Finite z) None next e (inl (some, inr (late, k))) = inl (some, inr (late, err-moved k))
-upper-stop v s (Finite z) None next e (inr (late, k)) = inr (late, err-moved k)
-upper-stop v s (Finite z) (Some ls) next e (inl (g, is, inl (less, k))) = ok_or_err (sym k)
-upper-stop v s (Finite z) (Some ls) next e (inl (g, is, inr (late, k))) = inl (g, is, inr (late, err-moved k))
-upper-stop v s (Finite z) (Some ls) next e (inr (late, k)) = inr (late, err-moved k)
+upper-moves : {A : Type 0} (v : Problem) (state : State) (b : Bound) (written : Option (List Literal)) (next : Answer A) (s : Result Unit Fault) (r : Result A Fault) → Moves next s r → upper_of v state.logged b (option_map (numbered state.names) written) s → upper_bound v state b written next r
+upper-moves v state Infinite written next s r m h = m.0 h
+upper-moves v state (Finite z) None next s r m (inl (some, inl (less, k))) = inl (some, inl (less, m.0 k))
+upper-moves v state (Finite z) None next s r m (inl (some, inr (late, k))) = inl (some, inr (late, m.1 _ k))
+upper-moves v state (Finite z) None next s r m (inr (late, k)) = inr (late, m.1 _ k)
+upper-moves v state (Finite z) (Some ls) next s r m (inl (g, is, inl (less, k))) = inl (g, is, inl (less, m.0 k))
+upper-moves v state (Finite z) (Some ls) next s r m (inl (g, is, inr (late, k))) = inl (g, is, inr (late, m.1 _ k))
+upper-moves v state (Finite z) (Some ls) next s r m (inr (late, k)) = inr (late, m.1 _ k)
 
 -- both bounds
 module _ (old m : Running) (lower : Bound) (id : Option ℤ) (upper : Bound) (given : Option (List NumberedLiteral)) where
@@ -143,15 +123,20 @@ module _ (old m : Running) (lower : Bound) (id : Option ℤ) (upper : Bound) (gi
       inr (low logged o best has, subst (λ (v : Problem). upper_of v logged upper given (Err e)) (same_problem old m proper kept) (up logged (subst (λ (x : Option ℤ). IsBest logged x) (sym named.best) best))))
 
 module _ (old m new : Running) (lower : Bound) (id : Option ℤ) (upper : Bound) (given : Option (List NumberedLiteral)) (written : Option (List Literal)) (numbers : given ≡ option_map (numbered old.names) written) (o : List Term) (has : (problem_of old).objective ≡ Some o) where
-  pub bounds-ok : HasNamed [] old m → new.engine.forms ≡ m.engine.forms → new.names ≡ m.names → new.best ≡ m.best → new.next ≡ Closing → new.concluded ≡ Some (verdict.Bounds lower upper) → Both old lower id upper given (Ok tt) → GoesAt old (Conclude (Bounds lower id upper written)) (Ok tt) new
+  abbrev last : List Logged → Answer State
+  last logged = gives (record (state_of old logged) { next = Closing; concluded = Some (Verdict.Bounds lower upper) })
+
+  moved : (logged : List Logged) (s : Result Unit Fault) (r : Result State Fault) → Moves (last logged) s r → lower_bound (largest old.limits) (state_of old logged) o lower id (gives (tt {0})) (Ok tt) × upper_of (problem_of old) logged upper given s
+      → lower_bound (largest old.limits) (state_of old logged) o lower id (upper_bound (problem_of old) (state_of old logged) upper written (last logged)) r
+  moved logged s r move k =
+      let up = subst (λ (y : Option (List NumberedLiteral)). upper_of (problem_of old) logged upper y s) numbers k.1 in
+      let after = upper-moves (problem_of old) (state_of old logged) upper written (last logged) s r move up in
+      lower-moves (largest old.limits) (state_of old logged) o lower id (upper_bound (problem_of old) (state_of old logged) upper written (last logged)) (Ok tt) r (went (upper_bound (problem_of old) (state_of old logged) upper written (last logged)) r after) k.0
+
+  pub bounds-ok : HasNamed [] old m → new.engine.forms ≡ m.engine.forms → new.names ≡ m.names → new.best ≡ m.best → new.next ≡ Closing → new.concluded ≡ Some (Verdict.Bounds lower upper) → Both old lower id upper given (Ok tt) → GoesAt old (Conclude (Bounds lower id upper written)) (Ok tt) new
   bounds-ok named f n b x d both = λ logged best.
-      let k = both logged o best has in
-      let up = subst (λ (y : Option (List NumberedLiteral)). upper_of (problem_of old) logged upper y (Ok tt)) numbers k.1 in
-      let done = let to : State → Result State Fault = λ s. Ok s in ap to (same-state (f ∙ named.forms) (n ∙ named.names) x d) in (
-        logged,
-        subst (λ (y : Option ℤ). IsBest logged y) (sym (b ∙ named.best)) best,
-        inl (o, has, lower-then (largest old.limits) (state_of old logged) o lower id _ _ tt k.0 (upper-then (problem_of old) (state_of old logged) upper written _ _ tt up done)),
-      )
+      let done = let to : State → Result State Fault = λ s. Ok s in ap to (same-state {logged = logged} (f ∙ named.forms) (n ∙ named.names) x d) in
+      (logged, subst (λ (y : Option ℤ). IsBest logged y) (sym (b ∙ named.best)) best, inl (o, has, moved logged (Ok tt) (Ok (state_of new logged)) (went (last logged) (Ok (state_of new logged)) done) (both logged o best has)))
 
   pub bounds-err : (e : Fault) → Both old lower id upper given (Err e) → GoesAt old (Conclude (Bounds lower id upper written)) (Err e) new
   bounds-err e (inl memory) = inl memory
@@ -160,8 +145,8 @@ module _ (old m new : Running) (lower : Bound) (id : Option ℤ) (upper : Bound)
         o,
         has,
         elim (both logged o best has) [
-          | inl low ↦ lower-stop (largest old.limits) (state_of old logged) o lower id _ e low
-          | inr k ↦ lower-then (largest old.limits) (state_of old logged) o lower id _ _ tt k.0 (upper-stop (problem_of old) (state_of old logged) upper written _ e (subst (λ (y : Option (List NumberedLiteral)). upper_of (problem_of old) logged upper y (Err e)) numbers k.1))
+          | inl low ↦ lower-moves (largest old.limits) (state_of old logged) o lower id (upper_bound (problem_of old) (state_of old logged) upper written (last logged)) (Err e) (Err e) (stopped (upper_bound (problem_of old) (state_of old logged) upper written (last logged)) e) low
+          | inr k ↦ moved logged (Err e) (Err e) (stopped (last logged) e) k
         ],
       ))
 

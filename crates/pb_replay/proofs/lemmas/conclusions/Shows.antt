@@ -1,9 +1,8 @@
 -- Shown solutions, and the conclusions by them
-use Rattle.pb_replay.proofs.Common.{ℕ, ℤ, ◌∙◌, ◌≡◌, ◌⊎◌, ap, arith, Err, inl, inr, is_some, List, map, None, Some, subst, sym, true, Contains, Ok}
+use Rattle.pb_replay.proofs.Common.{ℕ, ℤ, ◌∙◌, ◌≡◌, ◌⊎◌, ap, arith, Err, inl, inr, is_some, List, map, None, Some, subst, sym, true, Contains, Ok, Verdict}
 use Rattle.pb_replay.proofs.Common.{Option, Result, get_or-map, length-map, NumberedLiteral, Form, Sat, Closing, Conclude, Live, MeetsConflict}
 use Rattle.pb_replay.proofs.Common.{Literal, GoesAt, IsBest, problem_of, ReturnsValue, state_of, Fault, Conflict, Memory, NoSolution, Running}
 use Rattle.pb_replay.proofs.Common.{Problem, Completed, Logged, numbered, Shown, State}
-use Rattle.pb_replay.specs.declared.verdict.Verdict.TheVariants as verdict
 use Rattle.pb_replay.proofs.lemmas.rules.Living.{Live-loaded}
 use Rattle.pb_replay.proofs.lemmas.solutions.Solved.{completed-to, conflicting-value, value-by}
 
@@ -22,7 +21,7 @@ module _ (v : Problem) (live : List (Option Form)) (same : live ≡ map (λ (f :
   own-conflict e h = own-value (Err e) (conflicting-value v (Live live) names given e h)
 
 module _ (old new : Running) (given : List NumberedLiteral) (written : List Literal) (numbers : given ≡ numbered old.names written) where
-  pub sat-ok : new.best ≡ old.best → (g : Logged) → Shown (problem_of old) given g → ((logged : List Logged) → state_of new logged ≡ record (state_of old logged) { next = Closing; concluded = Some verdict.Sat }) → GoesAt old (Conclude (Sat (Some written))) (Ok tt) new
+  pub sat-ok : new.best ≡ old.best → (g : Logged) → Shown (problem_of old) given g → ((logged : List Logged) → state_of new logged ≡ record (state_of old logged) { next = Closing; concluded = Some Verdict.Sat }) → GoesAt old (Conclude (Sat (Some written))) (Ok tt) new
   sat-ok b g shown same = λ logged best.
       (logged, subst (λ (o : Option ℤ). IsBest logged o) (sym b) best, inl (g, subst (λ (x : List NumberedLiteral). Shown (problem_of old) x g) numbers shown, let to : State → Result State Fault = λ s. Ok s in ap to (same logged)))
 

@@ -1,9 +1,8 @@
 -- Short proofs that are accepted
-use Rattle.pb_replay.proofs.Common.{◌&&◌, ◌+ℤ◌, ◌+◌, ◌-ℤ◌, ◌<◌, ◌∷◌, ◌≡◌, [], All, arith, Bool, cond, eqb, false, inl, inr, List, None, pos, refl}
-use Rattle.pb_replay.proofs.Common.{Some, suc, true, zero, Contains, Ok, Option, Entry, NumberedLiteral, Fits, coefficient, Form, IsSum, negation_of}
-use Rattle.pb_replay.proofs.Common.{IsFormOf, written_on, Constraint, Sum, Tree, begin, broken, IsRup, Live, MayPropagate, put, With, Linear, name_x}
+use Rattle.pb_replay.proofs.Common.{◌&&◌, ◌+ℤ◌, ◌+◌, ◌-ℤ◌, ◌<◌, ◌∷◌, ◌≡◌, [], All, arith, Bool, cond, eqb, false, inl, inr, List, None, pos, refl, Verdict}
+use Rattle.pb_replay.proofs.Common.{Some, suc, true, zero, Contains, Ok, Option, Entry, NumberedLiteral, Fits, Form, IsSum, negation_of}
+use Rattle.pb_replay.proofs.Common.{IsFormOf, Constraint, Sum, Tree, begin, broken, IsRup, Live, MayPropagate, put, With, Linear, name_x}
 use Rattle.pb_replay.proofs.Common.{other_proof, short_proof, unit_on, Verifies, Opened, Problem}
-use Rattle.pb_replay.specs.declared.verdict.Verdict.TheVariants as verdict
 use Rattle.pb_replay.specs.contract.Example.{opposed}
 use Rattle.std.proofs.lemmas.List.Elements.{All-from_recursion}
 use Rattle.pb_replay.proofs.lemmas.examples.Pairs.{each-at}
@@ -30,20 +29,10 @@ below : (n : Bool) → All (λ (t : Entry). t.variable < 1) (record { variable =
 below n = All-from_recursion (λ (t : Entry). t.variable < 1) (record { variable = 0; negated = n; coefficient = 1 } ∷ []) (omega arith, tt)
 
 first_form : IsFormOf (name_x ∷ []) ((unit_on false).terms) (pos 1) plain_x
-first_form = record {
-  ordered = (omega arith, omega arith, tt);
-  named = below false;
-  coefficients = each-at (λ v name. coefficient plain_x v ≡ written_on name ((unit_on false).terms)) (name_x ∷ []) (refl, tt);
-  degree = refl;
-}
+first_form = grind (arith, below, each-at)
 
 second_form : IsFormOf (name_x ∷ []) ((unit_on true).terms) (pos 1) negated_x
-second_form = record {
-  ordered = (omega arith, omega arith, tt);
-  named = below true;
-  coefficients = each-at (λ v name. coefficient negated_x v ≡ written_on name ((unit_on true).terms)) (name_x ∷ []) (refl, tt);
-  degree = refl;
-}
+second_form = grind (arith, below, each-at)
 
 fits_one : (c : Linear) → Contains (opposed.constraints) c → Fits 127 c
 fits_one c (zero, lt, is) = let e : unit_on false ≡ c = is in rw (← e) (omega arith)
@@ -63,7 +52,7 @@ sum_is = record { ordered = tt; coefficients = λ v. cancels (eqb 0 v); degree =
 tree : Tree
 tree = Sum (Constraint (pos 1)) (Constraint (pos 2))
 
-pub short-accepted : Verifies opposed short_proof verdict.Unsat
+pub short-accepted : Verifies opposed short_proof Verdict.Unsat
 unfolding tree
 short-accepted = (
   problem,
@@ -109,7 +98,7 @@ rup = inr (record {
   conflict = broken negated_x (inl (1, omega arith, refl)) (omega arith);
 })
 
-pub other-accepted : Verifies opposed other_proof verdict.Unsat
+pub other-accepted : Verifies opposed other_proof Verdict.Unsat
 other-accepted = (
   problem,
   _,

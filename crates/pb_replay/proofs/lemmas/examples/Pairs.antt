@@ -1,9 +1,9 @@
 -- Forms on two variables, and what two literals complete to over them
-use Rattle.pb_replay.proofs.Common.{ℕ, ◌<◌, ◌∙◌, ◌∷◌, ◌≡◌, [], ap, arith, Bool, cond, eqb, false, get_or, inl, inr, List, None, not, refl, Some}
-use Rattle.pb_replay.proofs.Common.{subst, suc, sym, true, zero, Contains, Ok, Option, ne_eqb, Entry, NumberedLiteral, Form, Holds, total, assignment}
+use Rattle.pb_replay.proofs.Common.{ℕ, ◌<◌, ◌∙◌, ◌∷◌, ◌≡◌, [], ap, arith, Bool, cond, false, get_or, inl, inr, List, None, not, refl, Some}
+use Rattle.pb_replay.proofs.Common.{subst, suc, sym, true, zero, Contains, Ok, Option, Entry, NumberedLiteral, Form, Holds, total, assignment}
 use Rattle.pb_replay.proofs.Common.{on, only, begin, Live, MayPropagate, Term, name_x, name_y, Problem, AreValues, Completed, Excludes, HasValue}
 use Rattle.pb_replay.proofs.Common.{logged_of, negations, same_Some, slice_get}
-use Rattle.pb_replay.proofs.lemmas.meaning.Propagating.{AreTrue, AreTrue-put, on-negations, conflict-none}
+use Rattle.pb_replay.proofs.lemmas.meaning.Propagating.{AreTrue, on-negations, conflict-none}
 
 abbrev pub entry : ℕ → Bool → Entry
 entry x negated = record { variable = x; negated = negated; coefficient = 1 }
@@ -27,29 +27,16 @@ pub record IsMet (m n : Bool) (f : Form) : Type 0 where
 
 -- the variables after those two
 far-total : (m n : Bool) (d x : ℕ) (b : Bool) → total (only (suc (suc x)) b) (pair m n d).terms ≡ 0
-far-total m n d x b =
-    let first : eqb 0 (suc (suc x)) ≡ false = ne_eqb 0 (suc (suc x)) (λ e. omega (arith, e)) in
-    let second : eqb 1 (suc (suc x)) ≡ false = ne_eqb 1 (suc (suc x)) (λ e. omega (arith, e)) in
-    rw (first, second) refl
+far-total m n d x b = grind (arith)
 
 far-on : (m n : Bool) (x : ℕ) (b : Bool) → on (given m n) (suc (suc x)) b ≡ false
-far-on m n x b =
-    let first : eqb (suc (suc x)) 0 ≡ false = ne_eqb (suc (suc x)) 0 (λ e. omega (arith, e)) in
-    let second : eqb (suc (suc x)) 1 ≡ false = ne_eqb (suc (suc x)) 1 (λ e. omega (arith, e)) in
-    rw (first, second) refl
+far-on m n x b = grind (arith)
 
 pub met : (m n a b : Bool) (d : ℕ) → Holds (assignment (values m n)) (pair a b d) → IsMet m n (pair a b d)
 met m n a b d h = record { holds = h; outside = far-total a b d }
 
 true-given : (m n : Bool) → AreTrue (assignment (values m n)) (given m n)
-true-given m n =
-    AreTrue-put (assignment (values m n)) (record { variable = 1; negated = n } ∷ []) (record { variable = 0; negated = m })
-    (AreTrue-put (assignment (values m n)) [] (record { variable = 1; negated = n }) (λ v b e. absurd cc) (same n))
-    (same m)
-  where
-    same : (b : Bool) → cond b (not (not b)) (not b) ≡ true
-    same true = refl
-    same false = refl
+true-given m n = grind (arith)
 
 -- one of a literal and its negation is given
 one-given : (m n : Bool) (x : ℕ) (b : Bool) → x < 2 → on (given m n) x b ≡ false → on (given m n) x (not b) ≡ false → ⊥
@@ -71,14 +58,7 @@ has-value m false (suc zero) lt = inl refl
 has-value m n (suc (suc k)) lt = absurd (omega (arith, lt))
 
 are-values : (m n : Bool) → AreValues (given m n) 2 (values m n)
-are-values m n = record { count = refl; each = each m n }
-  where
-    each : (m n : Bool) (k : ℕ) → k < 2 → get_or (values m n) k false ≡ on (given m n) k false
-    each true n zero lt = refl
-    each false n zero lt = refl
-    each m true (suc zero) lt = refl
-    each m false (suc zero) lt = refl
-    each m n (suc (suc k)) lt = absurd (omega (arith, lt))
+are-values m n = grind (arith)
 
 module _ (F : Form → Type 0) (m n : Bool) (all : (f : Form) → F f → IsMet m n f) where
   closed : (l : NumberedLiteral) → MayPropagate F (given m n) l → ⊥

@@ -1,7 +1,7 @@
 -- Proofs over two names that are accepted, and conclusions that are rejected
 use Rattle.pb_replay.proofs.Common.{ℕ, ◌&&◌, ◌++◌, ◌+ℤ◌, ◌+◌, ◌-ℤ◌, ◌<◌, ◌∷◌, ◌≡◌, ◌≤ℤ◌, [], All, arith, Bool, cond, eqb, false, inl, inr, List, None}
-use Rattle.pb_replay.proofs.Common.{pos, refl, Some, subst, suc, sym, true, zero, Contains, neg_ℤ, Ok, Option, Fits, coefficient, Form, IsSum}
-use Rattle.pb_replay.proofs.Common.{negation_of, IsFormOf, IsSideOf, written_on, Finite, Concluding, Statement, Conclude, End, Constraint, Sum, Tree}
+use Rattle.pb_replay.proofs.Common.{pos, refl, Some, subst, suc, sym, true, zero, Contains, Ok, Option, Fits, Form, IsSum}
+use Rattle.pb_replay.proofs.Common.{negation_of, IsFormOf, IsSideOf, Finite, Concluding, Statement, Conclude, End, Constraint, Sum, Tree}
 use Rattle.pb_replay.proofs.Common.{begin, broken, IsRup, Live, MayPropagate, put, With, Linear, Term, all_logged, at_least_one, best_logged}
 use Rattle.pb_replay.proofs.Common.{best_proof, both_terms, bounds_of, either, logged_proof, name_x, name_y, Refuses, shown_proof, unit_on, Verifies}
 use Rattle.pb_replay.proofs.Common.{NotBound, SolutionLogged, objective_with, propagated, Opened, Problem, first_state, Logged, logged_of, State}
@@ -32,28 +32,13 @@ below : (m n : Bool) (d : ℕ) → All (λ t. t.variable < 2) (pair m n d).terms
 below m n d = All-from_recursion (λ (t : Entry). t.variable < 2) (pair m n d).terms (omega arith, (omega arith, tt))
 
 least_form : IsSideOf names least (at_least_one both_terms) (pair false false 1)
-least_form = record {
-  ordered = (omega arith, omega arith, (omega arith, omega arith, tt));
-  named = below false false 1;
-  coefficients = each-at (λ x name. coefficient (pair false false 1) x ≡ written_on name both_terms) names (refl, (refl, tt));
-  degree = refl;
-}
+least_form = grind (arith, below, each-at, pair)
 
 most_form : IsSideOf names most (objective_with both_terms (pos 0)) (pair true true 2)
-most_form = record {
-  ordered = (omega arith, omega arith, (omega arith, omega arith, tt));
-  named = below true true 2;
-  coefficients = each-at (λ x name. coefficient (pair true true 2) x ≡ written_on name (record { coefficient = neg_ℤ (pos 1); literal = record { name = name_x; negated = false } } ∷ record { coefficient = neg_ℤ (pos 1); literal = record { name = name_y; negated = false } } ∷ [])) names (refl, (refl, tt));
-  degree = refl;
-}
+most_form = grind (arith, below, each-at, pair, literal)
 
 unit_form : IsFormOf names ((unit_on false).terms) (pos 1) unit
-unit_form = record {
-  ordered = (omega arith, omega arith, tt);
-  named = All-from_recursion (λ (t : Entry). t.variable < 2) unit.terms (omega arith, tt);
-  coefficients = each-at (λ x name. coefficient unit x ≡ written_on name ((unit_on false).terms)) names (refl, (refl, tt));
-  degree = refl;
-}
+unit_form = grind (arith, each-at)
 
 nothing_form : IsFormOf names [] (pos 1) nothing
 nothing_form = record { ordered = tt; named = λ k d lt. absurd (omega (arith, lt)); coefficients = λ x name e. refl; degree = refl }

@@ -4,7 +4,6 @@ use Rattle.pb_replay.proofs.Common.{with_names, IsSum, Bound, Finite, Infinite, 
 use Rattle.pb_replay.proofs.Common.{Constraint, LiteralAxiom, Product, Quotient, Saturation, Sum, Tree, Weakening, words, Live, Linear, Term}
 use Rattle.pb_replay.proofs.Common.{AcceptsMore, OpensMore, Fault, after, Answer, found, need, some, Concludes, lower_bound, named, objective_with}
 use Rattle.pb_replay.proofs.Common.{Problem, added, Completed, FormOfExpression, limited, Logged, normal_form, numbered, State, Does, mentioned}
-use Rattle.pb_normal.specs.declared.Side.TheVariants.{AtLeast as least, AtMost as most}
 
 -- for any result that is `Ok`: a bare variable lets the prover find the arguments of the lemmas
 abbrev GrowsAt : {A : Type 0} → Answer A → Answer A → Type 0
@@ -53,7 +52,7 @@ module _ (limit more : ℕ) (wider : limit ≤ more) where
   lower-more : (s : State) (o : List Term) (b : Bound) (id : Option ℤ) (next : Answer State) → GrowsAt (lower_bound limit s o b id next) (lower_bound more s o b id next)
   lower-more s o Infinite id next = λ r is h. h
   lower-more s o (Finite b) id next =
-      grows-need _ _ _ _ _ (λ h. h) (named-more s.live id _ _ (λ f. normal-more s.names least (objective_with o b) _ _ (λ g r is h. h)))
+      grows-need _ _ _ _ _ (λ h. h) (named-more s.live id _ _ (λ f. normal-more s.names Side.AtLeast (objective_with o b) _ _ (λ g r is h. h)))
 
   concludes-more : (v : Problem) (s : State) (c : Conclusion) (next : Answer State) → GrowsAt (Concludes limit v s c next) (Concludes more v s c next)
   concludes-more v s (Sat (Some given)) next = λ r is h. h
@@ -67,10 +66,10 @@ module _ (limit more : ℕ) (wider : limit ≤ more) where
     does-more : (v : Problem) (s : State) (st : Statement) → GrowsAt (Does limit top v s st) (Does more above v s st)
     does-more v s (F count) = grows-need _ _ _ _ _ (λ h. h) (grows-need _ _ _ _ _ (λ le. omega (arith, le, higher)) (λ r is h. h))
     does-more v s (Pol ws) = grows-some (λ tree. ws ≡ words tree) _ _ (λ tree. grows-after _ _ _ _ (tree-more s.names s.live tree) (λ r. added-more s s.logged r))
-    does-more v s (Rup linear) = normal-more s.names least linear _ _ (λ r. grows-need _ _ _ _ _ (λ h. h) (added-more s s.logged r))
+    does-more v s (Rup linear) = normal-more s.names Side.AtLeast linear _ _ (λ r. grows-need _ _ _ _ _ (λ h. h) (added-more s s.logged r))
     does-more v s (Solx given) = grows-after (Completed v (Live s.live) (length s.names) (numbered s.names given)) _ _ _ (λ r is h. h) (λ g. grows-some _ _ _ (λ r. added-more s _ r))
     does-more v s (Soli given) =
-        grows-found _ _ _ _ (λ o. grows-after (Completed v (Live s.live) (length s.names) (numbered s.names given)) _ _ _ (λ r is h. h) (λ g. normal-more s.names most (objective_with o (g.value -ℤ pos 1)) _ _ (λ r. added-more s _ r)))
+        grows-found _ _ _ _ (λ o. grows-after (Completed v (Live s.live) (length s.names) (numbered s.names given)) _ _ _ (λ r is h. h) (λ g. normal-more s.names Side.AtMost (objective_with o (g.value -ℤ pos 1)) _ _ (λ r. added-more s _ r)))
     does-more v s (Conclude c) = concludes-more v s c _
     does-more v s st = λ r is h. h
 

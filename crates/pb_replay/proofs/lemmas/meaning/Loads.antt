@@ -10,7 +10,6 @@ use Rattle.pb_replay.proofs.Common.{IsSolution, IsSound, known, known_names, Mea
 use Rattle.pb_replay.proofs.Common.{written_value, by_name, first_state, State, value}
 use Rattle.pb_sums.specs.declared.Relation.{Relation}
 use Rattle.pb_sums.specs.declared.Relation.TheVariants.{AtLeast, Equal}
-use Rattle.pb_normal.specs.declared.Side.TheVariants.{AtLeast as least, AtMost as most}
 use Rattle.pb_normal.proofs.lemmas.names.Appearing.{named}
 use Rattle.pb_replay.specs.declared.verdict.Verdict.TheVariants.{NoClaim, Unsat, Sat, Bounds}
 use Rattle.pb_replay.proofs.lemmas.meaning.Accepting.{needed, ok-same}
@@ -36,14 +35,14 @@ one_more : (names : List (List ℕ)) (a : List ℕ → Bool) (relation : Relatio
 one_more names a AtLeast c sides [] P e d h rest f = absurd f
 one_more names a AtLeast c sides (r ∷ forms) P e d h rest f =
     let H = Holds (by_number names a) in
-    let same = SameAsForm-from names c r e (SameSolutions-side names least c r d h f.0) a in
+    let same = SameAsForm-from names c r e (SameSolutions-side names Side.AtLeast c r d h f.0) a in
     let others = rest forms f.1 in
     (λ w. all_cons H r forms (same.0 w.0) (others.0 w.1), λ w. (same.1 (all_first H r forms w), others.1 (all_rest H r forms w)))
 one_more names a Equal c sides [] P e d h rest f = absurd f
 one_more names a Equal c sides (r ∷ []) P e d h rest f = absurd f.1
 one_more names a Equal c sides (r ∷ s ∷ forms) P e d h rest f =
     let H = Holds (by_number names a) in
-    let same = SameAsForms-from names c r s e (SameSolutions-side names least c r d h f.0) (SameSolutions-side names most c s d h f.1.0) a in
+    let same = SameAsForms-from names c r s e (SameSolutions-side names Side.AtLeast c r d h f.0) (SameSolutions-side names Side.AtMost c s d h f.1.0) a in
     let others = rest forms f.1.1 in (
       λ w. let both = same.0 w.0 in all_cons H r (s ∷ forms) both.0 (all_cons H s forms both.1 (others.0 w.1)),
       λ w. let later = all_rest H r (s ∷ forms) w in (same.1 (all_first H r (s ∷ forms) w, all_first H s forms later), others.1 (all_rest H s forms later)),

@@ -1,7 +1,7 @@
 -- What propagation adds to a list is true wherever the forms hold and the given literals are true
 use Rattle.pb_replay.proofs.Common.{ℕ, ◌∙◌, ◌∷◌, ◌≡◌, [], arith, Bool, cond, false, inl, inr, List, not, refl, sym, true, both_ways, cases_Bool}
-use Rattle.pb_replay.proofs.Common.{cases_lt, false_from_ne_true, not-true, not_from_false, or_cases, Holds-negation_back, NumberedLiteral, Form}
-use Rattle.pb_replay.proofs.Common.{Holds, total, true_at, negation_of, on, only, only-true, total-fits, total-within, begin, broken, Derivation}
+use Rattle.pb_replay.proofs.Common.{cases_lt, false_from_ne_true, not-true, not_from_false, Holds-negation_back, NumberedLiteral, Form}
+use Rattle.pb_replay.proofs.Common.{Holds, total, true_at, negation_of, on, only-true, total-fits, total-within, begin, broken, Derivation}
 use Rattle.pb_replay.proofs.Common.{HasConflict, HoldAll, IsRup, MayPropagate, MeetsConflict, opened, opposed, put, With, negations}
 use Rattle.std.proofs.Math.Bool.{not-not}
 
@@ -28,11 +28,7 @@ at_literal : (a : ℕ → Bool) (l : NumberedLiteral) (v : ℕ) (n : Bool) → t
 at_literal a l v n h e f = rw (e, f) h
 
 pub AreTrue-put : (a : ℕ → Bool) (list : List NumberedLiteral) (l : NumberedLiteral) → AreTrue a list → true_at a l.variable l.negated ≡ true → AreTrue a (l ∷ list)
-AreTrue-put a list l h t v n e =
-    elim (or_cases (only l.variable l.negated v n) (on list v n) e) [
-      | inl new ↦ let same = only-true l.variable l.negated v n new in at_literal a l v n t same.0 same.1
-      | inr old ↦ h v n old
-    ]
+AreTrue-put a list l h t v n e = grind (arith, l.negated, only-true, at_literal)
 
 -- what is true is not falsified
 pub true-opened : (a : ℕ → Bool) (list : List NumberedLiteral) → AreTrue a list → (v : ℕ) (n : Bool) → true_at a v n ≡ true → opened list v n ≡ true
@@ -40,22 +36,7 @@ true-opened a list h v n t =
     not_from_false (on list v (not n)) (false_from_ne_true (on list v (not n)) (λ e. both_ways _ (not-true (true_at a v n) (sym (true_at-not a v n) ∙ h v (not n) e)) t))
 
 put-true : (forms : Form → Type 0) (a : ℕ → Bool) (list : List NumberedLiteral) (l : NumberedLiteral) → HoldAll a forms → AreTrue a list → MayPropagate forms list l → true_at a l.variable l.negated ≡ true
-put-true forms a list l holds h m =
-    elim (cases_Bool (true_at a l.variable l.negated)) [
-      | inl here ↦ here
-      | inr gone ↦
-          let fits = total-fits (true_at a) (only l.variable l.negated) (opened list) (true-opened a list h)
-          (λ w k e. let same = only-true l.variable l.negated w k e in not_from_false (on list w (not k)) (false_from_ne_true (on list w (not k)) (λ e. both_ways _ m.not_falsified (moved w k same.0 same.1 e))))
-          (λ w k t e. let same = only-true l.variable l.negated w k e in both_ways _ gone (at_same w k same.0 same.1 t))
-          m.form.terms in
-          absurd (omega (arith, fits, m.forced, holds m.form m.among))
-    ]
-  where
-    moved : (w : ℕ) (k : Bool) → w ≡ l.variable → k ≡ l.negated → on list w (not k) ≡ true → on list l.variable (not l.negated) ≡ true
-    moved w k e f h = rw (← e, ← f) h
-
-    at_same : (w : ℕ) (k : Bool) → w ≡ l.variable → k ≡ l.negated → true_at a w k ≡ true → true_at a l.variable l.negated ≡ true
-    at_same w k e f h = rw (← e, ← f) h
+put-true forms a list l holds h m = grind (arith, l.negated, total-fits, true-opened, only-true, both_ways, m.not_falsified, m.form.terms, m.forced, m.among, cases_Bool (true_at a l.variable l.negated))
 
 pub derivation-true : (forms : Form → Type 0) (a : ℕ → Bool) (given list : List NumberedLiteral) → HoldAll a forms → AreTrue a given → Derivation forms given list → AreTrue a list
 derivation-true forms a given _ holds h begin = h

@@ -1,14 +1,14 @@
 -- The rules accept what the outcomes accept.
-use Rattle.pb_replay.proofs.Common.{ℕ, ℤ, ◌∷◌, [], inl, length, List, None, refl, set, Some, subst, sym, Ok, Option, NumberedLiteral, Form}
-use Rattle.pb_replay.proofs.Common.{with_names, Bound, Finite, Infinite, Conclusion, Bounds, NoClaim, Sat, Unsat, Statement, Conclude, Delete, End, F}
+use Rattle.pb_replay.proofs.Common.{ℕ, ℤ, ◌∷◌, [], inl, length, List, None, refl, set, Some, subst, sym, Ok, Option, NumberedLiteral, Form, arith}
+use Rattle.pb_replay.proofs.Common.{Bound, Finite, Infinite, Conclusion, Bounds, NoClaim, Sat, Unsat, Statement, Conclude, Delete, End, F}
 use Rattle.pb_replay.proofs.Common.{Header, Output, Pol, Rup, Soli, Solx, Constraint, LiteralAxiom, Product, Quotient, Saturation, Sum, Tree}
 use Rattle.pb_replay.proofs.Common.{Weakening, words, Live, Literal, Term, Answer, Concludes, contradicted, lower_bound, upper_bound, Problem}
-use Rattle.pb_replay.proofs.Common.{Completed, Deleted, FormOfExpression, Logged, numbered, place, State, Does, mentioned, Outcome}
-use Rattle.pb_replay.specs.contract.Rules.{HasForm, constraint, literal, sum, product, quotient, saturation, weakening, IsSolvedBy, Deletes, none, one, HasContradiction, some, named, unnamed, named_one, IsLower, infinite, finite, IsUpper, unbounded, by_shown, by_logged, IsJustified, no_claim, unsat, sat_shown, sat_logged, bounds, with_form, Rule, header, formula, pol, rup, soli, solx, delete, output, conclude, end, Step, RulesAreOutcomes}
+use Rattle.pb_replay.proofs.Common.{Completed, Deleted, FormOfExpression, Logged, numbered, place, State, Does}
+use Rattle.pb_replay.specs.contract.Rules.{HasForm, constraint, literal, sum, product, quotient, saturation, weakening, IsSolvedBy, Deletes, none, one, HasContradiction, some, named, unnamed, named_one, IsLower, infinite, finite, IsUpper, unbounded, by_shown, by_logged, IsJustified, no_claim, unsat, sat_shown, sat_logged, bounds, with_form, Rule, header, formula, pol, rup, soli, solx, delete, output, conclude, end, RulesAreOutcomes}
 use Rattle.pb_replay.proofs.lemmas.meaning.Accepting.{ok-same, needed, followed, eached}
 
 -- expressions
-form-to : (limit : ℕ) (names : List (List ℕ)) (live : List (Option Form)) (tree : Tree) (r : Form) → FormOfExpression limit names live tree (Ok r) → HasForm limit names live tree r
+pub form-to : (limit : ℕ) (names : List (List ℕ)) (live : List (Option Form)) (tree : Tree) (r : Form) → FormOfExpression limit names live tree (Ok r) → HasForm limit names live tree r
 form-to limit names live (Constraint id) r h = let f = needed h in subst (HasForm limit names live (Constraint id)) (sym (ok-same f.2)) (constraint id f.0 f.1)
 form-to limit names live (LiteralAxiom l) r h = subst (HasForm limit names live (LiteralAxiom l)) (sym (ok-same h)) (literal l)
 form-to limit names live (Sum a b) r h =
@@ -34,29 +34,14 @@ form-from limit names live _ _ (saturation a f p) = inl (f, form-from limit name
 form-from limit names live _ _ (weakening a name f p) = inl (f, form-from limit names live a f p, refl)
 
 -- solutions
-solved-to : (v : Problem) (live : List (Option Form)) (names : ℕ) (given : List NumberedLiteral) (g : Logged) → Completed v (Live live) names given (Ok g) → IsSolvedBy v live names given g
-solved-to v live names given g h =
-    let first = needed h in
-    let list = first.1 in
-    let all = eached list.2 in
-    let values = all.1 in
-    let rest = eached values.2 in
-    let same = ok-same rest.1 in
-    subst (IsSolvedBy v live names given) (sym same) (record {
-      consistent = first.0;
-      list = list.0;
-      completion = list.1;
-      total = all.0;
-      values = values.1;
-      solution = rest.0;
-      value_of = refl;
-    })
+pub solved-to : (v : Problem) (live : List (Option Form)) (names : ℕ) (given : List NumberedLiteral) (g : Logged) → Completed v (Live live) names given (Ok g) → IsSolvedBy v live names given g
+solved-to v live names given g h = grind (arith, needed, eached, ok-same)
 
-solved-from : (v : Problem) (live : List (Option Form)) (names : ℕ) (given : List NumberedLiteral) (g : Logged) → IsSolvedBy v live names given g → Completed v (Live live) names given (Ok g)
+pub solved-from : (v : Problem) (live : List (Option Form)) (names : ℕ) (given : List NumberedLiteral) (g : Logged) → IsSolvedBy v live names given g → Completed v (Live live) names given (Ok g)
 solved-from v live names given g s = inl (s.consistent, (s.list, s.completion, inl (s.total, (g.values, s.values, inl (s.solution, rw s.value_of refl)))))
 
 -- deletions
-deletes-to : (live : List (Option Form)) (ids : List ℤ) (rest : List (Option Form)) → Deleted live ids (Ok rest) → Deletes live ids rest
+pub deletes-to : (live : List (Option Form)) (ids : List ℤ) (rest : List (Option Form)) → Deleted live ids (Ok rest) → Deletes live ids rest
 deletes-to live [] rest h = subst (Deletes live []) (sym (ok-same h)) none
 deletes-to live (id ∷ ids) rest h = let f = needed h in one id ids f.0 f.1 (deletes-to (set live (place (length live) id) None) ids rest f.2)
 
@@ -65,7 +50,7 @@ deletes-from live _ _ none = refl
 deletes-from live _ rest (one id ids f at d) = inl (f, at, deletes-from (set live (place (length live) id) None) ids rest d)
 
 -- contradictions
-contradiction-to : (live : List (Option Form)) (id : Option ℤ) (next : Answer State) (t : State) → contradicted live id next (Ok t) → HasContradiction live id × next (Ok t)
+pub contradiction-to : (live : List (Option Form)) (id : Option ℤ) (next : Answer State) (t : State) → contradicted live id next (Ok t) → HasContradiction live id × next (Ok t)
 contradiction-to live None next t h = let f = needed h in (some f.0.0 f.0.1 f.0.2, f.1)
 contradiction-to live (Some id) next t h =
     let f = needed h in
@@ -115,7 +100,7 @@ upper-from v s _ _ next t (by_shown u given g is low) n = inl (g, is, inl (low, 
 upper-from v s _ _ next t (by_logged u g at low) n = inl ((g, at), inl ((g, at, low), n))
 
 -- conclusions
-concludes-to : (limit : ℕ) (v : Problem) (s : State) (c : Conclusion) (next : Answer State) (t : State) → Concludes limit v s c next (Ok t) → IsJustified limit v s c × next (Ok t)
+pub concludes-to : (limit : ℕ) (v : Problem) (s : State) (c : Conclusion) (next : Answer State) (t : State) → Concludes limit v s c next (Ok t) → IsJustified limit v s c × next (Ok t)
 concludes-to limit v s NoClaim next t h = (no_claim, h)
 concludes-to limit v s (Unsat id) next t h =
     let first = needed h in
@@ -137,7 +122,7 @@ concludes-from limit v s _ next t (sat_logged g at) n = inl ((g, at), n)
 concludes-from limit v s _ next t (bounds lower id upper shown o is low high) n = inl (o, is, lower-from limit s o lower id (upper_bound v s upper shown next) t low (upper-from v s upper shown next t high n))
 
 -- statements
-rule-to : (limit top : ℕ) (v : Problem) (s t : State) (st : Statement) → Does limit top v s st (Ok t) → Rule limit top v s st t
+pub rule-to : (limit top : ℕ) (v : Problem) (s t : State) (st : Statement) → Does limit top v s st (Ok t) → Rule limit top v s st t
 rule-to limit top v s t Header h = subst (Rule limit top v s Header) (sym (ok-same h)) header
 rule-to limit top v s t (F count) h =
     let first = needed h in
@@ -186,10 +171,4 @@ rule-from limit top v s t _ (conclude c is) = concludes-from limit v s c _ t is 
 rule-from limit top v s _ _ end = refl
 
 pub rules-outcomes : RulesAreOutcomes
-rules-outcomes limit top v s t st = (to, from)
-  where
-    to : Outcome limit top v s st (Ok t) → Step limit top v s st t
-    to h = let first = needed h in record { stage = first.0; rule = rule-to limit top v (record s { names = with_names s.names (mentioned st) }) t st first.1 }
-
-    from : Step limit top v s st t → Outcome limit top v s st (Ok t)
-    from p = inl (p.stage, rule-from limit top v (record s { names = with_names s.names (mentioned st) }) t st p.rule)
+rules-outcomes limit top v s t st = grind (arith, needed, rule-to, s.names, rule-from)

@@ -8,7 +8,6 @@ use Rattle.pb_replay.proofs.Common.{Linear, Literal, Term, ok_or_err, same_err, 
 use Rattle.pb_replay.proofs.Common.{each_below, found, gives, need, some, Concludes, lower_bound, named, none_left, objective_with, upper_bound}
 use Rattle.pb_replay.proofs.Common.{FitsAll, names_in, Problem, added, AreValues, Completed, Deleted, Excludes, FormOfExpression, HasValue, IsLive}
 use Rattle.pb_replay.proofs.Common.{Logged, logged_of, normal_form, numbered, place, Shown, Solution, State, Does, mentioned}
-use Rattle.pb_normal.specs.declared.Side.TheVariants.{AtLeast as least, AtMost as most}
 use Rattle.pb_normal.proofs.lemmas.rules.Unique.{IsSum-unique, IsRising-same, same_form}
 use Rattle.pb_replay.proofs.lemmas.meaning.Accepting.{ok-same}
 use Rattle.pb_proof.proofs.lemmas.pol.Postfix.{words_report}
@@ -121,7 +120,7 @@ single-named live (Some i) next h = single-found (IsLive live i) _ _ (IsLive-one
 
 single-lower : (limit : ℕ) (s : State) (o : List Term) (b : Bound) (id : Option ℤ) (next : Answer State) → IsSingle next → IsSingle (lower_bound limit s o b id next)
 single-lower limit s o Infinite id next h = single-none_left s id next h
-single-lower limit s o (Finite b) id next h = single-need _ _ _ (single-named s.live id _ (λ f. single-normal limit s.names least (objective_with o b) _ (λ g. single-need _ _ _ h)))
+single-lower limit s o (Finite b) id next h = single-need _ _ _ (single-named s.live id _ (λ f. single-normal limit s.names Side.AtLeast (objective_with o b) _ (λ g. single-need _ _ _ h)))
 
 single-upper : (v : Problem) (s : State) (u : Bound) (shown : Option (List Literal)) (next : Answer State) → IsSingle next → IsSingle (upper_bound v s u shown next)
 single-upper v s Infinite shown next h = h
@@ -144,14 +143,14 @@ single-does limit top v s (F count) = single-need _ _ _ (single-need _ _ _ (sing
 single-does limit top v s (Pol ws) =
     single-some (λ tree. ws ≡ words tree) _ (λ t u p q. words_report t u (sym p ∙ q)) (λ tree.
     single-after (FormOfExpression limit s.names s.live tree) _ (single-tree limit s.names s.live tree) (λ r. single-added top s s.logged r))
-single-does limit top v s (Rup linear) = single-normal limit s.names least linear _ (λ r. single-need _ _ _ (single-added top s s.logged r))
+single-does limit top v s (Rup linear) = single-normal limit s.names Side.AtLeast linear _ (λ r. single-need _ _ _ (single-added top s s.logged r))
 single-does limit top v s (Solx given) =
     single-after (Completed v (Live s.live) (length s.names) (numbered s.names given)) _ (single-completed v (Live s.live) (length s.names) (numbered s.names given)) (λ g.
     single-some (Excludes (numbered s.names given)) _ (Excludes-unique (numbered s.names given)) (λ r. single-added top s (s.logged ++ (g ∷ [])) r))
 single-does limit top v s (Soli given) =
     single-found (λ o. v.objective ≡ Some o) _ _ (objective-one v) (λ o.
     single-after (Completed v (Live s.live) (length s.names) (numbered s.names given)) _ (single-completed v (Live s.live) (length s.names) (numbered s.names given)) (λ g.
-    single-normal limit s.names most (objective_with o (g.value -ℤ pos 1)) _ (λ r. single-added top s (s.logged ++ (g ∷ [])) r)))
+    single-normal limit s.names Side.AtMost (objective_with o (g.value -ℤ pos 1)) _ (λ r. single-added top s (s.logged ++ (g ∷ [])) r)))
 single-does limit top v s (Delete ids) = single-after (Deleted s.live ids) _ (single-deleted s.live ids) (λ live. single-gives _)
 single-does limit top v s (Conclude c) = single-concludes limit v s c _ (single-gives _)
 single-does limit top v s st = single-gives _

@@ -1,9 +1,8 @@
 -- From the state after a statement's names have appeared to the state before
-use Rattle.pb_replay.proofs.Common.{ℕ, ℤ, ◌++◌, ◌-ℤ◌, ◌∙◌, ◌∷◌, ◌≡◌, [], Err, inl, inr, List, pos, Some, subst, sym, Ok, Option, Result, same_Some}
+use Rattle.pb_replay.proofs.Common.{ℕ, ℤ, ◌++◌, ◌-ℤ◌, ◌∙◌, ◌∷◌, ◌≡◌, [], Err, inl, inr, List, pos, Some, subst, sym, Ok, Option, Result, same_Some, arith}
 use Rattle.pb_replay.proofs.Common.{Side, Fits, Form, IsSideOf, Statement, Term, Limits, largest, top_of, Adding, does_in, Goes, GoesAt, HasNamed}
 use Rattle.pb_replay.proofs.Common.{IsBest, IsBetter, IsProper, Keeps, Logs, problem_of, state_of, with_mentioned, Fault, NoObjective, Overflow}
 use Rattle.pb_replay.proofs.Common.{Running, Demands, HasObjective, objective_with, Problem, added, Logged, normal_form, State, Does, mentioned}
-use Rattle.pb_normal.specs.declared.Side.TheVariants.{AtMost as most}
 use Rattle.pb_replay.proofs.lemmas.meaning.Accepting.{ok-same}
 use Rattle.pb_replay.proofs.lemmas.conclusions.Best.{best-push}
 use Rattle.pb_replay.proofs.lemmas.rules.Carrying.{carries-from}
@@ -44,12 +43,9 @@ logs-err old new z form e (inl memory) = inl memory
 logs-err old new z form e (inr h) = inr (λ before g. h before (before ++ g ∷ []))
 
 demand-moved : (old m : Running) → HasNamed [] old m → Keeps old m → (before : List Logged) (g : Logged) (o : List Term) (r : Result State Fault)
-    → normal_form (largest m.limits) m.names most (objective_with o (g.value -ℤ pos 1)) (added (top_of m.limits) (state_of m before) (before ++ g ∷ [])) r
-    → normal_form (largest old.limits) old.names most (objective_with o (g.value -ℤ pos 1)) (added (top_of old.limits) (state_of old before) (before ++ g ∷ [])) r
-demand-moved old m named kept before g o r h =
-    let same : state_of m before ≡ state_of old before = same-state named.forms named.names named.next named.concluded in
-    let one = subst (λ (s : State). normal_form (largest m.limits) s.names most (objective_with o (g.value -ℤ pos 1)) (added (top_of m.limits) s (before ++ g ∷ [])) r) same h in
-    subst (λ (l : Limits). normal_form (largest l) old.names most (objective_with o (g.value -ℤ pos 1)) (added (top_of l) (state_of old before) (before ++ g ∷ [])) r) kept.limits one
+    → normal_form (largest m.limits) m.names Side.AtMost (objective_with o (g.value -ℤ pos 1)) (added (top_of m.limits) (state_of m before) (before ++ g ∷ [])) r
+    → normal_form (largest old.limits) old.names Side.AtMost (objective_with o (g.value -ℤ pos 1)) (added (top_of old.limits) (state_of old before) (before ++ g ∷ [])) r
+demand-moved old m named kept before g o r h = grind (arith, same-state, named.forms, named.names, named.next, named.concluded, m.limits, g.value, old.names, kept.limits)
 
 pub demands-from : (old m : Running) → HasNamed [] old m → IsProper old → Keeps old m → (z : ℤ) (result : Result Unit Fault) (new : Running) → Demands m z result new → Demands old z result new
 demands-from old m named proper kept z (Ok u) new h = λ before g o best is has.
@@ -67,12 +63,12 @@ form-of limit names objective side degree form (inl (p, is, inl (fits, (r, made,
 form-of limit names objective side degree form (inl (p, is, inr (late, same))) o has = absurd (let f : Ok form ≡ Err Overflow = same in cc)
 form-of limit names objective side degree form (inr (late, same)) o has = absurd (let f : Ok form ≡ Err NoObjective = same in cc)
 
-pub demands-ok : (old new : Running) (z : ℤ) (form : Form) (result : Result Unit Fault) → HasObjective (largest old.limits) old.names (problem_of old).objective most (z -ℤ pos 1) (Ok form) → Logs old z form result new → Demands old z result new
+pub demands-ok : (old new : Running) (z : ℤ) (form : Form) (result : Result Unit Fault) → HasObjective (largest old.limits) old.names (problem_of old).objective Side.AtMost (z -ℤ pos 1) (Ok form) → Logs old z form result new → Demands old z result new
 demands-ok old new z form (Ok u) made h = λ before g o best value has.
     let k = h before g best value in
-    let parts = form-of (largest old.limits) old.names (problem_of old).objective most (z -ℤ pos 1) form made o has in
-    (k.0, subst (λ (y : ℤ). normal_form (largest old.limits) old.names most (objective_with o (y -ℤ pos 1)) (added (top_of old.limits) (state_of old before) (before ++ g ∷ [])) (Ok (state_of new (before ++ g ∷ [])))) (sym value) (inl (parts.0, (form, parts.1, k.1))))
+    let parts = form-of (largest old.limits) old.names (problem_of old).objective Side.AtMost (z -ℤ pos 1) form made o has in
+    (k.0, subst (λ (y : ℤ). normal_form (largest old.limits) old.names Side.AtMost (objective_with o (y -ℤ pos 1)) (added (top_of old.limits) (state_of old before) (before ++ g ∷ [])) (Ok (state_of new (before ++ g ∷ [])))) (sym value) (inl (parts.0, (form, parts.1, k.1))))
 demands-ok old new z form (Err e) made (inl memory) = inl memory
 demands-ok old new z form (Err e) made (inr h) = inr (λ before g o value has.
-    let parts = form-of (largest old.limits) old.names (problem_of old).objective most (z -ℤ pos 1) form made o has in
-    subst (λ (y : ℤ). normal_form (largest old.limits) old.names most (objective_with o (y -ℤ pos 1)) (added (top_of old.limits) (state_of old before) (before ++ g ∷ [])) (Err e)) (sym value) (inl (parts.0, (form, parts.1, h before g))))
+    let parts = form-of (largest old.limits) old.names (problem_of old).objective Side.AtMost (z -ℤ pos 1) form made o has in
+    subst (λ (y : ℤ). normal_form (largest old.limits) old.names Side.AtMost (objective_with o (y -ℤ pos 1)) (added (top_of old.limits) (state_of old before) (before ++ g ∷ [])) (Err e)) (sym value) (inl (parts.0, (form, parts.1, h before g))))

@@ -40,13 +40,3 @@ module _ (given : List Literal) (i : ℕ) (l : Literal) (lt : i < length given) 
     subst (λ (ls : List NumberedLiteral). All (λ x. x.variable < length names) ls) (sym k)
         (All-push (λ (x : NumberedLiteral). x.variable < length names) out (record { variable = n; negated = l.negated }) before.1 (omega (arith, is, number_in-below names l.name (one-named names h)))),
   )
-
-pub literal_next : (old names new : List (List ℕ)) (given : List Literal) (i : ℕ) (l : Literal) → i < length given → l ≡ get_or given i l → names ≡ with_names old (literal_names (take i given)) → new ≡ with_name names l.name → new ≡ with_names old (literal_names (take (i + 1) given))
-literal_next old names new given i l lt e before k = next-names given i l lt e old names new before k
-
-pub literal_named : (names : List (List ℕ)) (given : List Literal) (i : ℕ) (l : Literal) → i < length given → l ≡ get_or given i l → HasNames names (literal_names given) → has_name names l.name ≡ true
-literal_named names given i l lt e h = one-named given i l lt e names h
-
-pub numbered_next : (names : List (List ℕ)) (given : List Literal) (i : ℕ) (l : Literal) → i < length given → l ≡ get_or given i l → HasNames names (literal_names given) → (n : ℕ) → n ≡ number_in names l.name → (out new : List NumberedLiteral) → (out ≡ numbered names (take i given)) × All (λ x. x.variable < length names) out → new ≡ out ++ record { variable = n; negated = l.negated } ∷ []
-    → (new ≡ numbered names (take (i + 1) given)) × All (λ x. x.variable < length names) new
-numbered_next names given i l lt e h n is out new before k = next-numbers given i l lt e names h n is out new before k

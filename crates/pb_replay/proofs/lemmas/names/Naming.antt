@@ -1,6 +1,6 @@
 -- Assignments of names, and of their numbers
 use Rattle.pb_replay.proofs.Common.{ℕ, ℤ, ◌++◌, ◌<◌, ◌∙◌, ◌∷◌, ◌≡◌, ◌≤◌, [], All, ap, append_assoc, arith, Bool, cond, false, get_or, length}
-use Rattle.pb_replay.proofs.Common.{length-append, List, not, pos, refl, Some, sym, true, ◌↔◌, Option, All-head, All-tail, slice_get-get_or, prefix}
+use Rattle.pb_replay.proofs.Common.{length-append, List, not, pos, refl, Some, sym, true, ◌↔◌, All-head, All-tail, slice_get-get_or, prefix}
 use Rattle.pb_replay.proofs.Common.{number_in-append, number_in-below, number_in-get, SameSolutions-side, Side, Entry, Form, Holds, total, true_at}
 use Rattle.pb_replay.proofs.Common.{AreDistinct, has_name, HasNames, number_in, with_names, by_number, IsSideOf, MeetsSide, names_of, true_sum}
 use Rattle.pb_replay.proofs.Common.{Linear, Term, IsNamePrefix, IsProblem, objective_of, Problem, by_name, value}
@@ -58,10 +58,7 @@ pub value-is : (v : Problem) (o : List Term) (a : ℕ → Bool) → v.objective 
 value-is v o a e = ap (λ x. true_sum (by_name v.names a) (objective_of x)) e
 
 pub objective-named : (v : Problem) (o : List Term) → IsProblem v → v.objective ≡ Some o → HasNames v.names (names_of o)
-objective-named v o p e =
-    let P : Option (List Term) → Type 0 = λ x. HasNames v.names (names_of (objective_of x)) in
-    let named : P v.objective = p.named in
-    rw e at named
+objective-named v o p e = grind (arith, v.names, v.objective, p.named)
 
 pub value-over : (v : Problem) (names : List (List ℕ)) (o : List Term) (a : ℕ → Bool) → IsProblem v → IsNamePrefix v.names names → v.objective ≡ Some o → true_sum (by_name names a) o ≡ value v a
 value-over v names o a p (more, e) is =

@@ -1,16 +1,14 @@
 -- A name that gets no value existed before the statement.
-use Rattle.pb_replay.proofs.Common.{ℕ, ℤ, ◌++◌, ◌+◌, ◌-ℤ◌, ◌<◌, ◌∙◌, ◌∷◌, ◌≡◌, ◌≤◌, [], ap, arith, Bool, cond, Err, false, get_or, inl, inr, length}
+use Rattle.pb_replay.proofs.Common.{ℕ, ℤ, ◌++◌, ◌+◌, ◌-ℤ◌, ◌<◌, ◌∙◌, ◌∷◌, ◌≡◌, ◌≤◌, [], ap, arith, Bool, Err, false, get_or, inl, inr, length}
 use Rattle.pb_replay.proofs.Common.{length-append, List, None, pos, refl, set, Some, sym, true, Option, Result, get_or-append_seam, cases_lt, or_left}
 use Rattle.pb_replay.proofs.Common.{or_right, get_or_append_left, slice_get-get_or, distinct, prefix, number_in-get, Side, NumberedLiteral, Form}
-use Rattle.pb_replay.proofs.Common.{AreDistinct, has_name, number_in, with_name, with_names, IsSum, on, only, Bound, Finite, Infinite, Conclusion}
+use Rattle.pb_replay.proofs.Common.{AreDistinct, number_in, with_name, with_names, IsSum, on, only, Bound, Finite, Infinite, Conclusion}
 use Rattle.pb_replay.proofs.Common.{Bounds, NoClaim, Sat, Unsat, Statement, Conclude, Delete, F, Pol, Rup, Soli, Solx, Constraint, LiteralAxiom}
 use Rattle.pb_replay.proofs.Common.{Product, Quotient, Saturation, Sum, Tree, Weakening, words, only-self, derivation-keeps, Live, Linear, Literal}
 use Rattle.pb_replay.proofs.Common.{Term, UnvaluedAreOld, UnvaluedMayWant, Fault, after, Answer, found, gives, need, some, Concludes, lower_bound}
 use Rattle.pb_replay.proofs.Common.{named, none_left, objective_with, upper_bound, Problem, added, Completed, Deleted, Excludes, FormOfExpression}
-use Rattle.pb_replay.proofs.Common.{HasValue, IsLive, limited, Logged, normal_form, numbered, place, Shown, State, Does, literal_names, MayWant}
+use Rattle.pb_replay.proofs.Common.{HasValue, IsLive, limited, Logged, normal_form, numbered, place, Shown, State, Does, literal_names, MayWant, Outcome, stage_of}
 use Rattle.pb_replay.proofs.Common.{mentioned, PassesFirst}
-use Rattle.pb_replay.specs.declared.fault.Fault.TheVariants as fault
-use Rattle.pb_normal.specs.declared.Side.TheVariants.{AtLeast as least, AtMost as most}
 
 -- at each new index is one of the names that appeared
 data Among (q : List ℕ) : List (List ℕ) → Type 0 where
@@ -23,11 +21,7 @@ record Appeared (names : List (List ℕ)) (ns : List (List ℕ)) (k : ℕ) : Typ
   at : get_or names k [] ≡ name
 
 one_more : (old : List (List ℕ)) (n : List ℕ) (k : ℕ) → length old ≤ k → k < length (with_name old n) → (with_name old n ≡ old ++ n ∷ []) × (k ≡ length old)
-one_more old n k le = by_test (has_name old n)
-  where
-    by_test : (b : Bool) → k < length (cond b old (old ++ n ∷ [])) → (cond b old (old ++ n ∷ []) ≡ old ++ n ∷ []) × (k ≡ length old)
-    by_test true lt = absurd (omega (arith, le, lt))
-    by_test false lt = (refl, omega (arith, le, lt, length-append old (n ∷ [])))
+one_more old n k le = grind (arith, length-append)
 
 appeared : (old ns : List (List ℕ)) (k : ℕ) → length old ≤ k → k < length (with_names old ns) → Appeared (with_names old ns) ns k
 appeared old [] k le lt = absurd (omega (arith, le, lt))
@@ -70,10 +64,10 @@ new_given old ls k d le lt =
 
 -- answers that never name a number without a value
 abbrev IsOther : Fault → Type 0
-IsOther e = (n : ℕ) → e ≡ fault.NotTotal n → ⊥
+IsOther e = (n : ℕ) → e ≡ Fault.NotTotal n → ⊥
 
 abbrev Never : {A : Type 0} → Answer A → Type 0
-Never {A} m = (r : Result A Fault) (n : ℕ) → r ≡ Err (fault.NotTotal n) → m r → ⊥
+Never {A} m = (r : Result A Fault) (n : ℕ) → r ≡ Err (Fault.NotTotal n) → m r → ⊥
 
 err_same : {A : Type 0} (r : Result A Fault) (d e : Fault) → r ≡ Err d → r ≡ Err e → e ≡ d
 err_same r d e p q = cc
@@ -132,7 +126,7 @@ never-named live (Some i) next h = never-found (IsLive live i) _ _ (λ n h. cc) 
 never-lower : (limit : ℕ) (s : State) (o : List Term) (b : Bound) (id : Option ℤ) (next : Answer State) → Never next → Never (lower_bound limit s o b id next)
 never-lower limit s o Infinite id next h = never-none_left s id next h
 never-lower limit s o (Finite b) id next h =
-    never-need _ _ _ (λ n h. cc) (never-named s.live id _ (λ f. never-normal limit s.names least (objective_with o b) _ (λ g. never-need _ _ _ (λ n h. cc) h)))
+    never-need _ _ _ (λ n h. cc) (never-named s.live id _ (λ f. never-normal limit s.names Side.AtLeast (objective_with o b) _ (λ g. never-need _ _ _ (λ n h. cc) h)))
 
 never-upper : (v : Problem) (s : State) (u : Bound) (shown : Option (List Literal)) (next : Answer State) → Never next → Never (upper_bound v s u shown next)
 never-upper v s Infinite shown next h = h
@@ -152,13 +146,13 @@ has_value : (list : List NumberedLiteral) (k : ℕ) (m : Bool) → on list k m �
 has_value list k true e = inr e
 has_value list k false e = inl e
 
-unvalued : (v : Problem) (forms : Form → Type 0) (old : List (List ℕ)) (ls : List Literal) (n : ℕ) (r : Result Logged Fault) → AreDistinct old → r ≡ Err (fault.NotTotal n)
+unvalued : (v : Problem) (forms : Form → Type 0) (old : List (List ℕ)) (ls : List Literal) (n : ℕ) (r : Result Logged Fault) → AreDistinct old → r ≡ Err (Fault.NotTotal n)
     → Completed v forms (length (with_names old (literal_names ls))) (numbered (with_names old (literal_names ls)) ls) r → n < length old
-unvalued v forms old ls n r d is (inr h) = absurd (let o : fault.Conflict ≡ fault.NotTotal n = err_same r _ _ is h.1 in cc)
+unvalued v forms old ls n r d is (inr h) = absurd (let o : Fault.Conflict ≡ Fault.NotTotal n = err_same r _ _ is h.1 in cc)
 unvalued v forms old ls n r d is (inl (free, (list, completion, inl (all, (values, are, inl (holds, g)))))) = absurd cc
-unvalued v forms old ls n r d is (inl (free, (list, completion, inl (all, (values, are, inr (k, lt, no_more, before, g)))))) = absurd (let o : fault.Violates (k + 1) ≡ fault.NotTotal n = err_same r _ _ is g in cc)
+unvalued v forms old ls n r d is (inl (free, (list, completion, inl (all, (values, are, inr (k, lt, no_more, before, g)))))) = absurd (let o : Fault.Violates (k + 1) ≡ Fault.NotTotal n = err_same r _ _ is g in cc)
 unvalued v forms old ls n r d is (inl (free, (list, completion, inr (k, lt, none, before, g)))) =
-    let same : k ≡ n = (let o : fault.NotTotal k ≡ fault.NotTotal n = err_same r _ _ is g in cc) in
+    let same : k ≡ n = (let o : Fault.NotTotal k ≡ Fault.NotTotal n = err_same r _ _ is g in cc) in
     elim (cases_lt n (length old)) [
       | inl here ↦ here
       | inr new ↦
@@ -166,48 +160,40 @@ unvalued v forms old ls n r d is (inl (free, (list, completion, inr (k, lt, none
           absurd (none (has_value list k given.0 (derivation-keeps forms (numbered (with_names old (literal_names ls)) ls) list completion.derived k given.0 given.1)))
     ]
 
-solved : {A : Type 0} (v : Problem) (forms : Form → Type 0) (old : List (List ℕ)) (ls : List Literal) (n : ℕ) (next : Logged → Answer A) (r : Result A Fault) → AreDistinct old → ((g : Logged) → Never (next g)) → r ≡ Err (fault.NotTotal n)
+solved : {A : Type 0} (v : Problem) (forms : Form → Type 0) (old : List (List ℕ)) (ls : List Literal) (n : ℕ) (next : Logged → Answer A) (r : Result A Fault) → AreDistinct old → ((g : Logged) → Never (next g)) → r ≡ Err (Fault.NotTotal n)
     → after (Completed v forms (length (with_names old (literal_names ls))) (numbered (with_names old (literal_names ls)) ls)) next r → n < length old
 solved v forms old ls n next r d h is (inl g) = absurd (h g.0 r n is g.2)
 solved v forms old ls n next r d h is (inr g) = unvalued v forms old ls n (Err g.0) d (ap (λ (x : Fault). Err x) (err_same r _ g.0 is g.2)) g.1
 
-does : (limit top : ℕ) (v : Problem) (s : State) (st : Statement) (n : ℕ) (r : Result State Fault) → AreDistinct s.names → r ≡ Err (fault.NotTotal n)
-    → Does limit top v (record s { names = with_names s.names (mentioned st) }) st r → n < length s.names
-does limit top v s (F count) n r d is h = absurd (never-need _ _ _ (λ n h. cc) (never-need _ _ _ (λ n h. cc) (never-gives _)) r n is h)
-does limit top v s (Pol ws) n r d is h =
+-- the name existed before, and the statement may allocate
+does : (limit top : ℕ) (v : Problem) (s : State) (st : Statement) (n : ℕ) (r : Result State Fault) → r ≡ Err (Fault.NotTotal n)
+    → Does limit top v (record s { names = with_names s.names (mentioned st) }) st r → (AreDistinct s.names → n < length s.names) × MayWant st × PassesFirst limit top v st
+does limit top v s (F count) n r is h = absurd (never-need _ _ _ (λ n h. cc) (never-need _ _ _ (λ n h. cc) (never-gives _)) r n is h)
+does limit top v s (Pol ws) n r is h =
     absurd (never-some (λ tree. ws ≡ words tree) _ (λ tree. never-after (FormOfExpression limit _ s.live tree) _ (never-tree limit _ s.live tree) (λ f. never-added top (record s { names = with_names s.names (mentioned (Pol ws)) }) s.logged f)) r n is h)
-does limit top v s (Rup linear) n r d is h =
-    absurd (never-normal limit _ least linear _ (λ f. never-need _ _ _ (λ n h. cc) (never-added top (record s { names = with_names s.names (mentioned (Rup linear)) }) s.logged f)) r n is h)
-does limit top v s (Soli given) n r d is (inl (o, e, h)) =
-    solved v (Live s.live) s.names given n _ r d (λ g. never-normal limit _ most (objective_with o (g.value -ℤ pos 1)) _ (λ f. never-added top (record s { names = with_names s.names (mentioned (Soli given)) }) (s.logged ++ (g ∷ [])) f)) is h
-does limit top v s (Soli given) n r d is (inr h) = absurd (let o : fault.NoObjective ≡ fault.NotTotal n = err_same r _ _ is h.1 in cc)
-does limit top v s (Solx given) n r d is h =
-    solved v (Live s.live) s.names given n _ r d (λ g. never-some (Excludes _) _ (λ f. never-added top (record s { names = with_names s.names (mentioned (Solx given)) }) (s.logged ++ (g ∷ [])) f)) is h
-does limit top v s (Delete ids) n r d is h = absurd (never-after (Deleted s.live ids) _ (never-deleted s.live ids) (λ live. never-gives _) r n is h)
-does limit top v s (Conclude c) n r d is h = absurd (never-concludes limit v (record s { names = with_names s.names (mentioned (Conclude c)) }) c _ (never-gives _) r n is h)
-does limit top v s st n r d is h = absurd (never-gives _ r n is h)
+does limit top v s (Rup linear) n r is h =
+    absurd (never-normal limit _ Side.AtLeast linear _ (λ f. never-need _ _ _ (λ n h. cc) (never-added top (record s { names = with_names s.names (mentioned (Rup linear)) }) s.logged f)) r n is h)
+does limit top v s (Soli given) n r is (inl (o, e, h)) = (
+  λ d. solved v (Live s.live) s.names given n _ r d (λ g. never-normal limit _ Side.AtMost (objective_with o (g.value -ℤ pos 1)) _ (λ f. never-added top (record s { names = with_names s.names (mentioned (Soli given)) }) (s.logged ++ (g ∷ [])) f)) is h,
+  tt,
+  (o, e),
+)
+does limit top v s (Soli given) n r is (inr h) = absurd (let o : Fault.NoObjective ≡ Fault.NotTotal n = err_same r _ _ is h.1 in cc)
+does limit top v s (Solx given) n r is h = (
+  λ d. solved v (Live s.live) s.names given n _ r d (λ g. never-some (Excludes _) _ (λ f. never-added top (record s { names = with_names s.names (mentioned (Solx given)) }) (s.logged ++ (g ∷ [])) f)) is h,
+  tt,
+  tt,
+)
+does limit top v s (Delete ids) n r is h = absurd (never-after (Deleted s.live ids) _ (never-deleted s.live ids) (λ live. never-gives _) r n is h)
+does limit top v s (Conclude c) n r is h = absurd (never-concludes limit v (record s { names = with_names s.names (mentioned (Conclude c)) }) c _ (never-gives _) r n is h)
+does limit top v s st n r is h = absurd (never-gives _ r n is h)
+
+came : (limit top : ℕ) (v : Problem) (s : State) (st : Statement) (n : ℕ) → Outcome limit top v s st (Err (Fault.NotTotal n)) → (s.next ≡ stage_of st) × (AreDistinct s.names → n < length s.names) × MayWant st × PassesFirst limit top v st
+came limit top v s st n (inl h) = let d = does limit top v s st n (Err (Fault.NotTotal n)) refl h.1 in (h.0, d.0, d.1, d.2)
+came limit top v s st n (inr h) = absurd (let r : Result State Fault = Err (Fault.NotTotal n) in let o : Fault.Order ≡ Fault.NotTotal n = err_same r _ _ refl h.1 in cc)
 
 pub unvalued-old : UnvaluedAreOld
-unvalued-old limit top v s st n d (inl h) = does limit top v s st n (Err (fault.NotTotal n)) d refl h.1
-unvalued-old limit top v s st n d (inr h) = absurd (let r : Result State Fault = Err (fault.NotTotal n) in let o : fault.Order ≡ fault.NotTotal n = err_same r _ _ refl h.1 in cc)
-
--- such a statement may allocate
-concludes-wants : (limit top : ℕ) (v : Problem) (s : State) (c : Conclusion) (next : Answer State) (n : ℕ) (r : Result State Fault) → Never next → r ≡ Err (fault.NotTotal n) → Concludes limit v s c next r → MayWant (Conclude c) × PassesFirst limit top v (Conclude c)
-concludes-wants limit top v s c next n r never is h = absurd (never-concludes limit v s c next never r n is h)
-
-wants : (limit top : ℕ) (v : Problem) (s : State) (st : Statement) (n : ℕ) (r : Result State Fault) → r ≡ Err (fault.NotTotal n)
-    → Does limit top v (record s { names = with_names s.names (mentioned st) }) st r → MayWant st × PassesFirst limit top v st
-wants limit top v s (F count) n r is h = absurd (never-need _ _ _ (λ n h. cc) (never-need _ _ _ (λ n h. cc) (never-gives _)) r n is h)
-wants limit top v s (Pol ws) n r is h = (tt, tt)
-wants limit top v s (Rup linear) n r is h =
-    absurd (never-normal limit _ least linear _ (λ f. never-need _ _ _ (λ n h. cc) (never-added top (record s { names = with_names s.names (mentioned (Rup linear)) }) s.logged f)) r n is h)
-wants limit top v s (Soli given) n r is (inl (o, e, h)) = (tt, (o, e))
-wants limit top v s (Soli given) n r is (inr h) = absurd (let o : fault.NoObjective ≡ fault.NotTotal n = err_same r _ _ is h.1 in cc)
-wants limit top v s (Solx given) n r is h = (tt, tt)
-wants limit top v s (Delete ids) n r is h = absurd (never-after (Deleted s.live ids) _ (never-deleted s.live ids) (λ live. never-gives _) r n is h)
-wants limit top v s (Conclude c) n r is h = concludes-wants limit top v (record s { names = with_names s.names (mentioned (Conclude c)) }) c _ n r (never-gives _) is h
-wants limit top v s st n r is h = absurd (never-gives _ r n is h)
+unvalued-old limit top v s st n d h = (came limit top v s st n h).1 d
 
 pub unvalued-wants : UnvaluedMayWant
-unvalued-wants limit top v s st n (inl h) = let w = wants limit top v s st n (Err (fault.NotTotal n)) refl h.1 in (h.0, w.0, w.1)
-unvalued-wants limit top v s st n (inr h) = absurd (let r : Result State Fault = Err (fault.NotTotal n) in let o : fault.Order ≡ fault.NotTotal n = err_same r _ _ refl h.1 in cc)
+unvalued-wants limit top v s st n h = let w = came limit top v s st n h in (w.0, w.2, w.3)

@@ -3,7 +3,8 @@ use Rattle.pb_replay.proofs.Common.{ℕ, ℤ, ◌∙◌, ◌≡◌, ap, Err, fal
 use Rattle.pb_replay.proofs.Common.{IsInside, IsLinked, Fault, Running, Deleted, State}
 use Rattle.pb_replay.proofs.lemmas.rules.Carrying.{goes-ok, goes-err}
 use Rattle.pb_replay.proofs.lemmas.rules.States.{same-state}
-use Rattle.pb_replay.proofs.lemmas.meaning.Sound.{Deleted-live}
+use Rattle.pb_replay.proofs.lemmas.meaning.Ruled.{deletes-to}
+use Rattle.pb_replay.proofs.lemmas.meaning.Sound.{Deletes-live}
 
 pub delete-goes : (old new : Running) (ids : List ℤ) (result : Result Unit Fault) → new.best ≡ old.best → new.names ≡ old.names → new.next ≡ old.next → new.concluded ≡ old.concluded
     → OnOk result (Deleted old.engine.forms ids (Ok new.engine.forms)) → IfErr result (λ e. Deleted old.engine.forms ids (Err e)) → Goes old (Delete ids) result new
@@ -15,6 +16,6 @@ pub delete-linked : (old new : Running) (ids : List ℤ) (result : Result Unit F
 delete-linked old new ids (Ok u) linked n done variables ready = record {
   ready = ready;
   variables = variables ∙ linked.variables ∙ ap length (sym n);
-  inside = λ f c. subst (λ (ns : List (List ℕ)). IsInside (length ns) f) (sym n) (linked.inside f (Deleted-live old.engine.forms ids new.engine.forms done f c));
+  inside = λ f c. subst (λ (ns : List (List ℕ)). IsInside (length ns) f) (sym n) (linked.inside f (Deletes-live old.engine.forms ids new.engine.forms (deletes-to old.engine.forms ids new.engine.forms done) f c));
 }
 delete-linked old new ids (Err e) linked n done variables ready = tt

@@ -1,14 +1,10 @@
 -- Deleting ids in order
-use Rattle.pb_replay.proofs.Common.{ℕ, ℤ, ◌+◌, ◌<◌, ◌∙◌, ◌∷◌, ◌≡◌, drop, drop-cons, Err, get_or, inl, inr, length, List, None, pos, refl, set, sym}
-use Rattle.pb_replay.proofs.Common.{Option, Result, cases_lt, drop_more, get_or_past, none-some, Form, Fault, NoSuchId, Deleted, IsLive, place}
+use Rattle.pb_replay.proofs.Common.{ℕ, ℤ, ◌+◌, ◌<◌, ◌∷◌, ◌≡◌, drop, drop-cons, Err, get_or, inl, inr, length, List, None, pos, refl, set, arith}
+use Rattle.pb_replay.proofs.Common.{Option, Result, drop_more, get_or_past, none-some, Form, Fault, NoSuchId, Deleted, IsLive, place}
 
 -- a live id is in range
 pub inside : (live : List (Option Form)) (id : ℤ) (f : Form) → IsLive live id f → place (length live) id < length live
-inside live id f h =
-    elim (cases_lt (place (length live) id) (length live)) [
-      | inl lt ↦ lt
-      | inr ge ↦ absurd (none-some _ (sym (get_or_past live (place (length live) id) None ge) ∙ h))
-    ]
+inside live id f h = grind (arith, none-some, get_or_past)
 
 -- an id that names nothing ends the deletion
 pub stops : (live : List (Option Form)) (ids : List ℤ) (i : ℕ) (id : ℤ) → id ≡ get_or ids i (pos 0) → i < length ids → ((f : Form) → IsLive live id f → ⊥) → Deleted live (drop i ids) (Err (NoSuchId id))

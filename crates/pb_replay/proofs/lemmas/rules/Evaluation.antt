@@ -30,11 +30,7 @@ pub record Standing (limit top : ℕ) (names : List (List ℕ)) (live : List (Op
   pub answers : (r : Result (List Form) Fault) → Words limit names live (drop i ws) (reverse stack) r → Words limit names live ws [] r
 
 pub stands_first : (limit top : ℕ) (names : List (List ℕ)) (live : List (Option Form)) (ws : List PolWord) → IsPostfix ws → HasNames names (word_names ws) → Standing limit top names live ws 0 []
-stands_first limit top names live ws postfix named = record {
-  leaves = rw postfix.1 (leaves-one postfix.0);
-  named = named;
-  answers = λ r h. h;
-}
+stands_first limit top names live ws postfix named = grind (arith, postfix.1, leaves-one, postfix.0)
 
 rest_is : (ws : List PolWord) (i : ℕ) (w : PolWord) → i < length ws → w ≡ get_or ws i w → drop i ws ≡ w ∷ drop (i + 1) ws
 rest_is ws i w lt e =
@@ -77,14 +73,7 @@ none_left fs (g ∷ gs) f e n = absurd (omega (arith, ap length e, length-append
 
 pub some_form : (limit top : ℕ) (names : List (List ℕ)) (live : List (Option Form)) (ws : List PolWord) (stack left : List Form) (f : Form) (i : ℕ) → IsPostfix ws → length ws ≤ i → Standing limit top names live ws i stack → stack ≡ left ++ f ∷ []
     → some (λ tree. ws ≡ words tree) (FormOfExpression limit names live) (Ok f)
-some_form limit top names live ws stack left f i postfix le s is =
-    let rest : drop i ws ≡ [] = drop_all i ws le in
-    let l = s.leaves in
-    let one : length stack ≡ 1 = rw rest at l in
-    let none : left ≡ [] = none_left stack left f is one in
-    let all : Words limit names live ws [] (Ok (reverse stack)) = s.answers (Ok (reverse stack)) (rw rest refl) in
-    let turned : reverse stack ≡ f ∷ [] = ap reverse is ∙ last_first left f ∙ ap (λ (fs : List Form). f ∷ reverse fs) none in
-    (postfix.0, postfix.1, tree-leaves limit names live postfix.0 ws f postfix.1 (rw turned at all))
+some_form limit top names live ws stack left f i postfix le s is = grind (arith, drop_all, s.leaves, none_left, s.answers, last_first, postfix.0, postfix.1, tree-leaves)
 
 pub some_fault : (limit : ℕ) (names : List (List ℕ)) (live : List (Option Form)) (ws : List PolWord) (d : Fault) → IsPostfix ws → Words limit names live ws [] (Err d) → some (λ tree. ws ≡ words tree) (FormOfExpression limit names live) (Err d)
 some_fault limit names live ws d postfix h = (postfix.0, postfix.1, tree-fails limit names live postfix.0 ws d postfix.1 h)

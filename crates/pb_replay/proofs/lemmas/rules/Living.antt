@@ -15,15 +15,7 @@ pub IsLive-live : (live : List (Option Form)) (i : ℤ) (f : Form) → IsLive li
 IsLive-live live i f e = read-live live (place (length live) i) f e
 
 pub Live-deleted : (live : List (Option Form)) (k : ℕ) (f : Form) → Live (set live k None) f → Live live f
-Live-deleted live k f (j, lt, is) =
-    let inside : j < length live = omega (arith, lt, length-set live k None) in
-    elim (cases_eq j k) [
-      | inl e ↦ absurd (none-some _ (sym (gone e inside) ∙ is))
-      | inr ne ↦ (j, inside, sym (get_or-set_other live k j None (Some f) ne) ∙ is)
-    ]
-  where
-    gone : j ≡ k → j < length live → get_or (set live k None) j (Some f) ≡ None
-    gone e h = rw e (get_or-set_same live k None (Some f) (omega (arith, e, h)))
+Live-deleted live k f (j, lt, is) = grind (arith, length-set, none-some, get_or-set_other, get_or-set_same, cases_eq j k)
 
 pub Live-loaded : (forms : List Form) (f : Form) → Live (map (λ f. Some f) forms) f → Contains forms f
 Live-loaded forms f (j, lt, is) =

@@ -1,6 +1,6 @@
 -- `pol`
-use Rattle.pb_replay.proofs.Common.{ℕ, ℤ, ◌∙◌, ◌∷◌, ◌≡◌, [], inl, length, List, refl, subst, Ok, Option, Result, Form, HasNames, with_names, PolWord}
-use Rattle.pb_replay.proofs.Common.{Id, Pol, Constraint, Tree, words, Live, largest, Adding, does_in, Goes, HasNamed, IsInside, IsLinked, state_of}
+use Rattle.pb_replay.proofs.Common.{ℕ, ℤ, ◌∙◌, ◌∷◌, ◌≡◌, [], inl, length, List, refl, subst, Ok, Option, Result, Form, HasNames, with_names, PolWord, arith}
+use Rattle.pb_replay.proofs.Common.{Id, Pol, Constraint, Tree, words, largest, Adding, does_in, Goes, HasNamed, IsInside, IsLinked, state_of}
 use Rattle.pb_replay.proofs.Common.{with_mentioned, Fault, Running, some, IsNamePrefix, FormOfExpression, IsLive, word_names}
 use Rattle.pb_replay.proofs.lemmas.rules.Insides.{tree-inside}
 use Rattle.pb_replay.proofs.lemmas.rules.Linked.{inside-more}
@@ -14,9 +14,7 @@ repeated-form limit names live ws form (id, is, there) = (Constraint id, is, inl
 
 pub pol-inside : (old : Running) (names : List (List ℕ)) (live : List (Option Form)) (limit : ℕ) (ws : List PolWord) (form : Form) → IsLinked old → IsNamePrefix old.names names → live ≡ old.engine.forms → HasNames names (word_names ws)
     → some (λ tree. ws ≡ words tree) (FormOfExpression limit names live) (Ok form) → IsInside (length names) form
-pol-inside old names live limit ws form linked begins same named (tree, is, made) =
-    tree-inside limit names live (λ f c. inside-more (length old.names) (length names) f (length-prefix old.names names begins) (linked.inside f (subst (λ (l : List (Option Form)). Live l f) same c)))
-    tree form (subst (λ (us : List PolWord). HasNames names (word_names us)) is named) made
+pol-inside old names live limit ws form linked begins same named (tree, is, made) = grind (arith, tree-inside, inside-more, old.names, length-prefix, linked.inside)
 
 module _ (old m : Running) (ws vs : List PolWord) (form : Form) (named : HasNamed (word_names ws) old m) where
   over : (tree : Tree) → FormOfExpression (largest old.limits) m.names m.engine.forms tree (Ok form) → FormOfExpression (largest old.limits) (with_names old.names (word_names ws)) old.engine.forms tree (Ok form)

@@ -1,13 +1,12 @@
 -- What is true before each statement
 use Rattle.pb_replay.proofs.Common.{ℕ, ◌++◌, ◌<◌, ◌∙◌, ◌≡◌, ◌≤◌, ◌⊎◌, [], ap, arith, Err, inl, inr, length, length-append, List, None, refl, Some}
-use Rattle.pb_replay.proofs.Common.{subst, sym, take, Contains, IfSome, Ok, Option, option_map, Result, take-length, length-take-le, take-append-le}
+use Rattle.pb_replay.proofs.Common.{subst, sym, take, Contains, IfSome, Ok, Option, Result, take-length, length-take-le, take-append-le}
 use Rattle.pb_replay.proofs.Common.{All-contains, none-some, same_Some, in_turn, NormalFault, AreFormsOf, constraint_names, Fits, sides_in, Form}
 use Rattle.pb_replay.proofs.Common.{with_names, magnitude, names_of, Instance, IsStatementValue, Statement, contains-none, Linear, Term, same_err}
-use Rattle.pb_replay.proofs.Common.{Limits, largest, top_of, Comes, IsBest, IsInside, IsKept, IsLinked, IsOpened, IsProper, IsReady, Keeps}
+use Rattle.pb_replay.proofs.Common.{Limits, largest, top_of, Comes, IsBest, IsKept, IsLinked, IsOpened, IsProper, IsReady, Keeps}
 use Rattle.pb_replay.proofs.Common.{outcome_in, problem_of, state_of, Fault, Memory, NotTotal, Running, Verdict, IsNamePrefix, IsSound, Means}
 use Rattle.pb_replay.proofs.Common.{MeansWritten, names_in, objective_of, Opened, Problem, Logged, State}
 use Rattle.std.specs.List.{All as AllOf}
-use Rattle.pb_normal.specs.declared.NormalFault.TheVariants as normal
 use Rattle.pb_replay.specs.contract.Faults.{fault_of}
 use Rattle.pb_replay.proofs.lemmas.names.Unvalued.{unvalued-old}
 use Rattle.pb_replay.proofs.lemmas.rules.States.{same-state}
@@ -27,20 +26,10 @@ same_fields : (fs gs : List Form) (o p : Option (List Term)) (ns ms : List (List
 same_fields fs gs o p ns ms e f g = rw (e, f, g) refl
 
 pub same_problem : (old new : Running) → IsProper old → Keeps old new → problem_of new ≡ problem_of old
-same_problem old new proper k =
-    let names : take new.own new.names ≡ take old.own old.names = ap (λ n. take n new.names) k.own ∙ own_names old.own old.names new.names proper.own k.names in
-    same_fields new.loaded.items old.loaded.items (option_map (λ (c : Linear). c.terms) new.objective) (option_map (λ (c : Linear). c.terms) old.objective) (take new.own new.names) (take old.own old.names) k.loaded k.objective names
+same_problem old new proper k = grind (arith, new.own, new.names, old.own, old.names, k.own, own_names, proper.own, k.names, same_fields, new.objective, old.objective, k.loaded, k.objective)
 
 pub proper_kept : (old new : Running) → IsProper old → Keeps old new → IsProper new
-proper_kept old new proper k =
-    let same = same_problem old new proper k in
-    let more = (k.names).0 in
-    record {
-      own = omega (arith, k.own, proper.own, ap length (k.names).1, length-append old.names more);
-      problem = rw same (proper.problem);
-      fits = subst (λ (l : Limits). magnitude (objective_of (problem_of new).objective) ≤ largest l) (sym k.limits) (subst (λ (v : Problem). magnitude (objective_of v.objective) ≤ largest old.limits) (sym same) proper.fits);
-      loaded = λ f c. subst (λ n. IsInside n f) (sym k.own) (proper.loaded f (subst (λ (fs : List Form). Contains fs f) k.loaded c));
-    }
+proper_kept old new proper k = grind (arith, same_problem, k.names, k.own, proper.own, length-append, old.names, proper.problem, k.limits, old.limits, proper.fits, proper.loaded, k.loaded)
 
 pub ready_after : (old new : Running) (st : Statement) → IsStatementValue (largest old.limits) (top_of old.limits) st → IsReady old → Comes old st (Ok tt) new → Keeps old new → IsLinked new → IsReady new
 ready_after old new st value ready comes k linked =
@@ -108,9 +97,9 @@ opened_ok limit i forms o start names cs same objective begins grown fits magnit
     )
 
 -- an instance does not open because of a constraint that does not fit
-pub opened_err : (limit : ℕ) (i : Instance) (cs : List Linear) (e : NormalFault) (fault : Fault) → cs ≡ i.constraints → fault ≡ fault_of e → (e ≡ normal.Overflow → (c : Linear) × Contains cs c × (Fits limit c → ⊥)) → (fault ≡ Memory) ⊎ Opened limit i (Err fault)
-opened_err limit i cs normal.Memory fault same is past = inl is
-opened_err limit i cs normal.Overflow fault same is past =
+pub opened_err : (limit : ℕ) (i : Instance) (cs : List Linear) (e : NormalFault) (fault : Fault) → cs ≡ i.constraints → fault ≡ fault_of e → (e ≡ NormalFault.Overflow → (c : Linear) × Contains cs c × (Fits limit c → ⊥)) → (fault ≡ Memory) ⊎ Opened limit i (Err fault)
+opened_err limit i cs NormalFault.Memory fault same is past = inl is
+opened_err limit i cs NormalFault.Overflow fault same is past =
     let (c, has, over) = past refl in
     inr (inr (λ fits. over (fits.constraints c (subst (λ (xs : List Linear). Contains xs c) same has)), ap (λ (x : Fault). let r : Result Problem Fault = Err x in r) is))
 
@@ -132,10 +121,7 @@ step-unvalued old new st d n ready (inr h) e =
 
 -- what is true after a statement
 pub kept-ok : (old new : Running) (st : Statement) (fault : Option Fault) → IsStatementValue (largest old.limits) (top_of old.limits) st → IsKept old fault → Comes old st (Ok tt) new → Keeps old new → IsLinked new → IsKept new fault
-kept-ok old new st fault value is comes k linked = record {
-  ready = λ none. ready_after old new st value (is.ready none) comes k linked;
-  reported = λ n e. omega (arith, is.reported n e, length-prefix old.names new.names k.names);
-}
+kept-ok old new st fault value is comes k linked = grind (arith, ready_after, is.ready, is.reported, length-prefix, old.names, new.names, k.names)
 
 pub kept-err : (old new : Running) (st : Statement) (d : Fault) → IsReady old → Comes old st (Err d) new → Keeps old new → IsKept new (Some d)
 kept-err old new st d ready comes k = record {

@@ -1,24 +1,18 @@
 -- `rup`, and what stays
-use Rattle.pb_replay.proofs.Common.{ℕ, ◌++◌, ◌<◌, ◌∙◌, ◌≡◌, ◌≤◌, ◌⊎◌, [], ap, append_assoc, Bool, Err, false, inl, inr, IsTrue, length, List, map}
+use Rattle.pb_replay.proofs.Common.{ℕ, ◌++◌, ◌<◌, ◌∙◌, ◌≡◌, ◌≤◌, ◌⊎◌, [], ap, append_assoc, Bool, Err, false, inl, inr, IsTrue, length, List, map, Side, arith}
 use Rattle.pb_replay.proofs.Common.{refl, rules, Some, subst, sym, true, ◌↔◌, Ok, Option, Result, cases_lt, prefix, NormalFault, Fits, Form}
 use Rattle.pb_replay.proofs.Common.{with_names, IsSideOf, names_of, Steps, F, Rup, IsRup, Live, Linear, same_err, largest, top_of, Adding, does_in}
 use Rattle.pb_replay.proofs.Common.{Goes, HasNamed, Keeps, state_of, with_mentioned, Fault, Memory, NotImplied, Overflow, Running, IsNamePrefix}
 use Rattle.pb_replay.proofs.Common.{State, IsCount}
-use Rattle.pb_normal.specs.declared.NormalFault.TheVariants as normal
-use Rattle.pb_normal.specs.declared.Side.TheVariants.{AtLeast as least}
 use Rattle.pb_replay.proofs.lemmas.rules.States.{same-state, added-over}
 use Rattle.pb_replay.proofs.lemmas.rules.Carrying.{carries-added, goes-ok, goes-err}
 
 -- a form was made, so its numbers fit
-pub fits_of : {A : Type 0} (r : Result A NormalFault) (x : A) (limit n : ℕ) → r ≡ Ok x → (r ≡ Err normal.Overflow) ↔ (limit < n) → n ≤ limit
-fits_of r x limit n e h =
-    elim (cases_lt limit n) [
-      | inl lt ↦ let bad = h.1 lt in absurd (let both = sym e ∙ bad in cc)
-      | inr le ↦ le
-    ]
+pub fits_of : {A : Type 0} (r : Result A NormalFault) (x : A) (limit n : ℕ) → r ≡ Ok x → (r ≡ Err NormalFault.Overflow) ↔ (limit < n) → n ≤ limit
+fits_of r x limit n e h = grind (arith, h.1, cases_lt limit n)
 
-module _ (old entered : Running) (linear : Linear) (form : Form) (named : HasNamed (names_of linear.terms) old entered) (fits : Fits (largest old.limits) linear) (is : IsSideOf entered.names least linear form) where
-  over : IsSideOf (with_names old.names (names_of linear.terms)) least linear form
+module _ (old entered : Running) (linear : Linear) (form : Form) (named : HasNamed (names_of linear.terms) old entered) (fits : Fits (largest old.limits) linear) (is : IsSideOf entered.names Side.AtLeast linear form) where
+  over : IsSideOf (with_names old.names (names_of linear.terms)) Side.AtLeast linear form
   over = rw named.names at is
 
   pub rup_added : (middle new : Running) (result : Result Unit Fault) → HasNamed [] entered middle → middle.limits ≡ old.limits → new.best ≡ middle.best → IsRup (Live old.engine.forms) form → Adding middle form result new → Goes old (Rup linear) result new

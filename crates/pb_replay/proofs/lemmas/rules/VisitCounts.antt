@@ -1,9 +1,8 @@
 -- The visits of a `rup`
-use Rattle.pb_replay.proofs.Common.{ℕ, ◌*◌, ◌+◌, ◌∙◌, ◌≡◌, ◌≤◌, ◌⊎◌, [], ap, arith, Bool, Err, false, inl, inr, length, List, refl, subst, sym, true}
+use Rattle.pb_replay.proofs.Common.{ℕ, ◌*◌, ◌+◌, ◌∙◌, ◌≡◌, ◌≤◌, ◌⊎◌, [], ap, arith, Bool, Err, false, inl, inr, length, List, refl, subst, sym, true, Side}
 use Rattle.pb_replay.proofs.Common.{Ok, Option, Result, sum_by, IsFormOf-unique, NumberedLiteral, Form, with_names, negation_of, IsSideOf, names_of}
 use Rattle.pb_replay.proofs.Common.{one_in, terms_in, IsCompletion, Live, MeetsConflict, With, Linear, ok_or_err, same_err, top_of, Adding, state_of}
 use Rattle.pb_replay.proofs.Common.{Fault, IdsSpent, Memory, NotImplied, Order, Overflow, Running, added}
-use Rattle.pb_normal.specs.declared.Side.TheVariants.{AtLeast as least}
 use Rattle.pb_replay.specs.contract.Visits.{RupVisits, IsFew, CoversConflict, CoversCompletion}
 
 adding-fault : (old new : Running) (form : Form) (result : Result Unit Fault) (e : Fault) → Adding old form result new → result ≡ Err e → (e ≡ Memory) ⊎ (e ≡ IdsSpent)
@@ -16,24 +15,19 @@ adding-fault old new form (Err d) e (inr h) is = inr (sym (same_err is) ∙ spen
     spent (inr k) = same_err k.1
 
 neither : (e : Fault) → (e ≡ Memory) ⊎ (e ≡ IdsSpent) → (e ≡ Order) ⊎ ((e ≡ Overflow) ⊎ (e ≡ NotImplied)) → ⊥
-neither e (inl h) (inl k) = let bad = sym h ∙ k in cc
-neither e (inl h) (inr (inl k)) = let bad = sym h ∙ k in cc
-neither e (inl h) (inr (inr k)) = let bad = sym h ∙ k in cc
-neither e (inr h) (inl k) = let bad = sym h ∙ k in cc
-neither e (inr h) (inr (inl k)) = let bad = sym h ∙ k in cc
-neither e (inr h) (inr (inr k)) = let bad = sym h ∙ k in cc
+neither e h k = grind arith
 
-module _ (linear : Linear) (mid live : List (Option Form)) (names new : List (List ℕ)) (form : Form) (count visits : ℕ) (forms : mid ≡ live) (appeared : new ≡ with_names names (names_of linear.terms)) (is : IsSideOf new least linear form)
+module _ (linear : Linear) (mid live : List (Option Form)) (names new : List (List ℕ)) (form : Form) (count visits : ℕ) (forms : mid ≡ live) (appeared : new ≡ with_names names (names_of linear.terms)) (is : IsSideOf new Side.AtLeast linear form)
     (most : count ≤ 3 * (sum_by terms_in mid + length form.terms) + (sum_by one_in mid + 1)) (unasked : form.degree ≡ 0 → count ≡ 0) (same : visits ≡ count) where
-  over : (goal : Form) → IsSideOf (with_names names (names_of linear.terms)) least linear goal → form ≡ goal
-  over goal h = IsFormOf-unique (with_names names (names_of linear.terms)) _ _ form goal (subst (λ (ns : List (List ℕ)). IsSideOf ns least linear form) appeared is) h
+  over : (goal : Form) → IsSideOf (with_names names (names_of linear.terms)) Side.AtLeast linear goal → form ≡ goal
+  over goal h = IsFormOf-unique (with_names names (names_of linear.terms)) _ _ form goal (subst (λ (ns : List (List ℕ)). IsSideOf ns Side.AtLeast linear form) appeared is) h
 
-  few-of : (goal : Form) → IsSideOf (with_names names (names_of linear.terms)) least linear goal → IsFew live goal visits
+  few-of : (goal : Form) → IsSideOf (with_names names (names_of linear.terms)) Side.AtLeast linear goal → IsFew live goal visits
   few-of goal h =
       let at : IsFew mid form visits = omega (arith, most, same) in
       subst (λ (f : Form). IsFew live f visits) (over goal h) (subst (λ (l : List (Option Form)). IsFew l form visits) forms at)
 
-  unasked-of : (goal : Form) → IsSideOf (with_names names (names_of linear.terms)) least linear goal → goal.degree ≡ 0 → visits ≡ 0
+  unasked-of : (goal : Form) → IsSideOf (with_names names (names_of linear.terms)) Side.AtLeast linear goal → goal.degree ≡ 0 → visits ≡ 0
   unasked-of goal h zero = same ∙ unasked (ap (λ (f : Form). f.degree) (over goal h) ∙ zero)
 
   pub visits-implied : (old after : Running) (result : Result Unit Fault) → (form.degree ≡ 0) ⊎ ((m : MeetsConflict (With (Live mid) (negation_of form)) []) × (length m.list ≤ count)) → Adding old form result after → RupVisits live (with_names names (names_of linear.terms)) linear result visits
@@ -90,18 +84,4 @@ module _ (linear : Linear) (mid live : List (Option Form)) (names new : List (Li
 
 -- no form was made
 pub visits-none : (linear : Linear) (live : List (Option Form)) (names : List (List ℕ)) {P : Type 0} (e : Fault) (result : Result Unit Fault) (visits : ℕ) → result ≡ Err e → visits ≡ 0 → (e ≡ Memory) ⊎ ((e ≡ Overflow) × P) → RupVisits live names linear result visits
-visits-none linear live names e result visits same none bad = record {
-  few = λ goal h. omega (arith, none);
-  conflict = λ h goal k. absurd (elim h [ inl ok ↦ ok_or_err (sym ok ∙ same) | inr spent ↦ late (same_err (sym same ∙ spent)) bad ]);
-  completion = λ h goal k. absurd (other (same_err (sym same ∙ h)) bad);
-  unasked = λ goal h zero. none;
-  refused = λ h. none;
-}
-  where
-    other : {P : Type 0} → e ≡ NotImplied → (e ≡ Memory) ⊎ ((e ≡ Overflow) × P) → ⊥
-    other h (inl k) = let bad = sym h ∙ k in cc
-    other h (inr k) = let bad = sym h ∙ k.0 in cc
-
-    late : {P : Type 0} → e ≡ IdsSpent → (e ≡ Memory) ⊎ ((e ≡ Overflow) × P) → ⊥
-    late h (inl k) = let bad = sym h ∙ k in cc
-    late h (inr k) = let bad = sym h ∙ k.0 in cc
+visits-none linear live names e result visits same none bad = grind (arith)

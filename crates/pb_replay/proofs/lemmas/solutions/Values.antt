@@ -1,9 +1,9 @@
 -- Sums of the terms that are true, and their magnitudes
 use Rattle.pb_replay.proofs.Common.{ℕ, ℤ, ◌++◌, ◌+ℤ◌, ◌+◌, ◌<◌, ◌^◌, ◌∙◌, ◌∷◌, ◌≡◌, ◌≤◌, [], All, ap, arith, Bool, drop, FitsSigned, get_or, length}
-use Rattle.pb_replay.proofs.Common.{List, Some, subst, suc, sym, take, true, unsigned_abs, zero, Option, option_map, fits_signed_from_abs, ints}
+use Rattle.pb_replay.proofs.Common.{List, Some, subst, suc, sym, take, true, unsigned_abs, zero, option_map, fits_signed_from_abs, ints}
 use Rattle.pb_replay.proofs.Common.{take-append-drop, w128, number_in-append, number_in-below, HasNames-append, magnitude-append, has_name, HasNames}
-use Rattle.pb_replay.proofs.Common.{number_in, magnitude, names_of, true_sum, Linear, Term, take_read, largest, IsProper, problem_of, Running}
-use Rattle.pb_replay.proofs.Common.{objective_of, by_name, value}
+use Rattle.pb_replay.proofs.Common.{number_in, magnitude, names_of, true_sum, Linear, Term, take_read, IsProper, problem_of, Running}
+use Rattle.pb_replay.proofs.Common.{by_name, value}
 use Rattle.pb_text.proofs.lemmas.numbers.Numbers.{largest_small}
 use Rattle.pb_replay.proofs.lemmas.names.Naming.{objective-named, value-over}
 
@@ -60,9 +60,7 @@ objective-inside r o n p e le =
     short (suc k) (x ∷ ns) = omega (arith, short k ns)
 
 pub objective-small : (r : Running) (linear : Linear) → IsProper r → r.objective ≡ Some linear → magnitude linear.terms < 2 ^ 127
-objective-small r linear p e =
-    let at : magnitude linear.terms ≤ largest r.limits = subst (λ (o : Option Linear). magnitude (objective_of (option_map (λ (x : Linear). x.terms) o)) ≤ largest r.limits) e p.fits in
-    omega (arith, at, largest_small r.limits)
+objective-small r linear p e = grind (arith, linear.terms, r.limits, p.fits, largest_small)
 
 pub objective-value : (r : Running) (linear : Linear) → IsProper r → r.objective ≡ Some linear → (a : ℕ → Bool) → true_sum (by_name r.names a) linear.terms ≡ value (problem_of r) a
 objective-value r linear p e a =

@@ -19,6 +19,3 @@ returns-clause-goes c =
     let counted : IsCount c.args.count (length c.args.running.now.loaded.items) = search rules in
     loaded-goes c.args.running.now (record c.args.running.now { engine = c.in_ok-running.field-0; next = Steps }) c.args.count refl refl refl refl (rw c.as_slice.ensures.value at c.in_ok-running.ensures.engine.forms) counted
     (omega (arith, c.if-number-top.false, c.len-number.ensures, c.top.ensures.value))
-
-pub returns-then-not-is_count-clause-memory : goal.returns-then-not-is_count-clause-memory
-returns-then-not-is_count-clause-memory c = search rules

@@ -1,10 +1,10 @@
-use Rattle.pb_replay.proofs.lemmas.names.Named.{literal_named, numbered_next}
+use Rattle.pb_replay.proofs.lemmas.names.Named.{next-numbers, one-named}
 use Rattle.pb_replay.proofs.state.literals.numbered_literals.Goals as goal
 
 pub number_of-variable-requires : goal.number_of-variable-requires
-number_of-variable-requires c = rw c.as_str.ensures (literal_named c.args.names.now c.args.given.now c.loop-literal.literal-index c.literal-item.result c.loop-literal-test.true c.literal-item.is c.requires)
+number_of-variable-requires c = rw c.as_str.ensures (one-named c.args.given.now c.loop-literal.literal-index c.literal-item.result c.loop-literal-test.true c.literal-item.is c.args.names.now c.requires)
 
 pub loop-literal-preserved : goal.loop-literal-preserved
 loop-literal-preserved c =
-    numbered_next c.args.names.now c.args.given.now c.loop-literal.literal-index c.literal-item.result c.loop-literal-test.true c.literal-item.is c.requires c.number_of-variable.result (rw c.as_str.ensures at c.number_of-variable.ensures) c.loop-literal.out.items c.push.new.self.items
+    next-numbers c.args.given.now c.loop-literal.literal-index c.literal-item.result c.loop-literal-test.true c.literal-item.is c.args.names.now c.requires c.number_of-variable.result (rw c.as_str.ensures at c.number_of-variable.ensures) c.loop-literal.out.items c.push.new.self.items
     c.loop-literal.invariant c.in_ok-push.ensures.items

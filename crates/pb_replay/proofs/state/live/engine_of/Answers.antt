@@ -17,11 +17,4 @@ loop-form-preserved c =
     }
 
 pub returns-clause-engine : goal.returns-clause-engine
-returns-clause-engine c =
-    let some : Form → Option Form = λ f. Some f in
-    let i = c.loop-form.invariant in
-    record {
-      forms = i.forms ∙ ap (map some) (take_all c.loop-form.form-index c.args.forms.now (omega (arith, c.loop-form-test.false)));
-      variables = i.variables;
-      ready = i.ready;
-    }
+returns-clause-engine c = grind (arith, c.loop-form.invariant, take_all, c.loop-form-test.false)

@@ -1,11 +1,9 @@
-use Rattle.pb_replay.proofs.Common.{FitsSigned, rules, to_z-of_z, w128}
+use Rattle.pb_replay.proofs.Common.{FitsSigned, rules, to_z-of_z, w128, arith}
 use Rattle.pb_replay.proofs.lemmas.conclusions.Bounding.{upper-reached, upper-shown}
 use Rattle.pb_replay.proofs.step.bounds.shows_upper.Goals as goal
 
 pub returns-in-None : goal.returns-in-None
-returns-in-None c =
-    let fits : FitsSigned w128 c.in-Finite.bound = search rules in
-    rw (c.in-Finite.is, c.in-None.is) (upper-reached c.args.running.now c.in-Finite.bound c.is_reached.result (rw (to_z-of_z w128 c.in-Finite.bound fits) at c.is_reached.ensures))
+returns-in-None c = grind (arith, c.in-Finite.is, c.in-None.is, upper-reached, to_z-of_z, c.is_reached.ensures)
 
 pub returns-in-Some : goal.returns-in-Some
 returns-in-Some c =

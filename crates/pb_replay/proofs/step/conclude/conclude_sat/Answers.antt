@@ -1,10 +1,9 @@
-use Rattle.pb_replay.proofs.Common.{refl, Some, err_from_is_err_and, Closing}
-use Rattle.pb_replay.specs.declared.verdict.Verdict.TheVariants.{Sat}
+use Rattle.pb_replay.proofs.Common.{refl, Some, err_from_is_err_and, Closing, Verdict}
 use Rattle.pb_replay.proofs.lemmas.conclusions.Shows.{sat-ok, sat-err}
 use Rattle.pb_replay.proofs.step.conclude.conclude_sat.Goals as goal
 
 pub returns-clause-goes : goal.returns-clause-goes
-returns-clause-goes c = λ written e. let s = c.in_ok-shown_value.ensures.ok in sat-ok c.args.running.now (record c.args.running.now { next = Closing; concluded = Some Sat }) c.args.given.now written e refl s.0 s.1 (λ logged. refl)
+returns-clause-goes c = λ written e. let s = c.in_ok-shown_value.ensures.ok in sat-ok c.args.running.now (record c.args.running.now { next = Closing; concluded = Some Verdict.Sat }) c.args.given.now written e refl s.0 s.1 (λ logged. refl)
 
 pub returns-in_err-shown_value-clause-goes : goal.returns-in_err-shown_value-clause-goes
 returns-in_err-shown_value-clause-goes c =

@@ -1,4 +1,4 @@
-use Rattle.pb_replay.proofs.Common.{refl, sym}
+use Rattle.pb_replay.proofs.Common.{arith}
 use Rattle.pb_replay.proofs.lemmas.names.Named.{words_named}
 use Rattle.pb_replay.proofs.lemmas.rules.Pols.{pol-inside, pol-goes}
 use Rattle.pb_replay.proofs.step.pol.pol.Goals as goal
@@ -13,7 +13,4 @@ add_shared-requires-clause-inside c =
     (words_named _ _ _ _ c.args.words.now c.in_default.ensures.names c.as_slice.ensures c.as_slice-2.ensures) c.in_ok-form.ensures.ok
 
 pub returns-clause-goes : goal.returns-clause-goes
-returns-clause-goes c =
-    pol-goes c.args.running.now (record c.args.running.now { names = c.number_words.new.names; engine = c.widen.new.engine }) c.args.words.now c.as_slice-2.result.now c.in_ok-form.form
-    (record { names = rw c.as_slice.ensures at c.in_default.ensures.names; forms = c.in_ok-widen.ensures.engine.forms; best = refl; next = refl; concluded = refl })
-    c.add_shared.result c.add_shared.new.running (sym c.as_slice-2.ensures) refl c.add_shared.ensures.best c.in_ok-form.ensures.ok c.add_shared.ensures.adding
+returns-clause-goes c = grind (arith, pol-goes, c.as_slice.ensures, c.in_default.ensures.names, c.in_ok-widen.ensures.engine.forms, c.as_slice-2.ensures, c.add_shared.ensures.best, c.in_ok-form.ensures.ok, c.add_shared.ensures.adding)

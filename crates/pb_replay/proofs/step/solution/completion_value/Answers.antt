@@ -1,4 +1,4 @@
-use Rattle.pb_replay.proofs.Common.{length, err_from_is_err_and, Live, problem_of}
+use Rattle.pb_replay.proofs.Common.{length, Live, problem_of, arith}
 use Rattle.pb_replay.proofs.lemmas.solutions.Solved.{completed-value, conflicting-value}
 use Rattle.pb_replay.proofs.step.solution.completion_value.Goals as goal
 
@@ -7,6 +7,4 @@ returns-clause-value c =
     completed-value (problem_of c.args.running.now) (Live c.args.running.now.engine.forms) (length c.args.running.now.names) c.args.given.now c.in_ok-values.values.items c.in_ok-values.ensures.free c.in_ok-values.ensures.list c.solution_value.result (rw (c.as_slice.ensures.value, c.len.ensures.length) at c.solution_value.ensures.value)
 
 pub returns-in_err-values-clause-value : goal.returns-in_err-values-clause-value
-returns-in_err-values-clause-value c =
-    let p = err_from_is_err_and c.from_residual.result c.from_residual.ensures.1 in
-    rw (p.1, p.2) (conflicting-value (problem_of c.args.running.now) (Live c.args.running.now.engine.forms) (length c.args.running.now.names) c.args.given.now _ c.in_err-values.ensures.err)
+returns-in_err-values-clause-value c = grind (arith, c.from_residual.ensures.1, conflicting-value, c.in_err-values.ensures.err)

@@ -1,18 +1,13 @@
-use Rattle.pb_replay.proofs.Common.{◌∙◌, rules, IsSome, Soli}
+use Rattle.pb_replay.proofs.Common.{rules, IsSome, arith}
 use Rattle.pb_replay.proofs.lemmas.names.Going.{goes-from}
 use Rattle.pb_replay.proofs.lemmas.solutions.Excluding.{some-objective}
 use Rattle.pb_replay.proofs.step.solution.soli.Goals as goal
 
 pub returns-clause-goes : goal.returns-clause-goes
-returns-clause-goes c =
-    goes-from c.args.running.now c.take_literals.new.running (Soli c.args.given.now) (rw c.as_slice.ensures at c.in_ok-numbers.ensures.named) c.requires.proper c.take_literals.ensures.preserves.kept c.improve.result c.improve.new.running
-    (c.improve.ensures.goes c.args.given.now (c.as_slice-2.ensures.value ∙ (rw c.as_slice.ensures at c.in_ok-numbers.ensures.literals)))
+returns-clause-goes c = grind (arith, goes-from, c.as_slice.ensures, c.in_ok-numbers.ensures.named, c.requires.proper, c.take_literals.ensures.preserves.kept, c.improve.ensures.goes, c.as_slice-2.ensures.value, c.in_ok-numbers.ensures.literals)
 
 pub returns-in_err-numbers-clause-memory : goal.returns-in_err-numbers-clause-memory
 returns-in_err-numbers-clause-memory c memory = let o : IsSome c.args.running.now.objective = search rules in some-objective c.args.running.now o
 
 pub returns-clause-memory : goal.returns-clause-memory
 returns-clause-memory c memory = let o : IsSome c.args.running.now.objective = search rules in some-objective c.args.running.now o
-
-pub returns-then-is_none-clause-memory : goal.returns-then-is_none-clause-memory
-returns-then-is_none-clause-memory c = search rules

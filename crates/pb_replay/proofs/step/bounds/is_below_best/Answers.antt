@@ -1,5 +1,0 @@
-use Rattle.pb_replay.proofs.Common.{rules}
-use Rattle.pb_replay.proofs.step.bounds.is_below_best.Goals as goal
-
-pub returns-in-Some : goal.returns-in-Some
-returns-in-Some c = search rules
