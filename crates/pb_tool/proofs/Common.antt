@@ -44,8 +44,7 @@ pub use Rattle.pb_proof.specs.meaning.Proofs.{IsGap, IsProof, IsProofOf, IsStep,
 pub use Rattle.pb_replay.specs.contract.Laws.{OutcomesAreSingle, UnvaluedMayWant, VerdictsMean, WholeProofsConclude}
 pub use Rattle.pb_replay.specs.contract.ReplayModel.{Replaying, StandsFor, StepsAs, verdict_at, verdict_in}
 pub use Rattle.pb_replay.specs.declared.fault.Fault.{Fault}
-pub use Rattle.pb_replay.specs.declared.fault.Fault.TheVariants.{Conflict, FormulaCount, IdsSpent, NoObjective, NoSolution, NoSuchId, NotBound}
-pub use Rattle.pb_replay.specs.declared.fault.Fault.TheVariants.{NotContradiction, NotImplied, NotTotal, Order, SolutionLogged, Violates}
+pub use Rattle.pb_replay.specs.declared.fault.Fault.TheVariants.{NotTotal}
 pub use Rattle.pb_replay.specs.declared.verdict.Verdict.{Verdict}
 pub use Rattle.pb_replay.specs.declared.verdict.Verdict.TheVariants.{Unsat}
 pub use Rattle.pb_replay.specs.meaning.Meaning.{IsNamePrefix, IsSound}

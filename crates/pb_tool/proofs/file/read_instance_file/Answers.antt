@@ -1,4 +1,4 @@
-use Rattle.pb_tool.proofs.Common.{ReadsInstance, IsValueOf, largest, top_of, IsRead, IsInstanceText, InRest, InText}
+use Rattle.pb_tool.proofs.Common.{ReadsInstance, IsValueOf, largest, top_of, IsRead, IsInstanceText, InRest, InText, arith}
 use Rattle.pb_tool.proofs.lemmas.file.GivenBytes.{file_then_blank, given_file, given_stray, used_of}
 use Rattle.pb_tool.proofs.lemmas.file.PassedOn.{passed_on}
 use Rattle.pb_tool.proofs.file.read_instance_file.Goals as goal
@@ -23,9 +23,7 @@ returns-in_err-rest_is_blank-clause-refused_given g c =
     (λ given seen more r. used_of (λ used. IsRead (IsInstanceText c.args.limits) c.args.longest IsValueOf used c.in_ok-instance.instance) given seen more r) _ _ _ c.in_ok-instance.ensures.given c.in_err-rest_is_blank.ensures.given)
 
 pub returns-clause-file : goal.returns-clause-file
-returns-clause-file g c =
-    let (used, seen, took, read) = c.in_ok-instance.ensures.reads in
-    file_then_blank (IsRead (IsInstanceText c.args.limits) c.args.longest IsValueOf) c.in_ok-instance.instance _ _ _ used seen took read read.past c.in_ok-rest_is_blank.ensures.blank
+returns-clause-file g c = grind (arith, c.in_ok-instance.ensures.reads, file_then_blank, c.in_ok-rest_is_blank.ensures.blank)
 
 pub returns-clause-given : goal.returns-clause-given
 returns-clause-given g c =

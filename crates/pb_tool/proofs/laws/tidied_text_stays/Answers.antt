@@ -1,4 +1,4 @@
-use Rattle.pb_tool.proofs.Common.{ℕ, ◌++◌, ◌∙◌, ◌∷◌, ◌≡◌, ap, List, refl, sym, instance_bytes, Instance, IsValueOf, largest_small, largest, top_of}
+use Rattle.pb_tool.proofs.Common.{ℕ, ◌++◌, ◌∙◌, ◌∷◌, ◌≡◌, List, refl, sym, instance_bytes, Instance, IsValueOf, largest_small, largest, top_of, arith}
 use Rattle.pb_tool.proofs.Common.{IsInstanceText, tidied}
 use Rattle.pb_tool.proofs.lemmas.tidy.ReadBack.{faultless, read_alone, written}
 use Rattle.pb_tool.proofs.laws.tidied_text_stays.Goals as goal
@@ -8,16 +8,10 @@ starred : (v : Instance) → (more : List ℕ) × (instance_bytes v ≡ 42 ∷ m
 starred v = (_, refl)
 
 no_p : (text begun rest more following : List ℕ) → text ≡ begun ++ rest → begun ≡ 42 ∷ more → text ≡ 112 ∷ following → ⊥
-no_p text begun rest more following is star e =
-    let whole : 42 ∷ (more ++ rest) ≡ text = sym (is ∙ ap (λ (x : List ℕ). x ++ rest) star) in
-    let first : 42 ∷ (more ++ rest) ≡ 112 ∷ following = whole ∙ e in
-    cc
+no_p text begun rest more following is star e = grind (arith)
 
 pub returns-clause-taken : goal.returns-clause-taken
-returns-clause-taken c v (following, e) =
-    let (rest, is, feed) = written v in
-    let (more, star) = starred v in
-    no_p (tidied v) (instance_bytes v) rest more following is star e
+returns-clause-taken c v (following, e) = grind (arith, written, starred, no_p)
 
 pub returns-clause-same : goal.returns-clause-same
 returns-clause-same c limits longest v w after rules file =

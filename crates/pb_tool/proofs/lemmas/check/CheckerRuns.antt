@@ -1,13 +1,12 @@
 -- A checker that pulls a statement from a source, and steps through it.
-use Rattle.pb_tool.proofs.Common.{ℕ, ◌++◌, ◌^◌, ◌∙◌, ◌∷◌, ◌≡◌, ◌≤◌, [], ap, append-nil, arith, Bool, Err, length, List, None, Ok, Option, refl}
+use Rattle.pb_tool.proofs.Common.{ℕ, ◌++◌, ◌^◌, ◌∙◌, ◌∷◌, ◌≡◌, ◌≤◌, [], append-nil, arith, Bool, Err, List, None, Ok, Option, refl}
 use Rattle.pb_tool.proofs.Common.{Result, Some, subst, sym, true, ReadsProofs, ReadStatements, IsStatementValue, Statement, begin, ProofState}
-use Rattle.pb_tool.proofs.Common.{WholeProofsConclude, Replaying, StandsFor, verdict_in, Fault, Verdict, IsNamePrefix, Problem, State, length-bytes}
-use Rattle.pb_tool.proofs.Common.{end_limit, place_after-offset, halt_of, is_complete, place_of, StandsAt, stop_of, Limits, Place, Spanned, Stop}
-use Rattle.pb_tool.proofs.Common.{end_of, largest, top_of, OfGiven, Pulls, PullsOn, bytes, AsksAsText, Checking, ChecksSoFar, IsSomewhere, false}
-use Rattle.pb_tool.proofs.Common.{ProofFeeder, TextsAreRead, faults_of_text, SawText, Accepted, Call, Rejected, CheckFault, Begins, HasRun, HasShown}
+use Rattle.pb_tool.proofs.Common.{WholeProofsConclude, Replaying, verdict_in, Fault, Verdict, IsNamePrefix, Problem, State, length-bytes}
+use Rattle.pb_tool.proofs.Common.{place_after-offset, halt_of, is_complete, place_of, StandsAt, stop_of, Limits, Spanned, Stop}
+use Rattle.pb_tool.proofs.Common.{largest, top_of, OfGiven, Pulls, PullsOn, AsksAsText, Checking, ChecksSoFar, IsSomewhere, false}
+use Rattle.pb_tool.proofs.Common.{ProofFeeder, TextsAreRead, SawText, Accepted, Call, Rejected, CheckFault, Begins, HasRun}
 use Rattle.pb_tool.proofs.Common.{RunsTo}
 use Rattle.pb_text.specs.contract.Standing.{IsOpen as IsOpenText}
-use Rattle.pb_tool.specs.declared.commands.check.checker.CheckFault.TheVariants as check
 use Rattle.pb_tool.proofs.lemmas.check.CheckerSteps as checked
 use Rattle.pb_tool.proofs.lemmas.check.CheckerSteps.{Answers, ReportsOld, running_at}
 use Rattle.pb_tool.proofs.lemmas.check.ReplayRuns as replayed
@@ -22,16 +21,12 @@ PullsFrom f left result n rest given given' =
 
 -- what was read ends within the limit on all bytes
 pub in_reach : (longest : ℕ) (start : ProofState) (input : List ℕ) (spans : List (Spanned Statement)) (f : ProofFeeder) → StandsAt longest start input spans f → (place_of f).offset ≤ 2 ^ 40
-in_reach longest start input spans f s =
-    let k = s.1 in
-    let offset : (place_of f).offset ≡ length (bytes k.letters) = ap (λ (p : Place). p.offset) k.place_is ∙ place_after-offset (bytes k.letters) in
-    let limit : end_of longest f.first ≤ 2 ^ 40 = end_limit longest f.first in
-    omega (arith, offset, length-bytes k.letters, k.within, limit)
+in_reach longest start input spans f s = grind (arith, s.1, place_after-offset, f.first, length-bytes)
 
 -- ---- a checker is still one that was fed some text
 
 module _ (read : TextsAreRead) (f : ProofFeeder) (r : Replaying) (e : Option CheckFault) (none : e ≡ None) (n : ProofFeeder) (left rest : Option (List ℕ)) (given given' : List ℕ) where
-  pub stopped_somewhere : IsSomewhere f r e → (s : Stop) → PullsFrom f left (Err s) n rest given given' → halt_of n ≡ Some s → IsSomewhere n r (Some (check.Text s))
+  pub stopped_somewhere : IsSomewhere f r e → (s : Stop) → PullsFrom f left (Err s) n rest given given' → halt_of n ≡ Some s → IsSomewhere n r (Some (CheckFault.Text s))
   stopped_somewhere (limits, longest, v, first, input, asks, h) s pulls halts =
       let here = running_at limits longest v first input f r e none h in
       let p = pulls longest (begin (largest limits) (top_of limits)) input here.spans (subst IsOpenText (sym here.running) tt) here.stands in
@@ -82,10 +77,6 @@ module _ (read : TextsAreRead) (f : ProofFeeder) (r : Replaying) (e : Option Che
 
 -- ---- what a step says that needs no text
 
--- the feeder had not stopped
-pub was_running : (f : ProofFeeder) (r : Replaying) (e : Option CheckFault) → e ≡ None → IsSomewhere f r e → halt_of f ≡ None
-was_running f r e none (limits, longest, v, first, input, asks, h) = (running_at limits longest v first input f r e none h).running
-
 -- what it knows of the bytes that may allocate
 pub asks_now : (f : ProofFeeder) (r : Replaying) (e : Option CheckFault) → e ≡ None → IsSomewhere f r e → AsksAsText r.limits
 asks_now f r e none (limits, longest, v, first, input, asks, h) = subst AsksAsText (sym (running_at limits longest v first input f r e none h).limits_are) asks
@@ -105,26 +96,11 @@ module _ (f : ProofFeeder) (r : Replaying) (e : Option CheckFault) (none : e ≡
         let (why, is, refuses) = steps here.now here.at in
         subst (SawText shown ended) (sym is) tt
 
-    pub faults_on : (A : Type 0) → IsSomewhere f r e → (k l : ℕ) → k ≡ l → k ≡ faults_of_text {A = A} (Err x) l
-    faults_on A (limits, longest, v, first, input, asks, h) k l same =
-        let here = running_at limits longest v first input f r e none h in
-        let (why, is, refuses) = steps here.now here.at in
-        subst (λ (y : CheckFault). k ≡ faults_of_text {A = A} (Err y) l) (sym is) same
-
 -- ---- a run through the statements of a source
 
 -- nothing was pulled yet
 pub run_begins : (longest : ℕ) (began : Replaying) {V : Type 0} (got : V → Call → V → Type 0) (c : Checking) → Begins longest began c → c.replay.fault ≡ None → (left : Option (List ℕ)) (given : List ℕ) (old : V) → HasRun longest began got left given old c left given old
-run_begins longest began {V} got c b unspent left given old = record {
-  spans = [];
-  unspent = unspent;
-  limited = ap (λ (x : Replaying). x.limits) b.replay;
-  problem = ap (λ (x : Replaying). x.problem) b.replay;
-  pulled = first_pull longest (begin (largest began.limits) (top_of began.limits)) left c.feeder b.stands b.running b.start;
-  led = λ first at. (first, subst (λ (x : Replaying). StandsFor x first) (sym b.replay) at, refl);
-  given = ([], sym (append-nil given), b.start, b.stands, b.running);
-  shown = subst (λ (x : Replaying). HasShown got old began [] old x) (sym b.replay) (shown_first got old began);
-}
+run_begins longest began {V} got c b unspent left given old = grind (arith, b.replay, first_pull, began.limits, b.stands, b.running, b.start, append-nil, shown_first)
 
 abbrev start_of : Replaying → ProofState
 start_of began = begin (largest began.limits) (top_of began.limits)
@@ -136,7 +112,7 @@ module _ (exact : ReadsProofs) (longest : ℕ) (began : Replaying) {V : Type 0} 
   row_given : (result : Result (Option (Spanned Statement)) Stop) → PullsFrom f left result n rest given given' → halt_of n ≡ stop_of result → (result ≡ Ok None → is_complete n ≡ true) → ((m : Spanned Statement) → result ≡ Ok (Some m) → m.past ≡ place_of n)
       → OfGiven (λ text end. PullsOn longest (start_of began) text i.spans result n end) since given'
   row_given result pulls stop last past =
-      given_row longest (start_of began) since given given' i.spans f n i.given left rest result (pulls longest (start_of began) i.given.0 i.spans (subst IsOpenText (sym i.given.4) tt) i.given.3) stop last past
+      given_row since given given' i.given pulls stop last past
 
   -- one statement more
   pub runs_more : (m : Spanned Statement) → PullsOn longest (start_of began) before i.spans (Ok (Some m)) n rest → PullsFrom f left (Ok (Some m)) n rest given given' → halt_of n ≡ None → (t : Replaying) → t.fault ≡ None → Answers r m (Ok tt) t → t.limits ≡ r.limits → t.problem ≡ r.problem
@@ -148,7 +124,7 @@ module _ (exact : ReadsProofs) (longest : ℕ) (began : Replaying) {V : Type 0} 
     problem = problem ∙ i.problem;
     pulled = row.0;
     led = λ first at. replayed.led_more exact began.limits longest before rest began.problem first r i.spans (i.led first at) i.unspent t m i.limited i.problem steps;
-    given = given_next longest (start_of began) since given given' i.spans f n i.given left rest m (pulls longest (start_of began) i.given.0 i.spans (subst IsOpenText (sym i.given.4) tt) i.given.3) running;
+    given = given_next since given given' i.given m pulls running;
     shown = shown_next got old began i.spans mid r i.shown m t new i.unspent i.limited i.problem steps call;
   }
 
@@ -165,7 +141,7 @@ module _ (exact : ReadsProofs) (longest : ℕ) (began : Replaying) {V : Type 0} 
       }
 
   -- a text that stopped
-  pub runs_stopped : AsksAsText began.limits → (s : Stop) → PullsOn longest (start_of began) before i.spans (Err s) n rest → PullsFrom f left (Err s) n rest given given' → halt_of n ≡ Some s → RunsTo longest began got before since old (Err (check.Text s)) r rest given' mid
+  pub runs_stopped : AsksAsText began.limits → (s : Stop) → PullsOn longest (start_of began) before i.spans (Err s) n rest → PullsFrom f left (Err s) n rest given given' → halt_of n ≡ Some s → RunsTo longest began got before since old (Err (CheckFault.Text s)) r rest given' mid
   runs_stopped asks s row pulls halts first at =
       let (taken, seen, are, all) = row_given (Err s) pulls halts (λ is. absurd (cc is)) (λ m is. absurd (cc is)) in
       record {

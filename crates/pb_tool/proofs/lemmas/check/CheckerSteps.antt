@@ -1,7 +1,7 @@
 -- The state of a checker after a feed and a step. Offered to other crates.
-use Rattle.pb_tool.proofs.Common.{ℕ, ◌++◌, ◌+◌, ◌-◌, ◌<◌, ◌∙◌, ◌∷◌, ◌≡◌, ◌⊎◌, [], add-zero, All, ap, append-nil, append_assoc, Bool, drop, Err, false}
-use Rattle.pb_tool.proofs.Common.{if◌then◌else◌, inl, inr, length, length-append, List, None, Ok, Option, refl, Result, Some, subst, sym, take}
-use Rattle.pb_tool.proofs.Common.{take-append-drop, true, is_some, IsSome, not, All-head, All-tail, ReadsProofs, ReadStatements, IsStatementValue}
+use Rattle.pb_tool.proofs.Common.{ℕ, ◌++◌, ◌+◌, ◌-◌, ◌<◌, ◌∙◌, ◌∷◌, ◌≡◌, ◌⊎◌, [], add-zero, All, ap, append-nil, append_assoc, Bool, drop, Err, false, arith}
+use Rattle.pb_tool.proofs.Common.{inl, inr, length, length-append, List, None, Ok, Option, refl, Result, Some, subst, sym, take}
+use Rattle.pb_tool.proofs.Common.{take-append-drop, true, IsSome, not, All-head, All-tail, ReadsProofs, ReadStatements, IsStatementValue}
 use Rattle.pb_tool.proofs.Common.{Proof, Stage, Statement, Conclude, End, F, Output, begin, proofs, ProofState, IsProof, WholeProofsConclude}
 use Rattle.pb_tool.proofs.Common.{Replaying, StandsFor, StepsAs, verdict_at, verdict_in, Fault, NotTotal, Verdict, IsNamePrefix, IsSound, Problem}
 use Rattle.pb_tool.proofs.Common.{State, Accepts, MayWantAt, Outcome, spans_events, all_rest, prefix_parts, FeedsOnce, halt_of, is_complete, place_of}
@@ -9,11 +9,10 @@ use Rattle.pb_tool.proofs.Common.{StandsAt, Limits, Place, Spanned, Stop, Why, e
 use Rattle.pb_tool.proofs.Common.{events_at, events_of, accepted_by, AsksAsText, Checking, ChecksSoFar, CountsSoFar, IsAccepting, IsAt, IsSomewhere}
 use Rattle.pb_tool.proofs.Common.{ProofFeeder, StepsFrom, TextsAreRead, Checks, EndsAfter, IsReplayed, KeepsNames, KeepsNamesOf, LeadsTo, Rejects}
 use Rattle.pb_tool.proofs.Common.{StepsTo, AllocatesAt, AnyCutting, bytes_to, ChecksAt, ChecksOnce, CountsAt, CountsOnce, fault_of, FeedsInTurn}
-use Rattle.pb_tool.proofs.Common.{is_whole, IsNoReadFault, joined, MayGoOn, place_in, CheckFault, Begins}
+use Rattle.pb_tool.proofs.Common.{is_whole, joined, MayGoOn, place_in, CheckFault, Begins}
 use Rattle.pb_text.specs.contract.Automaton.{AcceptsItems as AcceptsBytes}
 use Rattle.pb_text.specs.contract.Standing.{Counts, Halts, Waits, IsOpen as IsOpenText}
 use Rattle.pb_text.specs.declared.Fed.{Fed}
-use Rattle.pb_text.specs.declared.place.Why.TheVariants as reason
 use Rattle.pb_text.proofs.lemmas.text.Formats as formats
 use Rattle.pb_proof.specs.declared.Statement.TheVariants.{Header}
 use Rattle.pb_replay.specs.declared.fault.Fault.TheVariants.{Memory}
@@ -132,9 +131,7 @@ module _ (whole : WholeProofsConclude) (limits : Limits) (longest : ℕ) (v : Pr
       by (Err e) pf (none, is) = absurd (cc none)
 
 pub shown_at : (r : Replaying) (t : State) → IsAt r (Ok t) → verdict_in r ≡ verdict_at t.next t.concluded
-shown_at r t (unspent, at) =
-    ap (λ (x : Option Fault). if is_some x then None else verdict_at r.next r.concluded) unspent
-    ∙ sym (ap (λ (x : Stage). verdict_at x t.concluded) at.next ∙ ap (λ (x : Option Verdict). verdict_at r.next x) at.concluded)
+shown_at r t (unspent, at) = grind (arith, r.next, r.concluded, t.concluded, at.next, at.concluded)
 
 -- ---- a checker without a fault
 fed_with : (fed : Fed Statement) (event : Option (Spanned Statement)) → fed.event ≡ event → fed ≡ record { used = fed.used; event = event }
@@ -201,7 +198,7 @@ module _ (read : TextsAreRead) (limits : Limits) (longest : ℕ) (v : Problem) (
         let all : CountedReplay true (Ok t) = subst (λ (x : Result State Fault). CountedReplay true x) same text in
         (t, all.0, sym (shown_at r t (subst (λ (x : Result State Fault). IsAt r x) same now.at)) ∙ sym is, all.1)
 
-    pub cut_after : is_complete f ≡ false → EndsAfter limits longest v first input k (place_of f) (Err (Text (record { place = place_of f; why = reason.Ended })))
+    pub cut_after : is_complete f ≡ false → EndsAfter limits longest v first input k (place_of f) (Err (Text (record { place = place_of f; why = Why.Ended })))
     cut_after done =
         let reads = subst (λ (b : Bool). IsReported reported.0 b) done reported.1 in (
           (
@@ -330,7 +327,7 @@ module _ (read : TextsAreRead) (limits : Limits) (longest : ℕ) (v : Problem) (
       wanted may s feeds halts memory =
           let k = (stands_stopped s feeds).1 in
           let waits : Waits proofs n.machine (end_of longest n.first) k.letters k.left n.place (Some s) = subst (λ (x : Option Stop). Waits proofs n.machine (end_of longest n.first) k.letters k.left n.place x) halts k.waits in
-          let stops : Halts proofs n.machine (end_of longest n.first) k.letters k.left reason.Memory = subst (λ (x : Why). Halts proofs n.machine (end_of longest n.first) k.letters k.left x) memory waits.2 in
+          let stops : Halts proofs n.machine (end_of longest n.first) k.letters k.left Why.Memory = subst (λ (x : Why). Halts proofs n.machine (end_of longest n.first) k.letters k.left x) memory waits.2 in
           let (b, more, left, admits, asks, room) = stops in
           (bytes k.letters, b, more, k.input_is ∙ ap (λ (x : List ℕ). bytes k.letters ++ x) left, waits.1 ∙ k.place_is, may (bytes k.letters) b (n.machine, k.leads, asks))
 
@@ -353,12 +350,6 @@ module _ (read : TextsAreRead) (limits : Limits) (longest : ℕ) (v : Problem) (
             (append_assoc input (take fed.used piece) (drop fed.used piece) ∙ ap (λ (y : List ℕ). input ++ y) (take-append-drop fed.used piece))
             (refused_on (take fed.used piece) n m stands running past (drop fed.used piece) t x steps prefix old)
 
-        pub unread_step : (t : Replaying) (x : CheckFault) → Answers r m (Err x) t → IsNoReadFault x
-        unread_step t x steps = let (why, is, refuses) = steps now.now now.at in subst IsNoReadFault (sym is) tt
-
-        pub wanted_step : (t : Replaying) (x : CheckFault) → Answers r m (Err x) t → AllocatesAt limits (input ++ piece) x
-        wanted_step t x steps = let (why, is, refuses) = steps now.now now.at in subst (AllocatesAt limits (input ++ piece)) (sym is) tt
-
 -- what a checker knows of the bytes that may allocate
 pub asks_here : (f : ProofFeeder) (r : Replaying) (e : Option CheckFault) → e ≡ None → IsSomewhere f r e → (limits : Limits) (longest : ℕ) (v : Problem) (first : Result State Fault) (input : List ℕ) → ChecksSoFar limits longest v first input f r e → AsksAsText limits
 asks_here f r e none (limits, longest, v, first, input, asks, h) limits' longest' v' first' input' h' =
@@ -369,12 +360,12 @@ asks_here f r e none (limits, longest, v, first, input, asks, h) limits' longest
 -- ---- input after a fault
 module _ (limit top longest : ℕ) (used left piece : List ℕ) where
   explained : (why : Why) → Counts why → Explains (IsProof limit top) longest used left why → Explains (IsProof limit top) longest used (left ++ piece) why
-  explained (reason.Byte b) c (more, e, bad, digit) = (more ++ piece, ap (λ (x : List ℕ). x ++ piece) e, bad, digit)
-  explained reason.TooLarge c (b, more, e, bad, digit, ends) = (b, more ++ piece, ap (λ (x : List ℕ). x ++ piece) e, bad, digit, ends)
-  explained reason.TooLong c (some, full) = (λ e. some (no_prefix left piece e), full)
-  explained reason.Ended c h = absurd c
-  explained reason.Read c h = h
-  explained reason.Memory c (b, more, e, viable, room) = (b, more ++ piece, ap (λ (x : List ℕ). x ++ piece) e, viable, room)
+  explained (Why.Byte b) c (more, e, bad, digit) = (more ++ piece, ap (λ (x : List ℕ). x ++ piece) e, bad, digit)
+  explained Why.TooLarge c (b, more, e, bad, digit, ends) = (b, more ++ piece, ap (λ (x : List ℕ). x ++ piece) e, bad, digit, ends)
+  explained Why.TooLong c (some, full) = (λ e. some (no_prefix left piece e), full)
+  explained Why.Ended c h = absurd c
+  explained Why.Read c h = h
+  explained Why.Memory c (b, more, e, viable, room) = (b, more ++ piece, ap (λ (x : List ℕ). x ++ piece) e, viable, room)
 
 later : (limits : Limits) (longest : ℕ) (v : Problem) (first : Result State Fault) (input piece : List ℕ) (n : ℕ) (f : ProofFeeder) (r : Replaying) (e : CheckFault) → MayGoOn (Some e) → CountsSoFar limits longest v first input n f r (Some e) → CountsSoFar limits longest v first (input ++ piece) n f r (Some e)
 later limits longest v first input piece n f r (Text s) counts ((now, h), so_many) = (

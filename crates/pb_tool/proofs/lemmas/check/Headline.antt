@@ -7,7 +7,7 @@ use Rattle.pb_proof.specs.meaning.Lines.{SpellsStatement}
 use Rattle.pb_text.specs.declared.sink.Sink.{Ghosts as Sink}
 use Rattle.pb_text.specs.declared.source.Source.{Ghosts as Source}
 use Rattle.pb_tool.specs.contract.Checked.{Checked, of_given, of_left}
-use Rattle.pb_tool.specs.meaning.Headline.{TrueOf, UnsatIsTrue, UnsatOf, VerdictsAreTrue}
+use Rattle.pb_tool.specs.meaning.Headline.{TrueOf, UnsatIsTrue, VerdictsAreTrue}
 
 module _ (values : StatementValues) (limit top : ℕ) where
   abbrev IsSpelled : Item Statement → Type 0
@@ -44,13 +44,6 @@ module _ (true : VerdictsAreTrue) {W : Type 0} (contents : W → Option (List �
   given_is_true i p i' p' (one, left, e, (other, rest, f, checks)) =
       (one, left, e, verdict_is_true (Some (one ++ left)) (Some (other ++ rest)) (Some left) (Some rest) checks)
 
-module _ (limits : Limits) (longest : ℕ) (w : Verdict) (is : w ≡ Unsat) where
-  pub unsat_is_true : (before after : Option (List ℕ)) → TrueOf limits longest w before after → UnsatOf limits longest before after
-  unsat_is_true before after t = subst (λ (x : Verdict). TrueOf limits longest x before after) is t
-
-  pub unsat_given_is_true : (before after : List ℕ) → OfGiven (TrueOf limits longest w) before after → OfGiven (UnsatOf limits longest) before after
-  unsat_given_is_true before after (given, seen, e, t) = (given, seen, e, unsat_is_true (Some (given ++ seen)) (Some seen) t)
-
 -- ---- every fact of a check, from those that each way out shows
 
 module _ (true : VerdictsAreTrue) {I P W : Type 0} (of_i : Source I) (of_p : Source P) (of_o : Sink W) (limits : Limits) (longest : ℕ) (i : I) (p : P) (o : W) (i' : I) (p' : P) (o' : W) where
@@ -65,9 +58,9 @@ module _ (true : VerdictsAreTrue) {I P W : Type 0} (of_i : Source I) (of_p : Sou
       record {
         checks = checks;
         given = given;
-        unsat = λ e. let is : w ≡ Unsat = cc in unsat_is_true limits longest w is (of_i.left i) (of_i.left i') is_true;
+        unsat = λ e. let is : w ≡ Unsat = cc in subst (λ (x : Verdict). TrueOf limits longest x (of_i.left i) (of_i.left i')) is is_true;
         true_verdict = is_true;
-        unsat_given = λ e. let is : w ≡ Unsat = cc in unsat_given_is_true limits longest w is (of_i.history i) (of_i.history i') is_given;
+        unsat_given = λ e. let is : w ≡ Unsat = cc in subst (λ (x : Verdict). OfGiven (TrueOf limits longest x) (of_i.history i) (of_i.history i')) is is_given;
         true_given = is_given;
         seen_instance = seen_i;
         seen_proof = seen_p;

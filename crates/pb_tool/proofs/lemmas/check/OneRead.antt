@@ -18,11 +18,8 @@ module _ {E : Type 0} where
   within_more : (n : ℕ) (m : Spanned E) (spans : List (Spanned E)) → m.past.offset ≤ n → ended_within n (m ∷ spans) ≡ m ∷ ended_within n spans
   within_more n m spans h = cond-true (nat_le m.past.offset n) (m ∷ ended_within n spans) (ended_within n spans) (le-leb m.past.offset n h)
 
-  within_less : (n : ℕ) (m : Spanned E) (spans : List (Spanned E)) → n < m.past.offset → ended_within n (m ∷ spans) ≡ ended_within n spans
-  within_less n m spans h = cond-false (nat_le m.past.offset n) (m ∷ ended_within n spans) (ended_within n spans) (lt-leb m.past.offset n h)
-
   within_first : (n : ℕ) (m : Spanned E) (spans : List (Spanned E)) → n < m.past.offset → ended_within n spans ≡ [] → ended_within n (m ∷ spans) ≡ []
-  within_first n m spans h e = within_less n m spans h ∙ e
+  within_first n m spans h e = cond-false (nat_le m.past.offset n) (m ∷ ended_within n spans) (ended_within n spans) (lt-leb m.past.offset n h) ∙ e
 
   within_kept : (n : ℕ) (m : Spanned E) (spans : List (Spanned E)) → m.past.offset ≤ n → ended_within n spans ≡ spans → ended_within n (m ∷ spans) ≡ m ∷ spans
   within_kept n m spans h e = within_more n m spans h ∙ ap (λ (x : List (Spanned E)). m ∷ x) e

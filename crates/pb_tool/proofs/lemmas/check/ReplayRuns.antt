@@ -6,8 +6,6 @@ use Rattle.pb_tool.proofs.Common.{Place, Spanned, Stop, largest, top_of, TookAll
 use Rattle.pb_tool.proofs.Common.{Rejects, StepsTo, RunsProof, CheckFault, AsksInProofText, IsProofText, IsAccepted}
 use Rattle.pb_text.specs.contract.Automaton.{AcceptsItems as AcceptsBytes}
 use Rattle.pb_proof.specs.declared.Stage.TheVariants.{Complete}
-use Rattle.pb_replay.specs.declared.fault.Fault.TheVariants as fault
-use Rattle.pb_tool.specs.declared.commands.check.checker.CheckFault.TheVariants as check
 use Rattle.pb_tool.proofs.lemmas.check.CheckerSteps.{Answers, ReportsOld, accepts_more, failed, proofs_read, shown_at, there}
 use Rattle.pb_tool.proofs.lemmas.show.ShownStatements.{all_to, so_far_to}
 
@@ -37,10 +35,10 @@ module _ (exact : ReadsProofs) (limits : Limits) (longest : ℕ) where
     HasSoFar = TookSoFar (Taken limits) longest before after
 
     abbrev read_all : (spans : List (Spanned Statement)) (place : Place) (done : Bool) (stop : Option Stop) → HasAll spans place done stop → TookAll (IsProofText limits) longest before after spans place done stop
-    read_all = all_to (Taken limits) (IsProofText limits) longest to_proof before after
+    read_all = all_to (Taken limits) (IsProofText limits) longest to_proof before before (λ after used seen t. t) after
 
     read_so_far : (spans : List (Spanned Statement)) (place : Place) → HasSoFar spans place → TookSoFar (IsProofText limits) longest before after spans place
-    read_so_far = so_far_to (Taken limits) (IsProofText limits) longest to_proof before after
+    read_so_far = so_far_to (Taken limits) (IsProofText limits) longest to_proof before before (λ after used seen t. t) after
 
     module _ (v : Problem) (first : State) (r : Replaying) (spans : List (Spanned Statement)) (led : (t : State) × StandsFor r t × Accepts (largest limits) (top_of limits) v first (events_at spans) t) where
       abbrev pub accepted : (place : Place) (done : Bool) (stop : Option Stop) → HasAll spans place done stop → IsAccepted limits longest v first before after place done stop led.0
@@ -70,7 +68,7 @@ module _ (exact : ReadsProofs) (limits : Limits) (longest : ℕ) where
               )
 
           reported : (e : Fault) → KeepsNames led.0.names new.names e → Rejects limits v (Ok led.0) m.event e
-              → ((e ≡ fault.Memory) × MayWantAt (largest limits) (top_of limits) v led.0.next m.event) ⊎ (Outcome (largest limits) (top_of limits) v led.0 m.event (Err e) × KeepsNames led.0.names new.names e)
+              → ((e ≡ Fault.Memory) × MayWantAt (largest limits) (top_of limits) v led.0.next m.event) ⊎ (Outcome (largest limits) (top_of limits) v led.0 m.event (Err e) × KeepsNames led.0.names new.names e)
           reported e names (inl h) = inl h
           reported e names (inr h) = inr (h, names)
 
@@ -82,5 +80,5 @@ module _ (exact : ReadsProofs) (limits : Limits) (longest : ℕ) where
                 m.event,
                 led.0,
                 record { spans = spans; last = m; took = read_so_far (spans ++ m ∷ []) m.past t; begins_is = refl; statement = refl; accepted = led.2 },
-                reported e (subst (λ (y : List (List ℕ)). KeepsNames y new.names e) (sym led.1.names) (names, λ n h. old m.first n (ap (λ (y : CheckFault). failed y) (is ∙ ap (λ (f : Fault). check.Step m.first f) h)))) here,
+                reported e (subst (λ (y : List (List ℕ)). KeepsNames y new.names e) (sym led.1.names) (names, λ n h. old m.first n (ap (λ (y : CheckFault). failed y) (is ∙ ap (λ (f : Fault). CheckFault.Step m.first f) h)))) here,
               )

@@ -4,10 +4,8 @@ use Rattle.pb_tool.proofs.Common.{string_bytes, subst, sym, true, get_or_append_
 use Rattle.pb_tool.proofs.Common.{Replaying, Fault, NotTotal, Verdict, Problem, first_state, State, Accepts, MayWantAt, Outcome, Limits, Place}
 use Rattle.pb_tool.proofs.Common.{Spanned, ReadsBlank, largest, top_of, place_after, IsRead, Broke, Wrote, KeepsNames, faults_of_instance, IsNoReplay}
 use Rattle.pb_tool.proofs.Common.{IsReplayOf, IsReportedAs, Replays, RunsProof, ToolFault, Memory, Overflow, Step, Text, Write, IsProofText}
-use Rattle.pb_tool.proofs.Common.{CheckCall, ChecksFiles, IsAccepted, IsReported, IsVerified, verdict_line}
+use Rattle.pb_tool.proofs.Common.{CheckCall, ChecksFiles, IsAccepted, IsReported, IsVerified, verdict_line, CheckFault}
 use Rattle.pb_replay.specs.declared.fault.Fault.TheVariants.{Memory as no_memory}
-use Rattle.pb_replay.specs.declared.fault.Fault.TheVariants as why
-use Rattle.pb_tool.specs.declared.commands.check.checker.CheckFault.TheVariants as check
 use Rattle.pb_tool.specs.declared.fault.Input.TheVariants.{Instance as of_instance, Proof as of_proof}
 use Rattle.pb_tool.proofs.lemmas.check.CheckerSteps.{spelled_events}
 use Rattle.pb_tool.proofs.lemmas.file.GivenBytes.{file_then_blank}
@@ -17,7 +15,7 @@ names_prefix : (names all more : List (List ℕ)) (n : ℕ) → all ≡ names ++
 names_prefix names all more n is lt = ap (λ (x : List (List ℕ)). get_or x n []) is ∙ get_or_append_left names more [] n lt
 
 reported_before : (names all : List (List ℕ)) (e : Fault) (name : List ℕ) → KeepsNames names all e → IsReported all e name → IsReported names e name
-reported_before names all (why.NotTotal n) name ((more, is), old) h = h ∙ names_prefix names all more n is (old n refl)
+reported_before names all (Fault.NotTotal n) name ((more, is), old) h = h ∙ names_prefix names all more n is (old n refl)
 reported_before names all e name kept h = h
 
 module _ (limits : Limits) (longest : ℕ) (v : Problem) (first : State) (before : Option (List ℕ)) where
@@ -38,7 +36,7 @@ module _ (limits : Limits) (longest : ℕ) (v : Problem) (first : State) (before
       )
 
   -- a rejected statement, with the name that the fault gives
-  pub step_report : UnvaluedMayWant → (after : Option (List ℕ)) (new : Replaying) (place : Place) (e : Fault) (f : ToolFault) → RunsProof limits longest v first before (Err (check.Step place e)) after new → IsReportedAs new.names place e f → Replays limits longest v first before (Err f) after
+  pub step_report : UnvaluedMayWant → (after : Option (List ℕ)) (new : Replaying) (place : Place) (e : Fault) (f : ToolFault) → RunsProof limits longest v first before (Err (CheckFault.Step place e)) after new → IsReportedAs new.names place e f → Replays limits longest v first before (Err f) after
   step_report law after new place e (Step at x name) (st, state, comes, why) (is, reported) = (
     st,
     state,

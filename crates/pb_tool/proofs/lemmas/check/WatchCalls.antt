@@ -6,7 +6,6 @@ use Rattle.pb_tool.proofs.Common.{OfGiven, TookAll, TookSoFar, KeepsNames, Steps
 use Rattle.pb_tool.proofs.Common.{HasSeen, HasSeenUpTo, HasSeenWhole, IsWatched, Rejected, ShowsEach, ShowsProof, ShowsRun, CheckFault, ToolFault}
 use Rattle.pb_tool.proofs.Common.{Memory, Overflow, Step, Text, Write, HasShown, IsProofText, IsReported}
 use Rattle.pb_replay.specs.declared.fault.Fault.TheVariants.{Memory as no_memory}
-use Rattle.pb_tool.specs.declared.commands.check.checker.CheckFault.TheVariants as check
 use Rattle.pb_tool.specs.declared.fault.Input.TheVariants.{Instance as of_instance, Proof as of_proof}
 use Rattle.pb_tool.proofs.lemmas.check.CheckerSteps.{Answers, ReportsOld, failed}
 use Rattle.pb_tool.proofs.lemmas.show.GivenStatements.{all_of}
@@ -55,13 +54,13 @@ module _ {V : Type 0} (got : V → Call → V → Type 0) (old : V) (began : Rep
           subst (λ (y : CheckFault). ShowsRun began.limits longest got began.problem first before old (Err y) rest after) (sym is) (record {
             spans = spans;
             rejected = m;
-            took = so_far_to (Taken began.limits) (IsProofText began.limits) longest (to_proof exact began.limits longest) before rest (spans ++ m ∷ []) m.past t;
+            took = so_far_to (Taken began.limits) (IsProofText began.limits) longest (to_proof exact began.limits longest) before before (λ after used seen k. k) rest (spans ++ m ∷ []) m.past t;
             begins_is = refl;
             calls = h.0;
             last = last;
             shows = shows;
             replay = new;
-            names = subst (λ (y : List (List ℕ)). KeepsNames y new.names e) (sym stands.names) (names, λ n k. reports m.first n (ap (λ (y : CheckFault). failed y) (is ∙ ap (λ (f : Fault). check.Step m.first f) k)));
+            names = subst (λ (y : List (List ℕ)). KeepsNames y new.names e) (sym stands.names) (names, λ n k. reports m.first n (ap (λ (y : CheckFault). failed y) (is ∙ ap (λ (f : Fault). CheckFault.Step m.first f) k)));
             got_are = subst (λ (y : CheckFault). GotEach got old (h.0 ++ Rejected m new y ∷ []) after) is (got_more got old h.0 mid (Rejected m new x) after h.1 call);
           })
 
@@ -72,7 +71,7 @@ module _ {V : Type 0} (got : V → Call → V → Type 0) (old : V) (began : Rep
         let (last, stands, shows) = h.2 first at in
         record {
           spans = spans;
-          took = all_to (Taken began.limits) (IsProofText began.limits) longest (to_proof exact began.limits longest) before rest spans place done stop t;
+          took = all_to (Taken began.limits) (IsProofText began.limits) longest (to_proof exact began.limits longest) before before (λ after used seen k. k) rest spans place done stop t;
           calls = h.0;
           last = last;
           shows = shows;
@@ -89,11 +88,11 @@ module _ (limits : Limits) (longest : ℕ) {V : Type 0} (got : V → Call → V 
   Whole result before after = ShowsProof limits longest got v first before old result after new
 
   -- a text that stopped
-  pub proof_stopped : (before after : Option (List ℕ)) (s : Stop) (f : ToolFault) → f ≡ Text of_proof s → Run (Err (check.Text s)) before after → Whole (Err f) before after
+  pub proof_stopped : (before after : Option (List ℕ)) (s : Stop) (f : ToolFault) → f ≡ Text of_proof s → Run (Err (CheckFault.Text s)) before after → Whole (Err f) before after
   proof_stopped before after s f is h = subst (λ (x : ToolFault). Whole (Err x) before after) (sym is) (inl h)
 
   -- a rejected statement
-  pub proof_rejected : (before after : Option (List ℕ)) (names : List (List ℕ)) (place : Place) (e : Fault) (f : ToolFault) → IsReportedAs names place e f → Run (Err (check.Step place e)) before after → Whole (Err f) before after
+  pub proof_rejected : (before after : Option (List ℕ)) (names : List (List ℕ)) (place : Place) (e : Fault) (f : ToolFault) → IsReportedAs names place e f → Run (Err (CheckFault.Step place e)) before after → Whole (Err f) before after
   proof_rejected before after names place e (Step at x name) (same, why) h =
       (e, by why, subst (λ (p : Place). HasSeenUpTo limits longest got v first before old after p e new) (sym same) h)
     where
@@ -117,12 +116,6 @@ module _ (limits : Limits) (longest : ℕ) {V : Type 0} (got : V → Call → V 
 
   abbrev WholeGiven : Result Verdict ToolFault → List ℕ → List ℕ → Type 0
   WholeGiven result before after = OfGiven (λ left rest. ShowsProof limits longest got v first left old result rest new) before after
-
-  pub given_proof_stopped : (before after : List ℕ) (s : Stop) (f : ToolFault) → f ≡ Text of_proof s → RunGiven (Err (check.Text s)) before after → WholeGiven (Err f) before after
-  given_proof_stopped before after s f is (given, seen, e, h) = (given, seen, e, proof_stopped limits longest got v first old new (Some (given ++ seen)) (Some seen) s f is h)
-
-  pub given_proof_rejected : (before after : List ℕ) (names : List (List ℕ)) (place : Place) (e : Fault) (f : ToolFault) → IsReportedAs names place e f → RunGiven (Err (check.Step place e)) before after → WholeGiven (Err f) before after
-  given_proof_rejected before after names place e f reported (given, seen, is, h) = (given, seen, is, proof_rejected limits longest got v first old new (Some (given ++ seen)) (Some seen) names place e f reported h)
 
   -- the whole proof, with another rest
   whole_of : (used seen other : List ℕ) (place : Place) → HasSeen limits longest got v first (Some (used ++ seen)) old (Some seen) place true None new → HasSeen limits longest got v first (Some (used ++ other)) old (Some other) place true None new

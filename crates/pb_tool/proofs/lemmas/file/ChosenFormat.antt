@@ -1,18 +1,17 @@
 -- What is ensured for a file, from what is ensured for a proof or an instance after a peek at its first byte.
-use Rattle.pb_tool.proofs.Common.{ℕ, ◌++◌, ◌<◌, ◌^◌, ◌∙◌, ◌∷◌, ◌≡◌, ◌≢◌, ◌⊎◌, [], ap, arith, Bool, Err, false, inl, inr, List, None, Ok, Option, refl}
+use Rattle.pb_tool.proofs.Common.{ℕ, ◌++◌, ◌<◌, ◌^◌, ◌∙◌, ◌∷◌, ◌≡◌, ◌≢◌, ◌⊎◌, [], ap, arith, Err, false, inl, inr, List, None, Option, refl}
 use Rattle.pb_tool.proofs.Common.{Result, Some, subst, sym, true, unwrap_or, IfSome, eqb_tells, Keeps, event_bytes, IsValueOf, statement_bytes}
-use Rattle.pb_tool.proofs.Common.{IsProof, IsProofOf, writes_nothing, first_fault, ReadsNothing, Limits, Place, Spanned, Stop, Took, TookAll}
-use Rattle.pb_tool.proofs.Common.{TookSoFar, Item, IsRead, Reading, ReadsValue, IsRefusedAfter, IsSpelling, ShowsLines, File, ToolFault, Memory, Open}
-use Rattle.pb_tool.proofs.Common.{Overflow, Step, Text, Write, AsksInProofText, IsProofText, MayBeInstance, MayBeProof, ShowsFile, tidied_proof}
+use Rattle.pb_tool.proofs.Common.{IsProof, IsProofOf, writes_nothing, first_fault, ReadsNothing, Limits, Spanned, Stop, Took}
+use Rattle.pb_tool.proofs.Common.{Item, IsRead, Reading, ReadsValue, ShowsLines, File, ToolFault}
+use Rattle.pb_tool.proofs.Common.{Text, AsksInProofText, IsProofText, MayBeInstance, MayBeProof, ShowsFile, tidied_proof}
 use Rattle.pb_tool.proofs.Common.{TidiesFile, TidiesProof, AsksInInstanceText, IsFile, IsInstanceText, IsRefused, tidied, Tidies, TidiesAs}
 use Rattle.std.proofs.Math.Dec.{eqb}
 use Rattle.pb_opb.specs.meaning.Gather as opb_keeping
 use Rattle.pb_proof.specs.contract.Gather as veri_keeping
-use Rattle.pb_tool.specs.contract.Show.{InText, InRest}
+use Rattle.pb_tool.specs.contract.Show.{InText}
 use Rattle.pb_tool.specs.meaning.Tidy.IsRefused.{InText as in_text, InRest as in_rest}
-use Rattle.pb_tool.specs.declared.fault.Input.TheVariants as input
 use Rattle.pb_tool.proofs.lemmas.file.OtherReading.{written_so}
-use Rattle.pb_tool.proofs.lemmas.show.ShownStatements.{took_none}
+use Rattle.pb_tool.proofs.lemmas.show.ShownStatements.{shows_to, took_none}
 
 -- the limit on a statement, given or not, is not 0
 pub some_of : (longest : Option ℕ) (n : ℕ) → n ≡ unwrap_or longest (2 ^ 40) → IfSome longest (λ m. 0 < m) → 0 < n
@@ -36,31 +35,9 @@ took_nothing before after k = let (seen, took) = took_none after in (seen, took_
 -- ---- what is shown
 
 module _ {E : Type 0} (format : List (Item E) → Type 0) (longest : ℕ) (before mid : Option (List ℕ)) (k : Keeps before mid) where
-  abbrev all_before : (after : Option (List ℕ)) (spans : List (Spanned E)) (place : Place) (done : Bool) (stop : Option Stop) → TookAll format longest mid after spans place done stop → TookAll format longest before after spans place done stop
-  all_before after spans place done stop t = record { used = t.used; seen = t.seen; took = took_before before mid after t.used t.seen k t.took; reads = t.reads }
-
-  so_far_before : (after : Option (List ℕ)) (spans : List (Spanned E)) (place : Place) → TookSoFar format longest mid after spans place → TookSoFar format longest before after spans place
-  so_far_before after spans place t = record { used = t.used; seen = t.seen; took = took_before before mid after t.used t.seen k t.took; done = t.done; reads = t.reads }
-
-  spelling_before : (after : Option (List ℕ)) (spans : List (Spanned E)) → IsSpelling format longest mid after spans → IsSpelling format longest before after spans
-  spelling_before after spans i =
-      record { used = i.used; rest = i.rest; took = took_before before mid after (i.used ++ i.rest) [] k i.took; spelled = i.spelled; blank = i.blank; within = i.within }
-
-  refused_before : (May : List ℕ → ℕ → Type 0) (after : Option (List ℕ)) (spans : List (Spanned E)) (s : Stop) → IsRefusedAfter format longest May mid after spans s → IsRefusedAfter format longest May before after spans s
-  refused_before May after spans s (InText t a) = InText (all_before after spans s.place false (Some s) t) a
-  refused_before May after spans s (InRest used seen next took spelled r) = InRest used seen next (took_before before mid next used seen k took) spelled r
-
   module _ (May : List ℕ → ℕ → Type 0) (text : E → List ℕ) {W : Type 0} (contents : W → Option (List ℕ)) (faults : W → ℕ) where
     pub shows_before : (old : W) (result : Result Unit ToolFault) (after : Option (List ℕ)) (new : W) → ShowsLines format longest May text contents faults mid old result after new → ShowsLines format longest May text contents faults before old result after new
-    shows_before old (Ok u) after new (spans, i, w) = (spans, spelling_before after spans i, w)
-    shows_before old (Err (Text File s)) after new (spans, i, w) = (spans, refused_before May after spans s i, w)
-    shows_before old (Err Write) after new (spans, last, between, t, w, b) = (spans, last, between, so_far_before after (spans ++ last ∷ []) last.past t, w, b)
-    shows_before old (Err (Text input.Instance s)) after new h = h
-    shows_before old (Err (Text input.Proof s)) after new h = h
-    shows_before old (Err (Open i)) after new h = h
-    shows_before old (Err (Overflow i)) after new h = h
-    shows_before old (Err (Memory i)) after new h = h
-    shows_before old (Err (Step place e name)) after new h = h
+    shows_before = shows_to format format longest (λ input used spans place done stop r. r) mid before (λ after used seen t. took_before before mid after used seen k t) May May (λ used b h. h) text contents faults
 
     -- nothing, if the source failed at its first byte
     pub shows_nothing : ReadsNothing format longest → (old : W) → ShowsLines format longest May text contents faults before old (Err (Text File first_fault)) mid old

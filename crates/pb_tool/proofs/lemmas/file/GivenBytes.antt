@@ -8,6 +8,10 @@ use Rattle.pb_proof.specs.contract.Gather.{MayKeep}
 use Rattle.pb_tool.proofs.lemmas.file.ChosenFormat.{shows_nothing, tidies_nothing}
 use Rattle.pb_tool.proofs.lemmas.show.ShownStatements.{rest_within}
 
+-- what follows from what holds of any bytes follows from what holds of these
+pub given_by : {P Q : Option (List ℕ) → Option (List ℕ) → Type 0} (before after : List ℕ) → ((left rest : Option (List ℕ)) → P left rest → Q left rest) → OfGiven P before after → OfGiven Q before after
+given_by before after to (given, seen, e, h) = (given, seen, e, to (Some (given ++ seen)) (Some seen) h)
+
 -- the used bytes are the given ones, if all that was left after them was seen
 pub given_used : (given left used seen : List ℕ) → Took (Some (given ++ left)) used seen (Some left) → given ≡ used
 given_used given left used seen t =
@@ -89,19 +93,10 @@ module _ (limits : Limits) (longest n : ℕ) (is : longest ≡ n) {W : Type 0} (
   -- nothing, if the source failed at its first byte
   pub given_unshown : 0 < longest → ((m : ℕ) → 0 < m → ReadsNothing (IsProofText limits) m) → (f : ToolFault) → f ≡ Text File first_fault → ShowsGiven limits n contents faults before old (Err f) mid old
   given_unshown some reads f fault =
-      given_shown_proof (Err f) mid old (
-        [],
-        [],
-        sym (append-nil mid),
-        subst (λ (x : ToolFault). ShowsLines (IsProofText limits) longest (AsksInProofText limits) statement_bytes contents faults (Some []) old (Err x) (Some []) old) (sym fault)
-            (shows_nothing (IsProofText limits) longest (Some []) (Some []) refl (AsksInProofText limits) statement_bytes contents faults (reads longest some) old),
-      )
+      let none : ShowsLines (IsProofText limits) longest (AsksInProofText limits) statement_bytes contents faults (Some []) old (Err f) (Some []) old = rw fault (shows_nothing (IsProofText limits) longest (Some []) (Some []) refl (AsksInProofText limits) statement_bytes contents faults (reads longest some) old) in
+      given_shown_proof (Err f) mid old ([], [], sym (append-nil mid), none)
 
   pub given_unread : 0 < longest → ((m : ℕ) → 0 < m → ReadsNothing (IsProofText limits) m) → (f : ToolFault) → f ≡ Text File first_fault → TidiesGiven limits n contents faults false before old (Err f) mid old
   given_unread some reads f fault =
-      given_proof (Err f) mid old (
-        [],
-        [],
-        sym (append-nil mid),
-        subst (λ (x : ToolFault). TidiesProof limits longest contents faults (Some []) old (Err x) (Some []) old) (sym fault) (tidies_nothing (Some []) (Some []) refl (IsProofText limits) longest (AsksInProofText limits) MayKeep IsProofOf tidied_proof contents faults (reads longest some) old),
-      )
+      let none : TidiesProof limits longest contents faults (Some []) old (Err f) (Some []) old = rw fault (tidies_nothing (Some []) (Some []) refl (IsProofText limits) longest (AsksInProofText limits) MayKeep IsProofOf tidied_proof contents faults (reads longest some) old) in
+      given_proof (Err f) mid old ([], [], sym (append-nil mid), none)

@@ -1,16 +1,21 @@
 -- Statements that are shown one after another, for the bytes that the calls of a source have given.
-use Rattle.pb_tool.proofs.Common.{ℕ, ◌++◌, ◌∙◌, ◌∷◌, ◌≡◌, [], ap, append_assoc, arith, Err, false, length-append, List, None, Ok, Option, refl}
-use Rattle.pb_tool.proofs.Common.{Result, Some, subst, sym, true, append_cancel_right, row, given_both, AcceptsItems, halt_of, is_complete, place_of}
-use Rattle.pb_tool.proofs.Common.{stop_of, Feeder, Ghosts, Place, Spanned, Stop, OfGiven, Pulls, PullsOn, TookAll, TookSoFar, Item, IsAsking, Broke}
+use Rattle.pb_tool.proofs.Common.{ℕ, ◌++◌, ◌∙◌, ◌∷◌, ◌≡◌, [], ap, append_assoc, arith, Err, length-append, List, None, Ok, Option, refl}
+use Rattle.pb_tool.proofs.Common.{Result, Some, subst, sym, true, append_cancel_right, row, given_both, AcceptsItems, MayAsk, halt_of, is_complete, place_of}
+use Rattle.pb_tool.proofs.Common.{stop_of, Feeder, Ghosts, Place, Spanned, Stop, OfGiven, Pulls, PullsOn, TookAll, Item, Broke}
 use Rattle.pb_tool.proofs.Common.{Wrote, EndsAt, shown, shown_line, ShowsLines, File, ToolFault, Text, Write, HasGiven}
+use Rattle.pb_text.specs.contract.Pulled.{PullsOnce}
+use Rattle.pb_text.specs.contract.Standing.{IsOpen}
 use Rattle.pb_tool.specs.contract.Show.{InText}
 use Rattle.pb_tool.proofs.lemmas.show.ShownStatements.{shows_end}
 
-module _ {M E : Type 0} {g : Ghosts M E} (longest : ℕ) (start : M) (before mid after : List ℕ) (spans : List (Spanned E)) (old new : Feeder M E g) (h : HasGiven longest start before spans old mid) (left rest : Option (List ℕ)) where
+module _ {M E : Type 0} {g : Ghosts M E} {longest : ℕ} {start : M} (before mid after : List ℕ) {spans : List (Spanned E)} {old new : Feeder M E g} (h : HasGiven longest start before spans old mid) {left rest : Option (List ℕ)} where
+  abbrev pulled : {result : Result (Option (Spanned E)) Stop} → PullsOnce old left mid result new rest after → Pulls longest start h.0 spans old left result new rest mid after
+  pulled pulls = pulls longest start h.0 spans (subst IsOpen (sym h.4) tt) h.3
+
   -- the result of one more pull
-  pub given_row : (result : Result (Option (Spanned E)) Stop) → Pulls longest start h.0 spans old left result new rest mid after → halt_of new ≡ stop_of result → (result ≡ Ok None → is_complete new ≡ true)
+  pub given_row : {result : Result (Option (Spanned E)) Stop} → PullsOnce old left mid result new rest after → halt_of new ≡ stop_of result → (result ≡ Ok None → is_complete new ≡ true)
       → ((m : Spanned E) → result ≡ Ok (Some m) → m.past ≡ place_of new) → OfGiven (λ text end. PullsOn longest start text spans result new end) before after
-  given_row result p stop last past = (
+  given_row {result} pulls stop last past = let p = pulled pulls in (
     h.0 ++ p.taken,
     p.seen,
     given_both before mid after h.0 p.taken h.1 p.given_are,
@@ -21,13 +26,9 @@ module _ {M E : Type 0} {g : Ghosts M E} (longest : ℕ) (start : M) (before mid
         stop last past,
   )
 
-  pub given_so_far : (m : Spanned E) → OfGiven (λ text end. PullsOn longest start text spans (Ok (Some m)) new end) before after
-      → OfGiven (λ text end. TookSoFar (AcceptsItems g.automaton start) longest text end (spans ++ m ∷ []) m.past) before after
-  given_so_far m (given, seen, e, on) = (given, seen, e, on.1)
-
   -- the state of the feeder after an event
-  pub given_next : (m : Spanned E) → Pulls longest start h.0 spans old left (Ok (Some m)) new rest mid after → halt_of new ≡ None → HasGiven longest start before (spans ++ m ∷ []) new after
-  given_next m p running = (
+  pub given_next : (m : Spanned E) → PullsOnce old left mid (Ok (Some m)) new rest after → halt_of new ≡ None → HasGiven longest start before (spans ++ m ∷ []) new after
+  given_next m pulls running = let p = pulled pulls in (
     h.0 ++ p.taken,
     given_both before mid after h.0 p.taken h.1 p.given_are,
     omega (arith, p.offset_is, h.2, length-append h.0 p.taken),
@@ -55,12 +56,14 @@ module _ {E : Type 0} (format : List (Item E) → Type 0) (longest : ℕ) (May :
         (shows_end format longest May text contents faults (Some (used ++ (given ++ seen))) (Some (given ++ seen)) (Some seen) spans place old new result (all_of format longest used other (given ++ seen) spans place all) ends w),
   )
 
+module _ {M E : Type 0} {g : Ghosts M E} (longest : ℕ) (start : M) (text : E → List ℕ) {W : Type 0} (contents : W → Option (List ℕ)) (faults : W → ℕ) (spans : List (Spanned E)) (f : Feeder M E g) where
+  abbrev Lines : Option (List ℕ) → W → Result (Unit {0}) ToolFault → Option (List ℕ) → W → Type 0
+  Lines = ShowsLines (AcceptsItems g.automaton start) longest (MayAsk g.automaton start) text contents faults
+
   -- what was shown of a text that was rejected
-  pub given_refused : (before after : List ℕ) (spans : List (Spanned E)) (s : Stop) (old new : W) → OfGiven (λ left rest. (all : TookAll format longest left rest spans s.place false (Some s)) × IsAsking May all.used all.seen s.why) before after
-      → Wrote contents faults old (shown text spans) new → OfGiven (λ left rest. ShowsLines format longest May text contents faults left old (Err (Text File s)) rest new) before after
-  given_refused before after spans s old new (given, seen, e, (all, asking)) w = (given, seen, e, (spans, InText all asking, w))
+  pub refused : (s : Stop) (old new : W) → Wrote contents faults old (shown text spans) new → (before after : Option (List ℕ)) → PullsOn longest start before spans (Err s) f after → Lines before old (Err (Text File s)) after new
+  refused s old new w before after (all, asking) = (spans, InText all asking, w)
 
   -- what was shown before a line that could not be written
-  pub given_broken : (before after : List ℕ) (spans : List (Spanned E)) (last : Spanned E) (old mid new : W) → OfGiven (λ left rest. TookSoFar format longest left rest (spans ++ last ∷ []) last.past) before after
-      → Wrote contents faults old (shown text spans) mid → Broke contents faults mid (shown_line text last) new → OfGiven (λ left rest. ShowsLines format longest May text contents faults left old (Err Write) rest new) before after
-  given_broken before after spans last old mid new (given, seen, e, sofar) w b = (given, seen, e, (spans, last, mid, sofar, w, b))
+  pub broken : (m : Spanned E) (old mid new : W) → Wrote contents faults old (shown text spans) mid → Broke contents faults mid (shown_line text m) new → (before after : Option (List ℕ)) → PullsOn longest start before spans (Ok (Some m)) f after → Lines before old (Err Write) after new
+  broken m old mid new w b before after (more, sofar) = (spans, m, mid, sofar, w, b)

@@ -9,9 +9,7 @@ use Rattle.pb_tool.proofs.lemmas.check.OneRead.{so_far_reached}
 
 -- a text and the blank rest after it are no longer than an input may be
 pub rest_within : (used rest : List ℕ) (place : Place) → place ≡ place_after used → place.offset + length rest ≤ byte_limit → length (used ++ rest) ≤ byte_limit
-rest_within used rest place at bound =
-    let offset = ap (λ (p : Place). p.offset) at ∙ place_after-offset used in
-    omega (arith, bound, offset, length-append used rest)
+rest_within used rest place at bound = grind (arith, place_after-offset, length-append)
 
 -- if more was read of an input, less is left of it
 pub fewer : (a b : ℕ) → b ≤ 2 ^ 40 → a < b → 2 ^ 40 + 1 - b < 2 ^ 40 + 1 - a
@@ -62,28 +60,31 @@ module _ {E : Type 0} (format : List (Item E) → Type 0) (longest : ℕ) where
     shows_end before mid after spans place old new (Err (Text File s)) t e w = (spans, stray May before mid after spans place s t e, w)
     shows_end before mid after spans place old new (Err f) t e w = absurd e
 
--- what is shown for a format, if each read under it is one under another format
+-- What is shown for a format and a source, if each read under it is one under another format, and what was taken of the
+-- source was taken of another one.
 module _ {E : Type 0} (one other : List (Item E) → Type 0) (longest : ℕ)
-    (to : (input used : List ℕ) (spans : List (Spanned E)) (place : Place) (done : Bool) (stop : Option Stop) → Reads one longest input used spans place done stop → Reads other longest input used spans place done stop) where
-  abbrev pub all_to : (before after : Option (List ℕ)) (spans : List (Spanned E)) (place : Place) (done : Bool) (stop : Option Stop) → TookAll one longest before after spans place done stop → TookAll other longest before after spans place done stop
-  all_to before after spans place done stop t = record { used = t.used; seen = t.seen; took = t.took; reads = to (t.used ++ t.seen) t.used spans place done stop t.reads }
+    (to : (input used : List ℕ) (spans : List (Spanned E)) (place : Place) (done : Bool) (stop : Option Stop) → Reads one longest input used spans place done stop → Reads other longest input used spans place done stop)
+    (mid before : Option (List ℕ)) (taken : (after : Option (List ℕ)) (used seen : List ℕ) → Took mid used seen after → Took before used seen after) where
+  abbrev pub all_to : (after : Option (List ℕ)) (spans : List (Spanned E)) (place : Place) (done : Bool) (stop : Option Stop) → TookAll one longest mid after spans place done stop → TookAll other longest before after spans place done stop
+  all_to after spans place done stop t = record { used = t.used; seen = t.seen; took = taken after t.used t.seen t.took; reads = to (t.used ++ t.seen) t.used spans place done stop t.reads }
 
-  pub so_far_to : (before after : Option (List ℕ)) (spans : List (Spanned E)) (place : Place) → TookSoFar one longest before after spans place → TookSoFar other longest before after spans place
-  so_far_to before after spans place t = record { used = t.used; seen = t.seen; took = t.took; done = t.done; reads = to t.used t.used spans place t.done None t.reads }
+  pub so_far_to : (after : Option (List ℕ)) (spans : List (Spanned E)) (place : Place) → TookSoFar one longest mid after spans place → TookSoFar other longest before after spans place
+  so_far_to after spans place t = record { used = t.used; seen = t.seen; took = taken after t.used t.seen t.took; done = t.done; reads = to t.used t.used spans place t.done None t.reads }
 
   spelt_to : (used : List ℕ) (spans : List (Spanned E)) → IsSpelled one longest used spans → IsSpelled other longest used spans
   spelt_to used spans s = (to used used spans (place_after used) true None (record { left = []; input_is = sym (append-nil used); place_is = refl; answer = (s, refl) })).answer.0
 
-  spelling_to : (before after : Option (List ℕ)) (spans : List (Spanned E)) → IsSpelling one longest before after spans → IsSpelling other longest before after spans
-  spelling_to before after spans i = record { used = i.used; rest = i.rest; took = i.took; spelled = spelt_to i.used spans i.spelled; blank = i.blank; within = i.within }
+  spelling_to : (after : Option (List ℕ)) (spans : List (Spanned E)) → IsSpelling one longest mid after spans → IsSpelling other longest before after spans
+  spelling_to after spans i = record { used = i.used; rest = i.rest; took = taken after (i.used ++ i.rest) [] i.took; spelled = spelt_to i.used spans i.spelled; blank = i.blank; within = i.within }
 
-  refused_to : (May Other : List ℕ → ℕ → Type 0) (asks : (used : List ℕ) (b : ℕ) → May used b → Other used b) (before after : Option (List ℕ)) (spans : List (Spanned E)) (s : Stop) → IsRefusedAfter one longest May before after spans s → IsRefusedAfter other longest Other before after spans s
-  refused_to May Other asks before after spans s (InText t a) = InText (all_to before after spans s.place false (Some s) t) (asking_to May Other t.used t.seen (asks t.used) s.why a)
-  refused_to May Other asks before after spans s (InRest used seen mid took spelled r) = InRest used seen mid took (spelt_to used spans spelled) r
+  module _ (May Other : List ℕ → ℕ → Type 0) (asks : (used : List ℕ) (b : ℕ) → May used b → Other used b) where
+    refused_to : (after : Option (List ℕ)) (spans : List (Spanned E)) (s : Stop) → IsRefusedAfter one longest May mid after spans s → IsRefusedAfter other longest Other before after spans s
+    refused_to after spans s (InText t a) = InText (all_to after spans s.place false (Some s) t) (asking_to May Other t.used t.seen (asks t.used) s.why a)
+    refused_to after spans s (InRest used seen next took spelled r) = InRest used seen next (taken next used seen took) (spelt_to used spans spelled) r
 
-  module _ (May Other : List ℕ → ℕ → Type 0) (asks : (used : List ℕ) (b : ℕ) → May used b → Other used b) (text : E → List ℕ) {W : Type 0} (contents : W → Option (List ℕ)) (faults : W → ℕ) where
-    pub shows_to : (before : Option (List ℕ)) (old : W) (result : Result Unit ToolFault) (after : Option (List ℕ)) (new : W) → ShowsLines one longest May text contents faults before old result after new → ShowsLines other longest Other text contents faults before old result after new
-    shows_to before old (Ok u) after new (spans, i, w) = (spans, spelling_to before after spans i, w)
-    shows_to before old (Err (Text File s)) after new (spans, i, w) = (spans, refused_to May Other asks before after spans s i, w)
-    shows_to before old (Err Write) after new (spans, last, mid, t, w, b) = (spans, last, mid, so_far_to before after (spans ++ last ∷ []) last.past t, w, b)
-    shows_to before old (Err e) after new h = h
+    module _ (text : E → List ℕ) {W : Type 0} (contents : W → Option (List ℕ)) (faults : W → ℕ) where
+      pub shows_to : (old : W) (result : Result Unit ToolFault) (after : Option (List ℕ)) (new : W) → ShowsLines one longest May text contents faults mid old result after new → ShowsLines other longest Other text contents faults before old result after new
+      shows_to old (Ok u) after new (spans, i, w) = (spans, spelling_to after spans i, w)
+      shows_to old (Err (Text File s)) after new (spans, i, w) = (spans, refused_to after spans s i, w)
+      shows_to old (Err Write) after new (spans, last, between, t, w, b) = (spans, last, between, so_far_to after (spans ++ last ∷ []) last.past t, w, b)
+      shows_to old (Err e) after new h = h

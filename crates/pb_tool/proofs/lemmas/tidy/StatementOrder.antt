@@ -127,9 +127,7 @@ abbrev pub value_of : ℕ → List ℕ → List OpbEvent → Instance
 value_of n tail events = record { variables = n; tail = tail; objective = last_or None (objectives_in events); comments = comments_in 0 events; constraints = constraints_in events }
 
 pub is_value : (n m : ℕ) (tail : List ℕ) (limit : ℕ) (items : List (Item OpbEvent)) → IsCounted limit true m items → IsValueOf (Header n m tail ∷ events_of items) (value_of n tail (events_of items))
-is_value n m tail limit items h =
-    let r = reported limit true m items h in
-    record { variables = ap (last_or n) (sym r.variables); tail = ap (last_or tail) (sym r.tails); objective = refl; comments = refl; constraints = refl }
+is_value n m tail limit items h = grind (arith, reported)
 
 module _ (limit top : ℕ) where
   bare_not : (o : Option (List Term)) (l : Linear) (ls : List Linear) → is_bare o (l ∷ ls) ≡ false

@@ -1,5 +1,5 @@
 -- What is stored of statements for their normal form, and one more statement.
-use Rattle.pb_tool.proofs.Common.{ℕ, ◌++◌, ◌∙◌, ◌∷◌, ◌≡◌, [], ap, append-nil, List, None, Option, refl, Some, sym, flat_map-append, names_of}
+use Rattle.pb_tool.proofs.Common.{ℕ, ◌++◌, ◌∙◌, ◌∷◌, ◌≡◌, [], ap, append-nil, List, None, Option, refl, Some, sym, flat_map-append, names_of, arith}
 use Rattle.pb_tool.proofs.Common.{OpbEvent, Comment, Constraint, Header, Objective, constraints_in, last_or, objectives_in, variables_in, Linear}
 use Rattle.pb_tool.proofs.Common.{Term, Forms, AreMade, as_statement, IsNoted, names_at, names_on}
 
@@ -28,11 +28,7 @@ names_more events e = flat_map-append names_at events (e ∷ []) ∙ ap (λ (ns 
 -- the invariant of the statements with one more
 noted_next : (events : List OpbEvent) (e : OpbEvent) (n : ℕ) (o : Option OpbEvent) (f : Forms) → n ≡ last_or 0 (variables_in events ++ variables_in (e ∷ [])) → o ≡ as_statement (last_or None (objectives_in events ++ objectives_in (e ∷ [])))
     → AreMade (names_on events ++ names_at e) (constraints_in events ++ constraints_in (e ∷ [])) f → IsNoted (events ++ e ∷ []) n o f
-noted_next events e n o f v w made = record {
-  variables_are = v ∙ ap (last_or 0) (sym (variables_more events e));
-  objective_is = w ∙ ap (λ (xs : List (Option (List Term))). as_statement (last_or None xs)) (sym (objectives_more events e));
-  made = rw (names_more events e, constraints_more events e) made;
-}
+noted_next events e n o f v w made = grind (arith, variables_more, objectives_more, names_more, constraints_more)
 
 module _ (events : List OpbEvent) (n : ℕ) (o : Option OpbEvent) (f : Forms) (h : IsNoted events n o f) where
   same_count : n ≡ last_or 0 (variables_in events ++ [])

@@ -23,10 +23,7 @@ with_many_bits k top least most is =
     (omega arith, most, omega (arith, is), omega (arith, is), omega (arith, is, upper))
 
 are_limits : (c : goal.In-None) → AreLimits c.args.bits c.if-bits-lt63.top
-are_limits c = elim c.if-bits-lt63.branch [
-  | then-bits-lt63 w ↦ with_few_bits c.args.bits c.if-bits-lt63.top c.requires.least (omega (arith, w.if-bits-lt63.true)) w.top-is
-  | else-bits-lt63 w ↦ with_many_bits c.args.bits c.if-bits-lt63.top w.if-bits-lt63.false c.requires.most w.top-is
-]
+are_limits c = grind (arith, c.if-bits-lt63.branch, with_few_bits, c.requires.least, with_many_bits, c.requires.most)
 
 pub unreachable-requires : goal.unreachable-requires
 unreachable-requires c = let some : false ≡ true = c.in-None.ensures.valid.1 (are_limits c) in cc

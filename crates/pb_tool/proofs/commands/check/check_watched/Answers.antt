@@ -1,25 +1,18 @@
-use Rattle.pb_tool.proofs.Common.{◌++◌, ◌^◌, [], append-nil, Err, Ok, refl, rules, Some, sym, unwrap_or, first_state, Write}
+use Rattle.pb_tool.proofs.Common.{◌++◌, ◌^◌, [], append-nil, Err, Ok, refl, rules, Some, sym, unwrap_or, first_state, Write, arith}
 use Rattle.pb_tool.proofs.lemmas.check.TwoSources as accepted
 use Rattle.pb_tool.proofs.lemmas.check.Peeked.{opening_unseen, replay_unseen}
 use Rattle.pb_tool.proofs.lemmas.check.Headline as headline
+use Rattle.pb_tool.proofs.lemmas.file.GivenBytes.{given_by}
 use Rattle.pb_tool.proofs.lemmas.check.WatchCalls.{watched_none, watched_ok, watched_refused, watched_unwritten}
 use Rattle.pb_tool.proofs.commands.check.check_watched.Goals as goal
 
 pub returns-in-Err-clause-checked : goal.returns-in-Err-clause-checked
 returns-in-Err-clause-checked g c =
     let (given, seen, e, refused) = c.in-Err.ensures.given in
+    let none = accepted.no_replay c.args.limits c.unwrap_or-longest.result _ c.unwrap_or-longest.ensures g.W.Sink.contents g.W.Sink.faults (Some (given ++ seen)) (Some seen) (Some []) (Some []) c.args.out.now c.args.out.now c.in-Err.fault refused refl refl in
     headline.all_checked c.verified_is_true.ensures g.I.Source g.P.Source g.W.Sink c.args.limits (unwrap_or c.args.longest (2 ^ 40)) c.args.instance.now c.args.proof.now c.args.out.now c.replay_of_instance.new.input c.args.proof.now c.args.out.now (Err c.in-Err.fault)
-    (accepted.no_replay c.args.limits c.unwrap_or-longest.result _ c.unwrap_or-longest.ensures g.W.Sink.contents g.W.Sink.faults _ _ _ _ _ _ c.in-Err.fault c.in-Err.ensures.opened refl refl) (
-      given,
-      seen,
-      e,
-      (
-        [],
-        [],
-        sym (append-nil (g.P.Source.history c.args.proof.now)),
-        accepted.no_replay c.args.limits c.unwrap_or-longest.result _ c.unwrap_or-longest.ensures g.W.Sink.contents g.W.Sink.faults (Some (given ++ seen)) (Some seen) (Some []) (Some []) c.args.out.now c.args.out.now c.in-Err.fault refused refl refl,
-      ),
-    )
+    (accepted.no_replay c.args.limits c.unwrap_or-longest.result _ c.unwrap_or-longest.ensures g.W.Sink.contents g.W.Sink.faults _ _ _ _ _ _ c.in-Err.fault c.in-Err.ensures.opened refl refl)
+    (given, seen, e, ([], [], sym (append-nil (g.P.Source.history c.args.proof.now)), none))
     c.in-Err.ensures.seen
     (opening_unseen (g.P.Source.shown c.args.proof.now) (g.P.Source.ended c.args.proof.now) c.args.limits c.unwrap_or-longest.result _ _ c.in-Err.fault c.in-Err.ensures.opened)
     (search rules) (search rules)
@@ -68,29 +61,17 @@ returns-in-Err-clause-watched g c =
 
 pub returns-in-Err-clause-watched_given : goal.returns-in-Err-clause-watched_given
 returns-in-Err-clause-watched_given g c =
-    let (given, seen, e, refused) = c.in-Err.ensures.given in (
-      given,
-      seen,
-      e,
-      (
-        [],
-        [],
-        sym (append-nil (g.P.Source.history c.args.proof.now)),
-        watched_none c.args.limits c.unwrap_or-longest.result _ c.unwrap_or-longest.ensures g.V.Watch.got (Some (given ++ seen)) (Some seen) (Some []) (Some []) c.args.watch.now c.args.watch.now c.in-Err.fault refused refl,
-      ),
-    )
+    let (given, seen, e, refused) = c.in-Err.ensures.given in
+    let none = watched_none c.args.limits c.unwrap_or-longest.result _ c.unwrap_or-longest.ensures g.V.Watch.got (Some (given ++ seen)) (Some seen) (Some []) (Some []) c.args.watch.now c.args.watch.now c.in-Err.fault refused refl in
+    (given, seen, e, ([], [], sym (append-nil (g.P.Source.history c.args.proof.now)), none))
 
 pub returns-in-Err-check_proof-clause-watched : goal.returns-in-Err-check_proof-clause-watched
-returns-in-Err-check_proof-clause-watched g c =
-    let h = c.in-Ok.ensures.opened in
-    watched_refused c.args.limits c.unwrap_or-longest.result _ c.unwrap_or-longest.ensures g.V.Watch.got (g.I.Source.left c.args.instance.now) (g.I.Source.left c.replay_of_instance.new.input) (g.P.Source.left c.args.proof.now) (g.P.Source.left c.check_proof.new.input) c.args.watch.now c.check_proof.new.watch c.in-Ok.replay h c.in-Err-check_proof.fault
-    (c.in-Err-check_proof.ensures.comes (first_state c.in-Ok.replay.problem) h.first).shown
+returns-in-Err-check_proof-clause-watched g c = grind (arith, c.in-Ok.ensures.opened, watched_refused, c.unwrap_or-longest.ensures, g.V.Watch.got, g.I.Source.left, g.P.Source.left, c.in-Err-check_proof.ensures.comes)
 
 pub returns-in-Err-check_proof-clause-watched_given : goal.returns-in-Err-check_proof-clause-watched_given
 returns-in-Err-check_proof-clause-watched_given g c =
     let (one, left, e, h) = c.in-Ok.ensures.given in
-    let (other, rest, f, owed) = (c.in-Err-check_proof.ensures.comes (first_state c.in-Ok.replay.problem) h.first).shown_given in
-    (one, left, e, (other, rest, f, watched_refused c.args.limits c.unwrap_or-longest.result _ c.unwrap_or-longest.ensures g.V.Watch.got (Some (one ++ left)) (Some left) (Some (other ++ rest)) (Some rest) c.args.watch.now c.check_proof.new.watch c.in-Ok.replay h c.in-Err-check_proof.fault owed))
+    (one, left, e, given_by _ _ (λ p rest. watched_refused c.args.limits c.unwrap_or-longest.result _ c.unwrap_or-longest.ensures g.V.Watch.got (Some (one ++ left)) (Some left) p rest c.args.watch.now c.check_proof.new.watch c.in-Ok.replay h c.in-Err-check_proof.fault) (c.in-Err-check_proof.ensures.comes (first_state c.in-Ok.replay.problem) h.first).shown_given)
 
 pub returns-in-Ok-write_verdict-clause-watched : goal.returns-in-Ok-write_verdict-clause-watched
 returns-in-Ok-write_verdict-clause-watched g c =
@@ -101,8 +82,7 @@ returns-in-Ok-write_verdict-clause-watched g c =
 pub returns-in-Ok-write_verdict-clause-watched_given : goal.returns-in-Ok-write_verdict-clause-watched_given
 returns-in-Ok-write_verdict-clause-watched_given g c =
     let (one, left, e, h) = c.in-Ok.ensures.given in
-    let (other, rest, f, owed) = (c.in-Ok-check_proof.ensures.comes (first_state c.in-Ok.replay.problem) h.first).shown_given in
-    (one, left, e, (other, rest, f, watched_ok c.args.limits c.unwrap_or-longest.result _ c.unwrap_or-longest.ensures g.V.Watch.got (Some (one ++ left)) (Some left) (Some (other ++ rest)) (Some rest) c.args.watch.now c.check_proof.new.watch c.in-Ok.replay h c.in-Ok-check_proof.verdict owed))
+    (one, left, e, given_by _ _ (λ p rest. watched_ok c.args.limits c.unwrap_or-longest.result _ c.unwrap_or-longest.ensures g.V.Watch.got (Some (one ++ left)) (Some left) p rest c.args.watch.now c.check_proof.new.watch c.in-Ok.replay h c.in-Ok-check_proof.verdict) (c.in-Ok-check_proof.ensures.comes (first_state c.in-Ok.replay.problem) h.first).shown_given)
 
 pub returns-in-Err-write_verdict-clause-watched : goal.returns-in-Err-write_verdict-clause-watched
 returns-in-Err-write_verdict-clause-watched g c =
@@ -113,5 +93,4 @@ returns-in-Err-write_verdict-clause-watched g c =
 pub returns-in-Err-write_verdict-clause-watched_given : goal.returns-in-Err-write_verdict-clause-watched_given
 returns-in-Err-write_verdict-clause-watched_given g c =
     let (one, left, e, h) = c.in-Ok.ensures.given in
-    let (other, rest, f, owed) = (c.in-Ok-check_proof.ensures.comes (first_state c.in-Ok.replay.problem) h.first).shown_given in
-    (one, left, e, (other, rest, f, watched_unwritten c.args.limits c.unwrap_or-longest.result _ c.unwrap_or-longest.ensures g.V.Watch.got (Some (one ++ left)) (Some left) (Some (other ++ rest)) (Some rest) c.args.watch.now c.check_proof.new.watch c.in-Ok.replay h c.in-Ok-check_proof.verdict owed))
+    (one, left, e, given_by _ _ (λ p rest. watched_unwritten c.args.limits c.unwrap_or-longest.result _ c.unwrap_or-longest.ensures g.V.Watch.got (Some (one ++ left)) (Some left) p rest c.args.watch.now c.check_proof.new.watch c.in-Ok.replay h c.in-Ok-check_proof.verdict) (c.in-Ok-check_proof.ensures.comes (first_state c.in-Ok.replay.problem) h.first).shown_given)

@@ -1,7 +1,7 @@
-use Rattle.pb_tool.proofs.Common.{◌++◌, ◌^◌, ◌∙◌, ◌∷◌, ◌≤◌, [], ap, append-nil, Err, None, Ok, refl, Some, subst, sym, part_wrote, writes_nothing}
+use Rattle.pb_tool.proofs.Common.{◌++◌, ◌^◌, ◌∙◌, ◌∷◌, ◌≤◌, [], ap, append-nil, refl, subst, sym, part_wrote, writes_nothing, arith}
 use Rattle.pb_tool.proofs.Common.{AcceptsItems, MayAsk, place_of, Place, OfGiven, EndsAt}
-use Rattle.pb_tool.specs.contract.Show.{InText}
-use Rattle.pb_tool.proofs.lemmas.show.GivenStatements.{given_broken, given_next, given_refused, given_row, given_shown, given_so_far}
+use Rattle.pb_tool.proofs.lemmas.file.GivenBytes.{given_by}
+use Rattle.pb_tool.proofs.lemmas.show.GivenStatements.{broken, given_next, given_row, given_shown, refused}
 use Rattle.pb_tool.proofs.lemmas.show.ShownStatements.{fewer, first_pull, shown_more, shows_end, so_far_within}
 use Rattle.pb_tool.proofs.commands.show.show_each.Goals as goal
 
@@ -39,7 +39,7 @@ loop-read-preserved g c =
       shown = (spans ++ c.in-Ok-Some.read ∷ [], more, part_wrote g.W.Sink.contents g.W.Sink.faults _ _ _ _ _ _ (shown_more g.E.Canonical.text spans c.in-Ok-Some.read) wrote c.in-Ok.ensures);
       given = (
         given_spans ++ c.in-Ok-Some.read ∷ [],
-        given_next {g = g.M.Machine} c.args.longest c.args.machine (g.S.Source.history c.args.input.now) (g.S.Source.history c.loop-read.input) (g.S.Source.history c.pull.new.source) given_spans c.loop-read.feeder c.pull.new.feeder has (g.S.Source.left c.loop-read.input) (g.S.Source.left c.pull.new.source) c.in-Ok-Some.read (t.pulls c.args.longest c.args.machine has.0 given_spans (rw has.4 tt) has.3) t.stop,
+        given_next {g = g.M.Machine} _ _ _ has c.in-Ok-Some.read t.pulls t.stop,
         part_wrote g.W.Sink.contents g.W.Sink.faults _ _ _ _ _ _ (shown_more g.E.Canonical.text given_spans c.in-Ok-Some.read) went c.in-Ok.ensures,
       );
     }
@@ -48,15 +48,13 @@ pub returns-in-Err-show_statement-clause-shows : goal.returns-in-Err-show_statem
 returns-in-Err-show_statement-clause-shows g c =
     let (spans, pulled, wrote) = c.loop-read.invariant.shown in
     let t = rw (c.in-Ok-Some.is, c.in-Ok-Some.field-0-is) at c.pull.ensures in
-    let (more, sofar) = t.row c.args.longest c.args.machine (g.S.Source.left c.args.input.now) spans pulled in
-    (spans, c.in-Ok-Some.read, c.loop-read.out, sofar, wrote, c.in-Err-show_statement.ensures)
+    broken {g = g.M.Machine} c.args.longest c.args.machine g.E.Canonical.text g.W.Sink.contents g.W.Sink.faults spans c.pull.new.feeder c.in-Ok-Some.read c.args.out.now c.loop-read.out c.show_statement.new.out wrote c.in-Err-show_statement.ensures _ _ (t.row c.args.longest c.args.machine (g.S.Source.left c.args.input.now) spans pulled)
 
 pub returns-in-Err-clause-shows : goal.returns-in-Err-clause-shows
 returns-in-Err-clause-shows g c =
     let (spans, pulled, wrote) = c.loop-read.invariant.shown in
     let t = rw c.in-Err.is at c.pull.ensures in
-    let (all, asking) = t.row c.args.longest c.args.machine (g.S.Source.left c.args.input.now) spans pulled in
-    rw c.text_fault.ensures (spans, InText all asking, wrote)
+    rw c.text_fault.ensures (refused {g = g.M.Machine} c.args.longest c.args.machine g.E.Canonical.text g.W.Sink.contents g.W.Sink.faults spans c.pull.new.feeder c.in-Err.stop c.args.out.now c.loop-read.out wrote _ _ (t.row c.args.longest c.args.machine (g.S.Source.left c.args.input.now) spans pulled))
 
 pub returns-clause-shows : goal.returns-clause-shows
 returns-clause-shows g c =
@@ -70,17 +68,13 @@ pub returns-in-Err-show_statement-clause-given : goal.returns-in-Err-show_statem
 returns-in-Err-show_statement-clause-given g c =
     let (spans, has, wrote) = c.loop-read.invariant.given in
     let t = rw (c.in-Ok-Some.is, c.in-Ok-Some.field-0-is) at c.pull.ensures in
-    given_broken (AcceptsItems g.M.Machine.automaton c.args.machine) c.args.longest (MayAsk g.M.Machine.automaton c.args.machine) g.E.Canonical.text g.W.Sink.contents g.W.Sink.faults (g.S.Source.history c.args.input.now) (g.S.Source.history c.pull.new.source) spans c.in-Ok-Some.read c.args.out.now c.loop-read.out c.show_statement.new.out
-    (given_so_far {g = g.M.Machine} c.args.longest c.args.machine (g.S.Source.history c.args.input.now) (g.S.Source.history c.loop-read.input) (g.S.Source.history c.pull.new.source) spans c.loop-read.feeder c.pull.new.feeder has (g.S.Source.left c.loop-read.input) (g.S.Source.left c.pull.new.source) c.in-Ok-Some.read (given_row {g = g.M.Machine} c.args.longest c.args.machine (g.S.Source.history c.args.input.now) (g.S.Source.history c.loop-read.input) (g.S.Source.history c.pull.new.source) spans c.loop-read.feeder c.pull.new.feeder has (g.S.Source.left c.loop-read.input) (g.S.Source.left c.pull.new.source) (Ok (Some c.in-Ok-Some.read)) (t.pulls c.args.longest c.args.machine has.0 spans (rw has.4 tt) has.3) t.stop t.last (λ m e. (t.past m e).past)))
-    wrote c.in-Err-show_statement.ensures
+    given_by _ _ (broken {g = g.M.Machine} c.args.longest c.args.machine g.E.Canonical.text g.W.Sink.contents g.W.Sink.faults spans c.pull.new.feeder c.in-Ok-Some.read c.args.out.now c.loop-read.out c.show_statement.new.out wrote c.in-Err-show_statement.ensures) (given_row {g = g.M.Machine} _ _ _ has t.pulls t.stop t.last (λ m e. (t.past m e).past))
 
 pub returns-in-Err-clause-given : goal.returns-in-Err-clause-given
 returns-in-Err-clause-given g c =
     let (spans, has, wrote) = c.loop-read.invariant.given in
     let t = rw c.in-Err.is at c.pull.ensures in
-    rw c.text_fault.ensures (given_refused (AcceptsItems g.M.Machine.automaton c.args.machine) c.args.longest (MayAsk g.M.Machine.automaton c.args.machine) g.E.Canonical.text g.W.Sink.contents g.W.Sink.faults (g.S.Source.history c.args.input.now) (g.S.Source.history c.pull.new.source) spans c.in-Err.stop c.args.out.now c.loop-read.out
-    (given_row {g = g.M.Machine} c.args.longest c.args.machine (g.S.Source.history c.args.input.now) (g.S.Source.history c.loop-read.input) (g.S.Source.history c.pull.new.source) spans c.loop-read.feeder c.pull.new.feeder has (g.S.Source.left c.loop-read.input) (g.S.Source.left c.pull.new.source) (Err c.in-Err.stop) (t.pulls c.args.longest c.args.machine has.0 spans (rw has.4 tt) has.3) t.stop t.last (λ m e. (t.past m e).past))
-    wrote)
+    rw c.text_fault.ensures (given_by _ _ (refused {g = g.M.Machine} c.args.longest c.args.machine g.E.Canonical.text g.W.Sink.contents g.W.Sink.faults spans c.pull.new.feeder c.in-Err.stop c.args.out.now c.loop-read.out wrote) (given_row {g = g.M.Machine} _ _ _ has t.pulls t.stop t.last (λ m e. (t.past m e).past)))
 
 pub returns-clause-given : goal.returns-clause-given
 returns-clause-given g c =
@@ -88,11 +82,8 @@ returns-clause-given g c =
     let t = rw (c.in-Ok-None.is, c.in-Ok-None.field-0-is) at c.pull.ensures in
     let ends = subst (λ (p : Place). OfGiven (λ left rest. EndsAt p left c.read_blank_rest.result rest) (g.S.Source.history c.pull.new.source) (g.S.Source.history c.read_blank_rest.new.input)) c.place.ensures.place c.read_blank_rest.ensures.given in
     given_shown (AcceptsItems g.M.Machine.automaton c.args.machine) c.args.longest (MayAsk g.M.Machine.automaton c.args.machine) g.E.Canonical.text g.W.Sink.contents g.W.Sink.faults (g.S.Source.history c.args.input.now) (g.S.Source.history c.pull.new.source) (g.S.Source.history c.read_blank_rest.new.input) spans (place_of c.pull.new.feeder) c.args.out.now c.loop-read.out c.read_blank_rest.result
-    (given_row {g = g.M.Machine} c.args.longest c.args.machine (g.S.Source.history c.args.input.now) (g.S.Source.history c.loop-read.input) (g.S.Source.history c.pull.new.source) spans c.loop-read.feeder c.pull.new.feeder has (g.S.Source.left c.loop-read.input) (g.S.Source.left c.pull.new.source) (Ok None) (t.pulls c.args.longest c.args.machine has.0 spans (rw has.4 tt) has.3) t.stop t.last (λ m e. (t.past m e).past))
+    (given_row {g = g.M.Machine} _ _ _ has t.pulls t.stop t.last (λ m e. (t.past m e).past))
     ends wrote
 
 pub returns-in-Err-clause-seen : goal.returns-in-Err-clause-seen
-returns-in-Err-clause-seen g c =
-    let (spans, pulled, wrote) = c.loop-read.invariant.shown in
-    let t = rw c.in-Err.is at c.pull.ensures in
-    rw c.text_fault.ensures (t.shown pulled.running)
+returns-in-Err-clause-seen g c = grind (arith, c.loop-read.invariant.shown, c.in-Err.is, c.pull.ensures, c.text_fault.ensures)

@@ -1,4 +1,4 @@
-use Rattle.pb_tool.proofs.Common.{refl}
+use Rattle.pb_tool.proofs.Common.{refl, arith}
 use Rattle.pb_tool.proofs.commands.tidy.tidy_each.Goals as goal
 
 pub returns-in-Err-clause-tidies : goal.returns-in-Err-clause-tidies
@@ -13,14 +13,10 @@ pub returns-in-Ok-write_text-clause-tidies : goal.returns-in-Ok-write_text-claus
 returns-in-Ok-write_text-clause-tidies g c = (c.in-Ok.text, c.in-Ok.ensures.file, c.in-Ok-write_text.ensures)
 
 pub returns-in-Ok-write_text-clause-given : goal.returns-in-Ok-write_text-clause-given
-returns-in-Ok-write_text-clause-given g c =
-    let (given, seen, e, file) = c.in-Ok.ensures.given in
-    (given, seen, e, (c.in-Ok.text, file, c.in-Ok-write_text.ensures))
+returns-in-Ok-write_text-clause-given g c = grind (arith, c.in-Ok.ensures.given, c.in-Ok-write_text.ensures)
 
 pub returns-clause-tidies : goal.returns-clause-tidies
 returns-clause-tidies g c = (c.in-Ok.text, c.in-Ok.ensures.file, c.in-Err-write_text.ensures)
 
 pub returns-clause-given : goal.returns-clause-given
-returns-clause-given g c =
-    let (given, seen, e, file) = c.in-Ok.ensures.given in
-    (given, seen, e, (c.in-Ok.text, file, c.in-Err-write_text.ensures))
+returns-clause-given g c = grind (arith, c.in-Ok.ensures.given, c.in-Err-write_text.ensures)

@@ -1,4 +1,5 @@
 use Rattle.pb_tool.proofs.Common.{◌++◌, ◌∙◌, refl, Some, opb, AcceptsItems, MayAsk}
+use Rattle.pb_tool.proofs.lemmas.file.GivenBytes.{given_by}
 use Rattle.pb_tool.proofs.lemmas.tidy.NormalFile.{reported_faults, reported_file, reported_on, unnoted}
 use Rattle.pb_tool.proofs.commands.tidy.tidy_normal.Goals as goal
 
@@ -19,12 +20,8 @@ returns-clause-tidies g c =
 
 pub returns-clause-given : goal.returns-clause-given
 returns-clause-given g c =
-    let (given, seen, e, file) = rw c.new-empty.ensures at c.in-Ok.ensures.given in (
-      given,
-      seen,
-      e,
-      reported_file c.args.limits c.args.longest (AcceptsItems opb c.new-machine.result) c.new-machine.ensures.accepts (Some (given ++ seen)) (Some seen) g.W.Sink.contents g.W.Sink.faults c.in-Ok.text file c.args.out.now c.write.result c.write.new.out c.write.ensures,
-    )
+    given_by _ _ (λ left rest file. reported_file c.args.limits c.args.longest (AcceptsItems opb c.new-machine.result) c.new-machine.ensures.accepts left rest g.W.Sink.contents g.W.Sink.faults c.in-Ok.text file c.args.out.now c.write.result c.write.new.out c.write.ensures)
+    (rw c.new-empty.ensures at c.in-Ok.ensures.given)
 
 pub returns-clause-faults : goal.returns-clause-faults
 returns-clause-faults g c =

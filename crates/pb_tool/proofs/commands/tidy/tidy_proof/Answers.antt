@@ -1,4 +1,5 @@
-use Rattle.pb_tool.proofs.Common.{◌++◌, Some, proofs, AcceptsItems, MayAsk}
+use Rattle.pb_tool.proofs.Common.{proofs, AcceptsItems, MayAsk}
+use Rattle.pb_tool.proofs.lemmas.file.GivenBytes.{given_by}
 use Rattle.pb_tool.proofs.lemmas.tidy.ProofLines.{tidies_text}
 use Rattle.pb_tool.proofs.commands.tidy.tidy_proof.Goals as goal
 
@@ -8,9 +9,4 @@ returns-clause-tidies g c =
 
 pub returns-clause-given : goal.returns-clause-given
 returns-clause-given g c =
-    let (given, seen, e, tidies) = c.tidy_each.ensures.given in (
-      given,
-      seen,
-      e,
-      tidies_text c.args.limits c.args.longest (AcceptsItems proofs c.new.result) c.new.ensures.accepts c.new-2.result c.new-2.ensures (MayAsk proofs c.new.result) c.new.ensures.asks g.W.Sink.contents g.W.Sink.faults (Some (given ++ seen)) c.args.out.now c.tidy_each.result (Some seen) c.tidy_each.new.out tidies,
-    )
+    given_by _ _ (λ left rest. tidies_text c.args.limits c.args.longest (AcceptsItems proofs c.new.result) c.new.ensures.accepts c.new-2.result c.new-2.ensures (MayAsk proofs c.new.result) c.new.ensures.asks g.W.Sink.contents g.W.Sink.faults left c.args.out.now c.tidy_each.result rest c.tidy_each.new.out) c.tidy_each.ensures.given

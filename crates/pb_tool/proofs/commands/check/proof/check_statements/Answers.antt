@@ -1,14 +1,10 @@
-use Rattle.pb_tool.proofs.Common.{ℕ, ◌∙◌, ap, Err, refl, faults_of_text}
+use Rattle.pb_tool.proofs.Common.{◌∙◌, arith}
 use Rattle.pb_tool.proofs.lemmas.check.CheckerRuns.{run_begins}
 use Rattle.pb_tool.proofs.lemmas.show.ShownStatements.{fewer}
 use Rattle.pb_tool.proofs.commands.check.proof.check_statements.Goals as goal
 
 pub loop-verdict-init : goal.loop-verdict-init
-loop-verdict-init g c = record {
-  running = c.requires.running;
-  faults = refl;
-  runs = λ longest began begins. run_begins longest began g.V.Watch.got c.args.checker.now begins c.requires.unspent (g.S.Source.left c.args.input.now) (g.S.Source.history c.args.input.now) c.args.watch.now;
-}
+loop-verdict-init g c = grind (arith, c.requires.running, run_begins, g.V.Watch.got, c.requires.unspent, g.S.Source.left, g.S.Source.history)
 
 pub loop-verdict-preserved : goal.loop-verdict-preserved
 loop-verdict-preserved g c =
@@ -21,9 +17,7 @@ loop-verdict-preserved g c =
     }
 
 pub loop-verdict-smaller : goal.loop-verdict-smaller
-loop-verdict-smaller g c =
-    let t = rw (c.in-Ok-None.is, c.in-Ok-None.field-0-is) at c.pull.ensures in
-    fewer _ _ (t.within refl) (t.onward refl)
+loop-verdict-smaller g c = grind (arith, c.in-Ok-None.is, c.pull.ensures, fewer)
 
 pub returns-in-Ok-Some-clause-runs : goal.returns-in-Ok-Some-clause-runs
 returns-in-Ok-Some-clause-runs g c longest began begins =
@@ -39,11 +33,7 @@ pub pull-requires : goal.pull-requires
 pull-requires g c = c.loop-verdict.invariant.running
 
 pub returns-in-Ok-Some-clause-faults : goal.returns-in-Ok-Some-clause-faults
-returns-in-Ok-Some-clause-faults g c =
-    let t = rw (c.in-Ok-Some.is, c.in-Ok-Some.field-0-is) at c.pull.ensures in
-    t.faults ∙ c.loop-verdict.invariant.faults
+returns-in-Ok-Some-clause-faults g c = grind (arith, c.in-Ok-Some.is, c.pull.ensures, c.loop-verdict.invariant.faults)
 
 pub returns-in-Err-clause-faults : goal.returns-in-Err-clause-faults
-returns-in-Err-clause-faults g c =
-    let t = rw c.in-Err.is at c.pull.ensures in
-    t.faults ∙ ap (λ (n : ℕ). faults_of_text {A = Unit {0}} (Err c.in-Err.fault) n) c.loop-verdict.invariant.faults
+returns-in-Err-clause-faults g c = grind (arith, c.in-Err.is, c.pull.ensures, c.loop-verdict.invariant.faults)

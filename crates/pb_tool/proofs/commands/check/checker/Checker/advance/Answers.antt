@@ -1,4 +1,4 @@
-use Rattle.pb_tool.proofs.Common.{◌≡◌, None, Option, refl, rules, Some}
+use Rattle.pb_tool.proofs.Common.{◌≡◌, None, Option, refl, rules, Some, arith}
 use Rattle.pb_tool.proofs.lemmas.check.CheckerSteps as checked
 use Rattle.pb_tool.proofs.commands.check.checker.Checker.advance.Goals as goal
 
@@ -65,10 +65,7 @@ returns-in-Err-step_watched-clause-counts c limits longest v first input k h =
     checked.refused c.texts_are_read.ensures limits longest v first input c.self.inside.feeder c.self.inside.replay c.self.inside.fault (rw (← c.self.view_is) at c.requires) here k many c.args.piece.now c.feed.new.self c.in-Ok.fed c.in-Some.read c.in-Some.is t.feeds t.stop (c.feed.ensures.past c.in-Ok.fed c.in-Some.read c.in-Ok.is c.in-Some.is).past c.step_watched.new.replay c.in-Err-step_watched.fault u.steps u.names u.unvalued
 
 pub returns-in-Err-clause-unread : goal.returns-in-Err-clause-unread
-returns-in-Err-clause-unread c =
-    let (limits, longest, v, first, input, asks, h) = c.self.invariant in
-    let t = rw c.in-Err.is at c.feed.ensures in
-    t.unread (checked.running_text c.texts_are_read.ensures limits longest v first input c.self.inside.feeder c.self.inside.replay c.self.inside.fault (rw (← c.self.view_is) at c.requires) h)
+returns-in-Err-clause-unread c = grind (arith, c.in-Err.is, c.feed.ensures, c.texts_are_read.ensures, c.self.view_is, c.requires)
 
 pub returns-in-Err-clause-memory : goal.returns-in-Err-clause-memory
 returns-in-Err-clause-memory c limits longest v first input no_fault h =
@@ -79,17 +76,10 @@ returns-in-Err-clause-memory c limits longest v first input no_fault h =
     checked.wanted c.texts_are_read.ensures limits longest v first input c.self.inside.feeder c.self.inside.replay c.self.inside.fault none here _ refl c.args.piece.now c.feed.new.self asks c.in-Err.stop t.feeds t.stop
 
 pub returns-in-Err-step_watched-clause-unread : goal.returns-in-Err-step_watched-clause-unread
-returns-in-Err-step_watched-clause-unread c =
-    let (limits, longest, v, first, input, asks, h) = c.self.invariant in
-    let t = rw c.in-Ok.is at c.feed.ensures in
-    let u = rw (c.in-Err-step_watched.is, c.in-Some.is) at c.step_watched.ensures in
-    checked.unread_step c.texts_are_read.ensures limits longest v first input c.self.inside.feeder c.self.inside.replay c.self.inside.fault (rw (← c.self.view_is) at c.requires) h _ refl c.args.piece.now c.feed.new.self c.in-Ok.fed c.in-Some.read c.in-Some.is t.feeds t.stop c.step_watched.new.replay c.in-Err-step_watched.fault u.steps
+returns-in-Err-step_watched-clause-unread c = grind (arith, c.in-Ok.is, c.feed.ensures, c.in-Err-step_watched.is, c.in-Some.is, c.step_watched.ensures, c.texts_are_read.ensures, c.self.view_is, c.requires)
 
 pub returns-in-Err-step_watched-clause-memory : goal.returns-in-Err-step_watched-clause-memory
-returns-in-Err-step_watched-clause-memory c limits longest v first input no_fault h =
-    let t = rw c.in-Ok.is at c.feed.ensures in
-    let u = rw (c.in-Err-step_watched.is, c.in-Some.is) at c.step_watched.ensures in
-    checked.wanted_step c.texts_are_read.ensures limits longest v first input c.self.inside.feeder c.self.inside.replay c.self.inside.fault (rw (← c.self.view_is) at c.requires) (rw (← c.self.view_is) at h) _ refl c.args.piece.now c.feed.new.self c.in-Ok.fed c.in-Some.read c.in-Some.is t.feeds t.stop c.step_watched.new.replay c.in-Err-step_watched.fault u.steps
+returns-in-Err-step_watched-clause-memory c limits longest v first input no_fault h = grind (arith, c.in-Ok.is, c.feed.ensures, c.in-Err-step_watched.is, c.in-Some.is, c.step_watched.ensures, c.texts_are_read.ensures, c.self.view_is, c.requires)
 
 pub returns-in-Err-step_watched-clause-names : goal.returns-in-Err-step_watched-clause-names
 returns-in-Err-step_watched-clause-names c = search rules

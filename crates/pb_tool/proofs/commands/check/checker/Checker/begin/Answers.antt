@@ -1,4 +1,4 @@
-use Rattle.pb_tool.proofs.Common.{[], ap, refl, Place}
+use Rattle.pb_tool.proofs.Common.{[], refl, arith}
 use Rattle.pb_tool.proofs.lemmas.check.CheckerSteps.{leads_none, somewhere}
 use Rattle.pb_tool.proofs.commands.check.checker.Checker.begin.Goals as goal
 
@@ -8,9 +8,4 @@ invariant_of-result c =
     (c.args.replay.limits, _, c.args.replay.problem, first, [], rw (c.new-machine.ensures.begins, c.limits.ensures) at c.new-machine.ensures.asks, record { spans = []; stands = rw (c.new-machine.ensures.begins, c.limits.ensures) at c.within.ensures.stands; running = c.within.ensures.running; limits_are = refl; problem = refl; now = first; at = at; accepted = leads_none c.args.replay.limits c.args.replay.problem first })
 
 pub returns-clause-begins : goal.returns-clause-begins
-returns-clause-begins c = record {
-  stands = rw (c.new-machine.ensures.begins, c.limits.ensures) at c.within.ensures.stands;
-  running = c.within.ensures.running;
-  start = ap (λ (p : Place). p.offset) c.within.ensures.place;
-  replay = refl;
-}
+returns-clause-begins c = grind (arith, c.new-machine.ensures.begins, c.limits.ensures, c.within.ensures.stands, c.within.ensures.running, c.within.ensures.place)

@@ -1,4 +1,4 @@
-use Rattle.pb_tool.proofs.Common.{◌∙◌, ap, sym, Checking, fault_of}
+use Rattle.pb_tool.proofs.Common.{◌∙◌, ap, sym, Checking, fault_of, arith}
 use Rattle.pb_tool.proofs.lemmas.check.CheckerSteps.{stays_counted}
 use Rattle.pb_tool.proofs.commands.check.checker.Checker.step.Goals as goal
 
@@ -6,10 +6,7 @@ pub returns-in-Some-clause-counts : goal.returns-in-Some-clause-counts
 returns-in-Some-clause-counts c = stays_counted c.args.self.now c.args.piece.now c.in-Some.fault (ap (λ (x : Checking). fault_of x) (sym c.self.view_is) ∙ c.in-Some.is)
 
 pub returns-clause-counts : goal.returns-clause-counts
-returns-clause-counts c = (
-  λ limits longest v first input n owed h. c.advance.ensures.counts limits longest v first input n h,
-  λ owed. c.advance.ensures.open,
-)
+returns-clause-counts c = grind (arith, c.advance.ensures.counts, c.advance.ensures.open)
 
 pub returns-clause-memory : goal.returns-clause-memory
 returns-clause-memory c = c.advance.ensures.memory
