@@ -113,7 +113,7 @@ module _ (limit top : ℕ) where
       let laid : (not (nat_eq c 32) || false) ≡ true = (and_parts (not (nat_eq c 32) || false) true (laid_later init (c ∷ []) (subst (λ x. is_laid x ≡ true) e (words_laid f)))).0 in
       not-true (nat_eq c 32) (sym (or-false (not (nat_eq c 32))) ∙ laid)
 
-  -- a text of the words after so many bytes of them: the walk to its last letter, and the step at that letter
+  -- a text of the words after some of their bytes: the walk to its last letter, and the step at that letter
   record Spelled (f : Keyword) (from : ℕ) (t : List Letter) : Type 0 where
     pub count : ℕ
     pub text : List Letter
