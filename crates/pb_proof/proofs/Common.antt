@@ -122,7 +122,7 @@ pub use Rattle.pb_proof.specs.engine.line.Delete.{before, begins_id, delete_at, 
 pub use Rattle.pb_proof.specs.engine.line.Delete.{transition as delete_transition}
 pub use Rattle.pb_proof.specs.engine.line.Solution.{adds, flushed, is_begun, is_more, IsSolutionInOrder, literal, solution_at, solution_automaton}
 pub use Rattle.pb_proof.specs.engine.line.Solution.{solution_first, solution_last, SolutionState, SpellsJoined}
-pub use Rattle.pb_proof.specs.engine.line.Machine.{carried, IsCarried, IsEnded, line_automaton, line_first, SpellsRest}
+pub use Rattle.pb_proof.specs.engine.line.Machine.{IsCarried, IsEnded, line_automaton, line_first, SpellsRest}
 pub use Rattle.pb_proof.specs.engine.line.Pol.{blank, bound, changed, close, close_lone, close_number, counted, feed, finished, held_name}
 pub use Rattle.pb_proof.specs.engine.line.Pol.{held_number, is_done, is_letter_kind, is_midway, is_name_kind, kind_of, late, letter, may_be_name}
 pub use Rattle.pb_proof.specs.engine.line.Pol.{next_large, next_word, number, Outcome, read, role_of, semicolon, star, symbol, transition, turned}

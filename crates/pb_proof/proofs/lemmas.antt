@@ -5,7 +5,6 @@ pub mod delete
 pub mod line
 pub mod solution
 pub mod machine
-pub mod NumberTests
 pub mod pol
 pub mod proofs
 pub mod ReadsBack

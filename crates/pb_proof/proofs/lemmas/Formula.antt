@@ -1,10 +1,9 @@
 -- What the count machine has read in each of its states.
-use Rattle.pb_proof.proofs.Common.{ℕ, ◌*◌, ◌++◌, ◌+◌, ◌∙◌, ◌∷◌, ◌≡◌, ◌≤◌, [], false, IsTrue, List, nat_le, None, Option, refl, Some, true, cond_both}
-use Rattle.pb_proof.proofs.Common.{leb-true, Keeps, On, digits-grown, digits-one, after_it, grown, next, nil_first, as_digit, Next, is_blank, ◌⋅◌}
-use Rattle.pb_proof.proofs.Common.{Blanks1, Empty, Language, Count, Letter, NumberByte, Digit, Semicolon, FormulaPhase, Start, number_byte}
-use Rattle.pb_proof.proofs.Common.{formula_automaton, FormulaState, LineEnd, SpellsCount, ◌<◌, ap, arith, subst, sym, le-leb, Leads, leads_then}
-use Rattle.pb_proof.proofs.Common.{reads_after, digits_lead, TakesDigits, Go, ReadsStatement, formula_last, formula_first, ◌^◌, ◌↔◌, ReadsOn, is_state}
-use Rattle.pb_proof.proofs.Common.{IsOfOne, one_state, End, IsState, Refuse, unmarked, ActionFits, IsFormulaInOrder, Digits as DigitsOf, FormulaAction}
+use Rattle.pb_proof.proofs.Common.{ℕ, ◌*◌, ◌++◌, ◌+◌, ◌∙◌, ◌∷◌, ◌≡◌, ◌≤◌, [], false, IsTrue, List, nat_le, None, Option, refl, Some, true, rules, leb-true, Keeps}
+use Rattle.pb_proof.proofs.Common.{On, digits-grown, digits-one, after_it, grown, next, nil_first, as_digit, Next, is_blank, ◌⋅◌, Blanks1, Empty, Language, Count}
+use Rattle.pb_proof.proofs.Common.{Letter, NumberByte, Digit, Semicolon, FormulaPhase, Start, number_byte, formula_automaton, FormulaState, LineEnd, SpellsCount}
+use Rattle.pb_proof.proofs.Common.{◌<◌, ap, arith, le-leb, Leads, leads_then, reads_after, digits_lead, TakesDigits, Go, ReadsStatement, formula_last, formula_first}
+use Rattle.pb_proof.proofs.Common.{◌↔◌, ReadsOn, is_state, IsOfOne, one_state, IsState, unmarked, ActionFits, IsFormulaInOrder, Digits as DigitsOf, FormulaAction}
 use Rattle.pb_proof.specs.declared.line.formula.phase.FormulaPhase.TheVariants.{Gap, Digits, Tail, Closing, Done}
 use Rattle.pb_proof.specs.engine.line.Formula.{act, transition, digits, next_action, is_in_number, at, is_midway, is_done, PhaseFits}
 use Rattle.pb_proof.proofs.lemmas.line.ByteKinds.{NumberMeans, number_means, number_blank, number_digit}
@@ -36,12 +35,10 @@ module _ (limit top : ℕ) where
   OnNext = On formula_automaton Prefix (Whole limit)
 
   whole : (count : Option ℕ) (q : List Letter) → (body top count ⋅ LineEnd) q → SpellsCount limit top count q
-  whole None q h = nil_first LineEnd q h
-  whole (Some n) q h = h
+  whole count q h = grind (arith, nil_first)
 
   digits_sound : (n d : ℕ) (l : Letter) (q : List Letter) → (l.numeral ≡ true → (Blanks1 ⋅ DigitsOf (10 * n + d)) q) → OnNext (act top (digits top n d)) l q
-  digits_sound n d l q h =
-      cond_both (nat_le (10 * n + d) top) (FormulaAction.To (Digits (10 * n + d))) FormulaAction.Stop (λ m. OnNext (act top m) l q) (λ e _ i. (leb-true (10 * n + d) top e, h i)) (λ _. tt)
+  digits_sound n d l q h = grind (arith, nat_le, leb-true)
 
   after_sound : (count : Option ℕ) (gap : FormulaPhase) (k : NumberByte) (l : Letter) (p : List Letter) → is_in_number gap ≡ false → NumberMeans k l.byte
       → ends.Gapped (body top count) p → (IsTrue (is_blank l.byte) → l.numeral ≡ false → prefix top gap (p ++ l ∷ [])) → OnNext (act top (next_action count gap k)) l (p ++ l ∷ [])
@@ -56,11 +53,9 @@ module _ (limit top : ℕ) where
 
   sound : (ph : FormulaPhase) (k : NumberByte) (l : Letter) (p : List Letter) → NumberMeans k l.byte → prefix top ph p → OnNext (act top (transition top ph k)) l (p ++ l ∷ [])
   sound Start k l p m h = after_sound None Gap k l p refl m (ends.gapped Empty p h) (λ b n. ends.first_blank l p b n h)
-  sound Gap (Digit d) l p m h =
-      digits_sound 0 d l (p ++ l ∷ []) (λ n. next Blanks1 (DigitsOf (10 * 0 + d)) p l h (digits-one d l (as_digit l d m.0 n) m.1))
+  sound Gap (Digit d) l p m h = grind (arith, digits_sound, next, digits-one, as_digit)
   sound Gap k l p m h = after_sound None Gap k l p refl m (ends.gapped_some Empty p ([], p, refl, refl, h)) (λ b n. ends.further_blank l p b n h)
-  sound (Digits n) (Digit d) l p m h =
-      digits_sound n d l (p ++ l ∷ []) (λ i. grown Blanks1 (DigitsOf n) (DigitsOf (10 * n + d)) p l (digits-grown n d l (as_digit l d m.0 i) m.1) h.1)
+  sound (Digits n) (Digit d) l p m h = search (rules, digits_sound, grown, digits-grown, as_digit)
   sound (Digits n) k l p m h =
       after_sound (Some n) (Tail n) k l p refl m (ends.gapped (body top (Some n)) p (counted n p h.0 h.1))
       (λ b i. ends.blank_after (body top (Some n)) l p b i (counted n p h.0 h.1))
@@ -97,16 +92,7 @@ module _ (limit top : ℕ) where
   none_ends = record { feeds = record { blanks = in_gap; ends = refl; ends_gap = refl }; finishes = refl; closes_gap = refl; last = in_closing None }
 
   some_ends : (n : ℕ) → MayEnd formula_automaton (at top (Digits n)) (at top (Tail n)) (at top (Closing (Some n))) (Some n) (formula_last top)
-  some_ends n = record {
-    feeds = record {
-      blanks = record { enters = by_blank (Digits n); stays = by_blank (Tail n); begun = refl; plain = refl };
-      ends = refl;
-      ends_gap = refl;
-    };
-    finishes = refl;
-    closes_gap = refl;
-    last = in_closing (Some n);
-  }
+  some_ends n = grind (arith, by_blank, in_closing)
 
   count_leads : (n : ℕ) → Leads formula_automaton (at top Gap) (Count top n) (at top (Digits n))
   count_leads n t h =
@@ -123,25 +109,11 @@ module _ (limit top : ℕ) where
 
 -- The laws of the count machine.
 
--- The phase that `transition` leads to is midway, and a count that is being read is at most top.
-digits_fit : (top n d : ℕ) → ActionFits top (digits top n d)
-digits_fit top n d = cond_both (nat_le (10 * n + d) top) _ _ (ActionFits top) (λ e. (leb-true (10 * n + d) top e, refl)) (λ _. tt)
-
 after_fits : (top : ℕ) (count : Option ℕ) (gap : FormulaPhase) (k : NumberByte) → PhaseFits top gap → is_midway gap ≡ true → ActionFits top (next_action count gap k)
-after_fits top count gap NumberByte.Blank f h = (f, h)
-after_fits top count gap Semicolon f h = (tt, refl)
-after_fits top count gap _ f h = tt
+after_fits top count gap k f h = grind arith
 
 pub transition_fits : (top : ℕ) (ph : FormulaPhase) (k : NumberByte) → ActionFits top (transition top ph k)
-transition_fits top Start k = after_fits top None Gap k tt refl
-transition_fits top Gap (Digit d) = digits_fit top 0 d
-transition_fits top Gap k = after_fits top None Gap k tt refl
-transition_fits top (Digits n) (Digit d) = digits_fit top n d
-transition_fits top (Digits n) k = after_fits top (Some n) (Tail n) k tt refl
-transition_fits top (Tail n) k = after_fits top (Some n) (Tail n) k tt refl
-transition_fits top (Closing count) NumberByte.Blank = (tt, refl)
-transition_fits top (Closing count) NumberByte.Feed = tt
-transition_fits _ _ _ = tt
+transition_fits top ph k = grind (arith, after_fits, nat_le, leb-true)
 
 -- What holds after a step that continues.
 record Steps (top : ℕ) (next : FormulaState) : Type 0 where
@@ -150,35 +122,16 @@ record Steps (top : ℕ) (next : FormulaState) : Type 0 where
   midway : is_midway next.phase ≡ true
 
 acted : (top : ℕ) (m : FormulaAction) (next : FormulaState) → ActionFits top m → act top m ≡ Go next → Steps top next
-acted top (FormulaAction.To p) next h e = subst (λ x. Steps top x) (one_state (at top p) next e) (record { same_top = refl; fits = h.0; midway = h.1 })
-acted top _ next h e = cc
+acted top m next h e = grind (arith, one_state, at)
 
 continues : (s next : FormulaState) (b : ℕ) → formula_automaton.step s b ≡ Go next → Steps s.top next
 continues s next b e = acted s.top (transition s.top s.phase (number_byte b)) next (transition_fits s.top s.phase (number_byte b)) e
 
 in_order : (s next : FormulaState) (b : ℕ) → IsFormulaInOrder s → formula_automaton.step s b ≡ Go next → IsFormulaInOrder next
-in_order s next b h e =
-    let g : Steps s.top next = continues s next b e in
-    (subst (λ x. x < 2 ^ 63) (sym g.same_top) h.0, subst (λ x. PhaseFits x next.phase) (sym g.same_top) g.fits)
-
-ended : (top : ℕ) (m : FormulaAction) (next : FormulaState) (count : Option ℕ) → act top m ≡ End count next → next ≡ formula_last top
-ended top (FormulaAction.To p) next count e = cc
-ended top _ next count e = cc
+in_order s next b h e = search (rules, continues)
 
 abbrev last : FormulaState → FormulaState
 last s = formula_last s.top
-
-owes : (ph : FormulaPhase) → is_midway ph ≡ true → is_done ph ≡ false
-owes Done h = sym h
-owes _ h = refl
-
-stops : (top : ℕ) (ph : FormulaPhase) (k : NumberByte) → is_done ph ≡ true → act top (transition top ph k) ≡ Refuse
-stops top Done k h = refl
-stops top _ k h = cc
-
-plain : (ph : FormulaPhase) → is_midway ph ≡ false → formula_automaton.in_number (at 0 ph) ≡ false
-plain (Digits n) h = h
-plain _ h = refl
 
 -- the line feed ends the line from each state
 some_text : (top : ℕ) (ph : FormulaPhase) → is_done ph ≡ false → ReadsOn formula_automaton (at top ph)
@@ -193,13 +146,13 @@ pub formula_of_one : IsOfOne formula_automaton IsFormulaInOrder last
 formula_of_one = record {
   keeps = in_order;
   begins = λ s next b e. (continues s next b e).midway;
-  owes = λ s h. owes s.phase h;
+  owes = λ s h. grind arith;
   leads = λ s next b e. ap formula_last (continues s next b e).same_top;
-  ends = λ s next b e i. ended s.top (transition s.top s.phase (number_byte b)) next e i;
+  ends = λ s next b e i. grind (arith, one_state);
   done = λ s. refl;
-  stops = λ s h b. stops s.top s.phase (number_byte b) h;
+  stops = λ s h b. grind arith;
   goes_on = λ s g h. some_text s.top s.phase h;
-  plain = λ s h. plain s.phase h;
+  plain = λ s h. grind arith;
   grows = λ s next b e. omega arith;
   bounds = λ s. omega arith;
 }

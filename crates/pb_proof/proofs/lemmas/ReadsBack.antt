@@ -1,5 +1,5 @@
 -- What is written reads back as the same value, if each text is of one proof only.
-use Rattle.pb_proof.proofs.Common.{ℕ, ◌∙◌, ◌≡◌, List, subst, sym, bytes_of, Item, events_of, ReadsBack, Statement, IsProof, IsProofOf}
+use Rattle.pb_proof.proofs.Common.{ℕ, ◌∙◌, ◌≡◌, List, subst, sym, bytes_of, Item, events_of, ReadsBack, Statement, IsProof, IsProofOf, rules}
 use Rattle.pb_proof.proofs.lemmas.proofs.Spelled.{canonical_proof}
 use Rattle.pb_proof.proofs.lemmas.proofs.Values.{one_value}
 

@@ -1,9 +1,8 @@
 -- Words with blanks between them, byte by byte.
-use Rattle.pb_proof.proofs.Common.{ℕ, ◌&&◌, ◌++◌, ◌<◌, ◌∙◌, ◌∷◌, ◌≡◌, [], ap, append-nil, append_assoc, arith, Bool, false, length, List}
-use Rattle.pb_proof.proofs.Common.{nat_eq, not, refl, subst, sym, true, and_parts, eqb-true, not-true, after_it, grown, none_yet, regroup, regroup⁻¹}
-use Rattle.pb_proof.proofs.Common.{is_blank, ◌⋅◌, Blanks1, Byte, Bytes, Empty, Language, unmarked, Letter, plain, Keyword, meets}
-use Rattle.pb_proof.proofs.Common.{sol_word, words_of, conclusion_word, del_word, end_word, f_word, id_word, none_word, output_word, pol_word}
-use Rattle.pb_proof.proofs.Common.{proof_word, pseudo_word, rup_word, two_word, version_word}
+use Rattle.pb_proof.proofs.Common.{ℕ, ◌&&◌, ◌++◌, ◌<◌, ◌∙◌, ◌∷◌, ◌≡◌, [], ap, append-nil, append_assoc, arith, Bool, false, length, List, nat_eq, not, refl, subst}
+use Rattle.pb_proof.proofs.Common.{sym, true, and_parts, eqb-true, not-true, after_it, grown, none_yet, regroup, regroup⁻¹, is_blank, ◌⋅◌, Blanks1, Byte, Bytes}
+use Rattle.pb_proof.proofs.Common.{Empty, Language, unmarked, Letter, plain, Keyword, meets, sol_word, words_of, conclusion_word, del_word, end_word, f_word}
+use Rattle.pb_proof.proofs.Common.{id_word, none_word, output_word, pol_word, proof_word, pseudo_word, rup_word, two_word, version_word}
 use Rattle.pb_proof.specs.declared.machine.phase.Keyword.TheVariants.{Header, Formula, Pol, Rup, Solution, Delete, Output, Conclusion, End}
 use Rattle.pb_proof.proofs.lemmas.line.Ends.{first_blank, further_blank, nil_last}
 
@@ -105,8 +104,7 @@ first_word End = end_word
 
 -- each of them has at least one byte
 pub some_byte : (f : Keyword) → 0 < length (words_of f)
-some_byte Header = omega arith
-some_byte _ = omega arith
+some_byte f = grind arith
 
 abbrev pub more_words : Keyword → List (List ℕ)
 more_words Header = proof_word ∷ version_word ∷ two_word ∷ []
@@ -119,13 +117,10 @@ abbrev pub KeywordWords : Keyword → Language
 KeywordWords f = Words (Bytes (first_word f)) (more_words f)
 
 same_words : (f : Keyword) → (words_of f ≡ first_word f ++ led (more_words f)) × (is_plain (first_word f) ≡ true) × (are_plain (more_words f) ≡ true)
-same_words Header = (refl, refl, refl)
-same_words _ = (refl, refl, refl)
+same_words f = grind arith
 
 pub keyword_only : (f : Keyword) (t : List Letter) → Spaced (words_of f) t → KeywordWords f t
-keyword_only f t h =
-    let g = same_words f in led_only (Bytes (first_word f)) (more_words f) g.2 t (plain_only (first_word f) (led (more_words f)) g.1 t (subst (λ x. Spaced x t) g.0 h))
+keyword_only f t h = grind (arith, same_words, led_only, plain_only)
 
 pub keyword_each : (f : Keyword) (t : List Letter) → KeywordWords f t → Spaced (words_of f) t
-keyword_each f t h =
-    let g = same_words f in subst (λ x. Spaced x t) (sym g.0) (plain_each (first_word f) (led (more_words f)) g.1 t (led_each (Bytes (first_word f)) (more_words f) g.2 t h))
+keyword_each f t h = grind (arith, same_words, plain_each, led_each)

@@ -1,7 +1,7 @@
 -- What is written, in parts.
-use Rattle.pb_proof.proofs.Common.{bounds_word, conclusion_word, ℕ, ◌++◌, ◌+◌, ◌-◌, ◌<◌, ◌∙◌, ◌∷◌, ◌≡◌, ◌≤◌, [], ap, append-nil, append_assoc, arith}
-use Rattle.pb_proof.proofs.Common.{drop, get_or, length, List, refl, suc, sym, take, take-append-drop, drop-cons, drop_all, take_more, Proof}
-use Rattle.pb_proof.proofs.Common.{Statement, Conclude, F, Header, Output, lines, proof_bytes, statement_bytes}
+use Rattle.pb_proof.proofs.Common.{bounds_word, conclusion_word, ℕ, ◌++◌, ◌+◌, ◌-◌, ◌<◌, ◌∙◌, ◌∷◌, ◌≡◌, ◌≤◌, [], ap, append-nil, append_assoc, arith, drop, get_or}
+use Rattle.pb_proof.proofs.Common.{length, List, refl, suc, sym, take, take-append-drop, drop-cons, drop_all, take_more, Proof, Statement, Conclude, F, Header}
+use Rattle.pb_proof.proofs.Common.{Output, lines, proof_bytes, statement_bytes}
 use Rattle.pb_proof.specs.meaning.Canonical.{listed_bytes}
 use Rattle.pb_proof.specs.engine.line.Ended.{ended_lines}
 
@@ -52,12 +52,7 @@ module _ {A : Type 0} (line : A → List ℕ) where
   -- the list from an index on
   pub listed_from : (xs : List A) (i : ℕ) (x : A) → 0 < i → i ≤ length xs → x ≡ get_or xs (i - 1) x →
       listed_bytes line (drop (i - 1) xs) ≡ (32 ∷ line x) ++ listed_bytes line (drop i xs)
-  listed_from xs i x some within e =
-      let next : suc (i - 1) ≡ i = omega arith in
-      ap (listed_bytes line) (drop-cons xs (i - 1) x (omega arith))
-      ∙ (listed-cons (get_or xs (i - 1) x) (drop (suc (i - 1)) xs)
-      ∙ (ap (λ (n : ℕ). (32 ∷ line (get_or xs (i - 1) x)) ++ listed_bytes line (drop n xs)) next
-      ∙ ap (λ (y : A). (32 ∷ line y) ++ listed_bytes line (drop i xs)) (sym e)))
+  listed_from xs i x some within e = grind (arith, drop-cons, listed-cons, get_or, drop)
 
 -- each with a line feed after it
 pub ended_none : ended_lines [] ≡ []

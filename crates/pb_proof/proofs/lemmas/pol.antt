@@ -4,7 +4,6 @@ pub mod Asks
 pub mod Complete
 pub mod Covers
 pub mod Kinds
-pub mod Literals
 pub mod Postfix
 pub mod Prefixes
 pub mod Sane

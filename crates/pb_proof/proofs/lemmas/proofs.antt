@@ -1,6 +1,5 @@
 -- Lemmas about proofs, their texts and their values.
 pub mod Gathered
 pub mod Larger
-pub mod ReadStatements
 pub mod Spelled
 pub mod Values

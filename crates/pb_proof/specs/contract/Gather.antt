@@ -3,24 +3,23 @@ use Rattle.std.specs.Prelude.{Bool, true, false, IsTrue, List, [], ◌∷◌, �
 use Rattle.pb_proof.specs.declared.conclusion.Conclusion.TheVariants.{NoClaim}
 use Rattle.pb_proof.specs.declared.proof.Proof.{Proof}
 use Rattle.pb_proof.specs.declared.statement.Statement.{Statement}
-use Rattle.pb_proof.specs.declared.statement.Statement.TheVariants.{Header, F, Output, Conclude, End}
 
 -- the proof with one more statement
 abbrev pub with : Proof → Statement → Proof
-with v Header = v
-with v (F count) = record v { count = count }
-with v Output = v
-with v (Conclude conclusion) = record v { conclusion = conclusion }
-with v End = v
+with v Statement.Header = v
+with v (Statement.F count) = record v { count = count }
+with v Statement.Output = v
+with v (Statement.Conclude conclusion) = record v { conclusion = conclusion }
+with v Statement.End = v
 with v step = record v { steps = v.steps ++ step ∷ [] }
 
 -- Whether storing a statement may allocate: only steps are stored in a list.
 abbrev pub asks : Statement → Bool
-asks Header = false
-asks (F count) = false
-asks Output = false
-asks (Conclude conclusion) = false
-asks End = false
+asks Statement.Header = false
+asks (Statement.F count) = false
+asks Statement.Output = false
+asks (Statement.Conclude conclusion) = false
+asks Statement.End = false
 asks step = true
 
 -- whether storing a statement after others may allocate

@@ -2,17 +2,16 @@
 use Rattle.std.specs.Prelude.{◌≡◌, ℕ, ◌+◌, ◌-◌, ◌≤◌, ◌↔◌, List, [], ◌∷◌}
 use Rattle.pb_proof.specs.meaning.Postfix.{Tree, words, IsPostfix}
 use Rattle.pb_proof.specs.declared.word.PolWord.{PolWord}
-use Rattle.pb_proof.specs.declared.word.PolWord.TheVariants.{Id, Axiom, Add, Multiply, Divide, Saturate, Weaken}
 
 -- how many finished expressions a word takes
 abbrev pub takes : PolWord → ℕ
-takes (Id id) = 0
-takes (Axiom literal) = 0
-takes Add = 2
-takes (Multiply factor) = 1
-takes (Divide divisor) = 1
-takes Saturate = 1
-takes (Weaken name) = 1
+takes (PolWord.Id id) = 0
+takes (PolWord.Axiom literal) = 0
+takes PolWord.Add = 2
+takes (PolWord.Multiply factor) = 1
+takes (PolWord.Divide divisor) = 1
+takes PolWord.Saturate = 1
+takes (PolWord.Weaken name) = 1
 
 -- Starting with n expressions, each word finds those that it takes and leaves one more.
 -- One expression is left at the end.

@@ -7,14 +7,10 @@ use Rattle.pb_sums.specs.declared.Relation.TheVariants.{AtLeast}
 use Rattle.pb_proof.specs.meaning.Postfix.{IsPostfix}
 use Rattle.pb_proof.specs.meaning.Proofs.{IsStep}
 use Rattle.pb_proof.specs.declared.word.PolWord.{PolWord}
-use Rattle.pb_proof.specs.declared.word.PolWord.TheVariants.{Id, Axiom, Add, Multiply, Divide, Saturate, Weaken}
 use Rattle.pb_proof.specs.declared.conclusion.Bound.{Bound}
-use Rattle.pb_proof.specs.declared.conclusion.Bound.TheVariants.{Finite, Infinite}
 use Rattle.pb_proof.specs.declared.conclusion.Conclusion.{Conclusion}
-use Rattle.pb_proof.specs.declared.conclusion.Conclusion.TheVariants.{NoClaim, Unsat, Sat, Bounds}
 use Rattle.pb_proof.specs.declared.proof.Proof.{Proof}
 use Rattle.pb_proof.specs.declared.statement.Statement.{Statement}
-use Rattle.pb_proof.specs.declared.statement.Statement.TheVariants.{Header, F, Pol, Rup, Soli, Solx, Delete, Output, Conclude, End}
 
 -- if there is one, it meets the rule
 abbrev pub IfGiven : {A : Type 0} → (A → Type 0) → Option A → Type 0
@@ -33,37 +29,37 @@ abbrev pub AreLiterals : List Literal → Type 0
 AreLiterals ls = All (λ l. IsName l.name) ls
 
 abbrev pub IsBound : ℕ → Bound → Type 0
-IsBound limit (Finite z) = nat_abs z ≤ limit
-IsBound limit Infinite = Unit {0}
+IsBound limit (Bound.Finite z) = nat_abs z ≤ limit
+IsBound limit Bound.Infinite = Unit {0}
 
 module _ (limit top : ℕ) where
   abbrev pub IsWord : PolWord → Type 0
-  IsWord (Id id) = IsId top id
-  IsWord (Axiom literal) = IsName literal.name
-  IsWord Add = Unit {0}
-  IsWord (Multiply k) = IsFactor limit k
-  IsWord (Divide k) = IsFactor limit k
-  IsWord Saturate = Unit {0}
-  IsWord (Weaken name) = IsName name
+  IsWord (PolWord.Id id) = IsId top id
+  IsWord (PolWord.Axiom literal) = IsName literal.name
+  IsWord PolWord.Add = Unit {0}
+  IsWord (PolWord.Multiply k) = IsFactor limit k
+  IsWord (PolWord.Divide k) = IsFactor limit k
+  IsWord PolWord.Saturate = Unit {0}
+  IsWord (PolWord.Weaken name) = IsName name
 
   abbrev pub IsConclusion : Conclusion → Type 0
-  IsConclusion NoClaim = Unit {0}
-  IsConclusion (Unsat id) = IfGiven (IsId top) id
-  IsConclusion (Sat shown) = IfGiven AreLiterals shown
-  IsConclusion (Bounds lower id upper shown) =
+  IsConclusion Conclusion.NoClaim = Unit {0}
+  IsConclusion (Conclusion.Unsat id) = IfGiven (IsId top) id
+  IsConclusion (Conclusion.Sat shown) = IfGiven AreLiterals shown
+  IsConclusion (Conclusion.Bounds lower id upper shown) =
       IsBound limit lower × IfGiven (IsId top) id × IsBound limit upper × IfGiven AreLiterals shown
 
   abbrev pub IsStatementValue : Statement → Type 0
-  IsStatementValue Header = Unit {0}
-  IsStatementValue (F count) = IfGiven (λ n. n ≤ top) count
-  IsStatementValue (Pol ws) = IsPostfix ws × All IsWord ws
-  IsStatementValue (Rup c) = (c.relation ≡ AtLeast) × IsLinear limit c
-  IsStatementValue (Soli ls) = AreLiterals ls
-  IsStatementValue (Solx ls) = AreLiterals ls
-  IsStatementValue (Delete ids) = (0 < length ids) × All (IsId top) ids
-  IsStatementValue Output = Unit {0}
-  IsStatementValue (Conclude c) = IsConclusion c
-  IsStatementValue End = Unit {0}
+  IsStatementValue Statement.Header = Unit {0}
+  IsStatementValue (Statement.F count) = IfGiven (λ n. n ≤ top) count
+  IsStatementValue (Statement.Pol ws) = IsPostfix ws × All IsWord ws
+  IsStatementValue (Statement.Rup c) = (c.relation ≡ AtLeast) × IsLinear limit c
+  IsStatementValue (Statement.Soli ls) = AreLiterals ls
+  IsStatementValue (Statement.Solx ls) = AreLiterals ls
+  IsStatementValue (Statement.Delete ids) = (0 < length ids) × All (IsId top) ids
+  IsStatementValue Statement.Output = Unit {0}
+  IsStatementValue (Statement.Conclude c) = IsConclusion c
+  IsStatementValue Statement.End = Unit {0}
 
   pub record IsProofValue (v : Proof) : Type 0 where
     pub count : IfGiven (λ n. n ≤ top) v.count

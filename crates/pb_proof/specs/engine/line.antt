@@ -1,5 +1,6 @@
 -- The line machines: they read the rest of a statement after its first word.
 pub mod ByteKind
+pub mod Carried
 pub mod Conclusion
 pub mod ConclusionFields
 pub mod ConclusionState

@@ -6,9 +6,7 @@ use Rattle.pb_text.specs.meaning.Spelling.{Letter, bytes}
 use Rattle.pb_sums.specs.meaning.Asking.{EndsIn, AsksLiteral}
 use Rattle.pb_proof.specs.meaning.Lines.{pol_word, rup_word, soli_word, solx_word, del_word, id_word, conclusion_word}
 use Rattle.pb_proof.specs.declared.conclusion.Conclusion.{Conclusion}
-use Rattle.pb_proof.specs.declared.conclusion.Conclusion.TheVariants.{Sat, Bounds}
 use Rattle.pb_proof.specs.declared.statement.Statement.{Statement}
-use Rattle.pb_proof.specs.declared.statement.Statement.TheVariants.{Pol, Rup, Soli, Solx, Delete, Conclude}
 
 -- The next byte ends a number: it comes after a digit and is not a digit.
 abbrev pub EndsNumber : List ℕ → ℕ → Type 0
@@ -27,28 +25,28 @@ abbrev pub AsksShown : List ℕ → ℕ → Type 0
 AsksShown text b = (concluding : List ℕ) × (shown : List ℕ) × (text ≡ concluding ++ 58 ∷ shown) × AsksLiteral shown b
 
 abbrev pub AsksConclusion : Conclusion → List ℕ → ℕ → Type 0
-AsksConclusion (Sat (Some literals)) text b = AsksShown text b
-AsksConclusion (Bounds lower id upper (Some literals)) text b = AsksShown text b
+AsksConclusion (Conclusion.Sat (Some literals)) text b = AsksShown text b
+AsksConclusion (Conclusion.Bounds lower id upper (Some literals)) text b = AsksShown text b
 AsksConclusion _ text b = ⊥
 
 -- after the first word of a statement
 abbrev pub AsksAfter : Statement → List ℕ → ℕ → Type 0
-AsksAfter (Pol ws) text b = AsksWord text b
-AsksAfter (Rup c) text b = AsksLiteral text b
-AsksAfter (Soli literals) text b = AsksLiteral text b
-AsksAfter (Solx literals) text b = AsksLiteral text b
-AsksAfter (Delete ids) text b = EndsNumber text b
-AsksAfter (Conclude c) text b = AsksConclusion c text b
+AsksAfter (Statement.Pol ws) text b = AsksWord text b
+AsksAfter (Statement.Rup c) text b = AsksLiteral text b
+AsksAfter (Statement.Soli literals) text b = AsksLiteral text b
+AsksAfter (Statement.Solx literals) text b = AsksLiteral text b
+AsksAfter (Statement.Delete ids) text b = EndsNumber text b
+AsksAfter (Statement.Conclude c) text b = AsksConclusion c text b
 AsksAfter _ text b = ⊥
 
 -- the first word of a statement that may allocate
 abbrev pub FirstWord : Statement → Language
-FirstWord (Pol ws) = Bytes pol_word
-FirstWord (Rup c) = Bytes rup_word
-FirstWord (Soli literals) = Bytes soli_word
-FirstWord (Solx literals) = Bytes solx_word
-FirstWord (Delete ids) = Bytes del_word ⋅ Blanks1 ⋅ Bytes id_word
-FirstWord (Conclude c) = Bytes conclusion_word
+FirstWord (Statement.Pol ws) = Bytes pol_word
+FirstWord (Statement.Rup c) = Bytes rup_word
+FirstWord (Statement.Soli literals) = Bytes soli_word
+FirstWord (Statement.Solx literals) = Bytes solx_word
+FirstWord (Statement.Delete ids) = Bytes del_word ⋅ Blanks1 ⋅ Bytes id_word
+FirstWord (Statement.Conclude c) = Bytes conclusion_word
 FirstWord _ = λ t. ⊥
 
 abbrev pub Asks : Statement → List ℕ → ℕ → Type 0

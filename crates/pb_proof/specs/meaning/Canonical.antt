@@ -7,26 +7,22 @@ use Rattle.pb_sums.specs.declared.Literal.{Literal}
 use Rattle.pb_proof.specs.meaning.Lines.{pseudo_word, proof_word, version_word, two_word, f_word, pol_word, rup_word, soli_word, solx_word, del_word, id_word, output_word, conclusion_word, end_word, none_word, unsat_word, sat_word, bounds_word, inf_word}
 use Rattle.pb_proof.specs.meaning.Proofs.{statements_of}
 use Rattle.pb_proof.specs.declared.word.PolWord.{PolWord}
-use Rattle.pb_proof.specs.declared.word.PolWord.TheVariants.{Id, Axiom, Add, Multiply, Divide, Saturate, Weaken}
 use Rattle.pb_proof.specs.declared.conclusion.Bound.{Bound}
-use Rattle.pb_proof.specs.declared.conclusion.Bound.TheVariants.{Finite, Infinite}
 use Rattle.pb_proof.specs.declared.conclusion.Conclusion.{Conclusion}
-use Rattle.pb_proof.specs.declared.conclusion.Conclusion.TheVariants.{NoClaim, Unsat, Sat, Bounds}
 use Rattle.pb_proof.specs.declared.proof.Proof.{Proof}
 use Rattle.pb_proof.specs.declared.statement.Statement.{Statement}
-use Rattle.pb_proof.specs.declared.statement.Statement.TheVariants.{Header, F, Pol, Rup, Soli, Solx, Delete, Output, Conclude, End}
 
 abbrev pub literal_line : Literal → List ℕ
 literal_line l = literal_bytes l.negated l.name
 
 abbrev pub word_bytes : PolWord → List ℕ
-word_bytes (Id id) = signed_decimal id
-word_bytes (Axiom literal) = literal_line literal
-word_bytes Add = codes "+"
-word_bytes (Multiply k) = signed_decimal k ++ codes " *"
-word_bytes (Divide k) = signed_decimal k ++ codes " d"
-word_bytes Saturate = codes "s"
-word_bytes (Weaken name) = name ++ codes " w"
+word_bytes (PolWord.Id id) = signed_decimal id
+word_bytes (PolWord.Axiom literal) = literal_line literal
+word_bytes PolWord.Add = codes "+"
+word_bytes (PolWord.Multiply k) = signed_decimal k ++ codes " *"
+word_bytes (PolWord.Divide k) = signed_decimal k ++ codes " d"
+word_bytes PolWord.Saturate = codes "s"
+word_bytes (PolWord.Weaken name) = name ++ codes " w"
 
 -- each with a space before it
 unfoldable pub listed_bytes : {A : Type 0} → (A → List ℕ) → List A → List ℕ
@@ -34,8 +30,8 @@ listed_bytes line [] = []
 listed_bytes line (x ∷ xs) = 32 ∷ (line x ++ listed_bytes line xs)
 
 abbrev pub bound_bytes : Bound → List ℕ
-bound_bytes (Finite z) = signed_decimal z
-bound_bytes Infinite = inf_word
+bound_bytes (Bound.Finite z) = signed_decimal z
+bound_bytes Bound.Infinite = inf_word
 
 -- ` : ` and the id, if there is one
 abbrev pub id_shown_bytes : Option ℤ → List ℕ
@@ -48,10 +44,10 @@ shown_bytes None = []
 shown_bytes (Some ls) = 32 ∷ 58 ∷ listed_bytes literal_line ls
 
 abbrev pub conclusion_bytes : Conclusion → List ℕ
-conclusion_bytes NoClaim = none_word
-conclusion_bytes (Unsat id) = unsat_word ++ id_shown_bytes id
-conclusion_bytes (Sat shown) = sat_word ++ shown_bytes shown
-conclusion_bytes (Bounds lower id upper shown) =
+conclusion_bytes Conclusion.NoClaim = none_word
+conclusion_bytes (Conclusion.Unsat id) = unsat_word ++ id_shown_bytes id
+conclusion_bytes (Conclusion.Sat shown) = sat_word ++ shown_bytes shown
+conclusion_bytes (Conclusion.Bounds lower id upper shown) =
     bounds_word ++ (32 ∷ (bound_bytes lower ++ (id_shown_bytes id ++ (32 ∷ (bound_bytes upper ++ shown_bytes shown)))))
 
 -- the number after `f`, if there is one
@@ -61,16 +57,16 @@ count_bytes (Some n) = 32 ∷ decimal n
 
 -- a statement's line, without a line feed
 abbrev pub statement_bytes : Statement → List ℕ
-statement_bytes Header = pseudo_word ++ (32 ∷ (proof_word ++ (32 ∷ (version_word ++ (32 ∷ two_word)))))
-statement_bytes (F count) = f_word ++ count_bytes count
-statement_bytes (Pol ws) = pol_word ++ listed_bytes word_bytes ws
-statement_bytes (Rup c) = rup_word ++ (32 ∷ linear_bytes c)
-statement_bytes (Soli ls) = soli_word ++ listed_bytes literal_line ls
-statement_bytes (Solx ls) = solx_word ++ listed_bytes literal_line ls
-statement_bytes (Delete ids) = del_word ++ (32 ∷ (id_word ++ listed_bytes signed_decimal ids))
-statement_bytes Output = output_word ++ (32 ∷ none_word)
-statement_bytes (Conclude c) = conclusion_word ++ (32 ∷ conclusion_bytes c)
-statement_bytes End = end_word ++ (32 ∷ (pseudo_word ++ (32 ∷ proof_word)))
+statement_bytes Statement.Header = pseudo_word ++ (32 ∷ (proof_word ++ (32 ∷ (version_word ++ (32 ∷ two_word)))))
+statement_bytes (Statement.F count) = f_word ++ count_bytes count
+statement_bytes (Statement.Pol ws) = pol_word ++ listed_bytes word_bytes ws
+statement_bytes (Statement.Rup c) = rup_word ++ (32 ∷ linear_bytes c)
+statement_bytes (Statement.Soli ls) = soli_word ++ listed_bytes literal_line ls
+statement_bytes (Statement.Solx ls) = solx_word ++ listed_bytes literal_line ls
+statement_bytes (Statement.Delete ids) = del_word ++ (32 ∷ (id_word ++ listed_bytes signed_decimal ids))
+statement_bytes Statement.Output = output_word ++ (32 ∷ none_word)
+statement_bytes (Statement.Conclude c) = conclusion_word ++ (32 ∷ conclusion_bytes c)
+statement_bytes Statement.End = end_word ++ (32 ∷ (pseudo_word ++ (32 ∷ proof_word)))
 
 -- lines with a line feed between consecutive ones
 abbrev pub lines : List Statement → List ℕ

@@ -9,13 +9,9 @@ use Rattle.pb_sums.specs.declared.Relation.TheVariants.{AtLeast}
 use Rattle.pb_sums.specs.declared.Spaces.TheVariants.{Blank}
 use Rattle.pb_proof.specs.meaning.Postfix.{IsPostfix}
 use Rattle.pb_proof.specs.declared.word.PolWord.{PolWord}
-use Rattle.pb_proof.specs.declared.word.PolWord.TheVariants.{Id, Axiom, Add, Multiply, Divide, Saturate, Weaken}
 use Rattle.pb_proof.specs.declared.conclusion.Bound.{Bound}
-use Rattle.pb_proof.specs.declared.conclusion.Bound.TheVariants.{Finite, Infinite}
 use Rattle.pb_proof.specs.declared.conclusion.Conclusion.{Conclusion}
-use Rattle.pb_proof.specs.declared.conclusion.Conclusion.TheVariants.{NoClaim, Unsat, Sat, Bounds}
 use Rattle.pb_proof.specs.declared.statement.Statement.{Statement}
-use Rattle.pb_proof.specs.declared.statement.Statement.TheVariants.{Header, F, Pol, Rup, Soli, Solx, Delete, Output, Conclude, End}
 
 -- The fixed words.
 abbrev pub pseudo_word : List ℕ
@@ -102,8 +98,8 @@ abbrev pub Factor : ℕ → ℤ → Language
 Factor limit k = λ t. (n : ℕ) × (0 < n) × (n ≤ limit) × (k ≡ pos n) × Digits n t
 
 abbrev pub SpellsBound : ℕ → Bound → Language
-SpellsBound limit (Finite z) = Number limit z
-SpellsBound limit Infinite = Bytes inf_word
+SpellsBound limit (Bound.Finite z) = Number limit z
+SpellsBound limit Bound.Infinite = Bytes inf_word
 
 -- `:`, and literals with blank+ between them
 abbrev pub SpellsShown : List Literal → Language
@@ -123,19 +119,19 @@ module _ (limit top : ℕ) where
 
   -- a word of an expression; a factor comes before `*` or `d`, and a name before `w`
   abbrev pub SpellsWord : PolWord → Language
-  SpellsWord (Id id) = SpellsId top id
-  SpellsWord (Axiom literal) = SpellsLiteral literal
-  SpellsWord Add = Byte 43
-  SpellsWord (Multiply k) = Factor limit k ⋅ Blanks1 ⋅ Byte 42
-  SpellsWord (Divide k) = Factor limit k ⋅ Blanks1 ⋅ Byte 100
-  SpellsWord Saturate = Byte 115
-  SpellsWord (Weaken name) = λ t. IsName name × (Bytes name ⋅ Blanks1 ⋅ Byte 119) t
+  SpellsWord (PolWord.Id id) = SpellsId top id
+  SpellsWord (PolWord.Axiom literal) = SpellsLiteral literal
+  SpellsWord PolWord.Add = Byte 43
+  SpellsWord (PolWord.Multiply k) = Factor limit k ⋅ Blanks1 ⋅ Byte 42
+  SpellsWord (PolWord.Divide k) = Factor limit k ⋅ Blanks1 ⋅ Byte 100
+  SpellsWord PolWord.Saturate = Byte 115
+  SpellsWord (PolWord.Weaken name) = λ t. IsName name × (Bytes name ⋅ Blanks1 ⋅ Byte 119) t
 
   abbrev pub SpellsConclusion : Conclusion → Language
-  SpellsConclusion NoClaim = Bytes none_word
-  SpellsConclusion (Unsat id) = Bytes unsat_word ⋅ IdShown id
-  SpellsConclusion (Sat shown) = Bytes sat_word ⋅ LiteralsShown shown
-  SpellsConclusion (Bounds lower id upper shown) =
+  SpellsConclusion Conclusion.NoClaim = Bytes none_word
+  SpellsConclusion (Conclusion.Unsat id) = Bytes unsat_word ⋅ IdShown id
+  SpellsConclusion (Conclusion.Sat shown) = Bytes sat_word ⋅ LiteralsShown shown
+  SpellsConclusion (Conclusion.Bounds lower id upper shown) =
       Bytes bounds_word ⋅ Blanks1 ⋅ SpellsBound limit lower ⋅ IdShown id ⋅ Blanks1 ⋅ SpellsBound limit upper ⋅ LiteralsShown shown
 
   -- The texts after the first word of a statement.
@@ -160,14 +156,14 @@ module _ (limit top : ℕ) where
 
   -- A statement from its first word through its line feed. The closing words have no line feed.
   abbrev pub SpellsStatement : Statement → Language
-  SpellsStatement Header =
+  SpellsStatement Statement.Header =
       Bytes pseudo_word ⋅ Blanks1 ⋅ Bytes proof_word ⋅ Blanks1 ⋅ Bytes version_word ⋅ Blanks1 ⋅ Bytes two_word ⋅ Feed
-  SpellsStatement (F count) = Bytes f_word ⋅ SpellsCount count
-  SpellsStatement (Pol ws) = Bytes pol_word ⋅ SpellsWords ws
-  SpellsStatement (Rup c) = Bytes rup_word ⋅ SpellsRup c
-  SpellsStatement (Soli ls) = Bytes soli_word ⋅ SpellsLiterals ls
-  SpellsStatement (Solx ls) = Bytes solx_word ⋅ SpellsLiterals ls
-  SpellsStatement (Delete ids) = Bytes del_word ⋅ Blanks1 ⋅ Bytes id_word ⋅ SpellsIds ids
-  SpellsStatement Output = Bytes output_word ⋅ Blanks1 ⋅ Bytes none_word ⋅ LineEnd
-  SpellsStatement (Conclude c) = Bytes conclusion_word ⋅ SpellsConclusionLine c
-  SpellsStatement End = Bytes end_word ⋅ Blanks1 ⋅ Bytes pseudo_word ⋅ Blanks1 ⋅ Bytes proof_word
+  SpellsStatement (Statement.F count) = Bytes f_word ⋅ SpellsCount count
+  SpellsStatement (Statement.Pol ws) = Bytes pol_word ⋅ SpellsWords ws
+  SpellsStatement (Statement.Rup c) = Bytes rup_word ⋅ SpellsRup c
+  SpellsStatement (Statement.Soli ls) = Bytes soli_word ⋅ SpellsLiterals ls
+  SpellsStatement (Statement.Solx ls) = Bytes solx_word ⋅ SpellsLiterals ls
+  SpellsStatement (Statement.Delete ids) = Bytes del_word ⋅ Blanks1 ⋅ Bytes id_word ⋅ SpellsIds ids
+  SpellsStatement Statement.Output = Bytes output_word ⋅ Blanks1 ⋅ Bytes none_word ⋅ LineEnd
+  SpellsStatement (Statement.Conclude c) = Bytes conclusion_word ⋅ SpellsConclusionLine c
+  SpellsStatement Statement.End = Bytes end_word ⋅ Blanks1 ⋅ Bytes pseudo_word ⋅ Blanks1 ⋅ Bytes proof_word

@@ -4,33 +4,31 @@ use Rattle.pb_text.specs.meaning.Spelling.{Item}
 use Rattle.pb_proof.specs.meaning.Lines.{SpellsStatement}
 use Rattle.pb_proof.specs.meaning.Proofs.{IsGap}
 use Rattle.pb_proof.specs.declared.machine.phase.Stage.{Stage}
-use Rattle.pb_proof.specs.declared.machine.phase.Stage.TheVariants.{Opening, Formula, Steps, Concluding, Closing, Complete}
 use Rattle.pb_proof.specs.declared.statement.Statement.{Statement}
-use Rattle.pb_proof.specs.declared.statement.Statement as statement
 
 -- the stage of a statement, and the stage after it
 abbrev pub stage_of : Statement → Stage
-stage_of statement.TheVariants.Header = Opening
-stage_of (statement.TheVariants.F count) = Formula
-stage_of (statement.TheVariants.Conclude c) = Concluding
-stage_of statement.TheVariants.End = Closing
-stage_of _ = Steps
+stage_of Statement.Header = Stage.Opening
+stage_of (Statement.F count) = Stage.Formula
+stage_of (Statement.Conclude c) = Stage.Concluding
+stage_of Statement.End = Stage.Closing
+stage_of _ = Stage.Steps
 
 abbrev pub stage_after : Statement → Stage
-stage_after statement.TheVariants.Header = Formula
-stage_after statement.TheVariants.Output = Concluding
-stage_after (statement.TheVariants.Conclude c) = Closing
-stage_after statement.TheVariants.End = Complete
-stage_after _ = Steps
+stage_after Statement.Header = Stage.Formula
+stage_after Statement.Output = Stage.Concluding
+stage_after (Statement.Conclude c) = Stage.Closing
+stage_after Statement.End = Stage.Complete
+stage_after _ = Stage.Steps
 
 -- what may come before a statement
 abbrev pub GapAt : Stage → List ℕ → Type 0
-GapAt Opening gap = gap ≡ []
+GapAt Stage.Opening gap = gap ≡ []
 GapAt _ gap = IsGap gap
 
 module _ (limit top : ℕ) where
   -- the statements from a stage to the end
   abbrev pub IsStaged : Stage → List (Item Statement) → Type 0
-  IsStaged at [] = at ≡ Complete
+  IsStaged at [] = at ≡ Stage.Complete
   IsStaged at (i ∷ rest) =
       GapAt at i.gap × (stage_of i.event ≡ at) × SpellsStatement limit top i.event i.text × IsStaged (stage_after i.event) rest

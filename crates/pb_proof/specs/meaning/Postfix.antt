@@ -2,7 +2,6 @@
 use Rattle.std.specs.Prelude.{◌≡◌, ℕ, ℤ, List, [], ◌∷◌, ◌++◌}
 use Rattle.pb_sums.specs.declared.Literal.{Literal}
 use Rattle.pb_proof.specs.declared.word.PolWord.{PolWord}
-use Rattle.pb_proof.specs.declared.word.PolWord.TheVariants.{Id, Axiom, Add, Multiply, Divide, Saturate, Weaken}
 
 -- a constraint, an axiom, a sum of two expressions, or one expression under a rule
 pub data Tree : Type 0 where
@@ -16,13 +15,13 @@ pub data Tree : Type 0 where
 
 -- the postfix words of an expression
 abbrev pub words : Tree → List PolWord
-words (Constraint id) = Id id ∷ []
-words (LiteralAxiom literal) = Axiom literal ∷ []
-words (Sum a b) = words a ++ words b ++ (Add ∷ [])
-words (Product a factor) = words a ++ (Multiply factor ∷ [])
-words (Quotient a divisor) = words a ++ (Divide divisor ∷ [])
-words (Saturation a) = words a ++ (Saturate ∷ [])
-words (Weakening a name) = words a ++ (Weaken name ∷ [])
+words (Constraint id) = PolWord.Id id ∷ []
+words (LiteralAxiom literal) = PolWord.Axiom literal ∷ []
+words (Sum a b) = words a ++ words b ++ (PolWord.Add ∷ [])
+words (Product a factor) = words a ++ (PolWord.Multiply factor ∷ [])
+words (Quotient a divisor) = words a ++ (PolWord.Divide divisor ∷ [])
+words (Saturation a) = words a ++ (PolWord.Saturate ∷ [])
+words (Weakening a name) = words a ++ (PolWord.Weaken name ∷ [])
 
 -- the words of one expression
 abbrev pub IsPostfix : List PolWord → Type 0

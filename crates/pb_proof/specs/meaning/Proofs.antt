@@ -6,7 +6,6 @@ use Rattle.pb_text.specs.meaning.Whole.{events_of}
 use Rattle.pb_proof.specs.meaning.Lines.{SpellsStatement}
 use Rattle.pb_proof.specs.declared.proof.Proof.{Proof}
 use Rattle.pb_proof.specs.declared.statement.Statement.{Statement}
-use Rattle.pb_proof.specs.declared.statement.Statement.TheVariants.{Header, F, Pol, Rup, Soli, Solx, Delete, Output, Conclude, End}
 
 -- white space and comments; each comment has its line feed
 abbrev pub IsGap : List ℕ → Type 0
@@ -14,16 +13,16 @@ IsGap gap = IsBlank gap × (in_comment gap ≡ false)
 
 -- a statement that may appear between `f` and `output`
 abbrev pub IsStep : Statement → Type 0
-IsStep (Pol ws) = Unit {0}
-IsStep (Rup c) = Unit {0}
-IsStep (Soli ls) = Unit {0}
-IsStep (Solx ls) = Unit {0}
-IsStep (Delete ids) = Unit {0}
+IsStep (Statement.Pol ws) = Unit {0}
+IsStep (Statement.Rup c) = Unit {0}
+IsStep (Statement.Soli ls) = Unit {0}
+IsStep (Statement.Solx ls) = Unit {0}
+IsStep (Statement.Delete ids) = Unit {0}
 IsStep _ = ⊥
 
 -- the statements of a proof
 abbrev pub statements_of : Proof → List Statement
-statements_of v = Header ∷ F v.count ∷ (v.steps ++ Output ∷ Conclude v.conclusion ∷ End ∷ [])
+statements_of v = Statement.Header ∷ Statement.F v.count ∷ (v.steps ++ Statement.Output ∷ Statement.Conclude v.conclusion ∷ Statement.End ∷ [])
 
 module _ (limit top : ℕ) where
   -- the text of each is that of its statement, after white space and comments

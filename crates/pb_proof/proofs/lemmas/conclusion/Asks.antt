@@ -1,41 +1,29 @@
 -- Where the conclusion machine may allocate.
-use Rattle.pb_proof.proofs.Common.{ℕ, ◌++◌, ◌∙◌, ◌∷◌, ◌≡◌, [], ap, append_assoc, List, refl, Some, subst, sym, true, false≢true, Literal, prefixes_of}
-use Rattle.pb_proof.proofs.Common.{Walks, bytes-append, End, Go, Next, ReadsStatement, bytes, Letter, Conclusion, Showing, asks}
-use Rattle.pb_proof.proofs.Common.{conclusion_automaton, conclusion_first, ConclusionState, showing_value, solution_automaton, SolutionState}
-use Rattle.pb_proof.proofs.Common.{AsksConclusion, AsksShown, conclusion_transition as transition, conclusion_act as act, conclusion_over as over}
-use Rattle.pb_proof.proofs.Common.{conclusion_giving as giving, ConclusionPhase as Phase, ConclusionAction as Action}
+use Rattle.pb_proof.proofs.Common.{ℕ, ◌++◌, ◌∙◌, ◌∷◌, ◌≡◌, [], ap, append_assoc, List, refl, Some, subst, sym, true, false≢true, Literal, prefixes_of, arith, Walks}
+use Rattle.pb_proof.proofs.Common.{bytes-append, ReadsStatement, bytes, Letter, Conclusion, Showing, asks, conclusion_automaton, conclusion_first, ConclusionState}
+use Rattle.pb_proof.proofs.Common.{showing_value, solution_automaton, AsksConclusion, AsksShown, conclusion_transition as transition, ConclusionPhase as Phase}
+use Rattle.pb_proof.proofs.Common.{ConclusionAction as Action}
 use Rattle.pb_proof.proofs.lemmas.conclusion.Prefix as conclusion_prefix
+use Rattle.pb_proof.proofs.lemmas.Carried.{reads_out}
+use Rattle.pb_proof.proofs.lemmas.conclusion.Each.{shown_nests}
+use Rattle.pb_proof.proofs.lemmas.conclusion.Theorems.{same_shown}
 use Rattle.pb_proof.proofs.lemmas.conclusion.Steps.{OnAction, on_transition}
 use Rattle.pb_proof.proofs.lemmas.line.Asks.{solution_asked}
 
 -- only within shown literals
 asks_shown : (s : ConclusionState) (p : Phase) (b : ℕ) (m : Action) → OnAction s p m → asks s b m ≡ true → (x : Showing) × (p ≡ Phase.Shown x)
-asks_shown s p b (Action.Give x) h a = (x, h)
-asks_shown s p b _ h a = absurd (false≢true a)
+asks_shown s p b m h a = grind (arith, false≢true)
 
 -- What is read there is shown literals.
-shown_step : (s : ConclusionState) (b : ℕ) (x : Showing) → s.phase ≡ Phase.Shown x → conclusion_automaton.step s b ≡ over s x (solution_automaton.step s.literals b)
-shown_step s b x e = ap (λ q. act s b (transition s.limit s.top q b)) e
-
-shown_went : (s next : ConclusionState) (x : Showing) (y : Next SolutionState (List Literal)) → ◌≡◌ {A = Next ConclusionState Conclusion} (over s x y) (Go next) → next.phase ≡ s.phase
-shown_went s next x (Go inner) e = let f : next ≡ giving s inner = cc in ap (λ z. z.phase) f
-shown_went s next x _ e = absurd (let f : ⊥ = cc in f)
-
-shown_ended : (s next : ConclusionState) (x : Showing) (c : Conclusion) (y : Next SolutionState (List Literal)) → ◌≡◌ {A = Next ConclusionState Conclusion} (over s x y) (End c next)
-    → (ls : List Literal) × (c ≡ showing_value x (Some ls))
-shown_ended s next x c (End ls inner) e = (ls, (let f : c ≡ showing_value x (Some ls) = cc in f))
-shown_ended s next x c _ e = absurd (let f : ⊥ = cc in f)
-
 shown_reads : (t : List Letter) (s : ConclusionState) (x : Showing) (c : Conclusion) (next : ConclusionState) → s.phase ≡ Phase.Shown x → ReadsStatement conclusion_automaton s t c next
     → (ls : List Literal) × (c ≡ showing_value x (Some ls))
-shown_reads [] s x c next at r = absurd r
-shown_reads (l ∷ []) s x c next at (h, n) = shown_ended s next x c (solution_automaton.step s.literals l.byte) (sym (shown_step s l.byte x at) ∙ h)
-shown_reads (l ∷ k ∷ t) s x c next at (mid, h, o, n, r) =
-    shown_reads (k ∷ t) mid x c next (shown_went s mid x (solution_automaton.step s.literals l.byte) (sym (shown_step s l.byte x at) ∙ h) ∙ at) r
+shown_reads t s x c next at r =
+    let (ls, after, same, k) = reads_out solution_automaton conclusion_automaton _ _ _ (shown_nests s.limit s.top x) t s.literals c next
+    (subst (λ y. ReadsStatement conclusion_automaton y t c next) (sym (same_shown s x at)) r) in
+    (ls, same)
 
 shows_conclusion : (x : Showing) (ls : List Literal) (text : List ℕ) (b : ℕ) → AsksShown text b → AsksConclusion (showing_value x (Some ls)) text b
-shows_conclusion Showing.Sat ls text b h = h
-shows_conclusion (Showing.Bounds lower id upper) ls text b h = h
+shows_conclusion x ls text b h = grind arith
 
 module _ (limit top : ℕ) where
   shown_at : (s : ConclusionState) (x : Showing) (t : List Letter) (b : ℕ) → s.phase ≡ Phase.Shown x → conclusion_prefix.prefix s.limit s.top s.literals s.phase t → conclusion_automaton.asks s b ≡ true → AsksShown (bytes t) b

@@ -1,16 +1,17 @@
 -- The conclusion machine reads each conclusion.
-use Rattle.pb_proof.proofs.Common.{ℕ, ℤ, ◌++◌, ◌∙◌, ◌∷◌, ◌≡◌, [], ap, List, None, Option, refl, Some, subst, sym, true, Literal, longer, reads_after}
-use Rattle.pb_proof.proofs.Common.{Walks, blank_digit, after_it, inside, regroup, Go, ReadsStatement, ◌⋅◌, Blanks0, Blanks1, Byte, Bytes, Empty}
-use Rattle.pb_proof.proofs.Common.{Language, unmarked, signed, Letter, Bound, Conclusion, Bounds, NoClaim, Sat, Unsat, Concluding, Owner, Showing}
-use Rattle.pb_proof.proofs.Common.{phase_after_word, word_of, conclusion_automaton, conclusion_first, conclusion_last, conclusion_value}
-use Rattle.pb_proof.proofs.Common.{ConclusionState, showing_value, solution_automaton, solution_first, solution_last, SolutionState, SpellsJoined}
-use Rattle.pb_proof.proofs.Common.{bounds_word, IdShown, LineEnd, LiteralsShown, none_word, SpellsBound, SpellsConclusionLine, SpellsId, SpellsShown}
-use Rattle.pb_proof.proofs.Common.{unsat_word, conclusion_giving as giving, conclusion_over as over, ConclusionPhase as Phase, Word, Side}
-use Rattle.pb_proof.proofs.lemmas.conclusion.Parts.{Opens, before_opens, spaced_opens, bound_carries, AtId, id_carries}
+use Rattle.pb_proof.proofs.Common.{ℕ, ℤ, ◌++◌, ◌∙◌, ◌∷◌, ◌≡◌, [], ap, append_assoc, List, None, Option, refl, Some, subst, sym, true, Literal, longer, reads_after}
+use Rattle.pb_proof.proofs.Common.{arith, rules, Walks, blank_digit, after_it, inside, Go, ReadsStatement, ◌⋅◌, Blanks0, Blanks1, Byte, Bytes, Empty, Language}
+use Rattle.pb_proof.proofs.Common.{unmarked, Letter, Bound, Conclusion, Bounds, NoClaim, Sat, Unsat, Concluding, Owner, Showing, phase_after_word, word_of}
+use Rattle.pb_proof.proofs.Common.{conclusion_automaton, conclusion_first, conclusion_last, conclusion_value, ConclusionState, showing_value, solution_automaton}
+use Rattle.pb_proof.proofs.Common.{solution_first, solution_last, SolutionState, SpellsJoined, bounds_word, IdShown, LineEnd, LiteralsShown, none_word, SpellsBound}
+use Rattle.pb_proof.proofs.Common.{SpellsConclusionLine, SpellsId, SpellsShown, unsat_word, conclusion_giving as giving, ConclusionPhase as Phase, Word, Side}
+use Rattle.pb_proof.proofs.lemmas.conclusion.Parts.{Opens, before_opens, spaced_opens, bound_carries, AtId, id_carries, at, Carries, carries_then, Is, leads_carry}
+use Rattle.pb_proof.proofs.lemmas.conclusion.Parts.{word_leads, start_blanks, bounded_blanks, id_blanks, Follows, follows_blanks, after_blanks_of, between_blanks}
+use Rattle.pb_proof.proofs.lemmas.conclusion.Parts.{may_end, id_steps, id_follows}
 use Rattle.pb_proof.proofs.lemmas.conclusion.Texts.{Body, line_shown}
-use Rattle.pb_proof.proofs.lemmas.conclusion.Parts.{at, Carries, carries_then, Is, leads_carry, word_leads, start_blanks, bounded_blanks, id_blanks, Follows, follows_blanks, after_blanks_of, between_blanks, may_end, id_steps, id_follows}
 use Rattle.pb_proof.proofs.lemmas.line.Ends.{TakesBlanks, blanks1_lead, blanks0_lead, after_blanks, line_reads, nil_last}
-use Rattle.pb_proof.proofs.lemmas.solution.Theorems.{solution_reads}
+use Rattle.pb_proof.proofs.lemmas.Carried.{Nests, reads_in}
+use Rattle.pb_proof.proofs.lemmas.solution.Theorems.{solution_reads, solution_of_one}
 
 module _ (limit top : ℕ) where
   abbrev here : Phase → ConclusionState
@@ -21,12 +22,8 @@ module _ (limit top : ℕ) where
   shown_at x inner = giving (here (Phase.Shown x)) inner
 
   -- What the literals machine reads is read as the shown literals.
-  pub shown_reads : (x : Showing) (t : List Letter) (inner : SolutionState) (ls : List Literal) (last : SolutionState)
-      → ReadsStatement solution_automaton inner t ls last → ReadsStatement conclusion_automaton (shown_at x inner) t (showing_value x (Some ls)) (conclusion_last limit top)
-  shown_reads x [] inner ls last r = absurd r
-  shown_reads x (l ∷ []) inner ls last (g, n) = (ap (λ y. over (shown_at x inner) x y) g, n)
-  shown_reads x (l ∷ k ∷ t) inner ls last (mid, g, i, n, r) =
-      (shown_at x mid, ap (λ y. over (shown_at x inner) x y) g, refl, n, shown_reads x (k ∷ t) mid ls last r)
+  pub shown_nests : (x : Showing) → Nests solution_automaton conclusion_automaton (shown_at x) (λ ls. showing_value x (Some ls)) (λ ls inner. conclusion_last limit top)
+  shown_nests x = record { step = λ s b. refl; begins = solution_of_one.begins; begun = λ s h. refl; in_number = λ s. refl }
 
   itself : (p : Phase) → Follows limit top p (here p)
   itself p b e = refl
@@ -47,7 +44,7 @@ module _ (limit top : ℕ) where
   colon_reads x ls s f t (a, b, e, h, k) =
       subst (λ y. ReadsStatement conclusion_automaton s y (showing_value x (Some ls)) (conclusion_last limit top)) (sym (e ∙ ap (λ y. y ++ b) h))
       (longer conclusion_automaton (unmarked 58) b s (here (Phase.Shown x)) (conclusion_last limit top) (showing_value x (Some ls)) (f 58 refl) refl refl
-      (shown_reads x b (solution_first true) ls (solution_last true) ((solution_reads true b ls (solution_last true)).1 (k, refl))))
+      (reads_in _ _ _ _ _ (shown_nests x) b (solution_first true) ls (solution_last true) ((solution_reads true b ls (solution_last true)).1 (k, refl))))
 
   some_shown : (x : Showing) (ls : List Literal) (s : ConclusionState) → Follows limit top (Phase.AfterValue (Concluding.Shows x)) s
       → (t : List Letter) → (Blanks0 ⋅ (SpellsShown ls ⋅ LineEnd)) t → ReadsStatement conclusion_automaton s t (showing_value x (Some ls)) (conclusion_last limit top)
@@ -64,12 +61,8 @@ module _ (limit top : ℕ) where
   -- the parts of a line with shown literals
   shown_parts : (x : Showing) (ls : List Literal) (t : List Letter) → (Blanks1 ⋅ (Body limit top x ⋅ (Blanks0 ⋅ SpellsShown ls)) ⋅ LineEnd) t
       → (Blanks1 ⋅ (Body limit top x ⋅ (Blanks0 ⋅ (SpellsShown ls ⋅ LineEnd)))) t
-  shown_parts x ls t h =
-      let B : Language = Body limit top x in
-      let S : Language = SpellsShown ls in
-      after_it Blanks1 (B ⋅ (Blanks0 ⋅ S) ⋅ LineEnd) (B ⋅ (Blanks0 ⋅ (S ⋅ LineEnd))) t
-      (λ q k. after_it B (Blanks0 ⋅ S ⋅ LineEnd) (Blanks0 ⋅ (S ⋅ LineEnd)) q (regroup Blanks0 S LineEnd) (regroup B (Blanks0 ⋅ S) LineEnd q k))
-      (regroup Blanks1 (B ⋅ (Blanks0 ⋅ S)) LineEnd t h)
+  shown_parts x ls t (u, l, e, (s, w, f, p1, (a, v, g, body, (z, d, h, p0, m))), n) =
+      (s, a ++ (z ++ (d ++ l)), rw (e, f, g, h) (simp append_assoc), p1, (a, z ++ (d ++ l), refl, body, (z, d ++ l, refl, p0, (d, l, refl, m, n))))
 
   -- a conclusion that may show literals
   showing_reads : (x : Showing) (shown : Option (List Literal)) → Carries limit top (Is limit top Phase.Before) (Body limit top x) (Follows limit top (Phase.AfterValue (Concluding.Shows x)))
@@ -96,11 +89,7 @@ module _ (limit top : ℕ) where
   Colons x s = conclusion_automaton.step s 58 ≡ Go (here (Phase.BeforeId x))
 
   colon_carries : (x : Owner) → Carries limit top (Colons x) (Byte 58) (Is limit top (Phase.BeforeId x))
-  colon_carries x s t i h = (
-    here (Phase.BeforeId x),
-    subst (λ y. Walks conclusion_automaton s y (here (Phase.BeforeId x))) (sym h) (here (Phase.BeforeId x), i, refl, refl, refl),
-    refl,
-  )
+  colon_carries x s t i h = grind arith
 
   id_shown_carries : (x : Owner) (id : ℤ) (A : ConclusionState → Type 0) → Carries limit top A Blanks0 (Colons x) → Carries limit top A (IdShown limit top (Some id)) (AtId limit top x id)
   id_shown_carries x id A f =
@@ -129,13 +118,10 @@ module _ (limit top : ℕ) where
 
   -- `UNSAT`, and an id
   unsat_gap : (s : ConclusionState) → s ≡ here (Phase.AfterValue (Concluding.Unsat None)) → TakesBlanks conclusion_automaton s (here (Phase.AfterValue (Concluding.Unsat None))) × Colons Owner.Unsat s
-  unsat_gap s e =
-      subst (λ y. TakesBlanks conclusion_automaton y (here (Phase.AfterValue (Concluding.Unsat None))) × Colons Owner.Unsat y) (sym e) (after_blanks_of limit top (Concluding.Unsat None), refl)
+  unsat_gap s e = grind (arith, after_blanks_of)
 
   unsat_id : (id : ℤ) (s : ConclusionState) → AtId limit top Owner.Unsat id s → Follows limit top (Phase.AfterValue (Concluding.Unsat (Some id))) s
-  unsat_id id s (negative, n, z, e, i) =
-      rw e
-      (subst (λ y. Follows limit top (Phase.AfterValue (Concluding.Unsat (Some (signed negative n)))) y) (sym i) (id_follows limit top negative n z))
+  unsat_id id s h = grind (arith, id_follows)
 
   unsat_carries : (id : Option ℤ) → Carries limit top (Is limit top Phase.Before) (Bytes unsat_word ⋅ IdShown limit top id) (Follows limit top (Phase.AfterValue (Concluding.Unsat id)))
   unsat_carries None =
@@ -163,9 +149,7 @@ module _ (limit top : ℕ) where
       id_shown_carries (Owner.Lower x) id A (blanks_carry A (Colons (Owner.Lower x)) (here (Phase.Spaced x)) (lower_gap x) refl)
 
   before_upper : (x : Bound) (id : ℤ) (s : ConclusionState) → AtId limit top (Owner.Lower x) id s → TakesBlanks conclusion_automaton s (here (Phase.BeforeBound (Side.Upper x (Some id))))
-  before_upper x id s (negative, n, z, e, i) =
-      rw e (subst (λ y. TakesBlanks conclusion_automaton y (here (Phase.BeforeBound (Side.Upper x (Some (signed negative n)))))) (sym i)
-      (record { enters = λ b h. id_steps limit top (Owner.Lower x) negative n b z (blank_digit b h) ∙ rw h refl; stays = λ b h. rw h refl; begun = refl; plain = refl }))
+  before_upper x id s h = grind (arith, id_steps, blank_digit)
 
   gap_carries : (x : Bound) (id : Option ℤ) → Carries limit top (Middle x id) Blanks1 (Opens limit top (Side.Upper x id))
   gap_carries x None s t f h =
@@ -201,8 +185,7 @@ module _ (limit top : ℕ) where
   -- a conclusion without literals, after the first blanks
   plain_reads : (c : Concluding) (P : Language) → Carries limit top (Is limit top Phase.Before) P (Follows limit top (Phase.AfterValue c))
       → (t : List Letter) → (Blanks1 ⋅ P ⋅ LineEnd) t → ReadsStatement conclusion_automaton (conclusion_first limit top) t (conclusion_value c) (conclusion_last limit top)
-  plain_reads c P f =
-      ends_line c (Blanks1 ⋅ P) (carries_then limit top (Is limit top Phase.Start) (Is limit top Phase.Before) (Follows limit top (Phase.AfterValue c)) Blanks1 P start_carries f)
+  plain_reads c P f t h = search (rules, ends_line, carries_then, start_carries)
 
   pub conclusion_each : (c : Conclusion) (t : List Letter) → SpellsConclusionLine limit top c t → ReadsStatement conclusion_automaton (conclusion_first limit top) t c (conclusion_last limit top)
   conclusion_each NoClaim t h = plain_reads Concluding.NoClaim (Bytes none_word) (word_follows Word.NoClaim Concluding.NoClaim refl) t h

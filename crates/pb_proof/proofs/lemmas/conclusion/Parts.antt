@@ -1,14 +1,14 @@
 -- How the conclusion machine walks through the parts of a conclusion.
-use Rattle.pb_proof.proofs.Common.{ℕ, ◌++◌, ◌+◌, ◌<◌, ◌∙◌, ◌∷◌, ◌≡◌, [], ap, append-nil, append_assoc, arith, Bool, cond, drop, false, length, length-append}
-use Rattle.pb_proof.proofs.Common.{List, nat_eq, refl, Some, subst, sym, take, take-append-drop, true, slice_index, get_or-append_seam, eq-eqb, nat_tests}
-use Rattle.pb_proof.proofs.Common.{length-take-le, Leads, Walks, walks_then, blank_digit, Go, is_digit, ◌⋅◌, Bytes, Language, signed, Letter, plain, Bound}
-use Rattle.pb_proof.proofs.Common.{Finite, To, Concluding, Owner, Side, Word, after_bound, after_id, between, digits, is_within, phase_after_bound}
-use Rattle.pb_proof.proofs.Common.{phase_after_word, spell, word_of, conclusion_at, conclusion_automaton, conclusion_last, conclusion_value, ConclusionState}
-use Rattle.pb_proof.proofs.Common.{Showing, ℤ, ◌*◌, ◌-◌, ◌≤◌, inl, inr, None, le-leb, digits_lead, digit_blank, digit_byte, unmarked, Digits, Number}
-use Rattle.pb_proof.proofs.Common.{Infinite, Stop, id_digits, is_in_number, inf_word, SpellsBound, SpellsId, conclusion_next as next_action}
-use Rattle.pb_proof.proofs.Common.{conclusion_transition as transition, conclusion_act as act, ConclusionPhase as Phase, ConclusionAction as Action}
+use Rattle.pb_proof.proofs.Common.{ℕ, ◌++◌, ◌+◌, ◌<◌, ◌∙◌, ◌∷◌, ◌≡◌, [], ap, append-nil, append_assoc, arith, Bool, cond, drop, false, length, length-append, List}
+use Rattle.pb_proof.proofs.Common.{nat_eq, refl, Some, subst, sym, take, take-append-drop, true, slice_index, get_or-append_seam, eq-eqb, nat_tests, length-take-le}
+use Rattle.pb_proof.proofs.Common.{Leads, Walks, walks_then, blank_digit, Go, is_digit, ◌⋅◌, Bytes, Language, signed, Letter, plain, Bound, Finite, To, Concluding}
+use Rattle.pb_proof.proofs.Common.{Owner, Side, Word, after_id, between, digits, is_within, phase_after_bound, phase_after_word, spell, word_of, conclusion_at}
+use Rattle.pb_proof.proofs.Common.{conclusion_automaton, conclusion_last, conclusion_value, ConclusionState, Showing, ℤ, ◌*◌, ◌≤◌, inl, inr, None, le-leb}
+use Rattle.pb_proof.proofs.Common.{digits_lead, digit_blank, digit_byte, unmarked, Digits, Number, Infinite, id_digits, is_in_number, inf_word, SpellsBound}
+use Rattle.pb_proof.proofs.Common.{SpellsId, conclusion_next as next_action, conclusion_transition as transition, conclusion_act as act, ConclusionPhase as Phase}
+use Rattle.pb_proof.proofs.Common.{ConclusionAction as Action}
 use Rattle.pb_proof.proofs.lemmas.line.Ends.{TakesBlanks, MayEnd, closing_feeds}
-use Rattle.pb_proof.proofs.lemmas.NumberTests.{not_zero}
+use Rattle.pb_proof.proofs.lemmas.line.ByteKinds.{not_zero}
 use Rattle.pb_proof.proofs.lemmas.conclusion.Steps.{OnAction, on_transition}
 
 module _ (limit top : ℕ) where
@@ -20,9 +20,7 @@ module _ (limit top : ℕ) where
   Carries A P B = (s : ConclusionState) (t : List Letter) → A s → P t → (new : ConclusionState) × Walks conclusion_automaton s t new × B new
 
   pub carries_then : (A B C : ConclusionState → Type 0) (P Q : Language) → Carries A P B → Carries B Q C → Carries A (P ⋅ Q) C
-  carries_then A B C P Q f g s t i (a, b, e, p, q) =
-      let (mid, w, j) = f s a i p in
-      let (new, v, k) = g mid b j q in (new, rw e (walks_then conclusion_automaton a b s mid new w v), k)
+  carries_then A B C P Q f g s t i h = grind (arith, walks_then)
 
   abbrev pub Is : Phase → ConclusionState → Type 0
   Is p s = s ≡ at p
@@ -40,20 +38,11 @@ module _ (limit top : ℕ) where
 
   spell_next : (w prefix left : List ℕ) (b : ℕ) (more whole : Phase) (x : Bool) → w ≡ prefix ++ b ∷ left → nat_eq (length prefix + 1) (length w) ≡ x
       → spell w (length prefix) b more whole ≡ To (cond x whole more)
-  spell_next w prefix left b more whole x e f =
-      let g : slice_index w (length prefix) ≡ b = ap (λ y. slice_index y (length prefix)) e ∙ get_or-append_seam prefix b left 0 in
-      rw (g, eq-eqb b b refl, f) refl
+  spell_next w prefix left b more whole x e f = grind (arith, slice_index, length, get_or-append_seam, eq-eqb)
 
   spelled : (w : List ℕ) (more : ℕ → Phase) (whole : Phase) → Spelled w more whole → (prefix left : List ℕ) (b : ℕ) → w ≡ prefix ++ b ∷ left
       → Walks conclusion_automaton (at (more (length prefix))) (plain (b ∷ left)) (at whole)
-  spelled w more whole h prefix [] b e =
-      let n : nat_eq (length prefix + 1) (length w) ≡ true = ap (λ x. nat_eq (length prefix + 1) (length x)) e ∙ (ap (λ x. nat_eq (length prefix + 1) x) (length-append prefix (b ∷ [])) ∙ eq-eqb (length prefix + 1) (length prefix + 1) refl) in (
-        at whole,
-        ap (λ x. act (at (more (length prefix))) b x) (h.planned (length prefix) b ∙ spell_next w prefix [] b (more (length prefix + 1)) whole true e n),
-        h.within_whole,
-        sym h.number_whole,
-        refl,
-      )
+  spelled w more whole h prefix [] b e = grind (arith, nat_eq, length, length-append, eq-eqb, spell_next)
   spelled w more whole h prefix (c ∷ left) b e =
       let m : length w ≡ length prefix + (2 + length left) = ap length e ∙ (length-append prefix (b ∷ c ∷ left) ∙ omega arith) in
       let n : nat_eq (length prefix + 1) (length w) ≡ false = rw m (grind (arith, nat_tests)) in (
@@ -80,8 +69,7 @@ module _ (limit top : ℕ) where
   spelled_word w i n = record { planned = λ k b. refl; within = λ k. refl; number = λ k. refl; within_whole = i; number_whole = n }
 
   word_spelled : (w : Word) → Spelled (word_of w) (λ k. Phase.Word w k) (phase_after_word w)
-  word_spelled Word.NoClaim = spelled_word Word.NoClaim refl refl
-  word_spelled w = spelled_word w refl refl
+  word_spelled w = grind (arith, spelled_word)
 
   pub word_left : (w : Word) (k : ℕ) → k < length (word_of w) → Walks conclusion_automaton (at (Phase.Word w k)) (plain (drop k (word_of w))) (at (phase_after_word w))
   word_left w k i = left_walk (word_of w) (λ j. Phase.Word w j) (phase_after_word w) (word_spelled w) k i
@@ -93,10 +81,7 @@ module _ (limit top : ℕ) where
       (at (Phase.Word w 1), g, refl, refl, subst (λ x. Walks conclusion_automaton (at (Phase.Word w 1)) (plain x) (at (phase_after_word w))) (ap (drop 1) e) (word_left w 1 i))
 
   pub word_leads : (w : Word) → Leads conclusion_automaton (at Phase.Before) (Bytes (word_of w)) (at (phase_after_word w))
-  word_leads Word.NoClaim = begins_word Word.NoClaim 78 _ refl refl (omega arith)
-  word_leads Word.Unsat = begins_word Word.Unsat 85 _ refl refl (omega arith)
-  word_leads Word.Sat = begins_word Word.Sat 83 _ refl refl (omega arith)
-  word_leads Word.Bounds = begins_word Word.Bounds 66 _ refl refl (omega arith)
+  word_leads w = grind (arith, begins_word)
 
   -- blanks
   pub start_blanks : TakesBlanks conclusion_automaton (at Phase.Start) (at Phase.Before)
@@ -123,38 +108,24 @@ module _ (limit top : ℕ) where
 
   -- the end of the line after a conclusion
   pub may_end : (c : Concluding) (s : ConclusionState) → Follows (Phase.AfterValue c) s → MayEnd conclusion_automaton s (at (Phase.AfterValue c)) (at (Phase.Semicolon c)) (conclusion_value c) (conclusion_last limit top)
-  may_end c s f = record {
-    feeds = record { blanks = follows_blanks (Phase.AfterValue c) (Phase.AfterValue c) s (after_blanks_of c) f; ends = f 10 refl; ends_gap = refl };
-    finishes = f 59 refl;
-    closes_gap = refl;
-    last = closing_feeds conclusion_automaton (at (Phase.Semicolon c)) (conclusion_last limit top) (conclusion_value c) (λ b h. rw h refl) refl refl refl;
-  }
+  may_end c s f = grind (arith, follows_blanks, after_blanks_of, closing_feeds)
 
   -- the transition after a bound or an id is that after the conclusion, whatever was read last
   act_same : (p q r : Phase) (b : ℕ) (m : Action) → OnAction (at p) r m → ((x : Showing) → r ≡ Phase.Shown x → ⊥) → act (at p) b m ≡ act (at q) b m
-  act_same p q r b (Action.Give x) h n = absurd (n x h)
-  act_same p q r b _ h n = refl
+  act_same p q r b m h n = grind arith
 
   act_after : (p q : Phase) (b : ℕ) (c : Concluding) → act (at p) b (next_action c b) ≡ act (at q) b (next_action c b)
   act_after p q b c = act_same p q (Phase.AfterValue c) b (next_action c b) (on_transition (at p) (Phase.AfterValue c) b) (λ x e. cc)
 
-  act_after_bound : (p : Phase) (b : ℕ) (x : Side) (y : Bound) → act (at p) b (after_bound x y b) ≡ conclusion_automaton.step (at (phase_after_bound x y)) b
-  act_after_bound p b Side.Lower y = act_same p (Phase.Between y) (Phase.Between y) b (between y b) (on_transition (at p) (Phase.Between y) b) (λ x e. cc)
-  act_after_bound p b (Side.Upper x id) y = act_after p (Phase.AfterValue (Concluding.Shows (Showing.Bounds x id y))) b (Concluding.Shows (Showing.Bounds x id y))
-
   pub number_follows : (x : Side) (negative : Bool) (n : ℕ) → Follows (phase_after_bound x (Finite (signed negative n))) (at (Phase.Digits x negative n))
-  number_follows x negative n b e =
-      ap (λ y. act (at (Phase.Digits x negative n)) b (cond y (digits limit x negative n b) (after_bound x (Finite (signed negative n)) b))) e
-      ∙ act_after_bound (Phase.Digits x negative n) b x (Finite (signed negative n))
+  number_follows x negative n b e = grind (arith, digits, act_same, between, on_transition, act_after)
 
   pub id_steps : (x : Owner) (negative : Bool) (n b : ℕ) → 0 < n → is_digit b ≡ false
       → conclusion_automaton.step (at (Phase.IdDigits x negative n)) b ≡ act (at (Phase.IdDigits x negative n)) b (after_id x (signed negative n) b)
   id_steps x negative n b z e = rw (e, not_zero n z) refl
 
   pub id_follows : (negative : Bool) (n : ℕ) → 0 < n → Follows (Phase.AfterValue (Concluding.Unsat (Some (signed negative n)))) (at (Phase.IdDigits Owner.Unsat negative n))
-  id_follows negative n z b e =
-      id_steps Owner.Unsat negative n b z e
-      ∙ act_after (Phase.IdDigits Owner.Unsat negative n) (Phase.AfterValue (Concluding.Unsat (Some (signed negative n)))) b (Concluding.Unsat (Some (signed negative n)))
+  id_follows negative n z b e = grind (arith, id_steps, act_after)
 
 -- How the conclusion machine walks through bounds and ids.
 
@@ -168,15 +139,11 @@ module _ (limit top : ℕ) where
 
   -- digits of a bound
   digits_next : (x : Side) (negative : Bool) (m d : ℕ) → d < 10 → 10 * m + d ≤ limit → digits limit x negative m (48 + d) ≡ To (Phase.Digits x negative (10 * m + d))
-  digits_next x negative m d h l =
-      let e : (48 + d) - 48 ≡ d = omega arith in
-      rw (digit_byte d h, e, le-leb (10 * m + d) limit l) refl
+  digits_next x negative m d h l = grind (arith, digit_byte, le-leb)
 
   digits_step : (x : Side) (negative : Bool) (m d : ℕ) → d < 10 → 10 * m + d ≤ limit
       → conclusion_automaton.step (here (Phase.Digits x negative m)) (48 + d) ≡ Go (here (Phase.Digits x negative (10 * m + d)))
-  digits_step x negative m d h l =
-      ap (λ y. act (here (Phase.Digits x negative m)) (48 + d) (cond y (digits limit x negative m (48 + d)) (after_bound x (Finite (signed negative m)) (48 + d)))) (digit_byte d h)
-      ∙ ap (λ y. act (here (Phase.Digits x negative m)) (48 + d) y) (digits_next x negative m d h l)
+  digits_step x negative m d h l = grind (arith, digits, digit_byte, digits_next)
 
   digits_first : (x : Side) (negative : Bool) (d : ℕ) → d < 10 → d ≤ limit → digits limit x negative 0 (48 + d) ≡ To (Phase.Digits x negative d)
   digits_first x negative d h l = let e : 10 * 0 + d ≡ d = omega arith in digits_next x negative 0 d h (omega arith) ∙ ap (λ y. To (Phase.Digits x negative y)) e
@@ -189,21 +156,10 @@ module _ (limit top : ℕ) where
     pub first : (d : ℕ) → d < 10 → d ≤ limit → conclusion_automaton.step s (48 + d) ≡ Go (here (Phase.Digits x false d))
 
   pub before_opens : (x : Side) → Opens x (here (Phase.BeforeBound x))
-  before_opens x = record {
-    plus = refl;
-    minus = refl;
-    letter = refl;
-    first = λ d h l. rw (digit_blank d h, digit-not d 43 h refl, digit-not d 45 h refl, digit-not d 73 h refl, digits_first x false d h l) refl;
-  }
+  before_opens x = grind (arith, digit_blank, digit-not, digits_first)
 
   pub spaced_opens : (x : Bound) → Opens (Side.Upper x None) (here (Phase.Spaced x))
-  spaced_opens x = record {
-    plus = refl;
-    minus = refl;
-    letter = refl;
-    first = λ d h l.
-        rw (digit_blank d h, digit-not d 58 h refl, digit-not d 43 h refl, digit-not d 45 h refl, digit-not d 73 h refl, digits_first (Side.Upper x None) false d h l) refl;
-  }
+  spaced_opens x = grind (arith, digit_blank, digit-not, digits_first)
 
   -- the digits after a first byte
   number_lead : (x : Side) (negative : Bool) (s : ConclusionState) → ((d : ℕ) → d < 10 → d ≤ limit → conclusion_automaton.step s (48 + d) ≡ Go (here (Phase.Digits x negative d)))
@@ -214,19 +170,16 @@ module _ (limit top : ℕ) where
   signed_step x negative = ap (λ y. act (here (Phase.Signed x negative)) 48 y) (digits_first x negative 0 (omega arith) (omega arith))
 
   signed_lead : (x : Side) (negative : Bool) (n : ℕ) → n ≤ limit → Leads conclusion_automaton (here (Phase.Signed x negative)) (Digits n) (here (Phase.Digits x negative n))
-  signed_lead x negative n l =
-      number_lead x negative (here (Phase.Signed x negative)) (λ d h i. ap (λ y. act (here (Phase.Signed x negative)) (48 + d) y) (digits_first x negative d h i)) n l
+  signed_lead x negative n l = grind (arith, number_lead, digits_first)
 
   -- a sign, and the digits after it
   signed_walk : (x : Side) (negative : Bool) (b n : ℕ) (s : ConclusionState) (t u v : List Letter) → conclusion_automaton.step s b ≡ Go (here (Phase.Signed x negative)) → t ≡ u ++ v → u ≡ unmarked b ∷ []
       → n ≤ limit → Digits n v → Walks conclusion_automaton s t (here (Phase.Digits x negative n))
-  signed_walk x negative b n s t u v g f e l ds =
-      subst (λ y. Walks conclusion_automaton s y (here (Phase.Digits x negative n))) (sym (f ∙ ap (λ y. y ++ v) e)) (here (Phase.Signed x negative), g, refl, refl, signed_lead x negative n l v ds)
+  signed_walk x negative b n s t u v g f e l ds = grind (arith, signed_lead)
 
   number_read : (x : Side) (negative : Bool) (n : ℕ) (z : ℤ) (s : ConclusionState) (t : List Letter) → z ≡ signed negative n → Walks conclusion_automaton s t (here (Phase.Digits x negative n))
       → (new : ConclusionState) × Walks conclusion_automaton s t new × Follows limit top (phase_after_bound x (Finite z)) new
-  number_read x negative n z s t e w =
-      (here (Phase.Digits x negative n), w, subst (λ y. Follows limit top (phase_after_bound x (Finite y)) (here (Phase.Digits x negative n))) (sym e) (number_follows limit top x negative n))
+  number_read x negative n z s t e w = grind (arith, number_follows)
 
   number_carries : (x : Side) (z : ℤ) → Carries limit top (Opens x) (Number limit z) (Follows limit top (phase_after_bound x (Finite z)))
   number_carries x z s t o (true, n, l, e, (u, v, f, sign, ds)) = number_read x true n z s t e (signed_walk x true 45 n s t u v o.minus f sign l ds)
@@ -240,8 +193,7 @@ module _ (limit top : ℕ) where
   infinity_spelled x i n = record { planned = λ k b. refl; within = λ k. refl; number = λ k. refl; within_whole = i; number_whole = n }
 
   spelled_of : (x : Side) → Spelled limit top inf_word (λ k. Phase.Infinity x k) (phase_after_bound x Infinite)
-  spelled_of Side.Lower = infinity_spelled Side.Lower refl refl
-  spelled_of (Side.Upper x id) = infinity_spelled (Side.Upper x id) refl refl
+  spelled_of x = grind (arith, infinity_spelled)
 
   pub infinity_left : (x : Side) (k : ℕ) → k < length inf_word → Walks conclusion_automaton (here (Phase.Infinity x k)) (plain (drop k inf_word)) (here (phase_after_bound x Infinite))
   infinity_left x k i = left_walk limit top inf_word (λ j. Phase.Infinity x j) (phase_after_bound x Infinite) (spelled_of x) k i
@@ -259,15 +211,11 @@ module _ (limit top : ℕ) where
 
   -- digits of an id
   id_next : (x : Owner) (negative : Bool) (m d : ℕ) → d < 10 → 10 * m + d ≤ top → id_digits top x negative m (48 + d) ≡ To (Phase.IdDigits x negative (10 * m + d))
-  id_next x negative m d h l =
-      let e : (48 + d) - 48 ≡ d = omega arith in
-      rw (digit_byte d h, e, le-leb (10 * m + d) top l) refl
+  id_next x negative m d h l = grind (arith, digit_byte, le-leb)
 
   pub id_step : (x : Owner) (negative : Bool) (m d : ℕ) → d < 10 → 10 * m + d ≤ top
       → conclusion_automaton.step (here (Phase.IdDigits x negative m)) (48 + d) ≡ Go (here (Phase.IdDigits x negative (10 * m + d)))
-  id_step x negative m d h l =
-      ap (λ y. act (here (Phase.IdDigits x negative m)) (48 + d) (cond y (id_digits top x negative m (48 + d)) (cond (nat_eq m 0) Stop (after_id x (signed negative m) (48 + d))))) (digit_byte d h)
-      ∙ ap (λ y. act (here (Phase.IdDigits x negative m)) (48 + d) y) (id_next x negative m d h l)
+  id_step x negative m d h l = grind (arith, nat_eq, digit_byte, id_next)
 
   id_first : (x : Owner) (negative : Bool) (d : ℕ) → d < 10 → d ≤ top → id_digits top x negative 0 (48 + d) ≡ To (Phase.IdDigits x negative d)
   id_first x negative d h l = let e : 10 * 0 + d ≡ d = omega arith in id_next x negative 0 d h (omega arith) ∙ ap (λ y. To (Phase.IdDigits x negative y)) e

@@ -1,5 +1,5 @@
 -- What the conclusion machine reads is a conclusion.
-use Rattle.pb_proof.proofs.Common.{ℕ, ℤ, ◌&&◌, ◌*◌, ◌++◌, ◌+◌, ◌-◌, ◌<◌, ◌∙◌, ◌∷◌, ◌≡◌, ◌≤◌, [], ap, Bool, false, inl, inr, length, List, nat_eq}
+use Rattle.pb_proof.proofs.Common.{ℕ, ℤ, ◌&&◌, ◌*◌, ◌++◌, ◌+◌, ◌-◌, ◌<◌, ◌∙◌, ◌∷◌, ◌≡◌, ◌≤◌, [], ap, Bool, false, inl, inr, length, List, nat_eq, arith, rules}
 use Rattle.pb_proof.proofs.Common.{nat_le, None, refl, Some, subst, sym, take, true, slice_index, and_parts, cond_both, eqb-true, Literal, ends_walk}
 use Rattle.pb_proof.proofs.Common.{Keeps, On, Walks, walks_more, digits-grown, digits-one, after_it, grown, inside, next, none_yet, regroup}
 use Rattle.pb_proof.proofs.Common.{as_unmarked, some_digit, word_grown, word_whole, End, Go, Next, Refuse, is_blank, is_digit, ◌⋅◌, Blanks0, Blanks1}
@@ -7,7 +7,7 @@ use Rattle.pb_proof.proofs.Common.{Byte, Bytes, digit, Empty, Language, unmarked
 use Rattle.pb_proof.proofs.Common.{Conclusion, Stop, To, Concluding, Owner, Showing, Side, Word, after_bound, after_id, begin_bound, between, colon}
 use Rattle.pb_proof.proofs.Common.{digits, first_word, id_digits, phase_after_bound, phase_after_word, PhaseFits, spell, word_of, conclusion_at}
 use Rattle.pb_proof.proofs.Common.{conclusion_automaton, ConclusionState, is_in_number, solution_automaton, solution_first, SolutionState}
-use Rattle.pb_proof.proofs.Common.{SpellsJoined, bounds_word, IdShown, inf_word, SpellsBound, SpellsConclusionLine, SpellsId, unsat_word}
+use Rattle.pb_proof.proofs.Common.{SpellsJoined, bounds_word, IdShown, inf_word, SpellsBound, SpellsConclusionLine}
 use Rattle.pb_proof.proofs.Common.{conclusion_next as next_action, conclusion_transition as transition, conclusion_giving as giving}
 use Rattle.pb_proof.proofs.Common.{conclusion_act as act, conclusion_over as over, ConclusionPhase as Phase, ConclusionAction as Action}
 use Rattle.pb_proof.specs.meaning.Lines.{Minus}
@@ -15,7 +15,7 @@ use Rattle.pb_proof.proofs.lemmas.conclusion.Steps.{continues}
 use Rattle.pb_proof.proofs.lemmas.conclusion.Texts.{ConclusionRead, LowerRead, Lead, IdLead, Colon, BeforeIdRead, id_shown, bounds_body, conclusion_line, showing_line}
 use Rattle.pb_proof.proofs.lemmas.line.Ends.{Gapped, Closing, blank_more, blank_closing, semicolon_after_blanks, line_after_blanks, line_closing, gapped, gapped_some, first_blank, further_blank, blanks_begin, blanks_go_on}
 use Rattle.pb_proof.proofs.lemmas.solution.Theorems.{solution_reads, solution_of_one}
-use Rattle.pb_proof.proofs.lemmas.NumberTests.{positive}
+use Rattle.pb_proof.proofs.lemmas.line.ByteKinds.{positive}
 
 -- what the literals machine has read
 abbrev pub Walked : SolutionState → Language
@@ -100,15 +100,8 @@ module _ (s : ConclusionState) (l : Letter) (p : List Letter) where
   in_word Word.Bounds j i h =
       spelled Blanks1 (word_of Word.Bounds) j (Phase.Word Word.Bounds (j + 1)) (phase_after_word Word.Bounds) (λ n. n) (λ n. n) (λ r. r) (λ r. r) i h
 
-  first : (w : Word) (b : ℕ) → unmarked b ∷ [] ≡ plain (take 1 (word_of w)) → Blanks1 p → nat_eq l.byte b ≡ true → After (To (Phase.Word w 1))
-  first w b f h e u n = next Blanks1 (Bytes (take 1 (word_of w))) p l h (byte b n e ∙ f)
-
   before_word : Blanks1 p → After (first_word l.byte)
-  before_word h =
-      cond_both (nat_eq l.byte 78) _ _ After (first Word.NoClaim 78 refl h) (λ _.
-      cond_both (nat_eq l.byte 85) _ _ After (first Word.Unsat 85 refl h) (λ _.
-      cond_both (nat_eq l.byte 83) _ _ After (first Word.Sat 83 refl h) (λ _.
-      cond_both (nat_eq l.byte 66) _ _ After (first Word.Bounds 66 refl h) (λ _. tt))))
+  before_word h = grind (arith, nat_eq, next, take)
 
   -- after a conclusion
   in_colon : (c : Concluding) → nat_eq l.byte 58 ≡ true → Gapped (ConclusionOf c) p → After (colon c)
@@ -134,17 +127,13 @@ module _ (s : ConclusionState) (l : Letter) (p : List Letter) where
 
   in_digits : (most n : ℕ) (q : Phase) → (l.numeral ≡ is_in_number (conclusion_at s.limit s.top q) q → l.numeral ≡ true) → (l ≡ digit (l.byte - 48) → l.byte - 48 < 10 → At q)
       → After (cond (is_digit l.byte && nat_le (Value n) most) (To q) Stop)
-  in_digits most n q plain h =
-      cond_both (is_digit l.byte && nat_le (Value n) most) _ _ After
-      (λ e u i. let d : (l ≡ digit (l.byte - 48)) × (l.byte - 48 < 10) = some_digit l (plain i) (and_parts (is_digit l.byte) (nat_le (Value n) most) e).0 in h d.0 d.1)
-      (λ _. tt)
+  in_digits most n q plain h = grind (arith, nat_le, some_digit, and_parts)
 
   first_digit : (x : Side) (negative : Bool) → (LeadOf x ⋅ Blanks1 ⋅ Sign negative) p → After (digits s.limit x negative 0 l.byte)
   first_digit x negative h = in_digits s.limit 0 (Phase.Digits x negative (Value 0)) (λ i. i) (λ d i. next (LeadOf x ⋅ Blanks1 ⋅ Sign negative) (Digits (Value 0)) p l h (digits-one (l.byte - 48) l d i))
 
   next_digit : (x : Side) (negative : Bool) (n : ℕ) → (LeadOf x ⋅ Blanks1 ⋅ Sign negative ⋅ Digits n) p → After (digits s.limit x negative n l.byte)
-  next_digit x negative n h =
-      in_digits s.limit n (Phase.Digits x negative (Value n)) (λ i. i) (λ d i. grown (LeadOf x ⋅ Blanks1 ⋅ Sign negative) (Digits n) (Digits (Value n)) p l (digits-grown n (l.byte - 48) l d i) h)
+  next_digit x negative n h = search (rules, in_digits, grown, digits-grown)
 
   in_begin : (x : Side) → (LeadOf x ⋅ Blanks1) p → After (begin_bound s.limit x l.byte)
   in_begin x h =
@@ -165,12 +154,10 @@ module _ (s : ConclusionState) (l : Letter) (p : List Letter) where
 
   in_after_bound : (x : Side) (y : Bound) → (LeadOf x ⋅ Blanks1 ⋅ SpellsBound s.limit y) p → After (after_bound x y l.byte)
   in_after_bound Side.Lower y h = in_between y h
-  in_after_bound (Side.Upper x id) y h =
-      in_after (Concluding.Shows (Showing.Bounds x id y)) (gapped (ConclusionOf (Concluding.Shows (Showing.Bounds x id y))) p (bounds_body s.limit s.top x id y p h))
+  in_after_bound (Side.Upper x id) y h = search (rules, in_after, gapped, bounds_body)
 
   number_of : (P : Language) (negative : Bool) (n : ℕ) → n ≤ s.limit → (P ⋅ Sign negative ⋅ Digits n) p → (P ⋅ SpellsBound s.limit (Finite (signed negative n))) p
-  number_of P negative n i h =
-      after_it P (Sign negative ⋅ Digits n) (SpellsBound s.limit (Finite (signed negative n))) p (λ q r. (negative, n, i, refl, r)) (regroup P (Sign negative) (Digits n) p h)
+  number_of P negative n i h = search (rules, after_it, regroup)
 
   in_number : (x : Side) (negative : Bool) (n : ℕ) → n ≤ s.limit → (LeadOf x ⋅ Blanks1 ⋅ Sign negative ⋅ Digits n) p
       → After (transition s.limit s.top (Phase.Digits x negative n) l.byte)
@@ -206,14 +193,10 @@ module _ (s : ConclusionState) (l : Letter) (p : List Letter) where
 
   id_of : (x : Owner) (negative : Bool) (n : ℕ) → 0 < n → n ≤ s.top → (IdRead x ⋅ Minus negative ⋅ Digits n) p
       → (IdLead s.limit s.top x ⋅ IdShown s.limit s.top (Some (signed negative n))) p
-  id_of x negative n z i h =
-      id_shown s.limit s.top (IdLead s.limit s.top x) (signed negative n) p
-      (after_it (IdRead x) (Minus negative ⋅ Digits n) (SpellsId s.top (signed negative n)) p (λ q r. (negative, n, z, i, refl, r)) (regroup (IdRead x) (Minus negative) (Digits n) p h))
+  id_of x negative n z i h = search (rules, id_shown, after_it, regroup)
 
   in_after_id : (x : Owner) (id : ℤ) → (IdLead s.limit s.top x ⋅ IdShown s.limit s.top (Some id)) p → After (after_id x id l.byte)
-  in_after_id Owner.Unsat id h =
-      in_after (Concluding.Unsat (Some id))
-      (gapped (ConclusionOf (Concluding.Unsat (Some id))) p (regroup Blanks1 (Bytes unsat_word) (IdShown s.limit s.top (Some id)) p h))
+  in_after_id Owner.Unsat id h = search (rules, in_after, gapped, regroup)
   in_after_id (Owner.Lower x) id h = cond_both (is_blank l.byte) _ _ After (λ e u n. blanks_begin (LeadOf (Side.Upper x (Some id))) l p e n h) (λ _. tt)
 
   in_id : (x : Owner) (negative : Bool) (n : ℕ) → n ≤ s.top → (IdRead x ⋅ Minus negative ⋅ Digits n) p

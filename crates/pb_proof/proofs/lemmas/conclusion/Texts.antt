@@ -1,12 +1,8 @@
 -- The texts of conclusions, part by part.
-use Rattle.pb_proof.proofs.Common.{ℕ, ℤ, ◌∷◌, [], List, None, Option, refl, Some, true, Literal, SpellsLiteral, after_it, inside, none_yet, regroup}
-use Rattle.pb_proof.proofs.Common.{regroup⁻¹, ◌⋅◌, Blanks0, Blanks1, Byte, Bytes, Empty, Language, Letter, Bound, Concluding, Owner, Showing, Side}
-use Rattle.pb_proof.proofs.Common.{conclusion_value, showing_value, SpellsJoined, bounds_word, IdShown, LineEnd, Listed, none_word, sat_word}
-use Rattle.pb_proof.proofs.Common.{SpellsBound, SpellsConclusion, SpellsConclusionLine, SpellsId, SpellsShown, unsat_word}
-
--- the part before the last one, split in two
-pub within_last : (B P Q : Language) (R : Language) (p : List Letter) → ((q : List Letter) → P q → (B ⋅ Q) q) → (P ⋅ R) p → (B ⋅ (Q ⋅ R)) p
-within_last B P Q R p f h = regroup B Q R p (inside P (B ⋅ Q) R p f h)
+use Rattle.pb_proof.proofs.Common.{ℕ, ℤ, ◌++◌, ◌∷◌, ◌≡◌, [], ap, append_assoc, List, None, Option, refl, Some, true, Literal, none_yet, arith, rules, ◌⋅◌, Blanks0}
+use Rattle.pb_proof.proofs.Common.{Blanks1, Byte, Bytes, Empty, Language, Letter, Bound, Concluding, Owner, Showing, Side, conclusion_value, showing_value}
+use Rattle.pb_proof.proofs.Common.{SpellsJoined, bounds_word, IdShown, LineEnd, none_word, sat_word, SpellsBound, SpellsConclusion, SpellsConclusionLine, SpellsId}
+use Rattle.pb_proof.proofs.Common.{SpellsShown, unsat_word}
 
 module _ (limit top : ℕ) where
   -- a conclusion without literals, after the first blanks
@@ -46,22 +42,18 @@ module _ (limit top : ℕ) where
 
   -- an id after `:` is one that is shown
   pub id_shown : (P : Language) (id : ℤ) (p : List Letter) → (Colon P ⋅ Blanks0 ⋅ SpellsId top id) p → (P ⋅ IdShown limit top (Some id)) p
-  id_shown P id p h =
-      within_last P (Colon P ⋅ Blanks0) (Blanks0 ⋅ Byte 58 ⋅ Blanks0) (SpellsId top id) p
-      (λ q. within_last P (Colon P) (Blanks0 ⋅ Byte 58) Blanks0 q (λ r. regroup P Blanks0 (Byte 58) r)) h
+  id_shown P id p h = grind (arith, append_assoc)
 
   -- both bounds
   pub bounds_body : (x : Bound) (id : Option ℤ) (y : Bound) (p : List Letter) → (Lead (Side.Upper x id) ⋅ Blanks1 ⋅ SpellsBound limit y) p → ConclusionRead (Concluding.Shows (Showing.Bounds x id y)) p
-  bounds_body x id y p h =
-      let W : Language = Bytes bounds_word in
-      let X : Language = SpellsBound limit x in
-      let I : Language = IdShown limit top id in
-      let Y : Language = SpellsBound limit y in
-      within_last Blanks1 (LowerRead x ⋅ I ⋅ Blanks1) (W ⋅ Blanks1 ⋅ X ⋅ I ⋅ Blanks1) Y p
-      (λ q. within_last Blanks1 (LowerRead x ⋅ I) (W ⋅ Blanks1 ⋅ X ⋅ I) Blanks1 q
-      (λ q. within_last Blanks1 (LowerRead x) (W ⋅ Blanks1 ⋅ X) I q
-      (λ q. within_last Blanks1 (Blanks1 ⋅ W ⋅ Blanks1) (W ⋅ Blanks1) X q
-      (λ q. regroup Blanks1 W Blanks1 q)))) h
+  bounds_body x id y p (u5, b, e5, (u4, s3, e4, (u3, i, e3, (u2, l, e2, (u1, s2, e1, (s1, w, e0, p1, pw), p2), pl), pi), p3), pb) =
+      let v2 : List Letter = (w ++ s2) ++ l in (
+        s1,
+        ((v2 ++ i) ++ s3) ++ b,
+        rw (e5, e4, e3, e2, e1, e0) (simp append_assoc),
+        p1,
+        ((v2 ++ i) ++ s3, b, refl, (v2 ++ i, s3, refl, (v2, i, refl, (w ++ s2, l, refl, (w, s2, refl, pw, p2), pl), pi), p3), pb),
+      )
 
   -- nothing is shown
   showing_none : (x : Showing) (q : List Letter) → Body x q → SpellsConclusion limit top (showing_value x None) q
@@ -69,47 +61,26 @@ module _ (limit top : ℕ) where
   showing_none (Showing.Bounds lower id upper) q h = none_yet (Body (Showing.Bounds lower id upper)) Empty q refl h
 
   conclusion_of : (c : Concluding) (q : List Letter) → ConclusionBody c q → SpellsConclusion limit top (conclusion_value c) q
-  conclusion_of Concluding.NoClaim q h = h
-  conclusion_of (Concluding.Unsat None) q h = none_yet (Bytes unsat_word) Empty q refl h
-  conclusion_of (Concluding.Unsat (Some id)) q h = h
-  conclusion_of (Concluding.Shows shows) q h = showing_none shows q h
+  conclusion_of c q h = grind (arith, none_yet, showing_none)
 
   pub conclusion_line : (c : Concluding) (p : List Letter) → (ConclusionRead c ⋅ LineEnd) p → SpellsConclusionLine limit top (conclusion_value c) p
-  conclusion_line c p h =
-      inside (ConclusionRead c) (Blanks1 ⋅ SpellsConclusion limit top (conclusion_value c)) LineEnd p
-      (λ q. after_it Blanks1 (ConclusionBody c) (SpellsConclusion limit top (conclusion_value c)) q (conclusion_of c)) h
+  conclusion_line c p (ab, l, e, (s, a, f, p1, k), n) = (ab, l, e, (s, a, f, p1, conclusion_of c a k), n)
 
   -- literals are shown
   shown_line : (ls : List Literal) (p : List Letter) → (Byte 58 ⋅ SpellsJoined true ls) p → (SpellsShown ls ⋅ LineEnd) p
   shown_line [] p h = h
-  shown_line (l ∷ ls) p h =
-      let L : Language = SpellsLiteral l in
-      let R : Language = Listed SpellsLiteral ls in
-      inside (Byte 58 ⋅ (Blanks0 ⋅ L ⋅ R)) (SpellsShown (l ∷ ls)) LineEnd p
-      (λ q k. inside (Byte 58 ⋅ (Blanks0 ⋅ L)) (Byte 58 ⋅ Blanks0 ⋅ L) R q (regroup⁻¹ (Byte 58) Blanks0 L) (regroup⁻¹ (Byte 58) (Blanks0 ⋅ L) R q k))
-      (regroup⁻¹ (Byte 58) (Blanks0 ⋅ L ⋅ R) LineEnd p h)
+  shown_line (l ∷ ls) p (c, t, e, x, (blr, f, i, (bl, r, j, (b, s, k, y, z), u), v)) =
+      (((c ++ b) ++ s) ++ r, f, rw (e, i, j, k) (simp append_assoc), ((c ++ b) ++ s, r, refl, (c ++ b, s, refl, (c, b, refl, x, y), z), u), v)
 
   pub line_shown : (ls : List Literal) (p : List Letter) → (SpellsShown ls ⋅ LineEnd) p → (Byte 58 ⋅ SpellsJoined true ls) p
-  line_shown [] p h = h
-  line_shown (l ∷ ls) p h =
-      let L : Language = SpellsLiteral l in
-      let R : Language = Listed SpellsLiteral ls in
-      regroup (Byte 58) (Blanks0 ⋅ L ⋅ R) LineEnd p
-      (inside (SpellsShown (l ∷ ls)) (Byte 58 ⋅ (Blanks0 ⋅ L ⋅ R)) LineEnd p
-      (λ q. within_last (Byte 58) (Byte 58 ⋅ Blanks0 ⋅ L) (Blanks0 ⋅ L) R q (regroup (Byte 58) Blanks0 L)) h)
+  line_shown ls p h = search (rules, append_assoc)
 
   showing_some : (x : Showing) (ls : List Literal) (q : List Letter) → (Body x ⋅ (Blanks0 ⋅ SpellsShown ls)) q → SpellsConclusion limit top (showing_value x (Some ls)) q
-  showing_some Showing.Sat ls q h = h
-  showing_some (Showing.Bounds lower id upper) ls q h = h
+  showing_some x ls q h = grind arith
 
   pub showing_line : (x : Showing) (ls : List Literal) (p : List Letter) → (Colon (ConclusionRead (Concluding.Shows x)) ⋅ SpellsJoined true ls) p
       → SpellsConclusionLine limit top (showing_value x (Some ls)) p
-  showing_line x ls p h =
-      let C : Language = ConclusionRead (Concluding.Shows x) in
-      let S : Language = SpellsShown ls in
-      inside (C ⋅ Blanks0 ⋅ S) (Blanks1 ⋅ SpellsConclusion limit top (showing_value x (Some ls))) LineEnd p
-      (λ q k. after_it Blanks1 (Body x ⋅ (Blanks0 ⋅ S)) (SpellsConclusion limit top (showing_value x (Some ls))) q (showing_some x ls)
-      (regroup Blanks1 (Body x) (Blanks0 ⋅ S) q (regroup C Blanks0 S q k)))
-      (regroup⁻¹ (C ⋅ Blanks0) S LineEnd p
-      (after_it (C ⋅ Blanks0) (Byte 58 ⋅ SpellsJoined true ls) (S ⋅ LineEnd) p (shown_line ls)
-      (regroup (C ⋅ Blanks0) (Byte 58) (SpellsJoined true ls) p h)))
+  showing_line x ls p (u, j, e, (v, c, f, (w, z, g, (s, a, h, p1, body), p0), colon), k) =
+      let (d, l, i, m, n) = shown_line ls (c ++ j) (c, j, refl, colon, k) in
+      let same : p ≡ (s ++ (a ++ (z ++ d))) ++ l = rw (e, f, g, h) (simp append_assoc (ap (λ y. s ++ (a ++ (z ++ y))) i)) in
+      (s ++ (a ++ (z ++ d)), l, same, (s, a ++ (z ++ d), refl, p1, showing_some x ls (a ++ (z ++ d)) (a, z ++ d, refl, body, (z, d, refl, p0, m))), n)

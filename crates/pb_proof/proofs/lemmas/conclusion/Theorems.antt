@@ -1,19 +1,20 @@
 -- The laws of the conclusion machine.
-use Rattle.pb_proof.proofs.Common.{ℕ, ℤ, ◌++◌, ◌<◌, ◌↔◌, ◌∷◌, ◌≡◌, ◌≤◌, ◌⊎◌, [], ap, arith, Bool, drop, false, inl, inr, List, None, Option, refl, Some}
-use Rattle.pb_proof.proofs.Common.{subst, suc, sym, true, zero, false≢true, reads_before, ReadsOn, is_state, IsOfOne, reads_after, Walks, Go, IsState}
-use Rattle.pb_proof.proofs.Common.{ReadsStatement, unmarked, signed, Letter, plain, Bound, Infinite, Conclusion, Concluding, Owner, Showing, Side, Word}
-use Rattle.pb_proof.proofs.Common.{is_within, phase_after_bound, phase_after_word, PhaseFits, word_of, conclusion_at, conclusion_automaton, conclusion_first}
-use Rattle.pb_proof.proofs.Common.{conclusion_last, conclusion_value, ConclusionState, IsConclusionInOrder, kept, showing_value, spent, IsSolutionInOrder}
-use Rattle.pb_proof.proofs.Common.{solution_automaton, solution_first, SolutionState, inf_word, none_word, SpellsConclusionLine, ◌&&◌, ◌∙◌, IsTrue, Literal}
-use Rattle.pb_proof.proofs.Common.{admits, end_or_refuse, go_or_refuse, refuses, Admits, End, is_large, Next, Refuse, Limits, is_digit, largest, top_of, asks}
-use Rattle.pb_proof.proofs.Common.{is_in_number, conclusion_transition as transition, conclusion_act as act, conclusion_giving as giving}
-use Rattle.pb_proof.proofs.Common.{conclusion_over as over, ConclusionPhase as Phase, ConclusionAction as Action}
+use Rattle.pb_proof.proofs.Common.{ℕ, ℤ, ◌++◌, ◌<◌, ◌↔◌, ◌∷◌, ◌≡◌, ◌≤◌, ◌⊎◌, [], ap, arith, Bool, drop, false, inl, inr, List, None, Option, refl, Some, subst, suc}
+use Rattle.pb_proof.proofs.Common.{sym, true, zero, false≢true, reads_before, ReadsOn, is_state, IsOfOne, reads_after, Walks, Go, IsState, ReadsStatement, unmarked}
+use Rattle.pb_proof.proofs.Common.{signed, Letter, plain, Bound, Infinite, Conclusion, Concluding, Owner, Showing, Side, Word, is_within, phase_after_bound}
+use Rattle.pb_proof.proofs.Common.{phase_after_word, PhaseFits, word_of, conclusion_at, conclusion_automaton, conclusion_first, conclusion_last, conclusion_value}
+use Rattle.pb_proof.proofs.Common.{ConclusionState, IsConclusionInOrder, kept, showing_value, spent, IsSolutionInOrder, solution_automaton, solution_first}
+use Rattle.pb_proof.proofs.Common.{SolutionState, inf_word, none_word, SpellsConclusionLine, ◌&&◌, ◌∙◌, IsTrue, Literal, admits, end_or_refuse, go_or_refuse}
+use Rattle.pb_proof.proofs.Common.{refuses, Admits, End, is_large, Next, Refuse, Limits, is_digit, largest, top_of, asks, is_in_number}
+use Rattle.pb_proof.proofs.Common.{conclusion_transition as transition, conclusion_act as act, conclusion_giving as giving, conclusion_over as over}
+use Rattle.pb_proof.proofs.Common.{ConclusionPhase as Phase, ConclusionAction as Action}
 use Rattle.pb_proof.specs.engine.line.Conclusion.{is_done}
 use Rattle.pb_proof.specs.engine.line.ConclusionState.{Holds}
-use Rattle.pb_proof.proofs.lemmas.conclusion.Each.{conclusion_each, shown_at, shown_reads}
-use Rattle.pb_proof.proofs.lemmas.conclusion.Parts.{before_opens, spaced_opens, infinity_leads, infinity_left, signed_step, id_step, first_id_step}
-use Rattle.pb_proof.proofs.lemmas.conclusion.Parts.{signed_id_step, at, word_left, word_leads, id_steps}
-use Rattle.pb_proof.proofs.lemmas.conclusion.Steps.{continues, ends, not_done, done_stops, no_number, nothing_spent, give_phase, idle_order}
+use Rattle.pb_proof.proofs.lemmas.conclusion.Each.{conclusion_each, shown_at, shown_nests}
+use Rattle.pb_proof.proofs.lemmas.Carried.{reads_in}
+use Rattle.pb_proof.proofs.lemmas.conclusion.Parts.{before_opens, spaced_opens, infinity_leads, infinity_left, signed_step, id_step, first_id_step, signed_id_step}
+use Rattle.pb_proof.proofs.lemmas.conclusion.Parts.{at, word_left, word_leads, id_steps}
+use Rattle.pb_proof.proofs.lemmas.conclusion.Steps.{continues, ends, nothing_spent, give_phase, idle_order}
 use Rattle.pb_proof.proofs.lemmas.solution.Theorems.{solution_of_one}
 use Rattle.pb_proof.proofs.lemmas.line.Ends.{reads_exactly}
 use Rattle.std.proofs.Math.Pow.{pow_mono}
@@ -86,7 +87,7 @@ module _ (limit top : ℕ) where
   shown_text : (x : Showing) (inner : SolutionState) → IsSolutionInOrder inner → solution_automaton.done inner ≡ false → SomeText (shown_at limit top x inner)
   shown_text x inner h d =
       let (text, ls, after, r) = solution_of_one.goes_on inner h d in
-      (text, showing_value x (Some ls), conclusion_last limit top, shown_reads limit top x text inner ls after r)
+      (text, showing_value x (Some ls), conclusion_last limit top, reads_in solution_automaton conclusion_automaton _ _ _ (shown_nests limit top x) text inner ls after r)
 
   some_text : (p : Phase) → 0 < top → PhaseFits limit top p → is_done p ≡ false → SomeText (here p)
   some_text Phase.Start z f d =
@@ -110,10 +111,9 @@ module _ (limit top : ℕ) where
 
 -- literals are shown, or no literal is being read
 shown_or_idle : (s : ConclusionState) (p : Phase) → Holds s p → ((x : Showing) × (p ≡ Phase.Shown x)) ⊎ (s.literals ≡ solution_first true)
-shown_or_idle s (Phase.Shown x) h = inl (x, refl)
-shown_or_idle s _ h = inr h
+shown_or_idle s p h = grind arith
 
-same_shown : (s : ConclusionState) (x : Showing) → s.phase ≡ Phase.Shown x → shown_at s.limit s.top x s.literals ≡ s
+pub same_shown : (s : ConclusionState) (x : Showing) → s.phase ≡ Phase.Shown x → shown_at s.limit s.top x s.literals ≡ s
 same_shown s x e = rw e refl
 
 same_idle : (s : ConclusionState) → s.literals ≡ solution_first true → conclusion_at s.limit s.top s.phase ≡ s
@@ -126,20 +126,19 @@ goes_on s h d = elim (shown_or_idle s s.phase h.holds) [
 ]
 
 bounded : (s : ConclusionState) (p : Phase) → kept s p ≤ spent s p
-bounded s (Phase.Shown x) = solution_of_one.bounds s.literals
-bounded s _ = omega arith
+bounded s p = grind arith
 
 pub conclusion_of_one : IsOfOne conclusion_automaton IsConclusionInOrder last
 conclusion_of_one = record {
   keeps = λ s next b h e. (continues s next b e).keeps h;
   begins = λ s next b e. (continues s next b e).within;
-  owes = λ s h. not_done s.phase h;
+  owes = λ s h. grind arith;
   leads = λ s next b e. (continues s next b e).limits;
   ends = λ s next b c e. ends s next b c e;
   done = λ s. refl;
-  stops = λ s d b. ap (act s b) (done_stops s.limit s.top s.phase b d);
+  stops = λ s d b. grind arith;
   goes_on = goes_on;
-  plain = λ s h. no_number s s.phase h;
+  plain = λ s h. grind arith;
   grows = λ s next b e. (continues s next b e).grows;
   bounds = λ s. bounded s s.phase;
 }
@@ -183,5 +182,4 @@ same_inner s inner e = ap (λ i. giving s i) e
 
 -- a new machine
 pub first_order : (limits : Limits) → IsConclusionInOrder (conclusion_first (largest limits) (top_of limits))
-first_order limits =
-    idle_order (largest limits) (top_of limits) Phase.Start (omega (arith, pow_mono limits.most_bits)) limits.most_top (omega (arith, limits.least_top)) tt
+first_order limits = grind (arith, idle_order, pow_mono)

@@ -1,14 +1,13 @@
 -- What the ids machine has read in each of its states.
-use Rattle.pb_proof.proofs.Common.{ℕ, ℤ, ◌*◌, ◌++◌, ◌+◌, ◌<◌, ◌∷◌, ◌≡◌, ◌≤◌, [], ap, arith, Bool, false, length, length-append, List, nat_eq, nat_le}
-use Rattle.pb_proof.proofs.Common.{refl, subst, sym, true, cond_both, leb-true, Keeps, On, digits-grown, digits-one, after_it, grown, next, none_yet}
-use Rattle.pb_proof.proofs.Common.{regroup, as_digit, as_unmarked, Next, ◌⋅◌, Blanks1, Empty, Language, signed, Letter, NumberByte, DeletePhase, Between}
-use Rattle.pb_proof.proofs.Common.{Done, Gap, Minus, number_byte, before, delete_automaton, DeleteState, Listed, SpellsId, SpellsIds, ◌∙◌, append_assoc}
-use Rattle.pb_proof.proofs.Common.{cond, IsTrue, le-leb, reads_after, Walks, walks_then, digits_lead, TakesDigits, End, Go, ReadsStatement, is_blank}
-use Rattle.pb_proof.proofs.Common.{DeleteAction, delete_at, delete_first, delete_last, step, LineEnd, Digits as DigitsOf, delete_transition as transition}
+use Rattle.pb_proof.proofs.Common.{ℕ, ℤ, ◌*◌, ◌++◌, ◌+◌, ◌<◌, ◌∷◌, ◌≡◌, ◌≤◌, [], ap, arith, Bool, false, length, length-append, List, nat_eq, nat_le, rules, refl}
+use Rattle.pb_proof.proofs.Common.{subst, sym, true, cond_both, leb-true, Keeps, On, digits-grown, digits-one, after_it, grown, next, none_yet, regroup, as_digit}
+use Rattle.pb_proof.proofs.Common.{as_unmarked, Next, ◌⋅◌, Blanks1, Empty, Language, signed, Letter, NumberByte, DeletePhase, Between, Done, Gap, Minus, number_byte}
+use Rattle.pb_proof.proofs.Common.{before, delete_automaton, DeleteState, Listed, SpellsId, SpellsIds, ◌∙◌, append_assoc, cond, IsTrue, le-leb, reads_after, Walks}
+use Rattle.pb_proof.proofs.Common.{walks_then, digits_lead, TakesDigits, End, Go, ReadsStatement, is_blank, DeleteAction, delete_at, delete_first, delete_last, step}
+use Rattle.pb_proof.proofs.Common.{LineEnd, Digits as DigitsOf, delete_transition as transition}
 use Rattle.pb_proof.specs.meaning.Lines.{Minus as Sign}
 use Rattle.pb_proof.specs.engine.line.Delete.{act, digits, next_action}
-use Rattle.pb_proof.proofs.lemmas.line.ByteKinds.{NumberMeans, number_means, number_blank, number_digit}
-use Rattle.pb_proof.proofs.lemmas.NumberTests.{positive, not_zero}
+use Rattle.pb_proof.proofs.lemmas.line.ByteKinds.{NumberMeans, number_means, number_blank, number_digit, positive, not_zero}
 use Rattle.pb_proof.proofs.lemmas.line.Ends.{TakesBlanks, MayEnd, closing_feeds, blanks1_lead, line_reads, listed_walks}
 use Rattle.pb_proof.proofs.lemmas.line.Ends as ends
 
@@ -41,16 +40,12 @@ module _ (limit top : ℕ) where
 
   digits_sound : (ids : List ℤ) (negative : Bool) (n d : ℕ) (l : Letter) (q : List Letter)
       → (l.numeral ≡ true → (Before top ids ⋅ Sign negative ⋅ DigitsOf (10 * n + d)) q) → OnNext (act top ids (digits top negative n d)) l q
-  digits_sound ids negative n d l q h =
-      cond_both (nat_le (10 * n + d) top) (DeleteAction.To (DeletePhase.Digits negative (10 * n + d))) DeleteAction.Stop (λ m. OnNext (act top ids m) l q) (λ e _ i. (leb-true (10 * n + d) top e, h i)) (λ _. tt)
+  digits_sound ids negative n d l q h = grind (arith, nat_le, leb-true)
 
   -- an id is complete
   id_ends : (ids : List ℤ) (negative : Bool) (n : ℕ) (p : List Letter) → 0 < n → n ≤ top → (Before top ids ⋅ Sign negative ⋅ DigitsOf n) p
       → Row top (ids ++ signed negative n ∷ []) p
-  id_ends ids negative n p z i h =
-      ends.listed_append (SpellsId top) ids (signed negative n) p
-      (after_it (Before top ids) (Sign negative ⋅ DigitsOf n) (SpellsId top (signed negative n)) p (λ q k. (negative, n, z, i, refl, k))
-      (regroup (Before top ids) (Sign negative) (DigitsOf n) p h))
+  id_ends ids negative n p z i h = search (rules, ends.listed_append, after_it, regroup)
 
   some_ids : (ids : List ℤ) (id : ℤ) → 0 < length (ids ++ id ∷ [])
   some_ids ids id = omega (arith, length-append ids (id ∷ []))
@@ -63,9 +58,7 @@ module _ (limit top : ℕ) where
 
   before_sound : (ids : List ℤ) (k : NumberByte) (l : Letter) (p : List Letter) → NumberMeans k l.byte → Before top ids p → OnNext (act top ids (before top k)) l (p ++ l ∷ [])
   before_sound ids NumberByte.Minus l p m h = λ _ n. next (Before top ids) (Sign true) p l h (ap (λ x. x ∷ []) (as_unmarked l 45 n m))
-  before_sound ids (NumberByte.Digit d) l p m h =
-      digits_sound ids false 0 d l (p ++ l ∷ [])
-      (λ n. next (Before top ids ⋅ Sign false) (DigitsOf (10 * 0 + d)) p l (none_yet (Before top ids) (Sign false) p refl h) (digits-one d l (as_digit l d m.0 n) m.1))
+  before_sound ids (NumberByte.Digit d) l p m h = search (rules, digits_sound, next, none_yet, digits-one, as_digit)
   before_sound ids _ l p m h = tt
 
   sound : (ph : DeletePhase) (ids : List ℤ) (k : NumberByte) (l : Letter) (p : List Letter) → NumberMeans k l.byte → prefix top ph ids p → OnNext (act top ids (transition top ph k)) l (p ++ l ∷ [])
@@ -76,11 +69,8 @@ module _ (limit top : ℕ) where
   sound Between ids NumberByte.Semicolon l p m h = λ _ n. (h.0, ends.semicolon_after_blanks (Row top ids) l p m n (ends.gapped_some (Row top ids) p h.1))
   sound Between ids NumberByte.Feed l p m h = λ n. (h.0, ends.line_after_blanks (Row top ids) l p m n (ends.gapped_some (Row top ids) p h.1))
   sound Between ids k l p m h = before_sound ids k l p m h.1
-  sound Minus ids (NumberByte.Digit d) l p m h =
-      digits_sound ids true 0 d l (p ++ l ∷ []) (λ n. next (Before top ids ⋅ Sign true) (DigitsOf (10 * 0 + d)) p l h (digits-one d l (as_digit l d m.0 n) m.1))
-  sound (DeletePhase.Digits negative n) ids (NumberByte.Digit d) l p m h =
-      digits_sound ids negative n d l (p ++ l ∷ [])
-      (λ i. grown (Before top ids ⋅ Sign negative) (DigitsOf n) (DigitsOf (10 * n + d)) p l (digits-grown n d l (as_digit l d m.0 i) m.1) h.1)
+  sound Minus ids (NumberByte.Digit d) l p m h = grind (arith, digits_sound, next, digits-one, as_digit)
+  sound (DeletePhase.Digits negative n) ids (NumberByte.Digit d) l p m h = search (rules, digits_sound, grown, digits-grown, as_digit)
   sound (DeletePhase.Digits negative n) ids k l p m h =
       cond_both (nat_eq n 0) DeleteAction.Stop (next_action (signed negative n) k) (λ m. OnNext (act top ids m) l (p ++ l ∷ [])) (λ _. tt)
       (λ e. after_sound ids (signed negative n) k l p m (id_ends ids negative n p (positive n e) h.0 h.1))
@@ -123,45 +113,32 @@ module _ (limit top : ℕ) where
   whole_id ids negative n k m h e = ap (λ x. act top ids x) (e ∙ ap (λ b. cond b DeleteAction.Stop (next_action (signed negative n) k)) (not_zero n h))
 
   pub digits_after : (ids : List ℤ) (negative : Bool) (n : ℕ) → 0 < n → IsAfter (ids ++ signed negative n ∷ []) (at ids (DeletePhase.Digits negative n))
-  digits_after ids negative n h = record {
-    blank = λ b i. by_blank (at ids (DeletePhase.Digits negative n)) b i ∙ whole_id ids negative n NumberByte.Blank _ h refl;
-    semicolon = whole_id ids negative n NumberByte.Semicolon _ h refl;
-    feed = whole_id ids negative n NumberByte.Feed _ h refl;
-  }
+  digits_after ids negative n h = grind (arith, by_blank, whole_id)
 
   takes_blanks : (ids : List ℤ) (s : S) → IsAfter ids s → TakesBlanks delete_automaton s (at ids Between)
   takes_blanks ids s h = record { enters = h.blank; stays = λ b i. by_blank (at ids Between) b i; begun = refl; plain = refl }
 
   may_end : (ids : List ℤ) (s : S) → IsAfter ids s → MayEnd delete_automaton s (at ids Between) (at ids DeletePhase.Closing) ids last
-  may_end ids s h = record {
-    feeds = record { blanks = takes_blanks ids s h; ends = h.feed; ends_gap = refl };
-    finishes = h.semicolon;
-    closes_gap = refl;
-    last = closing_feeds delete_automaton (at ids DeletePhase.Closing) last ids (by_blank (at ids DeletePhase.Closing)) refl refl refl;
-  }
+  may_end ids s h = grind (arith, takes_blanks, closing_feeds, by_blank)
 
   digit_fits : (ids : List ℤ) (negative : Bool) (n d v : ℕ) → 10 * n + d ≡ v → v ≤ top → act top ids (digits top negative n d) ≡ Go (at ids (DeletePhase.Digits negative v))
   digit_fits ids negative n d v e l = rw (e, le-leb v top l) refl
 
   takes_digits : (ids : List ℤ) (negative : Bool) → TakesDigits delete_automaton (λ n. at ids (DeletePhase.Digits negative n)) top
-  takes_digits ids negative = record {
-    more = λ n d h l. by_digit (at ids (DeletePhase.Digits negative n)) d h ∙ digit_fits ids negative n d (10 * n + d) refl l;
-    begun = λ n. refl;
-    number = λ n. refl;
-  }
+  takes_digits ids negative = grind (arith, by_digit, digit_fits)
 
   -- An id may begin here.
   pub record Opens (ids : List ℤ) (s : S) : Type 0 where
     pub minus : delete_automaton.step s 45 ≡ Go (at ids Minus)
     pub digit : (d : ℕ) → d < 10 → d ≤ top → delete_automaton.step s (48 + d) ≡ Go (at ids (DeletePhase.Digits false d))
 
-  gap_opens : (ids : List ℤ) → Opens ids (at ids Gap)
+  pub gap_opens : (ids : List ℤ) → Opens ids (at ids Gap)
   gap_opens ids = record { minus = refl; digit = λ d h l. by_digit (at ids Gap) d h ∙ digit_fits ids false 0 d d (omega arith) l }
 
-  between_opens : (ids : List ℤ) → Opens ids (at ids Between)
+  pub between_opens : (ids : List ℤ) → Opens ids (at ids Between)
   between_opens ids = record { minus = refl; digit = λ d h l. by_digit (at ids Between) d h ∙ digit_fits ids false 0 d d (omega arith) l }
 
-  number_walks : (ids : List ℤ) (s : S) (negative : Bool) (n : ℕ) (t : List Letter) → Opens ids s → n ≤ top → (Sign negative ⋅ DigitsOf n) t
+  pub number_walks : (ids : List ℤ) (s : S) (negative : Bool) (n : ℕ) (t : List Letter) → Opens ids s → n ≤ top → (Sign negative ⋅ DigitsOf n) t
       → Walks delete_automaton s t (at ids (DeletePhase.Digits negative n))
   number_walks ids s true n t o l (a, b, e, f, h) =
       subst (λ x. Walks delete_automaton s x (at ids (DeletePhase.Digits true n))) (sym (e ∙ ap (λ x. x ++ b) f)) (

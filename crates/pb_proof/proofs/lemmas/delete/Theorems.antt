@@ -1,14 +1,13 @@
 -- The laws of the ids machine.
-use Rattle.pb_proof.proofs.Common.{ℕ, ℤ, ◌*◌, ◌++◌, ◌+◌, ◌-◌, ◌<◌, ◌^◌, ◌↔◌, ◌∷◌, ◌≡◌, ◌≤◌, [], ap, arith, Bool, false, length, length-append, List}
-use Rattle.pb_proof.proofs.Common.{nat_eq, nat_le, refl, subst, suc, sym, true, zero, min-le_left, cond_both, le-leb, leb-true, ReadsOn, is_state}
-use Rattle.pb_proof.proofs.Common.{IsOfOne, one_state, never, End, Go, IsState, ReadsStatement, Refuse, reads_before, unmarked, signed, Letter}
-use Rattle.pb_proof.proofs.Common.{NumberByte, DeleteAction, DeletePhase, Between, Done, Gap, Minus, number_byte, before, delete_at, delete_automaton, delete_first}
-use Rattle.pb_proof.proofs.Common.{delete_last, DeleteState, IsDeleteInOrder, SpellsIds, ◌∙◌, IsTrue, admits, end_or_refuse, go_or_refuse, Admits, keeps}
-use Rattle.pb_proof.proofs.Common.{AreDigits, value-grows, Runs, value_from, is_digit, begins_id, delete_transition as transition}
-use Rattle.pb_proof.specs.engine.line.Delete.{act, digits, next_action, is_midway, is_done, is_in_number, ActionFits, PhaseFits}
-use Rattle.pb_proof.proofs.lemmas.delete.Texts.{digits_after, reads_each, Prefix, Whole, keeps_prefix}
-use Rattle.pb_proof.proofs.lemmas.line.Ends.{reads_exactly}
-use Rattle.pb_proof.proofs.lemmas.line.ByteKinds.{number_of_digit}
+use Rattle.pb_proof.proofs.Common.{ℕ, ℤ, ◌*◌, ◌++◌, ◌+◌, ◌-◌, ◌<◌, ◌^◌, ◌↔◌, ◌∷◌, ◌≡◌, ◌≤◌, [], ap, arith, Bool, false, length, length-append, List, nat_eq, nat_le}
+use Rattle.pb_proof.proofs.Common.{refl, subst, suc, sym, true, zero, min-le_left, cond_both, le-leb, leb-true, ReadsOn, is_state, IsOfOne, one_state, never, End}
+use Rattle.pb_proof.proofs.Common.{Go, IsState, ReadsStatement, Refuse, reads_before, unmarked, signed, Letter, NumberByte, DeleteAction, DeletePhase, Done, Gap}
+use Rattle.pb_proof.proofs.Common.{Minus, number_byte, delete_at, delete_automaton, delete_first, delete_last, DeleteState, IsDeleteInOrder, SpellsIds, ◌∙◌, IsTrue}
+use Rattle.pb_proof.proofs.Common.{admits, end_or_refuse, go_or_refuse, Admits, keeps, AreDigits, Digits, Runs, value_from, begins_id}
+use Rattle.pb_proof.proofs.Common.{delete_transition as transition}
+use Rattle.pb_proof.specs.engine.line.Delete.{act, digits, next_action, is_midway, is_done, ActionFits, PhaseFits}
+use Rattle.pb_proof.proofs.lemmas.delete.Texts.{digits_after, reads_each, Prefix, Whole, keeps_prefix, Opens, gap_opens, between_opens, number_walks}
+use Rattle.pb_proof.proofs.lemmas.line.Ends.{reads_exactly, digits_text, text_run}
 
 -- the machine has read the digits of an id, and the byte ends it
 abbrev pub EndsId : DeletePhase → NumberByte → Type 0
@@ -26,30 +25,11 @@ OnAction top ph k m = ActionFits top m
 on_digits : (top : ℕ) (ph : DeletePhase) (k : NumberByte) (negative : Bool) (n d : ℕ) → OnAction top ph k (digits top negative n d)
 on_digits top ph k negative n d = cond_both (nat_le (10 * n + d) top) _ _ (OnAction top ph k) (λ e. (leb-true (10 * n + d) top e, refl)) (λ _. tt)
 
-on_before : (top : ℕ) (ph : DeletePhase) (k : NumberByte) → OnAction top ph k (before top k)
-on_before top ph NumberByte.Minus = (tt, refl)
-on_before top ph (NumberByte.Digit d) = on_digits top ph (NumberByte.Digit d) false 0 d
-on_before top ph _ = tt
-
 on_after : (top : ℕ) (negative : Bool) (n : ℕ) (id : ℤ) (k : NumberByte) → OnAction top (DeletePhase.Digits negative n) k (next_action id k)
-on_after top negative n id NumberByte.Blank = ((tt, refl), tt)
-on_after top negative n id NumberByte.Semicolon = ((tt, refl), tt)
-on_after top negative n id _ = tt
+on_after top negative n id k = grind arith
 
 pub on_transition : (top : ℕ) (ph : DeletePhase) (k : NumberByte) → OnAction top ph k (transition top ph k)
-on_transition top DeletePhase.Start NumberByte.Blank = (tt, refl)
-on_transition top Gap NumberByte.Blank = (tt, refl)
-on_transition top Gap k = on_before top Gap k
-on_transition top Between NumberByte.Blank = (tt, refl)
-on_transition top Between NumberByte.Semicolon = (tt, refl)
-on_transition top Between NumberByte.Feed = tt
-on_transition top Between k = on_before top Between k
-on_transition top Minus (NumberByte.Digit d) = on_digits top Minus (NumberByte.Digit d) true 0 d
-on_transition top (DeletePhase.Digits negative n) (NumberByte.Digit d) = on_digits top (DeletePhase.Digits negative n) (NumberByte.Digit d) negative n d
-on_transition top (DeletePhase.Digits negative n) k =
-    cond_both (nat_eq n 0) _ _ (OnAction top (DeletePhase.Digits negative n) k) (λ _. tt) (λ _. on_after top negative n (signed negative n) k)
-on_transition top DeletePhase.Closing NumberByte.Blank = (tt, refl)
-on_transition _ _ _ = tt
+on_transition top ph k = grind (arith, on_digits, nat_eq, on_after)
 
 -- What holds after a step that continues.
 record Steps (top : ℕ) (ids : List ℤ) (next : DeleteState) : Type 0 where
@@ -59,35 +39,17 @@ record Steps (top : ℕ) (ids : List ℤ) (next : DeleteState) : Type 0 where
   grows : length next.ids ≤ length ids + 1
 
 acted : (top : ℕ) (ids : List ℤ) (ph : DeletePhase) (k : NumberByte) (m : DeleteAction) (next : DeleteState) → OnAction top ph k m → act top ids m ≡ Go next → Steps top ids next
-acted top ids ph k (DeleteAction.To p) next h e =
-    subst (λ x. Steps top ids x) (one_state (delete_at top ids p) next e) (record { same_top = refl; fits = h.0; midway = h.1; grows = omega arith })
-acted top ids ph k (DeleteAction.Keep p id) next h e =
-    subst (λ x. Steps top ids x) (one_state (delete_at top (ids ++ id ∷ []) p) next e)
-    (record { same_top = refl; fits = h.0.0; midway = h.0.1; grows = omega (arith, length-append ids (id ∷ [])) })
-acted top ids ph k _ next h e = cc
+acted top ids ph k m next h e = grind (arith, one_state, length-append)
 
 continues : (s next : DeleteState) (b : ℕ) → delete_automaton.step s b ≡ Go next → Steps s.top s.ids next
 continues s next b e =
     acted s.top s.ids s.phase (number_byte b) (transition s.top s.phase (number_byte b)) next (on_transition s.top s.phase (number_byte b)) e
 
 ended : (top : ℕ) (ids : List ℤ) (m : DeleteAction) (next : DeleteState) (e : List ℤ) → act top ids m ≡ End e next → next ≡ delete_last top
-ended top ids (DeleteAction.To p) next e i = cc
-ended top ids _ next e i = cc
+ended top ids m next e i = grind arith
 
 abbrev last : DeleteState → DeleteState
 last s = delete_last s.top
-
-owes : (ph : DeletePhase) → is_midway ph ≡ true → is_done ph ≡ false
-owes Done h = sym h
-owes _ h = refl
-
-stops : (top : ℕ) (ids : List ℤ) (ph : DeletePhase) (k : NumberByte) → is_done ph ≡ true → act top ids (transition top ph k) ≡ Refuse
-stops top ids Done k h = refl
-stops top ids _ k h = cc
-
-plain : (ph : DeletePhase) → is_midway ph ≡ false → is_in_number ph ≡ false
-plain (DeletePhase.Digits negative n) h = h
-plain _ h = refl
 
 in_order : (s next : DeleteState) (b : ℕ) → IsDeleteInOrder s → delete_automaton.step s b ≡ Go next → IsDeleteInOrder next
 in_order s next b h e =
@@ -126,13 +88,13 @@ pub delete_of_one : IsOfOne delete_automaton IsDeleteInOrder last
 delete_of_one = record {
   keeps = in_order;
   begins = λ s next b e. (continues s next b e).midway;
-  owes = λ s h. owes s.phase h;
+  owes = λ s h. grind arith;
   leads = λ s next b e. ap delete_last (continues s next b e).same_top;
   ends = λ s next b e i. ended s.top s.ids (transition s.top s.phase (number_byte b)) next e i;
   done = λ s. refl;
-  stops = λ s h b. stops s.top s.ids s.phase (number_byte b) h;
+  stops = λ s h b. grind arith;
   goes_on = λ s g h. some_text s.top g.1 s.ids s.phase h;
-  plain = λ s h. plain s.phase h;
+  plain = λ s h. grind arith;
   grows = λ s next b e. (continues s next b e).grows;
   bounds = λ s. min-le_left (length s.ids) (2 ^ 64 - 1);
 }
@@ -149,9 +111,7 @@ delete_is_state s g = is_state delete_automaton IsDeleteInOrder last delete_of_o
 -- A push of the ids machine does what its transition says.
 
 kept_acts : (top : ℕ) (ids : List ℤ) (m : DeleteAction) → keeps m ≡ true → act top ids m ≡ Refuse → ⊥
-kept_acts top ids (DeleteAction.Keep p id) h e = go_or_refuse _ e
-kept_acts top ids (DeleteAction.EndWith id) h e = end_or_refuse _ _ e
-kept_acts top ids _ h e = cc
+kept_acts top ids m h e = grind (arith, go_or_refuse, end_or_refuse)
 
 -- a push may allocate at a byte that ends an id, and only if the byte is taken
 pub wants : (s : DeleteState) (b : ℕ) (m : DeleteAction) → IsDeleteInOrder s → m ≡ transition s.top s.phase (number_byte b) → keeps m ≡ true
@@ -161,41 +121,17 @@ wants s b m o f h = (
   admits delete_automaton IsDeleteInOrder _ delete_of_one s b (act s.top s.ids m) o (ap (λ x. act s.top s.ids x) (sym f)) (kept_acts s.top s.ids m h),
 )
 
--- a state within the ids
-pub midway_state : (top : ℕ) (ids : List ℤ) (p : DeletePhase) → top < 2 ^ 63 → 0 < top → PhaseFits top p → is_midway p ≡ true → IsState delete_automaton (delete_at top ids p)
-midway_state top ids p a b f h = delete_is_state (delete_at top ids p) (a, b, f, (λ i. never (is_midway p) h i))
-
 -- The digits of an id that are taken in one call are a run of the automaton.
 
 module _ (top : ℕ) (ids : List ℤ) (l : top < 2 ^ 63) (some : 0 < top) where
-  -- what a state does with a digit
-  abbrev TakesDigits : DeletePhase → ℕ → Type 0
-  TakesDigits p n = (d : ℕ) → transition top p (NumberByte.Digit d) ≡ digits top false n d
-
-  digit_on : (p : DeletePhase) (n b : ℕ) → TakesDigits p n → IsTrue (is_digit b) → 10 * n + (b - 48) ≤ top
-      → delete_automaton.step (delete_at top ids p) b ≡ Go (delete_at top ids (DeletePhase.Digits false (10 * n + (b - 48))))
-  digit_on p n b s e h =
-      let f : digits top false n (b - 48) ≡ DeleteAction.To (DeletePhase.Digits false (10 * n + (b - 48))) = rw (le-leb (10 * n + (b - 48)) top h) refl in
-      ap (act top ids) (ap (transition top p) (number_of_digit b e) ∙ (s (b - 48) ∙ f))
-
-  digits_run : (p : DeletePhase) (n b : ℕ) (text : List ℕ) → TakesDigits p n → AreDigits (b ∷ text) → value_from n (b ∷ text) ≤ top
-      → Runs delete_automaton (delete_at top ids p) (b ∷ text) (delete_at top ids (DeletePhase.Digits false (value_from n (b ∷ text))))
-  digits_run p n b [] s h i =
-      (delete_at top ids (DeletePhase.Digits false (10 * n + (b - 48))), digit_on p n b s h.0 i, midway_state top ids (DeletePhase.Digits false (10 * n + (b - 48))) l some i refl, refl)
-  digits_run p n b (c ∷ text) s h i =
-      let fits : 10 * n + (b - 48) ≤ top = omega (arith, value-grows (10 * n + (b - 48)) (c ∷ text)) in (
-        delete_at top ids (DeletePhase.Digits false (10 * n + (b - 48))),
-        digit_on p n b s h.0 fits,
-        midway_state top ids (DeletePhase.Digits false (10 * n + (b - 48))) l some fits refl,
-        digits_run (DeletePhase.Digits false (10 * n + (b - 48))) (10 * n + (b - 48)) c text (λ d. refl) h.1 i,
-      )
-
-  takes_digits : (p : DeletePhase) → begins_id p ≡ true → TakesDigits p 0
-  takes_digits Gap e d = refl
-  takes_digits _ e d = cc e
+  opens_at : (p : DeletePhase) → begins_id p ≡ true → Opens 0 top ids (delete_at top ids p) × IsDeleteInOrder (delete_at top ids p)
+  opens_at p e = grind (arith, gap_opens, never, between_opens)
 
   -- where an id may begin
   pub id_runs : (p : DeletePhase) (text : List ℕ) (n : ℕ) → begins_id p ≡ true → AreDigits text → 0 < length text → n ≡ value_from 0 text → n ≤ top
       → Runs delete_automaton (delete_at top ids p) text (delete_at top ids (DeletePhase.Digits false n))
-  id_runs p [] n e all h f i = absurd (omega arith)
-  id_runs p (b ∷ text) n e all h f i = rw f (digits_run p 0 b text (takes_digits p e) all (subst (λ (m : ℕ). m ≤ top) f i))
+  id_runs p text n e all h f i =
+      let (t, g, b) = digits_text text all (λ none. let no : length text ≡ 0 = ap length none in omega arith) in
+      let (o, k) = opens_at p e in
+      text_run delete_automaton IsDeleteInOrder last delete_of_one t text (delete_at top ids p) (delete_at top ids (DeletePhase.Digits false n)) b k
+      (number_walks 0 top ids (delete_at top ids p) false n t o i ([], t, refl, refl, subst (λ (m : ℕ). Digits m t) (sym f) g))

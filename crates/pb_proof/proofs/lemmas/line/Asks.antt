@@ -1,11 +1,11 @@
 -- Where the machines of ids, literals and linear texts may allocate.
-use Rattle.pb_proof.proofs.Common.{ℕ, ℤ, ◌++◌, ◌+◌, ◌<◌, ◌||◌, ◌∙◌, ◌∷◌, ◌≡◌, [], ap, Bool, false, inl, IsTrue, List, map, nat_eq, refl, subst, sym, true}
-use Rattle.pb_proof.proofs.Common.{cond_both, false≢true, asks_after, at_name, ends_after, ends_nothing, first_asks_nothing, first_further, sums_asked}
-use Rattle.pb_proof.proofs.Common.{Literal, sums, SumState, AsksLiteral, EndsIn, literal_bytes, prefixes_of, Walks, blank_digit, digit_byte, letter_name}
-use Rattle.pb_proof.proofs.Common.{bytes-append, bytes-plain, is_blank, is_digit, is_letter, is_name_byte, ◌⋅◌, Bytes, digit, Each, Language, bytes, Letter}
-use Rattle.pb_proof.proofs.Common.{NameByte, NumberByte, DeletePhase, RupPhase, SolutionPhase, name_byte, number_byte, delete_automaton, delete_first, DeleteState, keeps}
-use Rattle.pb_proof.proofs.Common.{adds, is_more, solution_automaton, solution_first, SolutionState, rup_asks, rup_automaton, rup_first, rup_transition}
-use Rattle.pb_proof.proofs.Common.{RupState, EndsNumber, DeleteAction, Digits as DigitsOf, delete_transition as transition, Part, Spaces}
+use Rattle.pb_proof.proofs.Common.{ℕ, ℤ, ◌++◌, ◌+◌, ◌<◌, ◌||◌, ◌∙◌, ◌∷◌, ◌≡◌, [], ap, Bool, false, inl, IsTrue, List, map, nat_eq, refl, subst, sym, true, arith}
+use Rattle.pb_proof.proofs.Common.{cond_both, false≢true, asks_after, at_name, ends_after, ends_nothing, first_asks_nothing, first_further, sums_asked, Literal}
+use Rattle.pb_proof.proofs.Common.{AsksLiteral, EndsIn, literal_bytes, prefixes_of, Walks, blank_digit, digit_byte, letter_name, bytes-append, bytes-plain}
+use Rattle.pb_proof.proofs.Common.{is_blank, is_digit, is_letter, is_name_byte, ◌⋅◌, Bytes, digit, Each, Language, bytes, Letter, NameByte, NumberByte, DeletePhase}
+use Rattle.pb_proof.proofs.Common.{RupPhase, SolutionPhase, name_byte, number_byte, delete_automaton, delete_first, DeleteState, keeps, adds, is_more}
+use Rattle.pb_proof.proofs.Common.{solution_automaton, solution_first, SolutionState, rup_asks, rup_automaton, rup_first, rup_transition, RupState, EndsNumber}
+use Rattle.pb_proof.proofs.Common.{DeleteAction, Digits as DigitsOf, delete_transition as transition, Part, Spaces}
 use Rattle.pb_proof.specs.engine.line.Solution as solution
 use Rattle.pb_proof.proofs.lemmas.rup.Reads as reads
 use Rattle.pb_proof.proofs.lemmas.delete.Texts as ids
@@ -43,9 +43,7 @@ literal_end P negated bs t (a, c, e, h, k) =
 -- ---- ids
 
 ends_id : (top : ℕ) (ph : DeletePhase) (k : NumberByte) (m : DeleteAction) → theorems.OnAction top ph k m → keeps m ≡ true → theorems.EndsId ph k
-ends_id top ph k (DeleteAction.Keep p id) f h = f.1
-ends_id top ph k (DeleteAction.EndWith id) f h = f
-ends_id top ph k _ f h = absurd (false≢true h)
+ends_id top ph k m f h = grind (arith, false≢true)
 
 module _ (limit : ℕ) where
   delete_at : (ph : DeletePhase) (k : NumberByte) (top : ℕ) (held : List ℤ) (t : List Letter) (b : ℕ) → ids.prefix top ph held t → NumberMeans k b → theorems.EndsId ph k → EndsNumber (bytes t) b
@@ -71,20 +69,10 @@ module _ (b : ℕ) where
   letter c m = subst (λ (x : ℕ). IsTrue (is_letter x)) (sym m.0) m.1
 
   begins : (k : NameByte) → NameMeans k b → (adds (solution.before k) || false) ≡ true → IsTrue (is_letter b)
-  begins (NameByte.Letter c) m h = letter c m
-  begins NameByte.Tilde m h = absurd (false≢true h)
-  begins _ m h = absurd (false≢true h)
+  begins k m h = grind (arith, false≢true)
 
   allows : (joined : Bool) (ph : SolutionPhase) (k : NameByte) → NameMeans k b → (adds (solution.transition joined ph k) || is_more ph) ≡ true → Allows ph b
-  allows true SolutionPhase.Start k m h = begins k m h
-  allows false SolutionPhase.Start NameByte.Blank m h = absurd (false≢true h)
-  allows joined SolutionPhase.Gap k m h = begins k m h
-  allows joined SolutionPhase.Negation (NameByte.Letter c) m h = letter c m
-  allows joined (SolutionPhase.First negated) (NameByte.Letter c) m h = letter_name b (letter c m)
-  allows joined (SolutionPhase.First negated) (NameByte.Inner c) m h = subst (λ (x : ℕ). IsTrue (is_name_byte x)) (sym m.0) m.1
-  allows joined (SolutionPhase.More negated) k m h = tt
-  allows joined SolutionPhase.Closing NameByte.Blank m h = absurd (false≢true h)
-  allows joined _ _ m h = absurd (false≢true h)
+  allows joined ph k m h = grind (arith, false≢true, letter_name)
 
 solution_at : (ph : SolutionPhase) (joined : Bool) (ls : List Literal) (bs : List ℕ) (t : List Letter) (b : ℕ) → sound.prefix joined ph ls bs t → Allows ph b → AsksLiteral (bytes t) b
 solution_at (SolutionPhase.First negated) joined ls bs t b (a, c, e, p, (f, is)) k =
@@ -102,15 +90,11 @@ solution_asked joined t s b w h =
 module _ (limit top : ℕ) where
   rup_at : (s : RupState) (ph : RupPhase) (t : List Letter) (b : ℕ) → reads.prefix limit top s ph t → rup_asks s b (rup_transition ph b) ≡ true → AsksLiteral (bytes t) b
   rup_at s RupPhase.Start t b h = cond_both (is_blank b) _ _ (λ m. rup_asks s b m ≡ true → AsksLiteral (bytes t) b) (λ _ k. absurd (false≢true k)) (λ _ k. absurd (false≢true k))
-  rup_at s RupPhase.Gap t b (h, inner, linear) =
-      cond_both (is_blank b) _ _ (λ m. rup_asks s b m ≡ true → AsksLiteral (bytes t) b) (λ _ k. absurd (false≢true k))
-      (λ _ k. absurd (false≢true (sym (ap (λ (x : SumState). sums.asks x b) inner ∙ first_asks_nothing Spaces.Blank Part.AtLeast limit b) ∙ k)))
+  rup_at s RupPhase.Gap t b (h, inner, linear) = grind (arith, false≢true, first_asks_nothing)
   rup_at s RupPhase.Inside t b (linear, (a, c, e, h, w)) = λ k.
       subst (λ (x : List ℕ). AsksLiteral x b) (sym (ap bytes e ∙ bytes-append a c))
       (asks_after (bytes a) (bytes c) b (sums_asked Spaces.Blank Part.AtLeast limit c s.sums b w k))
-  rup_at s RupPhase.Tail t b h =
-      cond_both (is_blank b) _ _ (λ m. rup_asks s b m ≡ true → AsksLiteral (bytes t) b) (λ _ k. absurd (false≢true k))
-      (λ _. cond_both (nat_eq b 10) _ _ (λ m. rup_asks s b m ≡ true → AsksLiteral (bytes t) b) (λ _ k. absurd (false≢true k)) (λ _ k. absurd (false≢true k)))
+  rup_at s RupPhase.Tail t b h = grind (arith, false≢true, nat_eq)
   rup_at s RupPhase.Done t b h = absurd h
 
   pub rup_asked : (t : List Letter) (s : RupState) (b : ℕ) → Walks rup_automaton (rup_first limit) t s → rup_automaton.asks s b ≡ true → AsksLiteral (bytes t) b

@@ -1,7 +1,6 @@
 -- What the kind of a byte says of the byte, and the converse.
-use Rattle.pb_proof.proofs.Common.{ℕ, ◌+◌, ◌-◌, ◌<◌, ◌≡◌, ◌≤◌, ◌⊎◌, arith, Bool, false, inl, inr, IsTrue, refl, true, eqb-true}
-use Rattle.pb_proof.proofs.Common.{nat_tests, letter_name, name_high, is_blank, is_digit, is_letter, is_name_byte}
-use Rattle.pb_proof.proofs.Common.{NameByte, NumberByte, name_byte, number_byte}
+use Rattle.pb_proof.proofs.Common.{ℕ, ◌+◌, ◌<◌, ◌≡◌, ◌≤◌, ◌⊎◌, arith, false, IsTrue, refl, eqb-true, rules, nat_tests, letter_name, name_high, is_blank}
+use Rattle.pb_proof.proofs.Common.{is_letter, is_name_byte, NameByte, NumberByte, name_byte, number_byte, nat_eq}
 
 abbrev pub NumberMeans : NumberByte → ℕ → Type 0
 NumberMeans NumberByte.Blank b = IsTrue (is_blank b)
@@ -32,9 +31,6 @@ number_blank b e = rw e refl
 pub number_digit : (d : ℕ) → d < 10 → number_byte (48 + d) ≡ NumberByte.Digit d
 number_digit d h = grind (arith)
 
-pub number_of_digit : (b : ℕ) → IsTrue (is_digit b) → number_byte b ≡ NumberByte.Digit (b - 48)
-number_of_digit b e = grind (arith, nat_tests)
-
 pub name_blank : (b : ℕ) → IsTrue (is_blank b) → name_byte b ≡ NameByte.Blank
 name_blank b e = rw e refl
 
@@ -45,8 +41,11 @@ pub name_letter : (b : ℕ) → IsTrue (is_letter b) → name_byte b ≡ NameByt
 name_letter b e = rw (low b (name_high b (letter_name b e)), e) refl
 
 pub name_inner : (b : ℕ) → IsTrue (is_name_byte b) → (name_byte b ≡ NameByte.Letter b) ⊎ (name_byte b ≡ NameByte.Inner b)
-name_inner b e = go (is_letter b) refl
-  where
-    go : (x : Bool) → is_letter b ≡ x → (name_byte b ≡ NameByte.Letter b) ⊎ (name_byte b ≡ NameByte.Inner b)
-    go true f = inl (name_letter b f)
-    go false f = inr (rw (low b (name_high b e), e, f) refl)
+name_inner b e = search (rules, name_letter, name_high)
+
+-- tests of numbers
+pub positive : (n : ℕ) → nat_eq n 0 ≡ false → 0 < n
+positive n e = grind (arith, nat_tests)
+
+pub not_zero : (n : ℕ) → 0 < n → nat_eq n 0 ≡ false
+not_zero n h = grind (arith, nat_tests)

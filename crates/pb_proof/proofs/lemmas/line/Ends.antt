@@ -1,8 +1,9 @@
 -- How a machine reads the end of a line, and what it has read at a position where a line may end.
-use Rattle.pb_proof.proofs.Common.{ℕ, ◌++◌, ◌∙◌, ◌∷◌, ◌≡◌, [], ap, append-nil, append_assoc, false, inl, inr, IsTrue, List, refl, subst, sym, true, Leads}
-use Rattle.pb_proof.proofs.Common.{longer, reads_after, Walks, walks_then, after_it, grown, many-grown, next, none_yet, regroup, regroup3, some-grown}
-use Rattle.pb_proof.proofs.Common.{some-many, some-one, as_unmarked, Automaton, End, Go, ReadsStatement, is_blank, ◌⋅◌, Blanks0, Blanks1, Byte, Bytes, Each}
-use Rattle.pb_proof.proofs.Common.{Empty, Language, unmarked, Letter, Feed, LineEnd, Listed, ◌↔◌, IsOfOne, reads_last, Keeps, reported}
+use Rattle.pb_proof.proofs.Common.{ℕ, ◌++◌, ◌∙◌, ◌∷◌, ◌≡◌, [], ap, append-nil, append_assoc, false, inl, inr, IsTrue, List, refl, subst, sym, true, Leads, arith}
+use Rattle.pb_proof.proofs.Common.{rules, longer, reads_after, Walks, walks_then, after_it, grown, many-grown, next, none_yet, regroup, regroup3, some-grown}
+use Rattle.pb_proof.proofs.Common.{some-many, some-one, as_unmarked, Automaton, End, Go, ReadsStatement, is_blank, ◌⋅◌, Blanks0, Blanks1, Byte, Bytes, Each, Empty}
+use Rattle.pb_proof.proofs.Common.{Language, unmarked, Letter, Feed, LineEnd, Listed, ◌↔◌, IsOfOne, reads_last, Keeps, reported, ◌*◌, ◌+◌, ◌-◌, Digits, AreDigits}
+use Rattle.pb_proof.proofs.Common.{value_from, bytes, bytes-append, digit, digit_of, digits-grown, digits-one, is_state, never, Runs}
 
 module _ {S E : Type 0} (m : Automaton S E) where
   -- A blank leads from `s` to `gap`, and further blanks stay there.
@@ -19,8 +20,7 @@ module _ {S E : Type 0} (m : Automaton S E) where
 
   -- blank+ leads from `s` to `gap`
   pub blanks1_lead : (s gap : S) → TakesBlanks s gap → Leads m s Blanks1 gap
-  blanks1_lead s gap h t (b, bs, i, j, e) =
-      subst (λ x. Walks m s x gap) (sym e) (gap, h.enters b i, h.begun, sym h.plain, blanks_stay s gap h bs j _ refl)
+  blanks1_lead s gap h t g = grind (arith, blanks_stay)
 
   -- and blank* leads from `gap` to itself
   pub blanks0_lead : (gap : S) → TakesBlanks gap gap → Leads m gap Blanks0 gap
@@ -42,9 +42,7 @@ module _ {S E : Type 0} (m : Automaton S E) where
   after_blanks s gap after e t u h (b ∷ bs, i, f) r q = reads_after m t u s gap after e (blanks1_lead s gap h t (b, bs, i.0, i.1, f)) q
 
   pub feed_reads : (s gap after : S) (e : E) → Feeds s gap e after → (t : List Letter) → Feed t → ReadsStatement m s t e after
-  feed_reads s gap after e h t (a, b, f, i, g) =
-      subst (λ x. ReadsStatement m s x e after) (sym (f ∙ ap (λ x. a ++ x) g))
-      (after_blanks s gap after e a (unmarked 10 ∷ []) h.blanks i (h.ends, refl) (h.ends_gap, refl))
+  feed_reads s gap after e h t g = grind (arith, after_blanks)
 
   -- A line may end: at a line feed, or at a `;` that leads to the last state. Blanks may come before either.
   pub record MayEnd (s gap closing : S) (e : E) (after : S) : Type 0 where
@@ -54,8 +52,7 @@ module _ {S E : Type 0} (m : Automaton S E) where
     pub last : Feeds closing closing e after
 
   semicolon_reads : (s closing after : S) (e : E) (a b : List Letter) → m.step s 59 ≡ Go closing → Feeds closing closing e after → Byte 59 a → Feed b → ReadsStatement m s (a ++ b) e after
-  semicolon_reads s closing after e a b g h f r =
-      rw f (longer m (unmarked 59) b s closing after e g h.blanks.begun (sym h.blanks.plain) (feed_reads closing closing after e h b r))
+  semicolon_reads s closing after e a b g h f r = grind (arith, longer, feed_reads)
 
   pub line_reads : (s gap closing after : S) (e : E) → MayEnd s gap closing e after → (t : List Letter) → LineEnd t → ReadsStatement m s t e after
   line_reads s gap closing after e h t (inl f) = feed_reads s gap after e h.feeds t f
@@ -115,16 +112,13 @@ module _ (P : Language) (l : Letter) (p : List Letter) where
   blank_more h n k = grown P Blanks0 Blanks0 p l (blank0 h n) k
 
   pub semicolon_after_blanks : l.byte ≡ 59 → l.numeral ≡ false → Gapped P p → Closing P (p ++ l ∷ [])
-  semicolon_after_blanks h n k = grown P Blanks0 (Blanks0 ⋅ Byte 59 ⋅ Blanks0) p l
-      (λ q i. gapped (Blanks0 ⋅ Byte 59) (q ++ l ∷ []) (next Blanks0 (Byte 59) q l i (ap (λ x. x ∷ []) (as_unmarked l 59 n h)))) k
+  semicolon_after_blanks h n k = search (rules, grown, gapped, next, as_unmarked)
 
   pub semicolon_after : l.byte ≡ 59 → l.numeral ≡ false → P p → Closing P (p ++ l ∷ [])
   semicolon_after h n k = semicolon_after_blanks h n (gapped P p k)
 
   pub blank_closing : IsTrue (is_blank l.byte) → l.numeral ≡ false → Closing P p → Closing P (p ++ l ∷ [])
-  blank_closing h n k =
-      grown P (Blanks0 ⋅ Byte 59 ⋅ Blanks0) (Blanks0 ⋅ Byte 59 ⋅ Blanks0) p l
-      (λ q i. grown (Blanks0 ⋅ Byte 59) Blanks0 Blanks0 q l (blank0 h n) i) k
+  blank_closing h n k = search (rules, grown, blank0)
 
   feed : l.byte ≡ 10 → l.numeral ≡ false → (q : List Letter) → Blanks0 q → Feed (q ++ l ∷ [])
   feed h n q k = next Blanks0 (Byte 10) q l k (ap (λ x. x ∷ []) (as_unmarked l 10 n h))
@@ -160,6 +154,37 @@ module _ {A : Type 0} (P : A → Language) where
       let (mid, w, j) = f xs y s a i h in
       let (next, v, g) = listed_walks m At f (xs ++ y ∷ []) ys mid b j k in
       (next, subst (λ x. Walks m s x next) (sym e) (walks_then m a b s mid next w v), subst (λ x. At x next) (append_assoc xs (y ∷ []) ys) g)
+
+-- Bytes that are digits are a text of digits.
+digits_more : (text : List ℕ) (n : ℕ) (q : List Letter) → Digits n q → AreDigits text → (t : List Letter) × Digits (value_from n text) t × (bytes t ≡ bytes q ++ text)
+digits_more [] n q h all = (q, h, sym (append-nil (bytes q)))
+digits_more (b ∷ text) n q h all =
+    let l : Letter = digit (b - 48) in
+    let (e, k) = digit_of b all.0 in
+    let (t, g, i) = digits_more text (10 * n + (b - 48)) (q ++ l ∷ []) (digits-grown n (b - 48) l refl k q h) all.1 in (
+      t,
+      g,
+      i ∙ (ap (λ (x : List ℕ). x ++ text) (bytes-append q (l ∷ []))
+          ∙ (append_assoc (bytes q) ((48 + (b - 48)) ∷ []) text ∙ ap (λ (c : ℕ). bytes q ++ c ∷ text) (sym e))),
+    )
+
+pub digits_text : (text : List ℕ) → AreDigits text → (text ≡ [] → ⊥) → (t : List Letter) × Digits (value_from 0 text) t × (bytes t ≡ text)
+digits_text [] all some = absurd (some refl)
+digits_text (b ∷ text) all some =
+    let (e, k) = digit_of b all.0 in
+    let (t, g, i) = digits_more text (10 * 0 + (b - 48)) (digit (b - 48) ∷ []) (digits-one (b - 48) (digit (b - 48)) refl k) all.1 in
+    (t, g, i ∙ ap (λ (c : ℕ). c ∷ text) (sym e))
+
+-- Letters that lead a machine of one text from a state to another are a run of it.
+module _ {S E : Type 0} (m : Automaton S E) (Good : S → Type 0) (last : S → S) (h : IsOfOne m Good last) where
+  walks_run : (t : List Letter) (s new : S) → Good s → Walks m s t new → Runs m s (bytes t) new
+  walks_run [] s new g w = w
+  walks_run (l ∷ t) s new g (mid, e, i, n, w) =
+      let k : Good mid = h.keeps s mid l.byte g e in
+      (mid, e, is_state m Good last h mid k (λ o. never (m.begun mid) i o), walks_run t mid new k w)
+
+  pub text_run : (t : List Letter) (text : List ℕ) (s new : S) → bytes t ≡ text → Good s → Walks m s t new → Runs m s text new
+  text_run t text s new e g w = subst (λ (x : List ℕ). Runs m s x new) e (walks_run t s new g w)
 
 -- A machine of one text reads exactly a language, if each text that it reads is one of it, and it reads each.
 

@@ -1,8 +1,8 @@
 -- What holds of the machines that read the text after the first word of a statement.
-use Rattle.pb_proof.proofs.Common.{ℕ, ◌<◌, ◌^◌, ◌≡◌, false, List, refl, subst, sym, first_is_state, Blank, IsState, ReadsStatement, Letter, LineMachine}
-use Rattle.pb_proof.proofs.Common.{LineKind, Statement, conclusion_automaton, conclusion_first, conclusion_last, formula_automaton, formula_last, formula_first}
+use Rattle.pb_proof.proofs.Common.{ℕ, ◌<◌, ◌^◌, ◌≡◌, false, List, refl, first_is_state, Blank, IsState, ReadsStatement, Letter, LineMachine, arith, LineKind}
+use Rattle.pb_proof.proofs.Common.{Statement, conclusion_automaton, conclusion_first, conclusion_last, formula_automaton, formula_last, formula_first}
 use Rattle.pb_proof.proofs.Common.{delete_automaton, delete_first, delete_last, solution_automaton, solution_first, solution_last, line_automaton, line_first}
-use Rattle.pb_proof.proofs.Common.{SpellsRest, pol_automaton, pol_first, pol_last, rup_automaton, rup_first, rup_last, Automaton, Part}
+use Rattle.pb_proof.proofs.Common.{SpellsRest, rules, pol_automaton, pol_first, pol_last, rup_automaton, rup_first, rup_last, Automaton, Part}
 use Rattle.pb_proof.specs.declared.machine.phase.LineKind.TheVariants.{Formula, Pol, Rup, Soli, Solx, Delete, Conclusion}
 use Rattle.pb_proof.proofs.lemmas.Carried.{Carries, reads_in, reads_out, state_in, begins_in}
 use Rattle.pb_proof.proofs.lemmas.Formula.{formula_reads, formula_is_state, formula_of_one}
@@ -15,43 +15,41 @@ use Rattle.pb_proof.proofs.lemmas.conclusion.Theorems.{conclusion_of_one, conclu
 use Rattle.pb_text.proofs.lemmas.machine.Living.{BeginsAtOnce}
 
 pub formula_carries : Carries formula_automaton line_automaton LineMachine.Formula Statement.F
-formula_carries = record { step = λ s b. refl; done = λ s. refl; begun = λ s. refl; in_number = λ s. refl; asks = λ s b. refl; kept = λ s. refl; spent = λ s. refl }
+formula_carries = search (rules, formula_of_one.begins)
 
 pub pol_carries : Carries pol_automaton line_automaton LineMachine.Pol Statement.Pol
-pol_carries = record { step = λ s b. refl; done = λ s. refl; begun = λ s. refl; in_number = λ s. refl; asks = λ s b. refl; kept = λ s. refl; spent = λ s. refl }
+pol_carries = search (rules, of_one.begins)
 
 pub rup_carries : Carries rup_automaton line_automaton LineMachine.Rup Statement.Rup
-rup_carries = record { step = λ s b. refl; done = λ s. refl; begun = λ s. refl; in_number = λ s. refl; asks = λ s b. refl; kept = λ s. refl; spent = λ s. refl }
+rup_carries = search (rules, rup_begins)
 
 pub soli_carries : Carries solution_automaton line_automaton LineMachine.Soli Statement.Soli
-soli_carries = record { step = λ s b. refl; done = λ s. refl; begun = λ s. refl; in_number = λ s. refl; asks = λ s b. refl; kept = λ s. refl; spent = λ s. refl }
+soli_carries = search (rules, solution_of_one.begins)
 
 pub solx_carries : Carries solution_automaton line_automaton LineMachine.Solx Statement.Solx
-solx_carries = record { step = λ s b. refl; done = λ s. refl; begun = λ s. refl; in_number = λ s. refl; asks = λ s b. refl; kept = λ s. refl; spent = λ s. refl }
+solx_carries = search (rules, solution_of_one.begins)
 
 pub delete_carries : Carries delete_automaton line_automaton LineMachine.Delete Statement.Delete
-delete_carries = record { step = λ s b. refl; done = λ s. refl; begun = λ s. refl; in_number = λ s. refl; asks = λ s b. refl; kept = λ s. refl; spent = λ s. refl }
+delete_carries = search (rules, delete_of_one.begins)
 
 pub conclusion_carries : Carries conclusion_automaton line_automaton LineMachine.Conclusion Statement.Conclude
-conclusion_carries = record { step = λ s b. refl; done = λ s. refl; begun = λ s. refl; in_number = λ s. refl; asks = λ s b. refl; kept = λ s. refl; spent = λ s. refl }
+conclusion_carries = search (rules, conclusion_of_one.begins)
 
 -- Each begins its text with the first byte.
 pub line_begins : BeginsAtOnce line_automaton
-line_begins (LineMachine.Formula s) next b e = begins_in _ _ _ _ formula_carries formula_of_one.begins s next b e
-line_begins (LineMachine.Pol s) next b e = begins_in _ _ _ _ pol_carries of_one.begins s next b e
-line_begins (LineMachine.Rup s) next b e = begins_in _ _ _ _ rup_carries rup_begins s next b e
-line_begins (LineMachine.Soli s) next b e = begins_in _ _ _ _ soli_carries solution_of_one.begins s next b e
-line_begins (LineMachine.Solx s) next b e = begins_in _ _ _ _ solx_carries solution_of_one.begins s next b e
-line_begins (LineMachine.Delete s) next b e = begins_in _ _ _ _ delete_carries delete_of_one.begins s next b e
-line_begins (LineMachine.Conclusion s) next b e = begins_in _ _ _ _ conclusion_carries conclusion_of_one.begins s next b e
+line_begins (LineMachine.Formula s) next b e = begins_in _ _ _ _ formula_carries s next b e
+line_begins (LineMachine.Pol s) next b e = begins_in _ _ _ _ pol_carries s next b e
+line_begins (LineMachine.Rup s) next b e = begins_in _ _ _ _ rup_carries s next b e
+line_begins (LineMachine.Soli s) next b e = begins_in _ _ _ _ soli_carries s next b e
+line_begins (LineMachine.Solx s) next b e = begins_in _ _ _ _ solx_carries s next b e
+line_begins (LineMachine.Delete s) next b e = begins_in _ _ _ _ delete_carries s next b e
+line_begins (LineMachine.Conclusion s) next b e = begins_in _ _ _ _ conclusion_carries s next b e
 
 module _ (limit top : ℕ) where
   -- What a new line machine reads, the machine of the line reads.
   within : {S E : Type 0} (m : Automaton S E) (into : S → LineMachine) (event : E → Statement) → Carries m line_automaton into event → (start : S) (r : LineKind) (t : List Letter) (e : Statement) (after : LineMachine)
       → ReadsStatement line_automaton (into start) t e after → ((c : E) (last : S) → ReadsStatement m start t c last → SpellsRest limit top r (event c) t) → SpellsRest limit top r e t
-  within m into event carries start r t e after h f =
-      let (c, last, g, k) = reads_out m line_automaton into event carries t start e after h in
-      subst (λ x. SpellsRest limit top r x t) (sym g) (f c last k)
+  within m into event carries start r t e after h f = grind (arith, reads_out)
 
   -- It is the text after the first word.
   pub line_only : (r : LineKind) (t : List Letter) (e : Statement) (after : LineMachine) → ReadsStatement line_automaton (line_first limit top r) t e after → SpellsRest limit top r e t
@@ -65,19 +63,18 @@ module _ (limit top : ℕ) where
       within _ _ _ conclusion_carries (conclusion_first limit top) Conclusion t e after h (λ c last k. ((conclusion_reads limit top t c last).0 k).0)
 
   pub line_each : (r : LineKind) (t : List Letter) (e : Statement) → SpellsRest limit top r e t → (after : LineMachine) × ReadsStatement line_automaton (line_first limit top r) t e after
-  line_each Formula t (Statement.F c) h = (LineMachine.Formula (formula_last top), reads_in _ _ _ _ formula_carries t (formula_first top) c (formula_last top) ((formula_reads limit top t c (formula_last top)).1 (h, refl)))
-  line_each Pol t (Statement.Pol c) h = (LineMachine.Pol (pol_last limit top), reads_in _ _ _ _ pol_carries t (pol_first limit top) c (pol_last limit top) ((pol_reads limit top t c (pol_last limit top)).1 (h, refl)))
-  line_each Rup t (Statement.Rup c) h = (LineMachine.Rup (rup_last limit), reads_in _ _ _ _ rup_carries t (rup_first limit) c (rup_last limit) ((rup_reads limit top t c (rup_last limit)).1 (h, refl)))
-  line_each Soli t (Statement.Soli c) h = (LineMachine.Soli (solution_last false), reads_in _ _ _ _ soli_carries t (solution_first false) c (solution_last false) ((solution_reads false t c (solution_last false)).1 (h, refl)))
-  line_each Solx t (Statement.Solx c) h = (LineMachine.Solx (solution_last false), reads_in _ _ _ _ solx_carries t (solution_first false) c (solution_last false) ((solution_reads false t c (solution_last false)).1 (h, refl)))
-  line_each Delete t (Statement.Delete c) h = (LineMachine.Delete (delete_last top), reads_in _ _ _ _ delete_carries t (delete_first top) c (delete_last top) ((delete_reads limit top t c (delete_last top)).1 (h, refl)))
-  line_each Conclusion t (Statement.Conclude c) h = (LineMachine.Conclusion (conclusion_last limit top), reads_in _ _ _ _ conclusion_carries t (conclusion_first limit top) c (conclusion_last limit top) ((conclusion_reads limit top t c (conclusion_last limit top)).1 (h, refl)))
+  line_each Formula t (Statement.F c) h = (LineMachine.Formula (formula_last top), reads_in _ _ _ _ _ formula_carries.nests t (formula_first top) c (formula_last top) ((formula_reads limit top t c (formula_last top)).1 (h, refl)))
+  line_each Pol t (Statement.Pol c) h = (LineMachine.Pol (pol_last limit top), reads_in _ _ _ _ _ pol_carries.nests t (pol_first limit top) c (pol_last limit top) ((pol_reads limit top t c (pol_last limit top)).1 (h, refl)))
+  line_each Rup t (Statement.Rup c) h = (LineMachine.Rup (rup_last limit), reads_in _ _ _ _ _ rup_carries.nests t (rup_first limit) c (rup_last limit) ((rup_reads limit top t c (rup_last limit)).1 (h, refl)))
+  line_each Soli t (Statement.Soli c) h = (LineMachine.Soli (solution_last false), reads_in _ _ _ _ _ soli_carries.nests t (solution_first false) c (solution_last false) ((solution_reads false t c (solution_last false)).1 (h, refl)))
+  line_each Solx t (Statement.Solx c) h = (LineMachine.Solx (solution_last false), reads_in _ _ _ _ _ solx_carries.nests t (solution_first false) c (solution_last false) ((solution_reads false t c (solution_last false)).1 (h, refl)))
+  line_each Delete t (Statement.Delete c) h = (LineMachine.Delete (delete_last top), reads_in _ _ _ _ _ delete_carries.nests t (delete_first top) c (delete_last top) ((delete_reads limit top t c (delete_last top)).1 (h, refl)))
+  line_each Conclusion t (Statement.Conclude c) h = (LineMachine.Conclusion (conclusion_last limit top), reads_in _ _ _ _ _ conclusion_carries.nests t (conclusion_first limit top) c (conclusion_last limit top) ((conclusion_reads limit top t c (conclusion_last limit top)).1 (h, refl)))
   line_each _ t _ h = absurd h
 
   -- A new one has not begun, has not ended, and reads no number.
   pub line_fresh : (r : LineKind) → (line_automaton.done (line_first limit top r) ≡ false) × (line_automaton.begun (line_first limit top r) ≡ false) × (line_automaton.in_number (line_first limit top r) ≡ false)
-  line_fresh Formula = (refl, refl, refl)
-  line_fresh _ = (refl, refl, refl)
+  line_fresh r = grind arith
 
   -- A new one satisfies `IsState`, if there are ids.
   pub line_first_state : limit < 2 ^ 127 → top < 2 ^ 63 → 0 < top → (r : LineKind) → IsState line_automaton (line_first limit top r)

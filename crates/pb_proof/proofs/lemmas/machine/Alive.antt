@@ -1,13 +1,13 @@
 -- From each state that the proof machine can be in, some text is accepted.
-use Rattle.pb_proof.proofs.Common.{ℕ, ◌++◌, ◌+◌, ◌<◌, ◌^◌, ◌∙◌, ◌∷◌, ◌≡◌, [], append_assoc, arith, Bool, drop, false, length, length-append, List}
-use Rattle.pb_proof.proofs.Common.{None, refl, Some, subst, suc, sym, take, true, slice_index, split_at, eqb-true, length-take-le, accepted}
-use Rattle.pb_proof.proofs.Common.{final, IsAlive, reads_on, ReadsOn, AcceptsItems, IsState, unmarked, Item, Letter, plain, NoClaim}
-use Rattle.pb_proof.proofs.Common.{LineMachine, Keyword, LineKind, Stage, Closing, Complete, Formula, Opening, Steps, Statement, line_automaton}
-use Rattle.pb_proof.proofs.Common.{line_first, act, at, giving, HasGaps, Holds, idle, IsInOrder, next_stage, proofs, ProofState, next_action}
-use Rattle.pb_proof.proofs.Common.{words_of, conclusion_word, f_word, none_word, IsStaged, ProofPhaseFits as PhaseFits, ProofPhase as Phase}
+use Rattle.pb_proof.proofs.Common.{ℕ, ◌++◌, ◌+◌, ◌<◌, ◌^◌, ◌∙◌, ◌∷◌, ◌≡◌, [], append_assoc, arith, Bool, drop, false, length, length-append, List, None, refl, subst}
+use Rattle.pb_proof.proofs.Common.{suc, sym, take, true, slice_index, split_at, eqb-true, length-take-le, accepted, final, IsAlive, reads_on, ReadsOn, AcceptsItems}
+use Rattle.pb_proof.proofs.Common.{IsState, unmarked, Item, Letter, plain, NoClaim, LineMachine, Keyword, LineKind, Stage, Closing, Complete, Formula, Opening}
+use Rattle.pb_proof.proofs.Common.{Steps, Statement, line_automaton, line_first, act, at, giving, HasGaps, Holds, idle, IsInOrder, next_stage, proofs, ProofState}
+use Rattle.pb_proof.proofs.Common.{next_action, words_of, conclusion_word, f_word, none_word, IsStaged, ProofPhaseFits as PhaseFits, ProofPhase as Phase}
 use Rattle.pb_proof.proofs.lemmas.line.Laws.{line_begins, line_fresh, line_first_state}
 use Rattle.pb_text.proofs.lemmas.machine.Living.{before}
-use Rattle.pb_proof.proofs.lemmas.machine.Complete.{spelt, header_end, output_end, step_on, step_last, given_reads, meets_any}
+use Rattle.pb_proof.proofs.lemmas.machine.Complete.{spelt, header_end, output_end, step_on, step_last, line_nests, is_giving, meets_any}
+use Rattle.pb_proof.proofs.lemmas.Carried.{reads_in}
 use Rattle.pb_proof.proofs.lemmas.machine.Exact.{no_gap}
 use Rattle.pb_proof.proofs.lemmas.machine.Orders.{ordered_each}
 use Rattle.pb_proof.proofs.lemmas.Spaced.{Spaced, One, chooses, KeywordWords, keyword_only}
@@ -94,7 +94,7 @@ module _ (limit top : ℕ) where
     text = text;
     event = e;
     after = idle limit top (next_stage r);
-    reads = given_reads limit top r text i last e h;
+    reads = reads_in line_automaton proofs _ _ _ (line_nests limit top r) text i e last h;
     rest = example (next_stage r);
     accepts = stage_accepts (next_stage r);
   }
@@ -160,9 +160,6 @@ by_phase s order Phase.HeaderEnd e fits h = at_accepts s Phase.HeaderEnd e h (he
 by_phase s order (Phase.OutputEnd may) e fits h = at_accepts s (Phase.OutputEnd may) e h (output_end_alive s.limit s.top may)
 by_phase s order (Phase.Inside r) e fits (i, g, d, state) =
     accepted proofs s (subst (IsAlive proofs) (sym (is_giving s r i e g)) (inside_alive s.limit s.top r i state d))
-  where
-    is_giving : (s : ProofState) (r : LineKind) (i : LineMachine) → s.phase ≡ Phase.Inside r → s.line ≡ Some i → s ≡ giving s.limit s.top r i
-    is_giving s r i e h = rw (e, h) refl
 
 -- each state in order accepts something
 pub live : (s : ProofState) → IsInOrder s → (items : List (Item Statement)) × AcceptsItems proofs s items

@@ -1,17 +1,17 @@
 -- If the proof machine may allocate at a byte, that byte is at a position of its statement that may allocate.
-use Rattle.pb_proof.proofs.Common.{ℕ, ◌++◌, ◌∙◌, ◌∷◌, ◌≡◌, [], ap, Bool, false, IsTrue, List, None, refl, Some, subst, sym, true, false≢true}
-use Rattle.pb_proof.proofs.Common.{prefixes_of, reads_after, Walks, never, bytes-append, End, Go, MayAsk, Next, ReadsStatement, Refuse, bytes, Letter}
-use Rattle.pb_proof.proofs.Common.{LineMachine, LineKind, Stage, Opening, Statement, conclusion_first, formula_first, delete_first, solution_first}
-use Rattle.pb_proof.proofs.Common.{line_automaton, line_first, SpellsRest, pol_first, rup_first, act, at, begin, giving, idle, proofs, ProofState}
-use Rattle.pb_proof.proofs.Common.{step_line, Asks, AsksAfter, FirstWord, stage_after, IsProof, Automaton, proof_transition as transition}
-use Rattle.pb_proof.proofs.Common.{proof_over as over, proof_within as is_within, ProofAction as Action, ProofPhase as Phase}
+use Rattle.pb_proof.proofs.Common.{ℕ, ◌++◌, ◌∙◌, ◌∷◌, ◌≡◌, [], ap, Bool, false, IsTrue, List, None, refl, Some, subst, sym, true, false≢true, arith, prefixes_of}
+use Rattle.pb_proof.proofs.Common.{reads_after, Walks, never, bytes-append, End, Go, MayAsk, Next, ReadsStatement, Refuse, bytes, Letter, LineMachine, LineKind}
+use Rattle.pb_proof.proofs.Common.{Stage, Opening, Statement, conclusion_first, formula_first, delete_first, solution_first, line_automaton, line_first, SpellsRest}
+use Rattle.pb_proof.proofs.Common.{pol_first, rup_first, at, begin, idle, proofs, ProofState, Asks, AsksAfter, FirstWord, stage_after, IsProof, Automaton}
+use Rattle.pb_proof.proofs.Common.{proof_transition as transition, proof_within as is_within, ProofAction as Action, ProofPhase as Phase}
 use Rattle.pb_text.specs.meaning.Asking.{AsksOnly}
 use Rattle.pb_text.proofs.lemmas.machine.Asked as asked
 use Rattle.pb_proof.specs.engine.machine.State as state
 use Rattle.pb_proof.specs.engine.machine.State.{asks}
 use Rattle.pb_proof.proofs.lemmas.Carried.{Carries, walks_out, reads_out}
+use Rattle.pb_proof.proofs.lemmas.machine.Complete.{line_nests, is_giving}
 use Rattle.pb_proof.proofs.lemmas.conclusion.Asks.{conclusion_asked}
-use Rattle.pb_proof.proofs.lemmas.line.Laws.{formula_carries, pol_carries, rup_carries, soli_carries, solx_carries, delete_carries, conclusion_carries, line_begins, line_only}
+use Rattle.pb_proof.proofs.lemmas.line.Laws.{formula_carries, pol_carries, rup_carries, soli_carries, solx_carries, delete_carries, conclusion_carries, line_only}
 use Rattle.pb_proof.proofs.lemmas.line.Asks.{delete_asked, solution_asked, rup_asked}
 use Rattle.pb_proof.proofs.lemmas.pol.Asks.{pol_asked}
 use Rattle.pb_proof.proofs.lemmas.machine.Exact.{reads_proofs}
@@ -25,8 +25,8 @@ module _ (limit top : ℕ) where
       → line_automaton.asks i l.byte ≡ true
       → ((s after : S) (v : E) → Walks m start q s → ReadsStatement m s (l ∷ more) v after → m.asks s l.byte ≡ true → AsksAfter (event v) (bytes q) l.byte) → AsksAfter e (bytes q) l.byte
   within m into event c start q more l i last e w r h f =
-      let (s, is, k) = walks_out m line_automaton into event c q start i w in
-      let (v, after, same, j) = reads_out m line_automaton into event c (l ∷ more) s e last (subst (λ x. ReadsStatement line_automaton x (l ∷ more) e last) is r) in
+      let (s, is, k) = walks_out m line_automaton into event (λ e. into) c.nests q start i w in
+      let (v, after, same, j) = reads_out _ _ _ _ _ c.nests (l ∷ more) s e last (subst (λ x. ReadsStatement line_automaton x (l ∷ more) e last) is r) in
       subst (λ y. AsksAfter y (bytes q) l.byte) (sym same) (f s after v k j (sym (c.asks s l.byte) ∙ subst (λ x. line_automaton.asks x l.byte ≡ true) is h))
 
   -- after the first word
@@ -43,36 +43,14 @@ module _ (limit top : ℕ) where
 
   -- the first word of a statement that may allocate
   first_word : (r : LineKind) (e : Statement) (t word : List Letter) (text : List ℕ) (b : ℕ) → SpellsRest limit top r e t → sound.Before r word → AsksAfter e text b → FirstWord e word
-  first_word LineKind.Formula (Statement.F c) t word text b h k a = absurd a
-  first_word LineKind.Pol (Statement.Pol c) t word text b h k a = k
-  first_word LineKind.Rup (Statement.Rup c) t word text b h k a = k
-  first_word LineKind.Soli (Statement.Soli c) t word text b h k a = k
-  first_word LineKind.Solx (Statement.Solx c) t word text b h k a = k
-  first_word LineKind.Delete (Statement.Delete c) t word text b h k a = k
-  first_word LineKind.Conclusion (Statement.Conclude c) t word text b h k a = k
-  first_word _ _ t word text b h k a = absurd h
+  first_word r e t word text b h k a = grind arith
 
   -- After the first word, the line machine reads.
-  line_step : (s : ProofState) (b : ℕ) (r : LineKind) (i : LineMachine) → s.phase ≡ Phase.Inside r → s.line ≡ Some i → proofs.step s b ≡ over s r (line_automaton.step i b)
-  line_step s b r i e f = ap (λ q. act s b (transition q b)) e ∙ ap (λ x. over s r (step_line x b)) f
-
-  went : (s next : ProofState) (r : LineKind) (x : Next LineMachine Statement) → ◌≡◌ {A = Next ProofState Statement} (over s r x) (Go next) → (i : LineMachine) × (x ≡ Go i) × (next ≡ giving s.limit s.top r i)
-  went s next r (Go i) e = (i, refl, (let f : next ≡ giving s.limit s.top r i = cc in f))
-  went s next r _ e = absurd (let f : ⊥ = cc in f)
-
-  ended : (s next : ProofState) (r : LineKind) (e : Statement) (x : Next LineMachine Statement) → ◌≡◌ {A = Next ProofState Statement} (over s r x) (End e next) → (i : LineMachine) × (x ≡ End e i)
-  ended s next r e (End v i) h = (i, (let f : v ≡ e = cc in ap (λ (y : Statement). let z : Next LineMachine Statement = End y i in z) f))
-  ended s next r e _ h = absurd (let f : ⊥ = cc in f)
-
   inside_reads : (t : List Letter) (s : ProofState) (r : LineKind) (i : LineMachine) (e : Statement) (next : ProofState) → s.phase ≡ Phase.Inside r → s.line ≡ Some i → ReadsStatement proofs s t e next
       → (last : LineMachine) × ReadsStatement line_automaton i t e last
-  inside_reads [] s r i e next p o h = absurd h
-  inside_reads (l ∷ []) s r i e next p o (h, n) =
-      let (last, k) = ended s next r e (line_automaton.step i l.byte) (sym (line_step s l.byte r i p o) ∙ h) in (last, (k, n))
-  inside_reads (l ∷ d ∷ t) s r i e next p o (mid, h, w, n, k) =
-      let (j, g, same) = went s mid r (line_automaton.step i l.byte) (sym (line_step s l.byte r i p o) ∙ h) in
-      let (last, v) = inside_reads (d ∷ t) mid r j e next (ap (λ x. x.phase) same) (ap (λ x. x.line) same) k in
-      (last, (j, g, line_begins i j l.byte g, n ∙ ap proofs.in_number same, v))
+  inside_reads t s r i e next p o h =
+      let (v, last, same, k) = reads_out _ _ _ _ _ (line_nests s.limit s.top r) t i e next (subst (λ x. ReadsStatement proofs x t e next) (is_giving s r i p o) h) in
+      (last, subst (λ v. ReadsStatement line_automaton i t v last) (sym same) k)
 
   -- ---- between two statements
   abbrev Idle : ProofState → Type 0
@@ -83,21 +61,12 @@ module _ (limit top : ℕ) where
   InGap (End e next) x = Unit {0}
   InGap Refuse x = Unit {0}
 
-  gap_action : (p : Phase) (b : ℕ) (m : Action) → InGap (act (at limit top p) b m) (asks (at limit top p) b m)
-  gap_action p b (Action.To q) = λ o. ((q, refl, o), refl)
-  gap_action p b (Action.Begin r) = λ o. never true refl o
-  gap_action p b _ = tt
-
   gaps : (s next : ProofState) (b : ℕ) → Idle s → proofs.step s b ≡ Go next → proofs.begun next ≡ false → Idle next × (proofs.asks s b ≡ false)
-  gaps s next b (p, e, i) g o =
-      let k : InGap (proofs.step s b) (proofs.asks s b) = subst (λ x. InGap (proofs.step x b) (proofs.asks x b)) (sym e) (gap_action p b (transition p b)) in
-      (subst (λ x. InGap x (proofs.asks s b)) g k) o
+  gaps s next b h g o = grind (arith, never)
 
   from_idle : (A : Type 0) (p : Phase) (t : List Letter) (e : Statement) (next : ProofState) → is_within p ≡ false → ReadsStatement proofs (at limit top p) t e next
       → ((st : Stage) → p ≡ Phase.Between st → A) → A
-  from_idle A (Phase.Between st) t e next i r f = f st refl
-  from_idle A (Phase.Comment st) t e next i r f = absurd (comment_reads limit top st t e next r)
-  from_idle A _ t e next i r f = never true refl i
+  from_idle A p t e next i r f = grind (arith, comment_reads, never)
 
   ends : (s next : ProofState) (t : List Letter) (e : Statement) → Idle s → ReadsStatement proofs s t e next → Idle next
   ends s next t e (p, same, i) r =
@@ -107,8 +76,7 @@ module _ (limit top : ℕ) where
 
   -- without a line machine, no byte may allocate
   quiet : (s : ProofState) (b : ℕ) (m : Action) → s.line ≡ None → asks s b m ≡ false
-  quiet s b (Action.Give r) e = ap (state.asked false (λ i. line_automaton.asks i b)) e
-  quiet s b _ e = refl
+  quiet s b m e = grind (arith, state.asked)
 
   module _ (st : Stage) (s next : ProofState) (p more : List Letter) (l : Letter) (e : Statement) (r : ReadsStatement proofs s (l ∷ more) e next) where
     silent : {A : Type 0} (q : Phase) → s.line ≡ None → asks s l.byte (transition q l.byte) ≡ true → A

@@ -1,13 +1,13 @@
 -- The proof machine reads each statement from its stage.
-use Rattle.pb_proof.proofs.Common.{or-false, cond_both, ℕ, ◌&&◌, ◌++◌, ◌+◌, ◌-◌, ◌||◌, ◌∙◌, ◌∷◌, ◌≡◌, [], ap, append-nil, append_assoc, ap₂, arith, Bool, cond, false}
-use Rattle.pb_proof.proofs.Common.{IsTrue, length, length-append, List, nat_eq, not, refl, subst, sym, true, slice_index, get_or-append_seam}
-use Rattle.pb_proof.proofs.Common.{and_parts, eq-eqb, eqb-true, not-true, nat_tests, ends_walk, longer, reads_after, same_first}
-use Rattle.pb_proof.proofs.Common.{Walks, walks_more, walks_then, Go, ReadsStatement, is_blank, ◌⋅◌, Blanks1, Byte, Each, Language, unmarked, Bytes}
-use Rattle.pb_proof.proofs.Common.{Letter, plain, LineMachine, Keyword, LineKind, Closing, Complete, Formula, Opening, Steps, Statement}
-use Rattle.pb_proof.proofs.Common.{line_automaton, line_first, SpellsRest, act, at, giving, idle, next_stage, proofs, ProofState, meets, next_action}
-use Rattle.pb_proof.proofs.Common.{sol_word, words_of, Feed, LineEnd, SpellsStatement, stage_after, stage_of, proof_spell as spell}
-use Rattle.pb_proof.proofs.Common.{proof_transition as transition, proof_over as over, ProofAction as Action, ProofPhase as Phase, Stage}
-use Rattle.pb_proof.proofs.lemmas.line.Laws.{line_each, line_fresh}
+use Rattle.pb_proof.proofs.Common.{or-false, ℕ, ◌&&◌, ◌++◌, ◌+◌, ◌-◌, ◌||◌, ◌∙◌, ◌∷◌, ◌≡◌, [], ap, append-nil, append_assoc, ap₂, arith, Bool, cond, false, Some}
+use Rattle.pb_proof.proofs.Common.{IsTrue, length, length-append, List, nat_eq, not, refl, subst, sym, true, slice_index, get_or-append_seam, and_parts, eq-eqb}
+use Rattle.pb_proof.proofs.Common.{eqb-true, not-true, nat_tests, ends_walk, longer, reads_after, same_first, Walks, walks_more, walks_then, Go, ReadsStatement}
+use Rattle.pb_proof.proofs.Common.{is_blank, ◌⋅◌, Blanks1, Byte, Each, Language, unmarked, Bytes, Letter, plain, LineMachine, Keyword, LineKind, Closing, Complete}
+use Rattle.pb_proof.proofs.Common.{Formula, Opening, Steps, Statement, line_automaton, line_first, SpellsRest, act, at, giving, idle, next_stage, proofs, ProofState}
+use Rattle.pb_proof.proofs.Common.{meets, next_action, sol_word, words_of, Feed, LineEnd, SpellsStatement, stage_after, stage_of, proof_spell as spell}
+use Rattle.pb_proof.proofs.Common.{proof_transition as transition, ProofAction as Action, ProofPhase as Phase, Stage}
+use Rattle.pb_proof.proofs.lemmas.Carried.{Nests, reads_in}
+use Rattle.pb_proof.proofs.lemmas.line.Laws.{line_begins, line_each, line_fresh}
 use Rattle.pb_proof.proofs.lemmas.line.Ends.{Feeds, feed_reads, MayEnd, line_reads}
 use Rattle.pb_proof.proofs.lemmas.machine.Sound.{stage_keyword}
 use Rattle.pb_proof.proofs.lemmas.Spaced.{Spaced, One, chooses, KeywordWords, keyword_each}
@@ -22,8 +22,7 @@ is_laid [] = true
 is_laid (c ∷ cs) = (not (nat_eq c 32) || dark_first cs) && is_laid cs
 
 words_laid : (f : Keyword) → is_laid (words_of f) ≡ true
-words_laid Keyword.Header = refl
-words_laid _ = refl
+words_laid f = grind arith
 
 laid_later : (prefix more : List ℕ) → is_laid (prefix ++ more) ≡ true → is_laid more ≡ true
 laid_later [] more h = h
@@ -39,8 +38,11 @@ meets_self c e = rw (e, eq-eqb c c refl) refl
 
 -- and so does a space
 pub meets_any : (c : ℕ) → meets c c ≡ true
-meets_any c = cond_both (nat_eq c 32) (is_blank c) (nat_eq c c) (λ x. x ≡ true)
-    (λ e. subst (λ b. is_blank b ≡ true) (sym (eqb-true c 32 e)) refl) (λ _. eq-eqb c c refl)
+meets_any c = grind (arith, nat_eq, eqb-true, eq-eqb)
+
+-- the state within the text of a line machine
+pub is_giving : (s : ProofState) (r : LineKind) (i : LineMachine) → s.phase ≡ Phase.Inside r → s.line ≡ Some i → s ≡ giving s.limit s.top r i
+is_giving s r i e h = rw (e, h) refl
 
 module _ (limit top : ℕ) where
   -- after `k` bytes of the words
@@ -53,20 +55,13 @@ module _ (limit top : ℕ) where
   -- the next byte matches; `x` says whether it is the last
   spell_next : (f : Keyword) (prefix left : List ℕ) (c b : ℕ) (x : Bool) (other : Action) → words_of f ≡ prefix ++ c ∷ left → meets c b ≡ true → nat_eq (length prefix + 1) (length (words_of f)) ≡ x
       → spell f (length prefix) b other ≡ cond x (next_action f) (Action.To (Phase.Spelling f (length prefix + 1)))
-  spell_next f prefix left c b x other e m n =
-      ap (λ y. cond (meets y b) (cond (nat_eq (length prefix + 1) (length (words_of f))) (next_action f) (Action.To (Phase.Spelling f (length prefix + 1)))) other) (at_seam f prefix left c e)
-      ∙ (ap (λ y. cond y (cond (nat_eq (length prefix + 1) (length (words_of f))) (next_action f) (Action.To (Phase.Spelling f (length prefix + 1)))) other) m
-      ∙ ap (λ y. cond y (next_action f) (Action.To (Phase.Spelling f (length prefix + 1)))) n)
+  spell_next f prefix left c b x other e m n = grind (arith, nat_eq, length, at_seam)
 
   more_left : (f : Keyword) (prefix left : List ℕ) (c d : ℕ) → words_of f ≡ prefix ++ c ∷ d ∷ left → nat_eq (length prefix + 1) (length (words_of f)) ≡ false
-  more_left f prefix left c d e =
-      let m : length (words_of f) ≡ length prefix + (2 + length left) = ap length e ∙ (length-append prefix (c ∷ d ∷ left) ∙ omega arith) in
-      rw m (grind (arith, nat_tests))
+  more_left f prefix left c d e = grind (arith, length, length-append, nat_tests)
 
   pub last_left : (f : Keyword) (prefix : List ℕ) (c : ℕ) → words_of f ≡ prefix ++ c ∷ [] → nat_eq (length prefix + 1) (length (words_of f)) ≡ true
-  last_left f prefix c e =
-      let m : length (words_of f) ≡ length prefix + 1 = ap length e ∙ length-append prefix (c ∷ []) in
-      rw m (eq-eqb (length prefix + 1) (length prefix + 1) refl)
+  last_left f prefix c e = grind (arith, length, length-append, eq-eqb)
 
   pub step_on : (f : Keyword) (prefix left : List ℕ) (c d b : ℕ) → words_of f ≡ prefix ++ c ∷ d ∷ left → meets c b ≡ true → proofs.step (spelt f (length prefix)) b ≡ Go (spelt f (length prefix + 1))
   step_on f prefix left c d b e m = ap (act (spelt f (length prefix)) b) (spell_next f prefix (d ∷ left) c b false _ e m (more_left f prefix left c d e))
@@ -155,12 +150,10 @@ module _ (limit top : ℕ) where
   first_byte f = slice_index (words_of f) 0
 
   pub enters : (f : Keyword) → proofs.step (idle limit top (stage_keyword f)) (first_byte f) ≡ proofs.step (spelt f 0) (first_byte f)
-  enters Keyword.Header = refl
-  enters _ = refl
+  enters f = grind arith
 
   begins_with : (f : Keyword) (t : List Letter) → Spaced (words_of f) t → (u : List Letter) × (t ≡ unmarked (first_byte f) ∷ u)
-  begins_with Keyword.Header t (a, b, e, h, k) = (b, e ∙ ap (λ x. x ++ b) h)
-  begins_with _ t (a, b, e, h, k) = (b, e ∙ ap (λ x. x ++ b) h)
+  begins_with f t h = grind arith
 
   -- From the stage, the words and the text after them are read.
   entered : (f : Keyword) (t u : List Letter) (e : Statement) (after : ProofState) → Spaced (words_of f) t → ReadsStatement proofs (spelt f 0) (t ++ u) e after
@@ -199,31 +192,20 @@ module _ (limit top : ℕ) where
   output_end may = at limit top (Phase.OutputEnd may)
 
   header_feeds : Feeds proofs header_end header_end Statement.Header (idle limit top Formula)
-  header_feeds = record {
-    blanks = record { enters = λ b h. rw h refl; stays = λ b h. rw h refl; begun = refl; plain = refl };
-    ends = refl;
-    ends_gap = refl;
-  }
+  header_feeds = grind arith
 
   output_feeds : (may : Bool) → Feeds proofs (output_end may) (output_end may) Statement.Output (idle limit top Stage.Concluding)
-  output_feeds may = record {
-    blanks = record { enters = λ b h. rw h refl; stays = λ b h. rw h refl; begun = refl; plain = refl };
-    ends = refl;
-    ends_gap = refl;
-  }
+  output_feeds may = grind arith
 
   output_may : MayEnd proofs (output_end true) (output_end true) (output_end false) Statement.Output (idle limit top Stage.Concluding)
   output_may = record { feeds = output_feeds true; finishes = refl; closes_gap = refl; last = output_feeds false }
 
   -- what the line machine reads, the proof machine reads
-  pub given_reads : (r : LineKind) (t : List Letter) (i last : LineMachine) (e : Statement) → ReadsStatement line_automaton i t e last → ReadsStatement proofs (giving limit top r i) t e (idle limit top (next_stage r))
-  given_reads r [] i last e h = absurd h
-  given_reads r (l ∷ []) i last e (g, n) = (ap (over (giving limit top r i) r) g, n)
-  given_reads r (l ∷ k ∷ t) i last e (mid, g, w, n, h) =
-      (giving limit top r mid, ap (over (giving limit top r i) r) g, refl, n, given_reads r (k ∷ t) mid last e h)
+  pub line_nests : (r : LineKind) → Nests line_automaton proofs (giving limit top r) (λ e. e) (λ e i. idle limit top (next_stage r))
+  line_nests r = record { step = λ i b. refl; begins = line_begins; begun = λ i h. refl; in_number = λ i. refl }
 
   rest_reads : (r : LineKind) (t : List Letter) (e : Statement) → SpellsRest limit top r e t → ReadsStatement proofs (giving limit top r (line_first limit top r)) t e (idle limit top (next_stage r))
-  rest_reads r t e h = let (last, k) = line_each limit top r t e h in given_reads r t (line_first limit top r) last e k
+  rest_reads r t e h = let (last, k) = line_each limit top r t e h in reads_in line_automaton proofs _ _ _ (line_nests r) t (line_first limit top r) e last k
 
   plain_first : (r : LineKind) → proofs.in_number (giving limit top r (line_first limit top r)) ≡ false
   plain_first r = (line_fresh limit top r).2

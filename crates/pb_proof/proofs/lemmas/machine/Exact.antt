@@ -1,9 +1,9 @@
 -- The statements of a proof in order: the proof machine accepts exactly these.
-use Rattle.pb_proof.proofs.Common.{ℕ, ◌++◌, ◌↔◌, ◌∷◌, ◌≡◌, [], All, ap, false, IsTrue, List, refl, subst, sym, true, All-cons, All-head, All-nil}
-use Rattle.pb_proof.proofs.Common.{All-tail, never, one_spelling, AcceptsItems, Refuse, Nothing, Item, events_of, Conclusion, Stage, Closing}
-use Rattle.pb_proof.proofs.Common.{Complete, Formula, Opening, Steps, Proof, Statement, Conclude, Delete, F, Header, Output, Pol, Rup, Soli, Solx}
-use Rattle.pb_proof.proofs.Common.{act, begin, proofs, ProofState, SpellsStatement, GapAt, IsStaged, stage_after, stage_of, AreSpelled, BeginsAtOnce}
-use Rattle.pb_proof.proofs.Common.{IsGap, IsProof, IsStep, statements_of, proof_transition as transition, ProofPhase as Phase}
+use Rattle.pb_proof.proofs.Common.{ℕ, ◌++◌, ◌↔◌, ◌∷◌, ◌≡◌, [], All, ap, IsTrue, List, refl, subst, sym, true, All-cons, All-head, All-nil, arith, All-tail, never}
+use Rattle.pb_proof.proofs.Common.{one_spelling, AcceptsItems, Refuse, Nothing, Item, events_of, Conclusion, Stage, Closing, Complete, Formula, Opening, Steps}
+use Rattle.pb_proof.proofs.Common.{Proof, Statement, Conclude, Delete, F, Header, Output, Pol, Rup, Soli, Solx, act, begin, proofs, ProofState, SpellsStatement}
+use Rattle.pb_proof.proofs.Common.{GapAt, IsStaged, stage_after, stage_of, AreSpelled, BeginsAtOnce, IsGap, IsProof, IsStep, statements_of}
+use Rattle.pb_proof.proofs.Common.{proof_transition as transition, ProofPhase as Phase}
 use Rattle.pb_proof.specs.contract.Formats.{OneProof}
 use Rattle.pb_proof.specs.engine.machine.State.{is_done}
 use Rattle.pb_proof.proofs.lemmas.machine.Orders.{ordered_only, ordered_each}
@@ -65,12 +65,7 @@ at_opening (_ ∷ es) h = cc
 
 -- the converse
 step_stage : (e : Statement) → IsStep e → (stage_of e ≡ Steps) × (stage_after e ≡ Steps)
-step_stage (Pol ws) h = (refl, refl)
-step_stage (Rup c) h = (refl, refl)
-step_stage (Soli ls) h = (refl, refl)
-step_stage (Solx ls) h = (refl, refl)
-step_stage (Delete ids) h = (refl, refl)
-step_stage _ h = absurd h
+step_stage e h = grind arith
 
 steps_order : (steps : List Statement) (c : Conclusion) → All IsStep steps → InOrder Steps (steps ++ ending c)
 steps_order [] c h = (refl, (refl, (refl, refl)))
@@ -86,8 +81,7 @@ module _ (limit top : ℕ) where
   Spelled i = IsGap i.gap × SpellsStatement limit top i.event i.text
 
   gap_is : (at : Stage) (gap : List ℕ) → GapAt at gap → IsGap gap
-  gap_is Opening gap h = subst IsGap (sym h) no_gap
-  gap_is _ gap h = h
+  gap_is at gap h = grind (arith, no_gap)
 
   spelled_only : (items : List (Item Statement)) (at : Stage) → IsStaged limit top at items → InOrder at (events_of items) × AreSpelled limit top items
   spelled_only [] at h = (h, All-nil Spelled)
@@ -96,19 +90,14 @@ module _ (limit top : ℕ) where
       ((s, k.0), All-cons Spelled i rest (gap_is at i.gap g, t) k.1)
 
   at_once : (items : List (Item Statement)) → IsStaged limit top Opening items → BeginsAtOnce limit top items
-  at_once [] h = cc
-  at_once (i ∷ rest) h = h.0
+  at_once items h = grind arith
 
   pub proof_only : (items : List (Item Statement)) → IsStaged limit top Opening items → IsProof limit top items
-  proof_only items h =
-      let k = spelled_only items Opening h in
-      let (v, s, e) = at_opening (events_of items) k.0 in
-      (v, (s, e, at_once items h, k.1))
+  proof_only items h = grind (arith, spelled_only, at_opening, at_once)
 
   -- after the first statement, white space and comments may come
   gap_later : (e : Statement) (gap : List ℕ) → IsGap gap → GapAt (stage_after e) gap
-  gap_later Header gap h = h
-  gap_later _ gap h = h
+  gap_later e gap h = grind arith
 
   later_each : (items : List (Item Statement)) (before : Statement) → InOrder (stage_after before) (events_of items) → AreSpelled limit top items → IsStaged limit top (stage_after before) items
   later_each [] before h s = h
@@ -125,15 +114,11 @@ module _ (limit top : ℕ) where
 
   -- A new machine accepts exactly the proofs.
   pub reads_proofs : (items : List (Item Statement)) → AcceptsItems proofs (begin limit top) items ↔ IsProof limit top items
-  reads_proofs items = (
-    (λ h. proof_only items (ordered_only limit top items Opening h)),
-    (λ h. ordered_each limit top items Opening (proof_each items h)),
-  )
+  reads_proofs items = grind (arith, proof_only, ordered_only, ordered_each, proof_each)
 
 -- No byte is taken after a complete proof.
 pub done_stops : (s : ProofState) (p : Phase) (b : ℕ) → is_done p ≡ true → act s b (transition p b) ≡ Refuse
-done_stops s (Phase.Between Complete) b h = refl
-done_stops s _ b h = never false h refl
+done_stops s p b h = grind (arith, never)
 
 pub finishes : (s : ProofState) → IsTrue (proofs.done s) → (b : ℕ) → proofs.step s b ≡ Refuse
 finishes s h b = done_stops s s.phase b h

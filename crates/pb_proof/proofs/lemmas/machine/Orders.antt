@@ -1,50 +1,32 @@
 -- White space and comments between two statements.
-use Rattle.pb_proof.proofs.Common.{ℕ, ◌&&◌, ◌++◌, ◌+◌, ◌||◌, ◌∙◌, ◌∷◌, ◌≡◌, [], ap, append-nil, append_assoc, ap₂, Bool, cond, false, length, List}
-use Rattle.pb_proof.proofs.Common.{nat_eq, not, refl, subst, sym, true, slice_index, or-true, cond_both, eqb-true, never, white_each, End, Go, Next}
-use Rattle.pb_proof.proofs.Common.{ReadsStatement, Refuse, SkipsGap, in_comment, IsBlank, Nothing, is_white, Letter, Keyword, Stage, Closing}
-use Rattle.pb_proof.proofs.Common.{Complete, Formula, Opening, Steps, Statement, act, at, HasGaps, idle, proofs, ProofState, enter, meets}
-use Rattle.pb_proof.proofs.Common.{next_action, pass, step_keyword, words_of, IsGap, go_or_end, one_state, refuse_or_end, refuse_or_go, AcceptsItems}
-use Rattle.pb_proof.proofs.Common.{Item, is_complete, GapAt, IsStaged, stage_after, stage_of, proof_between as between, proof_spell as spell}
-use Rattle.pb_proof.proofs.Common.{proof_within as is_within, ProofAction as Action, ProofPhase as Phase}
+use Rattle.pb_proof.proofs.Common.{ℕ, ◌&&◌, ◌++◌, ◌||◌, ◌∙◌, ◌∷◌, ◌≡◌, [], ap, append-nil, append_assoc, Bool, cond, false, length, List, arith, nat_eq, not}
+use Rattle.pb_proof.proofs.Common.{refl, subst, sym, true, slice_index, or-true, eqb-true, never, white_each, End, Go, Next, ReadsStatement, Refuse, SkipsGap}
+use Rattle.pb_proof.proofs.Common.{in_comment, IsBlank, Nothing, is_white, Letter, Keyword, Stage, Complete, Opening, Statement, act, at, HasGaps, idle, proofs}
+use Rattle.pb_proof.proofs.Common.{ProofState, enter, pass, IsGap, go_or_end, one_state, refuse_or_end, refuse_or_go, AcceptsItems, Item, is_complete, GapAt}
+use Rattle.pb_proof.proofs.Common.{IsStaged, stage_after, stage_of, proof_between as between, proof_spell as spell, proof_within as is_within, ProofAction as Action}
+use Rattle.pb_proof.proofs.Common.{ProofPhase as Phase}
 use Rattle.pb_text.proofs.lemmas.text.Blanks.{blank_passes, in_comment-snoc, IsBlank-snoc, passes_at}
 use Rattle.pb_proof.proofs.lemmas.machine.Complete.{statement_each}
 use Rattle.pb_proof.proofs.lemmas.machine.Sound.{statement_only}
 
 passing : (s : Stage) (b : ℕ) → HasGaps s → between s b ≡ pass s b
-passing Opening b h = absurd h
-passing Complete b h = absurd h
-passing _ b h = refl
+passing s b h = grind arith
 
 abbrev pub Inside : Action → Type 0
 Inside (Action.To p) = is_within p ≡ true
 Inside _ = Unit {0}
 
-after_inside : (f : Keyword) → Inside (next_action f)
-after_inside Keyword.Header = refl
-after_inside Keyword.Solution = refl
-after_inside Keyword.Output = refl
-after_inside _ = tt
-
 pub spell_inside : (f : Keyword) (k b : ℕ) (other : Action) → Inside other → Inside (spell f k b other)
-spell_inside f k b other h = cond_both (meets (slice_index (words_of f) k) b) _ _ Inside
-    (λ _. cond_both (nat_eq (k + 1) (length (words_of f))) _ _ Inside (λ _. after_inside f) (λ _. refl)) (λ _. h)
+spell_inside f k b other h = grind (arith, slice_index, nat_eq, length)
 
 pub enter_inside : (s : Stage) (b : ℕ) → Inside (enter s b)
-enter_inside Opening b = spell_inside Keyword.Header 0 b Action.Stop tt
-enter_inside Formula b = spell_inside Keyword.Formula 0 b Action.Stop tt
-enter_inside Steps b = spell_inside (step_keyword b) 0 b Action.Stop tt
-enter_inside Stage.Concluding b = spell_inside Keyword.Conclusion 0 b Action.Stop tt
-enter_inside Closing b = spell_inside Keyword.End 0 b Action.Stop tt
-enter_inside Complete b = tt
+enter_inside s b = grind (arith, spell_inside)
 
 -- no statement begins in a comment
 pub comment_reads : (limit top : ℕ) (s : Stage) (t : List Letter) (e : Statement) (after : ProofState) → ReadsStatement proofs (at limit top (Phase.Comment s)) t e after → ⊥
 comment_reads limit top s [] e after r = r
 comment_reads limit top s (l ∷ []) e after (h, n) = go_or_end _ e after h
-comment_reads limit top s (l ∷ k ∷ t) e after (mid, h, o, n, r) = never (proofs.begun mid) o (
-    ap proofs.begun (sym (one_state _ mid h))
-    ∙ cond_both (nat_eq l.byte 10) (Phase.Between s) (Phase.Comment s) (λ q. is_within q ≡ false) (λ _. refl) (λ _. refl)
-    )
+comment_reads limit top s (l ∷ k ∷ t) e after (mid, h, o, n, r) = grind (arith, never, one_state, nat_eq)
 
 module _ (limit top : ℕ) (s : Stage) (gaps : HasGaps s) where
   -- the state within a comment, or outside one
@@ -58,9 +40,7 @@ module _ (limit top : ℕ) (s : Stage) (gaps : HasGaps s) where
   InGap P Refuse = Unit {0}
 
   entered : (P : ProofState → Type 0) (b : ℕ) (m : Action) → Inside m → InGap P (act (idle limit top s) b m)
-  entered P b (Action.To p) h = λ o. never (is_within p) h o
-  entered P b (Action.Begin r) h = λ o. never true refl o
-  entered P b _ h = tt
+  entered P b m h = grind (arith, never)
 
   abbrev next_mode : ℕ → Bool → Bool
   next_mode b commented = not (nat_eq b 10) && (nat_eq b 42 || commented)
@@ -78,28 +58,10 @@ module _ (limit top : ℕ) (s : Stage) (gaps : HasGaps s) where
   star_mode b h = subst (λ x. next_mode x false ≡ true) (sym (eqb-true b 42 h)) refl
 
   gap_step : (commented : Bool) (b : ℕ) → passed b commented ≡ true → proofs.step (gap_state commented) b ≡ Go (gap_state (next_mode b commented))
-  gap_step true b h = cond_both (nat_eq b 10) (Phase.Between s) (Phase.Comment s) (λ q. act (gap_state true) b (Action.To q) ≡ Go (gap_state (next_mode b true)))
-      (λ e. ap (λ y. Go (gap_state y)) (sym (ap (λ y. not y && (nat_eq b 42 || true)) e)))
-      (λ e. ap (λ y. Go (gap_state y)) (sym (ap (λ y. not y && (nat_eq b 42 || true)) e ∙ or-true (nat_eq b 42))))
-  gap_step false b h =
-      let P : Action → Type 0 = λ m. act (gap_state false) b m ≡ Go (gap_state (next_mode b false)) in
-      subst P (sym (passing s b gaps))
-      (cond_both (is_white b) _ _ P (λ e. ap (λ y. Go (gap_state y)) (sym (white_mode b e)))
-      (λ w. cond_both (nat_eq b 42) _ _ P (λ e. ap (λ y. Go (gap_state y)) (sym (star_mode b e)))
-      (λ e. never false (sym (ap₂ (λ y z. y || z || false) w e) ∙ h) refl)))
+  gap_step commented b h = grind (arith, nat_eq, not, or-true, passing, white_mode, star_mode, never)
 
   gap_byte : (commented : Bool) (b : ℕ) → InGap (Leads b commented) (proofs.step (gap_state commented) b)
-  gap_byte true b =
-      let p : passed b true ≡ true = or-true (is_white b || nat_eq b 42) in
-      subst (InGap (Leads b true)) (sym (gap_step true b p)) (λ o. (p, refl))
-  gap_byte false b =
-      let Q : Action → Type 0 = λ m. InGap (Leads b false) (act (gap_state false) b m) in
-      subst Q (sym (passing s b gaps))
-      (cond_both (is_white b) _ _ Q
-      (λ e o. (ap (λ x. x || nat_eq b 42 || false) e, ap gap_state (sym (white_mode b e))))
-      (λ f. cond_both (nat_eq b 42) _ _ Q
-      (λ e o. (ap₂ (λ x y. x || y || false) f e, ap gap_state (sym (star_mode b e))))
-      (λ _. entered (Leads b false) b (enter s b) (enter_inside s b))))
+  gap_byte commented b = grind (arith, or-true, nat_eq, gap_step, passing, white_mode, star_mode, entered, enter_inside)
 
   mode_after : (before : List ℕ) (b : ℕ) → next_mode b (in_comment before) ≡ in_comment (before ++ b ∷ [])
   mode_after before b = sym (in_comment-snoc before b)
@@ -115,8 +77,7 @@ module _ (limit top : ℕ) (s : Stage) (gaps : HasGaps s) where
 
   -- the converse
   outside : (commented : Bool) → proofs.begun (gap_state commented) ≡ false
-  outside true = refl
-  outside false = refl
+  outside commented = grind arith
 
   gap_each : (gap before : List ℕ) → IsBlank (before ++ gap) → SkipsGap proofs (gap_state (in_comment before)) gap (gap_state (in_comment (before ++ gap)))
   gap_each [] before h = ap (λ x. gap_state (in_comment x)) (append-nil before)
@@ -147,8 +108,7 @@ module _ (limit top : ℕ) (s : Stage) (gaps : HasGaps s) where
 -- What the proof machine accepts from a stage is the statements in order.
 
 complete : (at : Stage) → is_complete at ≡ true → at ≡ Complete
-complete Complete h = refl
-complete _ h = never false h refl
+complete at h = grind (arith, never)
 
 module _ (limit top : ℕ) where
   -- no white space or comment comes before the first statement, and nothing after the last one
@@ -158,9 +118,7 @@ module _ (limit top : ℕ) where
   OnGo Refuse = Unit {0}
 
   went_inside : (b : ℕ) (m : Action) → Inside m → OnGo (act (idle limit top Opening) b m)
-  went_inside b (Action.To p) h = h
-  went_inside b (Action.Begin r) h = refl
-  went_inside b _ h = tt
+  went_inside b m h = grind arith
 
   opening_gap : (gap : List ℕ) (mid : ProofState) → SkipsGap proofs (idle limit top Opening) gap mid → (gap ≡ []) × (mid ≡ idle limit top Opening)
   opening_gap [] mid h = (refl, h)
@@ -187,13 +145,10 @@ module _ (limit top : ℕ) where
 
   -- no statement comes after the last one
   stage_some : (e : Statement) → stage_of e ≡ Complete → ⊥
-  stage_some Statement.Header h = cc
-  stage_some _ h = cc
+  stage_some e h = grind arith
 
   skips_at : (at : Stage) (gap : List ℕ) → (at ≡ Complete → ⊥) → GapAt at gap → SkipsGap proofs (idle limit top at) gap (idle limit top at)
-  skips_at Opening gap n h = subst (λ x. SkipsGap proofs (idle limit top Opening) x (idle limit top Opening)) (sym h) refl
-  skips_at Complete gap n h = absurd (n refl)
-  skips_at at gap n h = gap_skips limit top at tt gap h
+  skips_at at gap n h = grind (arith, gap_skips)
 
   pub ordered_each : (items : List (Item Statement)) (at : Stage) → IsStaged limit top at items → AcceptsItems proofs (idle limit top at) items
   ordered_each [] at h = ap is_complete h

@@ -1,8 +1,8 @@
 -- What the proof machine reads from a stage is a statement of that stage.
-use Rattle.pb_proof.proofs.Common.{ℕ, ◌&&◌, ◌++◌, ◌+◌, ◌-◌, ◌<◌, ◌∙◌, ◌∷◌, ◌≡◌, [], add-one, ap, arith, Bool, false, length, List, nat_eq, None, refl, Some}
+use Rattle.pb_proof.proofs.Common.{ℕ, ◌&&◌, ◌++◌, ◌+◌, ◌-◌, ◌<◌, ◌∙◌, ◌∷◌, ◌≡◌, [], add-one, ap, arith, Bool, false, length, List, nat_eq, None, refl, Some, rules}
 use Rattle.pb_proof.proofs.Common.{subst, sym, take, true, slice_index, take-suc, and_parts, cond_both, eqb-true, take_all, ends_walk, Keeps, On, reported}
-use Rattle.pb_proof.proofs.Common.{Walks, walks_more, never, grown, none_yet, as_unmarked, further, End, Go, Next, ReadsStatement, Refuse, is_blank, is_white}
-use Rattle.pb_proof.proofs.Common.{◌⋅◌, Bytes, Language, Letter, plain, LineMachine, Keyword, LineKind, Stage, Closing, Complete, Formula, Opening, Steps}
+use Rattle.pb_proof.proofs.Common.{Walks, walks_more, never, grown, none_yet, as_unmarked, further, End, Go, Next, ReadsStatement, Refuse, is_blank}
+use Rattle.pb_proof.proofs.Common.{◌⋅◌, Bytes, Language, Letter, LineMachine, Keyword, LineKind, Stage, Closing, Complete, Formula, Opening, Steps}
 use Rattle.pb_proof.proofs.Common.{Statement, line_automaton, line_first, SpellsRest, act, asked, idle, next_stage, proofs, ProofState, step_line, enter}
 use Rattle.pb_proof.proofs.Common.{meets, next_action, sol_word, step_keyword, words_of, conclusion_word, f_word, pol_word, rup_word, soli_word}
 use Rattle.pb_proof.proofs.Common.{solx_word, SpellsStatement, stage_after, stage_of, proof_spell as spell, proof_between as between}
@@ -77,14 +77,7 @@ module _ (limit top : ℕ) (here : Stage) where
   -- The words and the rest of the line make a statement.
   rest_statement : (r : LineKind) (e : Statement) (t : List Letter) → (Before r ⋅ SpellsRest limit top r e) t
       → (stage_of e ≡ stage_rest r) × SpellsStatement limit top e t × (next_stage r ≡ stage_after e)
-  rest_statement LineKind.Formula (Statement.F c) t h = (refl, h, refl)
-  rest_statement LineKind.Pol (Statement.Pol c) t h = (refl, h, refl)
-  rest_statement LineKind.Rup (Statement.Rup c) t h = (refl, h, refl)
-  rest_statement LineKind.Soli (Statement.Soli c) t h = (refl, h, refl)
-  rest_statement LineKind.Solx (Statement.Solx c) t h = (refl, h, refl)
-  rest_statement LineKind.Delete (Statement.Delete c) t h = (refl, h, refl)
-  rest_statement LineKind.Conclusion (Statement.Conclude c) t h = (refl, h, refl)
-  rest_statement _ _ t h = absurd h.4
+  rest_statement r e t h = grind arith
 
   module _ (s : ProofState) (l : Letter) (p : List Letter) (k : Known s) where
     -- what holds of an outcome, and after a move
@@ -99,19 +92,7 @@ module _ (limit top : ℕ) (here : Stage) where
 
     -- a line machine begins
     begins : (r : LineKind) → stage_rest r ≡ here → (l.numeral ≡ false → Before r (p ++ l ∷ [])) → After (Action.Begin r)
-    begins r at h = λ w n.
-        let m : LineMachine = line_first s.limit s.top r in (
-          k,
-          (
-            at,
-            (
-              m,
-              refl,
-              none_yet (Before r) (λ q. Walks line_automaton (line_first limit top r) q m) (p ++ l ∷ [])
-                  (ap (λ x. line_first x s.top r) k.0 ∙ ap (λ x. line_first limit x r) k.1) (h (n ∙ (line_fresh s.limit s.top r).2)),
-            ),
-          ),
-        )
+    begins r at h = search (rules, none_yet, line_fresh)
 
     -- all words have been read
     whole : s.line ≡ None → (f : Keyword) → stage_keyword f ≡ here → (l.numeral ≡ false → KeywordWords f (p ++ l ∷ [])) → After (next_action f)
@@ -148,8 +129,7 @@ module _ (limit top : ℕ) (here : Stage) where
     first o e f at = spells o f at 0 (some_byte f) e Action.Stop tt
 
     step_stage : (b : ℕ) → stage_keyword (step_keyword b) ≡ Steps
-    step_stage b = let P : Keyword → Type 0 = λ f. stage_keyword f ≡ Steps in
-        cond_both (nat_eq b 112) _ _ P (λ _. refl) (λ _. cond_both (nat_eq b 114) _ _ P (λ _. refl) (λ _. cond_both (nat_eq b 115) _ _ P (λ _. refl) (λ _. cond_both (nat_eq b 100) _ _ P (λ _. refl) (λ _. refl))))
+    step_stage b = grind (arith, nat_eq)
 
     enters : (at : Stage) → at ≡ here → p ≡ [] → s.line ≡ None → After (enter at l.byte)
     enters Opening at e o = first o e Keyword.Header at
@@ -162,16 +142,11 @@ module _ (limit top : ℕ) (here : Stage) where
     between_two : (at : Stage) → at ≡ here → p ≡ [] → s.line ≡ None → After (between at l.byte)
     between_two Opening at e o = enters Opening at e o
     between_two Complete at e o = tt
-    between_two at same e o = cond_both (is_white l.byte) _ _ After (λ _ w. never false w refl)
-        (λ _. cond_both (nat_eq l.byte 42) _ _ After (λ _ w. never false w refl) (λ _. enters at same e o))
+    between_two at same e o = grind (arith, never, nat_eq, enters)
 
     -- `i` or `x` after `sol`
     logged : Steps ≡ here → Bytes sol_word p → After (transition Phase.Solution l.byte)
-    logged at e = cond_both (nat_eq l.byte 105) _ _ After
-        (λ h. begins LineKind.Soli at (λ n. ap (λ x. x ++ l ∷ []) e ∙ ap (λ x. plain sol_word ++ x ∷ []) (as_unmarked l 105 n (eqb-true l.byte 105 h))))
-        (λ _. cond_both (nat_eq l.byte 120) _ _ After
-        (λ h. begins LineKind.Solx at (λ n. ap (λ x. x ++ l ∷ []) e ∙ ap (λ x. plain sol_word ++ x ∷ []) (as_unmarked l 120 n (eqb-true l.byte 120 h))))
-        (λ _. tt))
+    logged at e = grind (arith, nat_eq, as_unmarked, eqb-true)
 
     header_ends : Opening ≡ here → Gapped (KeywordWords Keyword.Header) p → s.line ≡ None → After (transition Phase.HeaderEnd l.byte)
     header_ends at h o = cond_both (is_blank l.byte) _ _ After

@@ -1,11 +1,11 @@
 -- What holds of each state that the proof machine can be in.
-use Rattle.pb_proof.proofs.Common.{ℕ, ◌&&◌, ◌+◌, ◌-◌, ◌<◌, ◌∙◌, ◌≡◌, ◌≤◌, ap, arith, false, IsTrue, length, nat_eq, None, Option, refl, Some, subst}
-use Rattle.pb_proof.proofs.Common.{sym, true, slice_index, cond_both, same_Some, admits_before, admits_final, admitted_on, refuses, never, further}
-use Rattle.pb_proof.proofs.Common.{Admits, End, Go, IsState, Next, Refuse, is_blank, LineMachine, Keyword, LineKind, Stage, Closing}
-use Rattle.pb_proof.proofs.Common.{Complete, Formula, Opening, Steps, Statement, line_automaton, line_first, act, asked, giving, HasGaps, Holds, idle}
-use Rattle.pb_proof.proofs.Common.{is_complete, IsInOrder, next_stage, proofs, ProofState, step_line, enter, meets, next_action, pass, step_keyword}
-use Rattle.pb_proof.proofs.Common.{words_of, proof_spell as spell, proof_between as between, proof_transition as transition, proof_over as over}
-use Rattle.pb_proof.proofs.Common.{proof_within as is_within, ProofPhaseFits as PhaseFits, ProofPhase as Phase, ProofAction as Action}
+use Rattle.pb_proof.proofs.Common.{ℕ, ◌&&◌, ◌+◌, ◌-◌, ◌<◌, ◌∙◌, ◌≡◌, ◌≤◌, ap, arith, false, IsTrue, length, nat_eq, None, Option, refl, Some, subst, sym, true}
+use Rattle.pb_proof.proofs.Common.{slice_index, cond_both, same_Some, admits_before, admits_final, admitted_on, refuses, never, further, Admits, End, Go, IsState}
+use Rattle.pb_proof.proofs.Common.{Next, Refuse, is_blank, LineMachine, Keyword, LineKind, Stage, Closing, Complete, Formula, Opening, Steps, Statement}
+use Rattle.pb_proof.proofs.Common.{line_automaton, line_first, act, asked, giving, HasGaps, Holds, idle, is_complete, IsInOrder, next_stage, proofs, ProofState}
+use Rattle.pb_proof.proofs.Common.{step_line, enter, meets, next_action, pass, step_keyword, words_of, proof_spell as spell, proof_between as between}
+use Rattle.pb_proof.proofs.Common.{proof_transition as transition, proof_over as over, proof_within as is_within, ProofPhaseFits as PhaseFits, ProofPhase as Phase}
+use Rattle.pb_proof.proofs.Common.{ProofAction as Action}
 use Rattle.pb_proof.specs.engine.machine.State.{asks, is_done}
 use Rattle.pb_proof.proofs.lemmas.line.Laws.{line_begins, line_fresh, line_first_state}
 use Rattle.pb_proof.proofs.lemmas.machine.Alive.{live, reading_alive, stage_accepts, example}
@@ -34,10 +34,7 @@ within_on : (p q : Phase) → IsPlain p → is_done q ≡ false → is_within q 
 within_on p q o d w f n = (o, record { owes = d; stays = λ _. w; fits = f; plain = n })
 
 pub on_after : (p : Phase) → IsPlain p → (f : Keyword) → OnAction p (next_action f)
-on_after p o Keyword.Header = within_on p Phase.HeaderEnd o refl refl tt tt
-on_after p o Keyword.Solution = within_on p Phase.Solution o refl refl tt tt
-on_after p o Keyword.Output = within_on p (Phase.OutputEnd true) o refl refl tt tt
-on_after p o _ = o
+on_after p o f = grind (arith, within_on)
 
 on_spell : (p : Phase) → IsPlain p → (f : Keyword) (k b : ℕ) (other : Action) → k < length (words_of f) → OnAction p other → OnAction p (spell f k b other)
 on_spell p o f k b other h i = cond_both (meets (slice_index (words_of f) k) b) _ _ (OnAction p)
@@ -55,9 +52,7 @@ on_enter p o Closing b = on_spell p o Keyword.End 0 b Action.Stop (some_byte Key
 on_enter p o Complete b = o
 
 gaps_incomplete : (s : Stage) → HasGaps s → is_complete s ≡ false
-gaps_incomplete Opening h = absurd h
-gaps_incomplete Complete h = absurd h
-gaps_incomplete _ h = refl
+gaps_incomplete s h = grind arith
 
 on_pass : (s : Stage) (b : ℕ) → HasGaps s → OnAction (Phase.Between s) (pass s b)
 on_pass s b h = grind (arith, gaps_incomplete, on_enter)
@@ -70,35 +65,21 @@ on_between s b = on_pass s b tt
 -- the transitions of each phase
 pub on_transition : (p : Phase) (b : ℕ) → PhaseFits p → OnAction p (transition p b)
 on_transition (Phase.Between s) b h = on_between s b
-on_transition (Phase.Comment s) b h = cond_both (nat_eq b 10) (Phase.Between s) (Phase.Comment s) (λ q. OnAction (Phase.Comment s) (Action.To q))
-    (λ _. (tt, record { owes = gaps_incomplete s h; stays = λ w. w; fits = tt; plain = tt }))
-    (λ _. (tt, record { owes = refl; stays = λ w. w; fits = h; plain = tt }))
+on_transition (Phase.Comment s) b h = grind (arith, nat_eq, gaps_incomplete)
 on_transition (Phase.Spelling f k) b h = on_spell (Phase.Spelling f k) tt f k b _ h.1
     (cond_both (is_blank b && nat_eq (slice_index (words_of f) (k - 1)) 32) _ _ (OnAction (Phase.Spelling f k))
     (λ _. within_on (Phase.Spelling f k) (Phase.Spelling f k) tt refl refl h tt) (λ _. tt))
 on_transition Phase.Solution b h = cond_both (nat_eq b 105) _ _ (OnAction Phase.Solution) (λ _. tt) (λ _. cond_both (nat_eq b 120) _ _ (OnAction Phase.Solution) (λ _. tt) (λ _. tt))
-on_transition Phase.HeaderEnd b h = cond_both (is_blank b) _ _ (OnAction Phase.HeaderEnd)
-    (λ _. within_on Phase.HeaderEnd Phase.HeaderEnd tt refl refl tt tt)
-    (λ _. cond_both (nat_eq b 10) _ _ (OnAction Phase.HeaderEnd) (λ _. tt) (λ _. tt))
-on_transition (Phase.OutputEnd may) b h = cond_both (is_blank b) _ _ (OnAction (Phase.OutputEnd may))
-    (λ _. within_on (Phase.OutputEnd may) (Phase.OutputEnd may) tt refl refl tt tt)
-    (λ _. cond_both (nat_eq b 10) _ _ (OnAction (Phase.OutputEnd may)) (λ _. tt)
-    (λ _. cond_both (nat_eq b 59 && may) _ _ (OnAction (Phase.OutputEnd may))
-    (λ _. within_on (Phase.OutputEnd may) (Phase.OutputEnd false) tt refl refl tt tt) (λ _. tt)))
+on_transition Phase.HeaderEnd b h = grind (arith, within_on, nat_eq)
+on_transition (Phase.OutputEnd may) b h = grind (arith, within_on, nat_eq)
 on_transition (Phase.Inside r) b h = refl
 
 -- without a line machine nothing is stored, and no number is read
 pub plain_holds : (s : ProofState) (p : Phase) → IsPlain p → Holds s p → s.line ≡ None
-plain_holds s (Phase.Inside r) o h = absurd o
-plain_holds s _ o h = h
+plain_holds s p o h = grind arith
 
 holds_plain : (s : ProofState) (p : Phase) → IsPlain p → s.line ≡ None → Holds s p
-holds_plain s (Phase.Inside r) o h = absurd o
-holds_plain s _ o h = h
-
-outside_plain : (p : Phase) → is_within p ≡ false → IsPlain p
-outside_plain (Phase.Inside r) h = never true refl h
-outside_plain _ h = tt
+holds_plain s p o h = grind arith
 
 -- what holds after a byte
 record Continues (s next : ProofState) : Type 0 where
@@ -111,23 +92,12 @@ On s (Go next) = Continues s next
 On s (End e next) = proofs.begun next ≡ false
 On s Refuse = Unit {0}
 
-on_given : (s : ProofState) (r : LineKind) (b : ℕ) (i : LineMachine) → s.line ≡ Some i → IsState line_automaton i → (n : Next LineMachine Statement) → line_automaton.step i b ≡ n → On s (over s r n)
-on_given s r b i h state (Go line) e = record { owes = refl; stays = λ w. refl; grows = rw h (state.grows b line e) }
-on_given s r b i h state (End x last) e = refl
-on_given s r b i h state Refuse e = tt
-
 -- the line machine that is given a byte
 pub inside_of : (s : ProofState) (p : Phase) (r : LineKind) → p ≡ Phase.Inside r → Holds s p → (i : LineMachine) × (s.line ≡ Some i) × (line_automaton.done i ≡ false) × IsState line_automaton i
 inside_of s p r e h = subst (Holds s) e h
 
 on_act : (s : ProofState) → IsInOrder s → (b : ℕ) (m : Action) → OnAction s.phase m → On s (act s b m)
-on_act s h b (Action.To q) k = record { owes = k.1.owes; stays = k.1.stays; grows = omega arith }
-on_act s h b (Action.Begin r) k = record { owes = refl; stays = λ w. refl; grows = omega (arith, (line_first_state s.limit s.top h.limit h.top h.some r).empties (line_fresh s.limit s.top r).1) }
-on_act s h b (Action.Give r) k =
-    let (i, e, d, state) = inside_of s s.phase r k h.holds in
-    subst (λ x. On s (over s r (step_line x b))) (sym e) (on_given s r b i e state (line_automaton.step i b) refl)
-on_act s h b Action.Stop k = tt
-on_act s h b _ k = refl
+on_act s h b m k = grind (arith, line_first_state, line_fresh, inside_of)
 
 steps : (s : ProofState) → IsInOrder s → (b : ℕ) → On s (proofs.step s b)
 steps s h b = on_act s h b (transition s.phase b) (on_transition s.phase b h.fits)
@@ -136,11 +106,10 @@ continues : (s next : ProofState) (b : ℕ) → IsInOrder s → proofs.step s b 
 continues s next b h e = subst (On s) e (steps s h b)
 
 kept_within : (s : ProofState) (p : Phase) → Holds s p → proofs.kept s ≤ proofs.spent s
-kept_within s (Phase.Inside r) (i, e, d, state) = rw e state.bounds
-kept_within s _ h = rw h (omega arith)
+kept_within s p h = grind arith
 
 pub is_state : (s : ProofState) → IsInOrder s → IsState proofs s
-is_state s h = grind (arith, live, finishes, continues, steps, plain_holds, s.phase, outside_plain, h.holds, kept_within)
+is_state s h = grind (arith, live, finishes, continues, steps, plain_holds, s.phase, h.holds, kept_within, never)
 
 -- What holds of the machine after a byte.
 module _ (s : ProofState) (h : IsInOrder s) (b : ℕ) where
@@ -170,16 +139,7 @@ module _ (s : ProofState) (h : IsInOrder s) (b : ℕ) where
     given = inside_of s s.phase r (known (Action.Give r) planned) h.holds
 
     pub give_order : (i line : LineMachine) → s.line ≡ Some i → line_automaton.step i b ≡ Go line → IsState line_automaton line → IsInOrder (giving s.limit s.top r line)
-    give_order i line e g state =
-        let (j, f, d, old) = given in
-        let same : i ≡ j = same_Some i j (sym e ∙ f) in
-        record {
-          limit = h.limit;
-          top = h.top;
-          some = h.some;
-          fits = tt;
-          holds = (line, refl, old.owes b line (ap (λ x. line_automaton.step x b) (sym same) ∙ g), state);
-        }
+    give_order i line e g state = grind (arith, same_Some)
 
     stepped : (i : LineMachine) → s.line ≡ Some i → (n : Next LineMachine Statement) → line_automaton.step i b ≡ n → proofs.step s b ≡ over s r n
     stepped i e n g = ap (act s b) planned ∙ (ap (λ x. over s r (step_line x b)) e ∙ ap (over s r) g)

@@ -1,10 +1,10 @@
 -- A run of the line machine is a run of the proof machine.
-use Rattle.pb_proof.proofs.Common.{ℕ, ◌<◌, ◌∙◌, ◌∷◌, ◌≡◌, ◌≤◌, [], ap, ap₂, arith, false, get_or, length, List, Option, refl, Some, subst, suc, sym, take}
-use Rattle.pb_proof.proofs.Common.{zero, Linear, SumEvent, sums, SumState, End, Go, Next, Runs, is_blank, LineMachine, Give, LineKind}
-use Rattle.pb_proof.proofs.Common.{line_automaton, IsRupInOrder, rup_act, rup_automaton, rup_over, rup_transition, RupState, giving, Holds, IsInOrder, proofs}
-use Rattle.pb_proof.proofs.Common.{ProofState, ◌++◌, ◌+◌, ◌-◌, ◌==◌, append_assoc, drop, length-append, length-drop, None, take-append-drop, drop-cons}
-use Rattle.pb_proof.proofs.Common.{take-length, length-take-le, bytes_decides, pointwise, never, IsState, Keyword, line_first, act, at, next_action, words_of}
-use Rattle.pb_proof.proofs.Common.{IsRest, LacksRest, proof_over as over, ProofPhaseFits as PhaseFits, ProofPhase as Phase, ProofAction as Action, RupPhase}
+use Rattle.pb_proof.proofs.Common.{ℕ, ◌<◌, ◌∙◌, ◌∷◌, ◌≡◌, ◌≤◌, [], ap, ap₂, arith, false, get_or, length, List, Option, refl, Some, subst, suc, sym, take, zero}
+use Rattle.pb_proof.proofs.Common.{Linear, SumEvent, sums, SumState, End, Go, Next, Runs, is_blank, LineMachine, Give, LineKind, line_automaton, IsRupInOrder}
+use Rattle.pb_proof.proofs.Common.{rup_act, rup_automaton, rup_over, rup_transition, RupState, giving, Holds, IsInOrder, proofs, ProofState, ◌++◌, ◌+◌, ◌-◌, ◌==◌}
+use Rattle.pb_proof.proofs.Common.{append_assoc, drop, length-append, length-drop, None, take-append-drop, drop-cons, take-length, length-take-le, bytes_decides}
+use Rattle.pb_proof.proofs.Common.{pointwise, never, IsState, Keyword, line_first, act, at, next_action, words_of, IsRest, LacksRest, proof_over as over}
+use Rattle.pb_proof.proofs.Common.{ProofPhaseFits as PhaseFits, ProofPhase as Phase, ProofAction as Action, RupPhase}
 use Rattle.pb_proof.proofs.lemmas.machine.Complete.{meets_any, spelt, step_on, step_last}
 use Rattle.pb_proof.proofs.lemmas.machine.States.{OnAction, on_after, plain_holds, at_order, begin_order, is_state}
 use Rattle.pb_proof.proofs.lemmas.rup.States as rup_states
@@ -24,8 +24,7 @@ within limit top r old h (b ∷ text) new (mid, continues, state, rest) =
 
 -- if a line machine is stored, the phase is `Inside`
 reading : (s : ProofState) (p : Phase) → Holds s p → (i : LineMachine) → s.line ≡ Some i → (r : LineKind) × (p ≡ Phase.Inside r)
-reading s (Phase.Inside r) h i e = (r, refl)
-reading s _ h i e = absurd (let f : ⊥ = cc in f)
+reading s p h i e = grind arith
 
 abbrev put : ProofState → Phase → Option LineMachine → ProofState
 put s p i = record { limit = s.limit; top = s.top; phase = p; line = i }
@@ -43,17 +42,13 @@ runs_given s h old e text new runs =
     )
 
 goes_on : (s new : RupState) (e : Linear) (n : Next SumState SumEvent) → rup_over s n ≡ End e new → ⊥
-goes_on s new e (Go inner) h = cc
-goes_on s new e _ h = cc
+goes_on s new e n h = grind arith
 
 -- within a constraint
 within_rup : (o : Option Linear) (old : SumState) → IsRupInOrder (record { phase = RupPhase.Inside; sums = old; linear = o }) → (text : List ℕ) (new : SumState) → Runs sums old text new
     → Runs rup_automaton (record { phase = RupPhase.Inside; sums = old; linear = o }) text (record { phase = RupPhase.Inside; sums = new; linear = o })
     × IsRupInOrder (record { phase = RupPhase.Inside; sums = new; linear = o })
-within_rup o old h [] new same = (
-  ap (λ i. let s : RupState = record { phase = RupPhase.Inside; sums = i; linear = o } in s) same,
-  subst (λ i. IsRupInOrder (record { phase = RupPhase.Inside; sums = i; linear = o })) (sym same) h,
-)
+within_rup o old h [] new same = grind arith
 within_rup o old h (b ∷ text) new (mid, continues, state, rest) =
     let s : RupState = record { phase = RupPhase.Inside; sums = old; linear = o } in
     let next : RupState = record { phase = RupPhase.Inside; sums = mid; linear = o } in
@@ -95,10 +90,7 @@ abbrev pub LacksPrefix : List ℕ → List ℕ → Type 0
 LacksPrefix text rest = pointwise ◌==◌ rest (take (length rest) text) ≡ false
 
 pub lacks_rest : (p : Phase) (f : Keyword) (k : ℕ) (text : List ℕ) → p ≡ Phase.Spelling f k → LacksPrefix text (drop k (words_of f)) → LacksRest p text
-lacks_rest p f k text is lacks g n at met =
-    let same : drop n (words_of g) ≡ drop k (words_of f) = cc in
-    let there : take (length (drop k (words_of f))) text ≡ drop k (words_of f) = subst (λ (r : List ℕ). take (length r) text ≡ r) same met in
-    never (pointwise ◌==◌ (drop k (words_of f)) (take (length (drop k (words_of f))) text)) ((bytes_decides _ _).1 (sym there)) lacks
+lacks_rest p f k text is lacks g n at met = grind (arith, at, drop, take, length, never, pointwise, bytes_decides)
 
 module _ (s : ProofState) (h : IsInOrder s) where
   abbrev spelling : Keyword → ℕ → ProofState

@@ -1,12 +1,12 @@
 -- A whole `rup` line leads from one step of a proof to the next.
-use Rattle.pb_proof.proofs.Common.{ℕ, ◌++◌, ◌+◌, ◌<◌, ◌∙◌, ◌∷◌, ◌≡◌, ◌≤◌, [], ap, arith, false, get_or, length, List, None, refl, Some, subst, suc}
-use Rattle.pb_proof.proofs.Common.{take, take_more, first_is_state, Linear, Blank, SumState, runs_more, all_rest, IsState, Runs}
-use Rattle.pb_proof.proofs.Common.{TakesStatement, is_blank, Inside, IsRupInOrder, rup_automaton, rup_first, RupState, sum_first, sum_last, at}
-use Rattle.pb_proof.proofs.Common.{giving, idle, IsInOrder, proofs, ProofState, carried, Next, PolWord, pol_first, PolState}
-use Rattle.pb_proof.proofs.Common.{text_after, prefix_parts, IsExpression, IsClosing, proof_over as over, SumEvent, LineMachine, Keyword, LineKind}
-use Rattle.pb_proof.proofs.Common.{ProofPhase as Phase, Stage, Statement, Part, RupPhase, Go, words_of, line_automaton, line_first}
+use Rattle.pb_proof.proofs.Common.{ℕ, ◌++◌, ◌+◌, ◌<◌, ◌∙◌, ◌∷◌, ◌≡◌, ◌≤◌, [], ap, arith, false, get_or, length, List, None, refl, Some, subst, suc, take, take_more}
+use Rattle.pb_proof.proofs.Common.{first_is_state, Linear, Blank, SumState, runs_more, all_rest, IsState, Runs, TakesStatement, is_blank, Inside, IsRupInOrder}
+use Rattle.pb_proof.proofs.Common.{rup_automaton, rup_first, RupState, sum_first, sum_last, at, giving, idle, IsInOrder, proofs, ProofState, Next, PolWord}
+use Rattle.pb_proof.proofs.Common.{pol_first, PolState, text_after, prefix_parts, IsExpression, IsClosing, proof_over as over, SumEvent, LineMachine, Keyword}
+use Rattle.pb_proof.proofs.Common.{LineKind, ProofPhase as Phase, Stage, Statement, Part, RupPhase, Go, words_of, line_automaton, line_first}
 use Rattle.pb_sums.specs.engine.TermParts.{LeadsToLinear}
 use Rattle.pb_sums.proofs.lemmas.machine.WholeTexts.{linear_ends, last_is_state, before_semicolon, linear_some}
+use Rattle.pb_proof.specs.engine.line.Carried.{carried}
 use Rattle.pb_proof.specs.engine.machine.Whole.{LeadsToPol, LeadsToRup, rup_read, with_rup}
 use Rattle.pb_proof.proofs.lemmas.pol.Whole as pol
 use Rattle.pb_proof.proofs.lemmas.Carried.{runs_in}
@@ -91,7 +91,7 @@ pol_leads limit top text ws n more long p o l space words closing h =
     let begun : ProofState = giving limit top LineKind.Pol (LineMachine.Pol k.0) in (
       begun,
       rw cut (word_runs limit top h Keyword.Pol LineKind.Pol 112 111 108 refl refl refl (omega arith) line (LineMachine.Pol k.0) inner),
-      ap (λ (n : Next PolState (List PolWord)). over begun LineKind.Pol (carried LineMachine.Pol Statement.Pol n)) k.2,
+      ap (λ (n : Next PolState (List PolWord)). over begun LineKind.Pol (carried LineMachine.Pol Statement.Pol (λ e. LineMachine.Pol) n)) k.2,
     )
 
 -- the whole line

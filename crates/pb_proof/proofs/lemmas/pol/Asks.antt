@@ -1,10 +1,10 @@
 -- Where the `pol` machine may allocate.
-use Rattle.pb_proof.proofs.Common.{ℕ, ◌&&◌, ◌*◌, ◌+◌, ◌∙◌, ◌∷◌, ◌≡◌, [], ap, arith, Bool, cond, false, inl, inr, IsTrue, List, nat_eq, nat_le, None, refl}
-use Rattle.pb_proof.proofs.Common.{Some, subst, true, and_parts, cond_both, false≢true, nat_tests, at_name, ends_nothing, first_further, name_further}
-use Rattle.pb_proof.proofs.Common.{FirstOf, LiteralOf, EndsIn, prefixes_of, Walks, is_blank, is_digit, is_letter, is_name_byte, ◌⋅◌, Blanks1, Language, bytes}
-use Rattle.pb_proof.proofs.Common.{Letter, Action, Change, Held, Kind, Phase, PolWord, blank, bound, close, counted, feed, is_letter_kind, is_name_kind}
-use Rattle.pb_proof.proofs.Common.{kind_of, late, may_be_name, next_large, next_word, number, read, role_of, semicolon, star, transition, wants}
-use Rattle.pb_proof.proofs.Common.{pol_automaton, pol_first, PolState, AsksWord, pol_next as next, pol_signed as signed, Role}
+use Rattle.pb_proof.proofs.Common.{ℕ, ◌&&◌, ◌*◌, ◌+◌, ◌∙◌, ◌∷◌, ◌≡◌, [], ap, arith, Bool, cond, false, inl, inr, IsTrue, List, nat_eq, nat_le, None, refl, Some}
+use Rattle.pb_proof.proofs.Common.{subst, true, and_parts, cond_both, false≢true, nat_tests, at_name, ends_nothing, first_further, name_further, FirstOf, LiteralOf}
+use Rattle.pb_proof.proofs.Common.{EndsIn, prefixes_of, Walks, is_blank, is_digit, is_letter, is_name_byte, ◌⋅◌, Blanks1, Language, bytes, Letter, Action, Change}
+use Rattle.pb_proof.proofs.Common.{Held, Kind, Phase, PolWord, blank, bound, close, counted, feed, is_letter_kind, is_name_kind, kind_of, late, may_be_name}
+use Rattle.pb_proof.proofs.Common.{next_large, next_word, number, read, role_of, semicolon, star, transition, wants, pol_automaton, pol_first, PolState, AsksWord}
+use Rattle.pb_proof.proofs.Common.{pol_next as next, pol_signed as signed, Role}
 use Rattle.pb_proof.specs.engine.line.Pol.{adds, Closing}
 use Rattle.pb_proof.proofs.lemmas.line.Asks.{number_end, literal_end}
 use Rattle.pb_proof.proofs.lemmas.pol.Prefixes.{Settled, Before, prefix, Prefix, Whole}
@@ -75,8 +75,7 @@ module _ (limit top depth b : ℕ) (t : List Letter) where
 
   -- the first byte of a word
   star_quiet : (h : Held) → Then (star h)
-  star_quiet Held.Number = λ k. absurd (false≢true k)
-  star_quiet _ = λ k. absurd (false≢true k)
+  star_quiet h = grind (arith, false≢true)
 
   letters : (h : Held) (k : Kind) → Says k b → Then (cond (is_letter_kind k) (Action.Begin (Phase.Lone (role_of depth h k))) Action.Stop)
   letters h k e = cond_both (is_letter_kind k) _ _ Then (λ i _. letter_begins (letter_kind k b e i)) (λ _ j. absurd (false≢true j))
@@ -90,9 +89,7 @@ module _ (limit top depth b : ℕ) (t : List Letter) where
   words_next h k e = letters h k e
 
   large_next : (k : Kind) → Says k b → Then (next_large k)
-  large_next Kind.Star e = λ k. absurd (false≢true k)
-  large_next Kind.D e = λ k. letter_begins (letter_kind Kind.D b e refl)
-  large_next _ e = λ k. absurd (false≢true k)
+  large_next k e = grind (arith, false≢true, letter_begins, letter_kind)
 
   gap_next : (h : Held) (k : Kind) → Says k b → Then (next limit top depth h k)
   gap_next Held.Large k e = large_next k e
@@ -121,8 +118,7 @@ module _ (limit top depth b : ℕ) (t : List Letter) where
   reads ws name _ f k e = λ h. absurd (false≢true h)
 
   lates : (k : Kind) → Then (late k)
-  lates Kind.Blank = λ h. absurd (false≢true h)
-  lates _ = λ h. absurd (false≢true h)
+  lates k = grind (arith, false≢true)
 
   plans : (ws : List PolWord) (name : List ℕ) (ph : Phase) → prefix limit top ph ws depth name t → (k : Kind) → Says k b → Then (transition limit top depth ph k)
   plans ws name Phase.Ending f k e = lates k

@@ -1,15 +1,15 @@
 -- The `pol` machine reads each line of postfix words: one lemma for each word.
-use Rattle.pb_proof.proofs.Common.{ℕ, ℤ, ◌++◌, ◌-◌, ◌<◌, ◌∙◌, ◌∷◌, ◌≡◌, ◌≤◌, [], ap, append-nil, append_assoc, arith, Bool, cond, false, List, nat_le}
-use Rattle.pb_proof.proofs.Common.{pos, refl, Some, subst, suc, sym, true, neg_ℤ, le-leb, IsName, SpellsLiteral, longer, reads_after, Walks}
-use Rattle.pb_proof.proofs.Common.{walks_then, Go, ReadsStatement, ◌⋅◌, Blanks1, Byte, Bytes, unmarked, Digits, Letter, plain, Change, Held, Phase}
-use Rattle.pb_proof.proofs.Common.{Role, PolWord, changed, close, counted, held_name, held_number, turned, with_last, over, pol_automaton, pol_first}
-use Rattle.pb_proof.proofs.Common.{pol_last, PolState, Factor, LineEnd, Listed, SpellsId, SpellsWord, SpellsWords, IsFree, pol_act as act, Action}
+use Rattle.pb_proof.proofs.Common.{ℕ, ℤ, ◌++◌, ◌-◌, ◌<◌, ◌∙◌, ◌∷◌, ◌≡◌, ◌≤◌, [], ap, append-nil, append_assoc, arith, Bool, cond, false, List, nat_le, rules, pos}
+use Rattle.pb_proof.proofs.Common.{refl, Some, subst, suc, sym, true, neg_ℤ, le-leb, IsName, SpellsLiteral, longer, reads_after, Walks, walks_then, Go}
+use Rattle.pb_proof.proofs.Common.{ReadsStatement, ◌⋅◌, Blanks1, Byte, Bytes, unmarked, Digits, Letter, plain, Change, Held, Phase, Role, PolWord, changed, close}
+use Rattle.pb_proof.proofs.Common.{counted, held_name, held_number, turned, with_last, over, pol_automaton, pol_first, pol_last, PolState, Factor, LineEnd, Listed}
+use Rattle.pb_proof.proofs.Common.{SpellsId, SpellsWord, SpellsWords, IsFree, pol_act as act, Action}
 use Rattle.pb_proof.proofs.lemmas.line.Ends.{MayEnd, blanks1_lead, line_reads}
 use Rattle.pb_proof.proofs.lemmas.pol.Covers.{state, as_after, free_name, free_number}
 use Rattle.pb_proof.proofs.lemmas.pol.Prefixes.{with_last_append, bound_of_id, bound_of_factor}
 use Rattle.pb_proof.proofs.lemmas.pol.Postfix.{Counts, postfix_counts}
 use Rattle.pb_proof.proofs.lemmas.pol.Walks.{unsigned_walk, signed_walk, name_walk, negated_walk, takes_blanks, late_blanks}
-use Rattle.pb_proof.proofs.lemmas.NumberTests.{not_zero}
+use Rattle.pb_proof.proofs.lemmas.line.ByteKinds.{not_zero}
 
 -- a number that may be the operand of an operator
 abbrev IsOperand : Held → Type 0
@@ -30,15 +30,14 @@ module _ (limit top : ℕ) (e : List PolWord) (after : PolState) where
   -- a word that ends after a walk
   ends : (ws : List PolWord) (d : ℕ) (name : List ℕ) (ph : Phase) (c : Change) (h : Held) (s : PolState) (t u : List Letter) → IsFree h → close limit top d ph ≡ Some (c, h)
       → Walks pol_automaton s t (state limit top ws d name ph) → R (done (changed c ws name) (counted c d)) u → R s (t ++ u)
-  ends ws d name ph c h s t u i q w r =
-      reads_after pol_automaton t u s (state limit top ws d name ph) after e w (as_after limit top e after ph c h i ws d name u q r)
+  ends ws d name ph c h s t u i q w r = grind (arith, reads_after, as_after)
 
   id_run : (ws : List PolWord) (d : ℕ) (id : ℤ) (t u : List Letter) → SpellsId top id t → R (done (ws ++ PolWord.Id id ∷ []) (suc d)) u → R (gap ws d) (t ++ u)
   id_run ws d id t u (false, n, h, l, f, (a, b, g, i, k)) r =
       let q : close limit top d (Phase.Number n) ≡ Some (Change.Id (pos n), held_number limit d n) = rw (not_zero n h, le-leb n top l) refl in
       subst (λ x. R (gap ws d) (x ++ u)) (sym (g ∙ ap (λ x. x ++ b) i))
       (ends ws d [] (Phase.Number n) (Change.Id (pos n)) (held_number limit d n) (gap ws d) b u (free_number limit d n) q
-      (unsigned_walk limit top ws d n b (bound_of_id limit top d n l) k)
+      (unsigned_walk limit top ws d Held.Nothing tt [] n b (bound_of_id limit top d n l) k)
       (subst (λ z. R (done (ws ++ PolWord.Id z ∷ []) (suc d)) u) f r))
   id_run ws d id t u (true, n, h, l, f, (a, b, g, i, k)) r =
       let q : close limit top d (Phase.Signed n) ≡ Some (Change.Id (neg_ℤ (pos n)), Held.Nothing) = rw (not_zero n h) refl in
@@ -51,19 +50,15 @@ module _ (limit top : ℕ) (e : List PolWord) (after : PolState) where
       → R (done (ws ++ PolWord.Axiom (record { negated = negated; name = name }) ∷ []) (suc d)) u → R (gap ws d) (t ++ u)
   literal_run ws d true name t u (h, f) r =
       rw f
-      (ends ws d name (Phase.Name true) (Change.Axiom true) Held.Nothing (gap ws d) (plain (126 ∷ name)) u tt refl (negated_walk limit top ws d name h) r)
+      (ends ws d name (Phase.Name true) (Change.Axiom true) Held.Nothing (gap ws d) (plain (126 ∷ name)) u tt refl
+      (negated_walk limit top ws d Held.Nothing tt [] name h) r)
   literal_run ws d false name t u (h, f) r =
       rw f
-      (ends ws d name (Phase.Name false) (Change.Axiom false) (held_name false d) (gap ws d) (plain name) u (free_name false d) refl (name_walk limit top ws d name h) r)
+      (ends ws d name (Phase.Name false) (Change.Axiom false) (held_name false d) (gap ws d) (plain name) u (free_name false d) refl
+      (name_walk limit top ws d Held.Nothing tt [] name h) r)
 
   add_run : (ws : List PolWord) (d : ℕ) (t u : List Letter) → Byte 43 t → R (done (ws ++ PolWord.Add ∷ []) (suc d)) u → R (gap ws (suc (suc d))) (t ++ u)
-  add_run ws d t u f r =
-      let less : suc (suc d) - 1 ≡ suc d = omega arith in
-      let test : nat_le 2 (suc (suc d)) ≡ true = le-leb 2 (suc (suc d)) (omega arith) in
-      let to : PolState = done (ws ++ PolWord.Add ∷ []) (suc (suc d) - 1) in
-      let step : pol_automaton.step (gap ws (suc (suc d))) 43 ≡ Go to = ap (λ x. over (gap ws (suc (suc d))) (act (gap ws (suc (suc d))).work 43 (cond x (Action.Turn Change.Sum Phase.After) Action.Stop))) test in
-      rw f
-      (longer pol_automaton (unmarked 43) u (gap ws (suc (suc d))) to after e step refl refl (subst (λ x. R (done (ws ++ PolWord.Add ∷ []) x) u) (sym less) r))
+  add_run ws d t u f r = grind (arith, nat_le, le-leb, longer)
 
   saturate_run : (ws : List PolWord) (d : ℕ) (t u : List Letter) → Byte 115 t → R (done (ws ++ PolWord.Saturate ∷ []) (suc d)) u → R (gap ws (suc d)) (t ++ u)
   saturate_run ws d t u f r =
@@ -91,7 +86,7 @@ module _ (limit top : ℕ) (e : List PolWord) (after : PolState) where
       walks c x q =
           rw g
           (walks_then pol_automaton a b (gap ws (suc d)) (state limit top ws (suc d) [] (Phase.Number n)) (state limit top (changed c ws []) (counted c (suc d)) [] (Phase.Gap x))
-          (unsigned_walk limit top ws (suc d) n a (bound_of_factor limit top d n l) k)
+          (unsigned_walk limit top ws (suc d) Held.Nothing tt [] n a (bound_of_factor limit top d n l) k)
           (blanks1_lead pol_automaton (state limit top ws (suc d) [] (Phase.Number n)) (state limit top (changed c ws []) (counted c (suc d)) [] (Phase.Gap x))
           (takes_blanks limit top ws (suc d) [] (Phase.Number n) c x q) b s))
 
@@ -116,16 +111,11 @@ module _ (limit top : ℕ) (e : List PolWord) (after : PolState) where
   -- the last word has changed
   changes : (f : PolWord → PolWord) (ws : List PolWord) (w x : PolWord) (d : ℕ) (u : List Letter) → f w ≡ x → R (done (ws ++ x ∷ []) (suc d)) u
       → R (done (with_last f (ws ++ w ∷ [])) (suc (suc d) - 1)) u
-  changes f ws w x d u g r =
-      let less : suc (suc d) - 1 ≡ suc d = omega arith in
-      let same : with_last f (ws ++ w ∷ []) ≡ ws ++ x ∷ [] = with_last_append f ws w ∙ ap (λ y. ws ++ y ∷ []) g in
-      subst (λ y. R (done y (suc (suc d) - 1)) u) (sym same) (subst (λ y. R (done (ws ++ x ∷ []) y) u) (sym less) r)
+  changes f ws w x d u g r = grind (arith, with_last_append)
 
   star_step : (h : Held) → IsOperand h → (vs : List PolWord) (d : ℕ)
       → pol_automaton.step (state limit top vs d [] (Phase.Gap h)) 42 ≡ Go (done (with_last (turned Change.Multiply) vs) (d - 1))
-  star_step Held.Number i vs d = refl
-  star_step Held.Large i vs d = refl
-  star_step _ i vs d = absurd i
+  star_step h i vs d = grind arith
 
   multiply_run : (ws : List PolWord) (d : ℕ) (k : ℤ) (t u : List Letter) → (Factor limit k ⋅ Blanks1 ⋅ Byte 42) t
       → R (done (ws ++ PolWord.Multiply k ∷ []) (suc d)) u → R (gap ws (suc d)) (t ++ u)
@@ -145,14 +135,10 @@ module _ (limit top : ℕ) (e : List PolWord) (after : PolState) where
 
   d_step : (h : Held) → IsOperand h → (vs : List PolWord) (d : ℕ)
       → pol_automaton.step (state limit top vs d [] (Phase.Gap h)) 100 ≡ Go (state limit top vs d (100 ∷ []) (Phase.Lone (divide_role h)))
-  d_step Held.Number i vs d = refl
-  d_step Held.Large i vs d = refl
-  d_step _ i vs d = absurd i
+  d_step h i vs d = grind arith
 
   divide_close : (h : Held) → IsOperand h → (d : ℕ) → close limit top d (Phase.Lone (divide_role h)) ≡ Some (Change.Divide, Held.Nothing)
-  divide_close Held.Number i d = refl
-  divide_close Held.Large i d = refl
-  divide_close _ i d = absurd i
+  divide_close h i d = grind arith
 
   divide_run : (ws : List PolWord) (d : ℕ) (k : ℤ) (t u : List Letter) → (Factor limit k ⋅ Blanks1 ⋅ Byte 100) t
       → R (done (ws ++ PolWord.Divide k ∷ []) (suc d)) u → R (gap ws (suc d)) (t ++ u)
@@ -178,7 +164,7 @@ module _ (limit top : ℕ) (e : List PolWord) (after : PolState) where
       let lone : PolState = state limit top vs (suc (suc d)) (119 ∷ []) (Phase.Lone Role.Weaken) in
       let spaces : Walks pol_automaton mid b wide = blanks1_lead pol_automaton mid wide (takes_blanks limit top ws (suc d) name (Phase.Name false) (Change.Axiom false) Held.Name refl) b s in
       let walk : Walks pol_automaton (gap ws (suc d)) (plain name ++ (b ++ unmarked 119 ∷ [])) lone =
-      walks_then pol_automaton (plain name) (b ++ unmarked 119 ∷ []) (gap ws (suc d)) mid lone (name_walk limit top ws (suc d) name h)
+      walks_then pol_automaton (plain name) (b ++ unmarked 119 ∷ []) (gap ws (suc d)) mid lone (name_walk limit top ws (suc d) Held.Nothing tt [] name h)
       (walks_then pol_automaton b (unmarked 119 ∷ []) mid wide lone spaces (lone, refl, refl, refl, refl)) in
       let same : t ≡ plain name ++ (b ++ unmarked 119 ∷ []) = g ∙ (ap (λ y. y ++ c) (i ∙ ap (λ y. y ++ b) f) ∙ (ap (λ y. (plain name ++ b) ++ y) o ∙ append_assoc (plain name) b (unmarked 119 ∷ []))) in
       rw same
@@ -188,14 +174,7 @@ module _ (limit top : ℕ) (e : List PolWord) (after : PolState) where
   -- a word, if the words after it are read
   word_run : (vs : List PolWord) (d : ℕ) (w : PolWord) (ws : List PolWord) (t u : List Letter) → Counts d (w ∷ ws) → SpellsWord limit top w t
       → ((next : ℕ) → Counts next ws → R (done (vs ++ w ∷ []) next) u) → R (gap vs d) (t ++ u)
-  word_run vs d (PolWord.Id id) ws t u c h f = id_run vs d id t u h (f (suc d) c)
-  word_run vs d (PolWord.Axiom l) ws t u c h f = literal_run vs d l.negated l.name t u h (f (suc d) c)
-  word_run vs (suc (suc d)) PolWord.Add ws t u c h f = add_run vs d t u h (f (suc d) c)
-  word_run vs (suc d) (PolWord.Multiply k) ws t u c h f = multiply_run vs d k t u h (f (suc d) c)
-  word_run vs (suc d) (PolWord.Divide k) ws t u c h f = divide_run vs d k t u h (f (suc d) c)
-  word_run vs (suc d) PolWord.Saturate ws t u c h f = saturate_run vs d t u h (f (suc d) c)
-  word_run vs (suc d) (PolWord.Weaken name) ws t u c h f = weaken_run vs d name t u h.0 h.1 (f (suc d) c)
-  word_run vs _ _ ws t u c h f = absurd c
+  word_run vs d w ws t u c h f = search (rules, id_run, literal_run, add_run, multiply_run, divide_run, saturate_run, weaken_run)
 
 module _ (limit top : ℕ) where
   -- the end of the line after the words of one expression

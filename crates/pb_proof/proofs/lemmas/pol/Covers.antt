@@ -1,18 +1,15 @@
 -- A state that reads everything that another one reads.
-use Rattle.pb_proof.proofs.Common.{cond_both, ℕ, ◌&&◌, ◌∙◌, ◌∷◌, ◌≡◌, [], Bool, cond, false, List, nat_eq, nat_le, suc, zero, refl, Some, subst, sym, true}
-use Rattle.pb_proof.proofs.Common.{Automaton, End, Go, Next, ReadsStatement, Refuse, Letter, Action, Change, Held, Kind, Phase, Role, PolWord, blank}
-use Rattle.pb_proof.proofs.Common.{changed, close, counted, feed, held_name, held_number, is_name_kind, kind_of, may_be_name, semicolon, transition}
-use Rattle.pb_proof.proofs.Common.{work, over, pol_automaton, PolState, IsFree, pol_act as act}
+use Rattle.pb_proof.proofs.Common.{ℕ, ◌&&◌, ◌∷◌, ◌≡◌, [], Bool, cond, false, List, nat_eq, nat_le, refl, Some, subst, sym, true, arith, Automaton, End, Go, Next}
+use Rattle.pb_proof.proofs.Common.{ReadsStatement, Refuse, Letter, Action, Change, Held, Kind, Phase, Role, PolWord, blank, changed, close, counted, feed, held_name}
+use Rattle.pb_proof.proofs.Common.{held_number, is_name_kind, kind_of, may_be_name, semicolon, transition, work, over, pol_automaton, PolState, IsFree}
+use Rattle.pb_proof.proofs.Common.{pol_act as act}
 
 -- an operator need not follow a number or a name
 pub free_number : (limit d n : ℕ) → IsFree (held_number limit d n)
-free_number limit zero n = tt
-free_number limit (suc d) n = cond_both (nat_le n limit) Held.Number Held.Nothing IsFree (λ _. tt) (λ _. tt)
+free_number limit d n = grind (arith, nat_le)
 
 pub free_name : (negated : Bool) (d : ℕ) → IsFree (held_name negated d)
-free_name true d = tt
-free_name false zero = tt
-free_name false (suc d) = tt
+free_name negated d = grind arith
 
 module _ {S E : Type 0} (m : Automaton S E) (t : List Letter) (e : E) (after : S) where
   -- after a byte, the second outcome reads everything that the first one reads
@@ -23,17 +20,12 @@ module _ {S E : Type 0} (m : Automaton S E) (t : List Letter) (e : E) (after : S
   Covers Refuse n = Unit {0}
 
   covers_same : (n : Next S E) → Covers n n
-  covers_same (Go s) = (s, refl, (λ h. h), refl, (λ r. r))
-  covers_same (End f s) = refl
-  covers_same Refuse = tt
+  covers_same n = grind arith
 
 module _ {S E : Type 0} (m : Automaton S E) where
   covered : (s own : S) (l : Letter) (t : List Letter) (e : E) (after : S) → Covers m t e after (m.step s l.byte) (m.step own l.byte)
       → ReadsStatement m s (l ∷ t) e after → ReadsStatement m own (l ∷ t) e after
-  covered s own l [] e after c (h, n) = (subst (λ x. Covers m [] e after x (m.step own l.byte)) h c, n)
-  covered s own l (k ∷ t) e after c (mid, h, b, n, r) =
-      let (next, g, i, j, f) = subst (λ x. Covers m (k ∷ t) e after x (m.step own l.byte)) h c in
-      (next, g, i b, n ∙ sym j, f r)
+  covered s own l t e after c h = grind arith
 
 abbrev pub state : ℕ → ℕ → List PolWord → ℕ → List ℕ → Phase → PolState
 state limit top ws d name ph = record { limit = limit; top = top; work = work ws d name ph }

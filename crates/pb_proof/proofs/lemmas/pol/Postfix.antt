@@ -1,7 +1,7 @@
 -- Postfix words determine their expression, and leave one. Offered to other crates.
-use Rattle.pb_proof.proofs.Common.{ℕ, ◌++◌, ◌∷◌, ◌≡◌, [], append-nil, append_assoc, arith, length, List, refl, suc, PolWord, Add, Axiom, Divide, Id}
-use Rattle.pb_proof.proofs.Common.{Multiply, Saturate, Weaken, Constraint, IsPostfix, LiteralAxiom, Product, Quotient, Saturation, Sum, Tree}
-use Rattle.pb_proof.proofs.Common.{Weakening, words, ◌∙◌, ap, subst, sym, ◌↔◌, None, Option, Some}
+use Rattle.pb_proof.proofs.Common.{ℕ, ◌++◌, ◌∷◌, ◌≡◌, [], append-nil, append_assoc, arith, length, List, refl, suc, PolWord, Add, Axiom, Divide, Id, Multiply}
+use Rattle.pb_proof.proofs.Common.{Saturate, Weaken, Constraint, IsPostfix, LiteralAxiom, Product, Quotient, Saturation, Sum, Tree, Weakening, words, ◌∙◌, ap, subst}
+use Rattle.pb_proof.proofs.Common.{sym, ◌↔◌, None, Option, Some}
 use Rattle.pb_proof.specs.contract.Leaving.{Leaves, WordsReport, WordsLeaveOne}
 use Rattle.pb_proof.specs.engine.line.Finished.{finished_with}
 

@@ -1,14 +1,13 @@
 -- What the `pol` machine has read.
-use Rattle.pb_proof.proofs.Common.{ℕ, ◌++◌, ◌-◌, ◌<◌, ◌∙◌, ◌∷◌, ◌≡◌, ◌≤◌, [], ap, append_assoc, arith, false, List, pos, refl, subst, suc, sym, true, zero}
-use Rattle.pb_proof.proofs.Common.{le-max_left, le-max_right, FirstOf, LiteralOf, IsName, regroup3, ◌⋅◌, Blanks1, Byte, Bytes, Language, Digits, Letter, Held}
-use Rattle.pb_proof.proofs.Common.{Phase, Role, PolWord, Axiom, Id, Multiply, bound, with_last, PolState, Listed, SpellsWord, SpellsWords, IsFree}
+use Rattle.pb_proof.proofs.Common.{ℕ, ◌++◌, ◌-◌, ◌<◌, ◌∙◌, ◌∷◌, ◌≡◌, ◌≤◌, [], ap, append_assoc, arith, false, List, pos, refl, subst, suc, sym, true, le-max_left}
+use Rattle.pb_proof.proofs.Common.{le-max_right, FirstOf, LiteralOf, IsName, regroup3, ◌⋅◌, Blanks1, Byte, Bytes, Language, Digits, Letter, Held, Phase, Role}
+use Rattle.pb_proof.proofs.Common.{PolWord, Axiom, Id, Multiply, bound, with_last, PolState, Listed, SpellsWord, SpellsWords, IsFree}
 use Rattle.pb_proof.proofs.lemmas.line.Ends.{Closing, listed_append}
 use Rattle.pb_proof.proofs.lemmas.pol.Postfix.{Counts}
 
 -- ids and factors are within the bound of a number
 pub bound_of_id : (limit top d n : ℕ) → n ≤ top → n ≤ bound limit top d
-bound_of_id limit top zero n h = h
-bound_of_id limit top (suc d) n h = let i = le-max_right limit top in omega (arith, i)
+bound_of_id limit top d n h = grind (arith, le-max_right)
 
 pub bound_of_factor : (limit top d n : ℕ) → n ≤ limit → n ≤ bound limit top (suc d)
 bound_of_factor limit top d n h = let i = le-max_left limit top in omega (arith, i)
@@ -33,10 +32,7 @@ module _ (limit top : ℕ) where
   -- one word more
   pub settle : (ws : List PolWord) (d e : ℕ) (w : PolWord) (p : List Letter) → ((rest : List PolWord) → Counts e rest → Counts d (w ∷ rest))
       → (Settled ws d ⋅ Blanks1 ⋅ SpellsWord limit top w) p → Settled (ws ++ w ∷ []) e p
-  settle ws d e w p f (ab, c, g, (a, b, i, h, j), k) = (
-    (λ rest r. subst (Counts 0) (sym (append_assoc ws (w ∷ []) rest)) (h.0 (w ∷ rest) (f rest r))),
-    listed_append (SpellsWord limit top) ws w p (ab, c, g, (a, b, i, h.1, j), k),
-  )
+  settle ws d e w p f h = grind (arith, append_assoc, listed_append)
 
   pub lead : (ws : List PolWord) (d : ℕ) (Q R : Language) (p : List Letter) → Leads ws d → (Words ws ⋅ Q ⋅ R) p → (Settled ws d ⋅ Q ⋅ R) p
   lead ws d Q R p h (ab, c, g, (a, b, i, j, k), m) = (ab, c, g, (a, b, i, (h, j), k), m)
@@ -82,10 +78,7 @@ module _ (limit top : ℕ) where
 
   -- after one expression alone the last word cannot change
   pub whole : (h : Held) (ws : List PolWord) (d : ℕ) (p : List Letter) → d ≡ 1 → Holds h ws d p → Settled ws d p
-  whole Held.Nothing ws d p i k = k
-  whole Held.Number ws d p i (vs, e, n, f, g, r, u, v, x, y) = absurd (omega arith)
-  whole Held.Large ws d p i (vs, e, n, f, g, r, u, v, x, y) = absurd (omega arith)
-  whole Held.Name ws d p i (vs, e, name, f, g, r, u, v) = absurd (omega arith)
+  whole h ws d p i k = grind arith
 
   -- an operator that takes the number or the name before it
   pub takes_number : (word result : ℕ → PolWord) (Fits : ℕ → Type 0) (f : PolWord → PolWord) (b : ℕ) → ((n : ℕ) → f (word n) ≡ result n)

@@ -1,5 +1,5 @@
 -- The `pol` machine has read a prefix of a line of postfix words: one lemma for each step that continues.
-use Rattle.pb_proof.proofs.Common.{cond_both, ℕ, ◌&&◌, ◌*◌, ◌++◌, ◌+◌, ◌-◌, ◌<◌, ◌∙◌, ◌∷◌, ◌≡◌, ◌≤◌, [], ap, append-nil, arith, Bool, cond, false, IsTrue, List, nat_eq}
+use Rattle.pb_proof.proofs.Common.{cond_both, ℕ, ◌&&◌, ◌++◌, ◌+◌, ◌-◌, ◌<◌, ◌∙◌, ◌∷◌, ◌≡◌, ◌≤◌, [], ap, append-nil, arith, Bool, cond, false, IsTrue, List, nat_eq, rules}
 use Rattle.pb_proof.proofs.Common.{nat_le, None, pos, refl, Some, subst, suc, sym, true, zero, neg_ℤ, and_parts, eqb-true, false≢true, leb-true, nat_tests}
 use Rattle.pb_proof.proofs.Common.{FirstOf, LiteralOf, Keeps, On, reported, digits-grown, digits-one, grown, inside, regroup, regroup3, as_digit, as_unmarked}
 use Rattle.pb_proof.proofs.Common.{Next, ReadsStatement, is_blank, is_name_byte, ◌⋅◌, Blanks0, Blanks1, Byte, Bytes, Language, unmarked, Digits, Letter}
@@ -13,7 +13,7 @@ use Rattle.pb_proof.proofs.lemmas.pol.Kinds.{Says, kind_says, letter_kind, name_
 use Rattle.pb_proof.proofs.lemmas.pol.Postfix.{Counts, counts_postfix}
 use Rattle.pb_proof.proofs.lemmas.pol.Prefixes.{Words, Settled, settle, Holds, released, whole, takes_number, with_last_append, lead, at, Named, IsRole, Before, prefix, Prefix, Whole}
 use Rattle.pb_proof.proofs.lemmas.solution.Texts.{first_grown, more_grown}
-use Rattle.pb_proof.proofs.lemmas.NumberTests.{positive}
+use Rattle.pb_proof.proofs.lemmas.line.ByteKinds.{positive}
 
 -- letters
 
@@ -26,13 +26,10 @@ blanks_more l h f q (b ∷ bs, i, e) = further_blank l q h f (b, bs, i.0, i.1, e
 
 -- counts
 sum_counts : (d : ℕ) (rest : List PolWord) → 2 ≤ d → Counts (d - 1) rest → Counts d (PolWord.Add ∷ rest)
-sum_counts zero rest h c = absurd (omega arith)
-sum_counts (suc zero) rest h c = absurd (omega arith)
-sum_counts (suc (suc d)) rest h c = let e : suc (suc d) - 1 ≡ suc d = omega arith in subst (λ n. Counts n rest) e c
+sum_counts d rest h c = grind arith
 
 saturate_counts : (d : ℕ) (rest : List PolWord) → 0 < d → Counts d rest → Counts d (PolWord.Saturate ∷ rest)
-saturate_counts zero rest h c = absurd (omega arith)
-saturate_counts (suc d) rest h c = c
+saturate_counts d rest h c = grind arith
 
 module _ (limit top : ℕ) (ws : List PolWord) (d : ℕ) (name : List ℕ) where
   abbrev before : Phase → Language
@@ -47,8 +44,7 @@ module _ (limit top : ℕ) (ws : List PolWord) (d : ℕ) (name : List ℕ) where
   Closed (Some (c, h)) p = (Holds limit top h (changed c ws name) (counted c d) ⋅ Blanks0) p
 
   closed_test : (b : Bool) (c : pol.Closing) (p : List Letter) → (b ≡ false → Closed c p) → Closed (cond b None c) p
-  closed_test true c p h = tt
-  closed_test false c p h = h refl
+  closed_test b c p h = grind arith
 
   closes_number : (n : ℕ) (p : List Letter) → 0 < n → before (Phase.Number n) p → Closed (close_number limit top d n) p
   closes_number n p h (le, t) = go d refl (nat_le n top) refl (nat_le n limit) refl
@@ -155,34 +151,20 @@ module _ (limit top : ℕ) (ws : List PolWord) (d : ℕ) (name : List ℕ) (l : 
   OnAction m = After (over (pol_first limit top) (act (work ws d name Phase.Start) l.byte m))
 
   test : (b : Bool) (m : Action) → (b ≡ true → OnAction m) → OnAction (cond b m Action.Stop)
-  test true m h = h refl
-  test false m h = tt
+  test b m h = grind arith
 
   -- digits
   number_one : (k : ℕ) → l.byte ≡ 48 + k → k < 10 → (Settled limit top ws d ⋅ Blanks1) p → OnAction (number limit top d 0 k)
-  number_one k e h t =
-      test (nat_le (10 * 0 + k) (bound limit top d)) (Action.To (Phase.Number (10 * 0 + k))) (λ i g f. (
-        leb-true (10 * 0 + k) (bound limit top d) i,
-        next_part (Settled limit top ws d ⋅ Blanks1) (Digits (10 * 0 + k)) p l t (digits-one k l (as_digit l k e f) h),
-      ))
+  number_one k e h t = grind (arith, test, nat_le, leb-true, next_part, digits-one, as_digit)
 
   number_more : (n k : ℕ) → l.byte ≡ 48 + k → k < 10 → (Settled limit top ws d ⋅ Blanks1 ⋅ Digits n) p → OnAction (number limit top d n k)
-  number_more n k e h t = test (nat_le (10 * n + k) (bound limit top d)) (Action.To (Phase.Number (10 * n + k))) (λ i g f. (
-    leb-true (10 * n + k) (bound limit top d) i,
-    grown (Settled limit top ws d ⋅ Blanks1) (Digits n) (Digits (10 * n + k)) p l (digits-grown n k l (as_digit l k e f) h) t,
-  ))
+  number_more n k e h t = search (rules, test, nat_le, leb-true, grown, digits-grown, as_digit)
 
   signed_one : (k : ℕ) → l.byte ≡ 48 + k → k < 10 → (Settled limit top ws d ⋅ Blanks1 ⋅ Byte 45) p → OnAction (signed top 0 k)
-  signed_one k e h t = test (nat_le (10 * 0 + k) top) (Action.To (Phase.Signed (10 * 0 + k))) (λ i g f. (
-    leb-true (10 * 0 + k) top i,
-    next_part (Settled limit top ws d ⋅ Blanks1 ⋅ Byte 45) (Digits (10 * 0 + k)) p l t (digits-one k l (as_digit l k e f) h),
-  ))
+  signed_one k e h t = grind (arith, test, nat_le, leb-true, next_part, digits-one, as_digit)
 
   signed_more : (n k : ℕ) → l.byte ≡ 48 + k → k < 10 → (Settled limit top ws d ⋅ Blanks1 ⋅ Byte 45 ⋅ Digits n) p → OnAction (signed top n k)
-  signed_more n k e h t = test (nat_le (10 * n + k) top) (Action.To (Phase.Signed (10 * n + k))) (λ i g f. (
-    leb-true (10 * n + k) top i,
-    grown (Settled limit top ws d ⋅ Blanks1 ⋅ Byte 45) (Digits n) (Digits (10 * n + k)) p l (digits-grown n k l (as_digit l k e f) h) t,
-  ))
+  signed_more n k e h t = search (rules, test, nat_le, leb-true, grown, digits-grown, as_digit)
 
   -- delimiters
   blanks : (c : pol.Closing) → IsTrue (is_blank l.byte) → Closed limit top ws d name c p → OnAction (blank c)
@@ -194,9 +176,7 @@ module _ (limit top : ℕ) (ws : List PolWord) (d : ℕ) (name : List ℕ) (l : 
 
   semicolons : (c : pol.Closing) → l.byte ≡ 59 → Closed limit top ws d name c p → OnAction (semicolon d c)
   semicolons None e k = tt
-  semicolons (Some (c, h)) e k = test (nat_eq (counted c d) 1) (Action.Turn c Phase.Ending) (λ i g f.
-      let j : counted c d ≡ 1 = eqb-true (counted c d) 1 i in
-      (j, semicolon_after_blanks (Settled limit top (changed c ws name) (counted c d)) l p e f (settled h (changed c ws name) (counted c d) j k)))
+  semicolons (Some (c, h)) e k = search (rules, test, nat_eq, eqb-true, semicolon_after_blanks, settled)
 
   line : (vs : List PolWord) (e : ℕ) → e ≡ 1 → (Settled limit top vs e ⋅ LineEnd) (p ++ l ∷ []) → SpellsWords limit top vs (p ++ l ∷ [])
   line vs e f (a, b, g, (m, o), k) =
@@ -229,8 +209,7 @@ module _ (limit top : ℕ) (ws : List PolWord) (d : ℕ) (name : List ℕ) (l : 
   seconds P negated i f t = first_grown P negated name l.byte l p (as_unmarked l l.byte f refl) i t
 
   names : (negated : Bool) (k : Kind) → Says k l.byte → Was (Phase.Name negated) p → OnAction (cond (is_name_kind k) (Action.Add (Phase.Name negated)) Action.Stop)
-  names negated k e t = test (is_name_kind k) (Action.Add (Phase.Name negated)) (λ i g f.
-      more_grown (Settled limit top ws d ⋅ Blanks1) negated name l.byte l p (as_unmarked l l.byte f refl) (name_kind k l.byte e i) t)
+  names negated k e t = search (rules, test, more_grown, as_unmarked, name_kind)
 
   as_before : (r : Role) → may_be_name r ≡ true → (q : List Letter) → Before limit top r ws d q → Settled limit top ws d q
   as_before Role.Name e q h = h
@@ -254,8 +233,7 @@ module _ (limit top : ℕ) (ws : List PolWord) (d : ℕ) (name : List ℕ) (l : 
   nexts_large Kind.Star e t = λ g f.
       takes_number limit top (λ n. PolWord.Multiply (pos n)) (λ n. PolWord.Multiply (pos n)) (λ n. Unit {0}) (turned Change.Multiply) 42 (λ n. refl)
       multiplies (λ n e rest r. r) ws d (p ++ l ∷ []) (next_part (Holds limit top Held.Large ws d ⋅ Blanks1) (Byte 42) p l t (one l 42 e f))
-  nexts_large Kind.D e t = λ g f.
-      (ap (λ x. x ∷ []) e, next_part (Holds limit top Held.Large ws d ⋅ Blanks1) (FirstOf false (l.byte ∷ [])) p l t (first_of Kind.D e refl f))
+  nexts_large Kind.D e t = grind (arith, next_part, first_of)
   nexts_large _ e t = tt
 
   stars : (h : Held) → l.byte ≡ 42 → (Holds limit top h ws d ⋅ Blanks1) p → OnAction (star h)
@@ -302,8 +280,7 @@ module _ (limit top : ℕ) (ws : List PolWord) (d : ℕ) (name : List ℕ) (l : 
   reads (Phase.Signed n) (Kind.Digit k) e t = signed_more n k e.0 e.1 t.1
   reads (Phase.Number n) (Kind.Digit k) e t = number_more n k e.0 e.1 t.1
   reads Phase.Tilde k e t = tildes k e t
-  reads Phase.First k e t = test (is_name_kind k) (Action.Add (Phase.Name true)) (λ i g f.
-      seconds (Settled limit top ws d ⋅ Blanks1) true (name_kind k l.byte e i) f t)
+  reads Phase.First k e t = search (rules, test, seconds, name_kind)
   reads (Phase.Lone r) k e t = lones r k e t
   reads (Phase.Name negated) k e t = names negated k e t
   reads _ _ e t = tt

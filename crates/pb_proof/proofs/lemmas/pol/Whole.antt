@@ -1,16 +1,17 @@
 -- Postfix words that are taken in one call are a run of the automaton.
-use Rattle.pb_proof.proofs.Common.{ℕ, ◌&&◌, ◌*◌, ◌++◌, ◌+◌, ◌-◌, ◌<◌, ◌∙◌, ◌∷◌, ◌≡◌, ◌≤◌, [], ap, arith, Bool, cond, get_or, IsTrue, length}
-use Rattle.pb_proof.proofs.Common.{List, nat_eq, nat_le, Option, pos, refl, Some, subst, sym, take, true, eqb-true, le-leb, same_Some}
-use Rattle.pb_proof.proofs.Common.{runs_more, AreDigits, value-grows, Go, IsState, Runs, value_from, is_digit, Change, Held, Kind, Phase, Role}
-use Rattle.pb_proof.proofs.Common.{PolWord, bound, close, close_lone, changed, counted, held_number, kind_of, number, transition, pol_automaton}
-use Rattle.pb_proof.proofs.Common.{PolState, drop, append-nil, inl, inr, runs_on, runs_further, End, blank, feed, semicolon, pol_first, pol_last}
-use Rattle.pb_proof.proofs.Common.{IsFree, EndsAs, AreWords, IsExpression, IsClosing, standing, no_words, Action}
+use Rattle.pb_proof.proofs.Common.{ℕ, ◌&&◌, ◌++◌, ◌+◌, ◌-◌, ◌<◌, ◌∙◌, ◌∷◌, ◌≡◌, ◌≤◌, [], ap, arith, Bool, cond, get_or, length, List, nat_eq, nat_le, Option, pos}
+use Rattle.pb_proof.proofs.Common.{refl, Some, subst, sym, take, true, eqb-true, le-leb, same_Some, Walks, Digits, runs_more, AreDigits, Go, Runs, value_from}
+use Rattle.pb_proof.proofs.Common.{Change, Held, Kind, Phase, Role, PolWord, close, close_lone, changed, counted, held_number, kind_of, transition, pol_automaton}
+use Rattle.pb_proof.proofs.Common.{PolState, drop, append-nil, inl, inr, runs_on, runs_further, End, blank, pol_first, pol_last, IsFree, EndsAs, AreWords}
+use Rattle.pb_proof.proofs.Common.{IsExpression, IsClosing, standing, no_words, Action, false, suc, all_rest, IsName, bytes-plain, plain, held_name, text_after}
 use Rattle.pb_proof.specs.engine.line.PolFast.{held_operator, operator, held_before}
 use Rattle.pb_proof.specs.engine.line.PolWhole.{IsWord}
-use Rattle.pb_proof.proofs.lemmas.pol.Covers.{free_number, state}
-use Rattle.pb_proof.proofs.lemmas.pol.Theorems.{moved, midway_state}
+use Rattle.pb_proof.proofs.lemmas.pol.Covers.{free_number, state, free_name}
+use Rattle.pb_proof.proofs.lemmas.line.Ends.{digits_text, text_run}
+use Rattle.pb_proof.proofs.lemmas.pol.Theorems.{moved, midway_state, of_one}
+use Rattle.pb_proof.proofs.lemmas.pol.Walks.{unsigned_walk, name_walk, negated_walk}
 use Rattle.pb_proof.proofs.lemmas.pol.Prefixes.{bound_of_id}
-use Rattle.pb_proof.proofs.lemmas.NumberTests.{not_zero}
+use Rattle.pb_proof.proofs.lemmas.line.ByteKinds.{not_zero}
 
 -- the outcomes of a test of a byte, alone and with another test
 by_byte : (P : ℕ → Change → Type 0) (b n : ℕ) (c k : Change) (rest : Option Change) → P n k → (Some c ≡ rest → P b c) → Some c ≡ cond (nat_eq b n) (Some k) rest → P b c
@@ -24,47 +25,11 @@ module _ (limit top d : ℕ) (ws : List PolWord) (name : List ℕ) (some : 0 < t
   abbrev at : Phase → PolState
   at p = state limit top ws d name p
 
-  -- what a state does with a digit
-  abbrev TakesDigits : Phase → ℕ → Type 0
-  TakesDigits p n = (e : ℕ) → transition limit top d p (Kind.Digit e) ≡ number limit top d n e
-
-  digit_on : (p : Phase) (n b : ℕ) → TakesDigits p n → IsTrue (is_digit b) → 10 * n + (b - 48) ≤ bound limit top d
-      → pol_automaton.step (at p) b ≡ Go (at (Phase.Number (10 * n + (b - 48))))
-  digit_on p n b s e h =
-      let k : kind_of b ≡ Kind.Digit (b - 48) = rw e refl in
-      let f : number limit top d n (b - 48) ≡ Action.To (Phase.Number (10 * n + (b - 48))) = rw (le-leb (10 * n + (b - 48)) (bound limit top d) h) refl in
-      moved limit top ws d name p b (Kind.Digit (b - 48)) (Action.To (Phase.Number (10 * n + (b - 48)))) (sym k) (sym (s (b - 48) ∙ f))
-
-  numbered : (n : ℕ) → IsState pol_automaton (at (Phase.Number n))
-  numbered n = midway_state limit top ws d name (Phase.Number n) some refl
-
-  digits_run : (p : Phase) (n b : ℕ) (text : List ℕ) → TakesDigits p n → AreDigits (b ∷ text) → value_from n (b ∷ text) ≤ bound limit top d
-      → Runs pol_automaton (at p) (b ∷ text) (at (Phase.Number (value_from n (b ∷ text))))
-  digits_run p n b [] s h l = (at (Phase.Number (10 * n + (b - 48))), digit_on p n b s h.0 l, numbered (10 * n + (b - 48)), refl)
-  digits_run p n b (c ∷ text) s h l =
-      let fits : 10 * n + (b - 48) ≤ bound limit top d = omega (arith, value-grows (10 * n + (b - 48)) (c ∷ text)) in (
-        at (Phase.Number (10 * n + (b - 48))),
-        digit_on p n b s h.0 fits,
-        numbered (10 * n + (b - 48)),
-        digits_run (Phase.Number (10 * n + (b - 48))) (10 * n + (b - 48)) c text (λ e. refl) h.1 l,
-      )
-
-  takes_digits : (h : Held) → IsFree h → TakesDigits (Phase.Gap h) 0
-  takes_digits Held.Large f e = absurd f
-  takes_digits _ f e = refl
-
-  id_digits : (h : Held) (ds : List ℕ) → IsFree h → AreDigits ds → 0 < value_from 0 ds → value_from 0 ds ≤ bound limit top d
-      → Runs pol_automaton (at (Phase.Gap h)) ds (at (Phase.Number (value_from 0 ds)))
-  id_digits h [] f all i l = absurd (omega arith)
-  id_digits h (b ∷ ds) f all i l = digits_run (Phase.Gap h) 0 b ds (takes_digits h f) all l
-
   plus_planned : (h : Held) → IsFree h → nat_le 2 d ≡ true → Action.Turn Change.Sum Phase.After ≡ transition limit top d (Phase.Gap h) Kind.Plus
-  plus_planned Held.Large e t = absurd e
-  plus_planned _ e t = rw t refl
+  plus_planned h e t = grind arith
 
   saturate_planned : (h : Held) → IsFree h → nat_le 1 d ≡ true → Action.Begin (Phase.Lone Role.Saturate) ≡ transition limit top d (Phase.Gap h) Kind.S
-  saturate_planned Held.Large e t = absurd e
-  saturate_planned _ e t = rw t refl
+  saturate_planned h e t = grind arith
 
   -- with the name that a literal has
   module _ (n : List ℕ) where
@@ -76,9 +41,10 @@ module _ (limit top d : ℕ) (ws : List PolWord) (name : List ℕ) (some : 0 < t
     id_stands h ds v f all same i l =
         let fits : nat_le v top ≡ true = le-leb v top l in
         let closes : close limit top d (Phase.Number v) ≡ Some (Change.Id (pos v), held_number limit d v) = rw (not_zero v i, fits) refl in
-        let runs : Runs pol_automaton (at (Phase.Gap h)) ds (at (Phase.Number v)) =
-        rw same
-        (id_digits h ds f all (subst (λ (m : ℕ). 0 < m) same i) (subst (λ (m : ℕ). m ≤ bound limit top d) same (bound_of_id limit top d v l))) in
+        let (t, g, b) = digits_text ds all (λ e. let none : 0 ≡ value_from 0 ds = ap (value_from 0) (sym e) in omega arith) in
+        let walk : Walks pol_automaton (at (Phase.Gap h)) t (at (Phase.Number v)) = unsigned_walk limit top ws d h f name v t (bound_of_id limit top d v l)
+        (subst (λ (m : ℕ). Digits m t) (sym same) g) in
+        let runs : Runs pol_automaton (at (Phase.Gap h)) ds (at (Phase.Number v)) = text_run _ _ _ of_one t ds (at (Phase.Gap h)) (at (Phase.Number v)) b some walk in
         ((ws, d, name, Phase.Number v, Change.Id (pos v), runs, closes, refl, refl), free_number limit d v)
 
     -- an operator that takes effect at its own byte
@@ -120,8 +86,7 @@ pub id_word : (limit top d : ℕ) (h : Held) (ds : List ℕ) (v : ℕ) (n : List
 id_word limit top d h ds v n all same i l ws name some f = id_stands limit top d ws name some n h ds v f all same i l
 
 no_operator : (h : Held) (c : Change) → Some c ≡ held_operator h 0 → ⊥
-no_operator Held.Number c e = cc
-no_operator _ c e = cc
+no_operator h c e = grind arith
 
 pub operator_word : (limit top d : ℕ) (h : Held) (text : List ℕ) (c : Change) (n : List ℕ) → Some c ≡ operator d h (get_or text 0 0) → IsWord limit top d h (take 1 text) c n Held.Nothing
 operator_word limit top d h [] c n e ws name some f = absurd (no_operator h c e)
@@ -134,27 +99,21 @@ no_word limit top d h n ws name some f = ((ws, d, name, Phase.Gap h, Change.Keep
 
 -- the phases before a word
 pub gap_of : (p : Phase) (h : Held) → Some h ≡ held_before p → p ≡ Phase.Gap h
-gap_of (Phase.Gap Held.Large) h e = cc e
-gap_of _ h e = cc e
+gap_of p h e = grind arith
 
 pub free_of : (p : Phase) (h : Held) → Some h ≡ held_before p → IsFree h
-free_of (Phase.Gap Held.Large) h e = cc e
-free_of (Phase.Gap g) h e = subst IsFree (sym (same_Some h g e)) tt
-free_of _ h e = cc e
+free_of p h e = grind (arith, same_Some)
 
 module _ (limit top : ℕ) where
   -- what the byte after a word does
   on_blank : (e : ℕ) (p : Phase) (c : Change) (h : Held) → close limit top e p ≡ Some (c, h) → Action.Turn c (Phase.Gap h) ≡ transition limit top e p Kind.Blank
-  on_blank e Phase.Ending c h q = absurd (cc)
-  on_blank e p c h q = sym (ap blank q)
+  on_blank e p c h q = grind arith
 
   on_feed : (e : ℕ) (p : Phase) (c : Change) (h : Held) → close limit top e p ≡ Some (c, h) → counted c e ≡ 1 → Action.End c ≡ transition limit top e p Kind.Feed
-  on_feed e Phase.Ending c h q one = absurd (cc)
-  on_feed e p c h q one = sym (ap (feed e) q ∙ ap (λ (n : ℕ). cond (nat_eq n 1) (Action.End c) Action.Stop) one)
+  on_feed e p c h q one = grind (arith, nat_eq)
 
   on_semicolon : (e : ℕ) (p : Phase) (c : Change) (h : Held) → close limit top e p ≡ Some (c, h) → counted c e ≡ 1 → Action.Turn c Phase.Ending ≡ transition limit top e p Kind.Semicolon
-  on_semicolon e Phase.Ending c h q one = absurd (cc)
-  on_semicolon e p c h q one = sym (ap (semicolon e) q ∙ ap (λ (n : ℕ). cond (nat_eq n 1) (Action.Turn c Phase.Ending) Action.Stop) one)
+  on_semicolon e p c h q one = grind (arith, nat_eq)
 
   module _ (some : 0 < top) where
     -- a word, and a blank after it
@@ -220,3 +179,27 @@ module _ (limit top : ℕ) where
                 (runs_more pol_automaton (no_words limit top) text (standing limit top vs e name p) 59 s runs goes (midway_state limit top (changed c vs name) (counted c e) [] Phase.Ending some refl))),
             ap (λ (x : List PolWord). End x (pol_last limit top)) same,
           )
+
+-- Literals among postfix words that are taken at once.
+
+pub plain_is_word : (limit top d : ℕ) (h : Held) (text n : List ℕ) → n ≡ text → IsName text → IsWord limit top d h text (Change.Axiom false) n (held_name false d)
+plain_is_word limit top d h text n same w ws name some f =
+    let from : PolState = state limit top ws d name (Phase.Gap h) in
+    let to : PolState = state limit top ws d text (Phase.Name false) in
+    let runs : Runs pol_automaton from text to = text_run _ _ _ of_one (plain text) text from to (bytes-plain text) some (name_walk limit top ws d h f name text w) in
+    rw same ((ws, d, text, Phase.Name false, Change.Axiom false, runs, refl, refl, refl), free_name false d)
+
+tilde_then : (text : List ℕ) (n : ℕ) → 0 < length text → get_or text 0 0 ≡ 126 → take (1 + n) text ≡ 126 ∷ take n (text_after 1 text)
+tilde_then [] n some tilde = absurd (let no : ⊥ = omega (arith, some) in no)
+tilde_then (b ∷ text) n some tilde =
+    let one : 1 + n ≡ suc n = omega arith in ap (λ (k : ℕ). take k (b ∷ text)) one ∙ rw (all_rest (b ∷ text) 1, tilde) refl
+
+pub negated_is_word : (limit top d : ℕ) (h : Held) (text n : List ℕ) (k : ℕ) → 0 < length text → get_or text 0 0 ≡ 126 → n ≡ take k (text_after 1 text) → IsName (take k (text_after 1 text))
+    → IsWord limit top d h (take (1 + k) text) (Change.Axiom true) n (held_name true d)
+negated_is_word limit top d h text n k long tilde same w ws name some f =
+    let x : List ℕ = take k (text_after 1 text) in
+    let from : PolState = state limit top ws d name (Phase.Gap h) in
+    let to : PolState = state limit top ws d x (Phase.Name true) in
+    let runs : Runs pol_automaton from (126 ∷ x) to = text_run _ _ _ of_one (plain (126 ∷ x)) (126 ∷ x) from to (bytes-plain (126 ∷ x)) some
+    (negated_walk limit top ws d h f name x w) in
+    rw (tilde_then text k long tilde, same) ((ws, d, x, Phase.Name true, Change.Axiom true, runs, refl, refl, refl), free_name true d)

@@ -1,7 +1,6 @@
 -- Statements of a proof that are collected one by one are that proof.
-use Rattle.pb_proof.proofs.Common.{ℕ, ◌++◌, ◌↔◌, ◌∙◌, ◌∷◌, ◌≡◌, [], All, ap, append-nil, append_assoc, List, refl, sym, All-head, All-tail, Spanned, arith}
-use Rattle.pb_proof.proofs.Common.{Item, events_of, gathered, IsRead, IsWhole, MayHold, StopsIn, Proof, Statement, Conclude, F, Header, Output}
-use Rattle.pb_proof.proofs.Common.{IsProof, IsProofOf, IsStep, statements_of}
+use Rattle.pb_proof.proofs.Common.{ℕ, ◌++◌, ◌↔◌, ◌∙◌, ◌∷◌, ◌≡◌, [], All, ap, append-nil, append_assoc, List, refl, sym, All-head, All-tail, Spanned, arith, Item}
+use Rattle.pb_proof.proofs.Common.{events_of, gathered, IsRead, IsWhole, MayHold, StopsIn, Proof, Statement, IsProof, IsProofOf, IsStep, statements_of}
 use Rattle.pb_text.proofs.lemmas.source.Unkept as stopped
 use Rattle.pb_text.specs.declared.Stop.{Stop}
 use Rattle.pb_text.proofs.lemmas.text.Formats as formats
@@ -17,12 +16,7 @@ abbrev with_steps : Proof → List Statement → Proof
 with_steps v steps = record v { steps = v.steps ++ steps }
 
 step_after : (v : Proof) (s : Statement) → IsStep s → with v s ≡ with_steps v (s ∷ [])
-step_after v Header h = absurd h
-step_after v (F count) h = absurd h
-step_after v Output h = absurd h
-step_after v (Conclude c) h = absurd h
-step_after v Statement.End h = absurd h
-step_after v _ h = refl
+step_after v s h = grind arith
 
 steps_after : (steps rest : List Statement) (v : Proof) → All IsStep steps → gathered with v (steps ++ rest) ≡ gathered with (with_steps v steps) rest
 steps_after [] rest v h = ap (λ (xs : List Statement). gathered with (record v { steps = xs }) rest) (sym (append-nil v.steps))

@@ -1,18 +1,17 @@
 -- What the `rup` machine reads is the grammar.
-use Rattle.pb_proof.proofs.Common.{ℕ, ◌++◌, ◌↔◌, ◌∙◌, ◌∷◌, ◌≡◌, [], ap, false, IsTrue, List, nat_eq, None, Option, refl, Some, subst, sym, true, cond_both}
-use Rattle.pb_proof.proofs.Common.{eqb-true, false_from_ne_true, reads_grammar, continues-midway, Linear, Blank, SumEvent, sums, SumState, allows, Spells}
-use Rattle.pb_proof.proofs.Common.{SpellsLinear, refuse_or_end, refuse_or_go, ends_walk, Keeps, On, reads_after, reported, Walks, walks_more, walks_then}
-use Rattle.pb_proof.proofs.Common.{never, blank_each, grown, none_yet, End, Go, Next, ReadsStatement, Refuse, is_blank, ◌⋅◌, Blanks0, Blanks1, Language}
-use Rattle.pb_proof.proofs.Common.{Letter, RupAction, Give, RupPhase, Inside, Tail, linear_of, rup_act, rup_automaton, rup_finish, rup_first, rup_last}
-use Rattle.pb_proof.proofs.Common.{rup_over, rup_transition, RupState, sum_first, sum_last, SpellsRup, Part, Relation}
+use Rattle.pb_proof.proofs.Common.{ℕ, ◌++◌, ◌↔◌, ◌∙◌, ◌∷◌, ◌≡◌, [], ap, false, IsTrue, List, nat_eq, None, Option, refl, Some, subst, sym, true, cond_both, arith}
+use Rattle.pb_proof.proofs.Common.{rules, eqb-true, false_from_ne_true, reads_grammar, continues-midway, Linear, Blank, SumEvent, sums, SumState, allows, Spells}
+use Rattle.pb_proof.proofs.Common.{SpellsLinear, refuse_or_end, refuse_or_go, ends_walk, Keeps, On, reads_after, reported, Walks, walks_more, walks_then, never}
+use Rattle.pb_proof.proofs.Common.{blank_each, grown, none_yet, End, Go, Next, ReadsStatement, Refuse, is_blank, ◌⋅◌, Blanks0, Blanks1, Language, Letter, RupAction}
+use Rattle.pb_proof.proofs.Common.{Give, RupPhase, Inside, Tail, linear_of, rup_act, rup_automaton, rup_finish, rup_first, rup_last, rup_over, rup_transition}
+use Rattle.pb_proof.proofs.Common.{RupState, sum_first, sum_last, SpellsRup, Part, Relation}
 use Rattle.pb_proof.proofs.lemmas.line.Ends.{TakesBlanks, blanks1_lead, closing_feeds, feed_reads, gapped, first_blank, further_blank, blank_more, feed_after_blanks}
 
 -- what the sum machine reads
 pub given_walks : (o : Option Linear) (t : List Letter) (inner new : SumState) (e : SumEvent) → ReadsStatement sums inner t e new
     → Walks rup_automaton (record { phase = Inside; sums = inner; linear = o }) t (record { phase = Tail; sums = new; linear = Some (linear_of e) })
 given_walks o [] inner new e r = absurd r
-given_walks o (l ∷ []) inner new e (g, n) =
-    (record { phase = Tail; sums = new; linear = Some (linear_of e) }, ap (rup_over (record { phase = Inside; sums = inner; linear = o })) g, refl, n, refl)
+given_walks o (l ∷ []) inner new e (g, n) = grind arith
 given_walks o (l ∷ k ∷ t) inner new e (mid, g, i, n, r) =
     (record { phase = Inside; sums = mid; linear = o }, ap (rup_over (record { phase = Inside; sums = inner; linear = o })) g, refl, n, given_walks o (k ∷ t) mid new e r)
 
@@ -43,21 +42,15 @@ module _ (limit top : ℕ) where
     After m = Leaves (rup_act s l.byte m)
 
     allowed : (r : Relation) → IsTrue (allows Part.AtLeast r) → r ≡ Relation.AtLeast
-    allowed Relation.AtLeast h = refl
-    allowed Relation.Equal h = never false h refl
+    allowed r h = grind (arith, never)
 
     spelled : (e : SumEvent) → (Blanks1 ⋅ Spells Blank limit Part.AtLeast e) (p ++ l ∷ [])
         → ((linear_of e).relation ≡ Relation.AtLeast) × (Blanks1 ⋅ SpellsLinear Blank limit (linear_of e) ⋅ Blanks0) (p ++ l ∷ [])
     spelled (SumEvent.Sum terms) (a, b, e, h, k) = never false k.0 refl
-    spelled (SumEvent.Linear c) (a, b, e, h, k) =
-        (allowed c.relation k.0, gapped (Blanks1 ⋅ SpellsLinear Blank limit c) (p ++ l ∷ []) (a, b, e, h, k.1))
+    spelled (SumEvent.Linear c) (a, b, e, h, k) = search (rules, allowed, gapped)
 
     given : s.linear ≡ None → (Blanks1 ⋅ SumPrefix s.sums) p → (x : Next SumState SumEvent) → sums.step s.sums l.byte ≡ x → Leaves (rup_over s x)
-    given n h (Go inner) e = λ w f. (
-      n,
-      grown Blanks1 (SumPrefix s.sums) (SumPrefix inner) p l
-          (λ q r. walks_more sums q l (sum_first limit) s.sums inner r e (continues-midway s.sums inner l.byte e) f) h,
-    )
+    given n h (Go inner) e = search (rules, grown, walks_more, continues-midway)
     given n h (End e new) i = λ w f.
         let (a, b, j, g, r) = h in
         let k : Spells Blank limit Part.AtLeast e (b ++ l ∷ []) × (new ≡ sum_last limit) =
@@ -107,22 +100,17 @@ module _ (limit top : ℕ) where
 
   -- no blank begins a constraint
   gap_gives : (l : Letter) → (sums.step (sum_first limit) l.byte ≡ Refuse → ⊥) → rup_transition RupPhase.Gap l.byte ≡ Give
-  gap_gives l h =
-      let e : is_blank l.byte ≡ false = false_from_ne_true (is_blank l.byte) (λ k. h (blank_each (λ b. sums.step (sum_first limit) b ≡ Refuse) refl refl refl l.byte k)) in
-      rw e refl
+  gap_gives l h = grind (arith, false_from_ne_true, blank_each)
 
   linear_walks : (t : List Letter) (new : SumState) (e : SumEvent) → ReadsStatement sums (sum_first limit) t e new → Walks rup_automaton (in_phase RupPhase.Gap) t (following e new)
   linear_walks [] new e r = absurd r
-  linear_walks (l ∷ []) new e (g, n) =
-      let k = gap_gives l (λ h. refuse_or_end e new (sym h ∙ g)) in
-      (following e new, ap (rup_act (in_phase RupPhase.Gap) l.byte) k ∙ ap (rup_over (in_phase RupPhase.Gap)) g, refl, n, refl)
+  linear_walks (l ∷ []) new e (g, n) = grind (arith, gap_gives, refuse_or_end)
   linear_walks (l ∷ c ∷ t) new e (mid, g, i, n, r) =
       let k = gap_gives l (λ h. refuse_or_go mid (sym h ∙ g)) in
       (record { phase = Inside; sums = mid; linear = None }, ap (rup_act (in_phase RupPhase.Gap) l.byte) k ∙ ap (rup_over (in_phase RupPhase.Gap)) g, refl, n, given_walks None (c ∷ t) mid new e r)
 
   allows_it : (r : Relation) → r ≡ Relation.AtLeast → IsTrue (allows Part.AtLeast r)
-  allows_it Relation.AtLeast h = refl
-  allows_it Relation.Equal h = cc
+  allows_it r h = grind arith
 
   pub rup_each : (t : List Letter) (c : Linear) → SpellsRup limit top c t → ReadsStatement rup_automaton (rup_first limit) t c (rup_last limit)
   rup_each t c (r, (ab, f, e, (a, b, g, h, k), i)) =

@@ -1,10 +1,10 @@
 -- What holds of each state that the `rup` machine can be in.
-use Rattle.pb_proof.proofs.Common.{ℕ, ◌&&◌, ◌++◌, ◌+◌, ◌∙◌, ◌≡◌, ◌≤◌, [], ap, arith, Bool, false, IsTrue, List, nat_eq, None, Option, refl, Some}
-use Rattle.pb_proof.proofs.Common.{subst, sym, true, cond_both, flushed-units, midway-not-done, reads_something, continues-midway, ended-last, Linear}
-use Rattle.pb_proof.proofs.Common.{SumEvent, sums, SumState, accepted, admits_before, final, IsAlive, refuses, reads_after, never, AcceptsItems}
-use Rattle.pb_proof.proofs.Common.{Admits, End, Go, is_large, IsState, Next, Refuse, is_blank, is_digit, Item, RupAction, Give, RupPhase, Inside}
-use Rattle.pb_proof.proofs.Common.{Tail, IsRupInOrder, linear_of, rup_act, rup_asks, rup_automaton, rup_done, rup_finish, rup_first, rup_in_number}
-use Rattle.pb_proof.proofs.Common.{rup_midway, rup_over, rup_transition, RupHolds, RupState, sum_first, SumPhase as Phase, SumAction as Action}
+use Rattle.pb_proof.proofs.Common.{ℕ, ◌&&◌, ◌++◌, ◌+◌, ◌∙◌, ◌≡◌, ◌≤◌, [], ap, arith, Bool, false, IsTrue, List, nat_eq, None, refl, Some, subst, sym, true}
+use Rattle.pb_proof.proofs.Common.{flushed-units, midway-not-done, reads_something, continues-midway, ended-last, Linear, SumEvent, sums, SumState, accepted}
+use Rattle.pb_proof.proofs.Common.{admits_before, final, IsAlive, refuses, reads_after, never, AcceptsItems, Admits, End, Go, is_large, IsState, Next, Refuse}
+use Rattle.pb_proof.proofs.Common.{is_digit, Item, RupAction, Give, RupPhase, Inside, Tail, IsRupInOrder, linear_of, rup_act, rup_asks, rup_automaton, rup_done}
+use Rattle.pb_proof.proofs.Common.{rup_finish, rup_first, rup_in_number, rup_midway, rup_over, rup_transition, RupHolds, RupState, sum_first, SumPhase as Phase}
+use Rattle.pb_proof.proofs.Common.{SumAction as Action}
 use Rattle.pb_sums.specs.engine.Machine.{Work, Outcome, act, flushed, transition, kind, letter_at, is_numeric}
 use Rattle.pb_sums.specs.engine.State.{over, units}
 use Rattle.pb_sums.specs.declared.linear.Term.{Term}
@@ -13,13 +13,10 @@ use Rattle.pb_proof.proofs.lemmas.rup.Reads.{given_walks}
 
 -- The constraint that the sum machine gives has at most as many units as that machine had.
 acted-terms : (ys xs : List Term) (name : List ℕ) (m : Action) (e : SumEvent) (w : Work) → act ys xs name m ≡ End e w → (linear_of e).terms ≡ ys
-acted-terms ys xs name Action.EndSum e w h = let f : SumEvent.Sum ys ≡ e = cc in ap (λ x. (linear_of x).terms) (sym f)
-acted-terms ys xs name (Action.EndLinear r z) e w h = let f : SumEvent.Linear (record { terms = ys; relation = r; degree = z }) ≡ e = cc in ap (λ x. (linear_of x).terms) (sym f)
-acted-terms ys xs name _ e w h = absurd (let f : ⊥ = cc in f)
+acted-terms ys xs name m e w h = grind arith
 
 over-ends : (s next : SumState) (e : SumEvent) (n : Outcome) → over s n ≡ End e next → (w : Work) × (n ≡ End e w)
-over-ends s next e (End g v) h = let f : g ≡ e = cc in (v, ap (λ x. End x v) f)
-over-ends s next e _ h = absurd (let f : ⊥ = cc in f)
+over-ends s next e n h = grind arith
 
 pub ended_units : (s next : SumState) (b : ℕ) (e : SumEvent) → sums.step s b ≡ End e next → units (linear_of e).terms ≤ sums.spent s
 ended_units s next b e h =
@@ -50,12 +47,7 @@ OnAction s p RupAction.Finish = RupHolds s p → sums.spent s.sums ≡ 0
 OnAction s p RupAction.Stop = Unit {0}
 
 on_transition : (s : RupState) (p : RupPhase) (b : ℕ) → OnAction s p (rup_transition p b)
-on_transition s RupPhase.Start b = cond_both (is_blank b) (RupAction.To RupPhase.Gap) RupAction.Stop (OnAction s RupPhase.Start) (λ e. (refl, λ h. h)) (λ e. tt)
-on_transition s RupPhase.Gap b = cond_both (is_blank b) (RupAction.To RupPhase.Gap) Give (OnAction s RupPhase.Gap) (λ e. (refl, λ h. h)) (λ e h. (h.0, sym (ap sums.in_number h.1)))
-on_transition s Inside b = λ h. (h.0, refl)
-on_transition s Tail b =
-    cond_both (is_blank b) (RupAction.To Tail) _ (OnAction s Tail) (λ e. (refl, λ h. h)) (λ e. cond_both (nat_eq b 10) RupAction.Finish RupAction.Stop (OnAction s Tail) (λ e h. h.1) (λ e. tt))
-on_transition s RupPhase.Done b = tt
+on_transition s p b = grind (arith, nat_eq)
 
 known : (s : RupState) (b : ℕ) (m : RupAction) → rup_transition s.phase b ≡ m → OnAction s s.phase m
 known s b m e = subst (OnAction s s.phase) e (on_transition s s.phase b)
@@ -65,15 +57,8 @@ on_given s b (Go inner) e = record { begins = refl; grows = λ h. omega (arith, 
 on_given s b (End x inner) e = record { begins = refl; grows = λ h. rw (ended_empty s.sums inner b x e) (omega (arith, ended_units s.sums inner b x e)) }
 on_given s b Refuse e = tt
 
-on_finish : (s : RupState) → (IsRupInOrder s → sums.spent s.sums ≡ 0) → (o : Option Linear) → On s (rup_finish s o)
-on_finish s f None = tt
-on_finish s f (Some c) = λ h. (refl, ap (λ (n : ℕ). 0 + n) (f h))
-
 on_act : (s : RupState) (b : ℕ) (m : RupAction) → OnAction s s.phase m → On s (rup_act s b m)
-on_act s b (RupAction.To p) k = record { begins = k.0; grows = λ h. omega arith }
-on_act s b Give k = on_given s b (sums.step s.sums b) refl
-on_act s b RupAction.Finish k = on_finish s (λ h. k h.holds) s.linear
-on_act s b RupAction.Stop k = tt
+on_act s b m k = grind (arith, on_given)
 
 steps : (s : RupState) (b : ℕ) → On s (rup_automaton.step s b)
 steps s b = on_act s b (rup_transition s.phase b) (on_transition s s.phase b)
@@ -86,25 +71,13 @@ pub rup_begins : (s next : RupState) (b : ℕ) → rup_automaton.step s b ≡ Go
 rup_begins s next b e = (continues s next b e).begins
 
 midway_not_done : (p : RupPhase) → rup_midway p ≡ true → rup_done p ≡ false
-midway_not_done RupPhase.Done h = sym h
-midway_not_done _ h = refl
+midway_not_done p h = grind arith
 
 done_not_midway : (p : RupPhase) → rup_done p ≡ true → rup_midway p ≡ false
-done_not_midway RupPhase.Done h = refl
-done_not_midway _ h = never false h refl
-
-done_stops : (s : RupState) (p : RupPhase) (b : ℕ) → rup_done p ≡ true → rup_act s b (rup_transition p b) ≡ Refuse
-done_stops s RupPhase.Done b h = refl
-done_stops s _ b h = never false h refl
-
-outside_plain : (s : RupState) (p : RupPhase) → rup_midway p ≡ false → rup_in_number s p ≡ false
-outside_plain s Inside h = never true refl h
-outside_plain s _ h = refl
+done_not_midway p h = grind (arith, never)
 
 empty_outside : (s : RupState) (p : RupPhase) → RupHolds s p → rup_midway p ≡ false → rup_automaton.spent s ≡ 0
-empty_outside s RupPhase.Start h k = rw h.0 (ap (λ (x : SumState). 0 + sums.spent x) h.1)
-empty_outside s RupPhase.Done h k = rw h.0 (ap (λ (n : ℕ). 0 + n) h.1)
-empty_outside s _ h k = never true refl k
+empty_outside s p h k = grind (arith, never)
 
 -- Each state that has not ended can end.
 finishing : (s : RupState) (c : Linear) → s.phase ≡ Tail → s.linear ≡ Some c → IsAlive rup_automaton s
@@ -143,11 +116,7 @@ start_alive s p i =
     before rup_automaton s mid 32 (ap (λ x. rup_act s 32 (rup_transition x 32)) p) refl (gap_alive mid refl i)
 
 alive : (s : RupState) (p : RupPhase) → s.phase ≡ p → RupHolds s p → rup_done p ≡ false → IsAlive rup_automaton s
-alive s RupPhase.Start e h d = start_alive s e h.1
-alive s RupPhase.Gap e h d = gap_alive s e h.1
-alive s Inside e h d = inside_alive s e h.1
-alive s Tail e h d = finishing s h.0.0 e h.0.1
-alive s RupPhase.Done e h d = never true refl d
+alive s p e h d = grind (arith, start_alive, gap_alive, inside_alive, finishing, never)
 
 live : (s : RupState) → IsRupInOrder s → (d : Bool) → rup_done s.phase ≡ d → (items : List (Item Linear)) × AcceptsItems rup_automaton s items
 live s h true d = ([], d)
@@ -156,11 +125,11 @@ live s h false d = accepted rup_automaton s (alive s s.phase refl h.holds d)
 pub rup_is_state : (s : RupState) → IsRupInOrder s → IsState rup_automaton s
 rup_is_state s h = record {
   live = live s h (rup_done s.phase) refl;
-  ends = λ d b. done_stops s s.phase b d;
+  ends = λ d b. grind arith;
   owes = λ b next e. midway_not_done next.phase (continues s next b e).begins;
   stays = λ i b next e. (continues s next b e).begins;
   finishes = λ b c next e. done_not_midway next.phase (subst (On s) e (steps s b) h).0;
-  plain = λ o. outside_plain s s.phase o;
+  plain = λ o. grind arith;
   grows = λ b next e. (continues s next b e).grows h;
   bounds = omega (arith, h.state.bounds);
   empties = λ o. empty_outside s s.phase h.holds o;

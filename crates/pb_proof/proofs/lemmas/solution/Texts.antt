@@ -1,10 +1,10 @@
 -- Names and literals that grow at their end.
-use Rattle.pb_proof.proofs.Common.{ℕ, ◌++◌, ◌∷◌, ◌≡◌, [], Bool, IsTrue, List, first-append, FirstOf, LiteralOf, name-append, name-bytes, grown, is_name_byte}
-use Rattle.pb_proof.proofs.Common.{◌⋅◌, Language, unmarked, Letter, ◌∙◌, ap, cond, false, refl, subst, sym, true, Literal, SpellsLiteral, Keeps, On}
-use Rattle.pb_proof.proofs.Common.{letter_name, after_it, next, nil_first, none_yet, regroup3, as_unmarked, Next, is_blank, Blanks0, Blanks1, Byte, Empty}
-use Rattle.pb_proof.proofs.Common.{NameByte, SolutionPhase, First, More, Negation, name_byte, flushed, literal, solution_automaton, SolutionState}
-use Rattle.pb_proof.proofs.Common.{SpellsJoined, LineEnd, Listed, append-nil, append_assoc, inl, inr, map, reads_after, Walks, walks_then, End, Go}
-use Rattle.pb_proof.proofs.Common.{ReadsStatement, is_letter, Each, solution_at, solution_first, solution_last}
+use Rattle.pb_proof.proofs.Common.{ℕ, ◌++◌, ◌∷◌, ◌≡◌, [], Bool, IsTrue, List, first-append, FirstOf, LiteralOf, name-append, name-bytes, grown, is_name_byte, arith}
+use Rattle.pb_proof.proofs.Common.{rules, ◌⋅◌, Language, unmarked, Letter, ◌∙◌, ap, cond, false, refl, subst, true, Literal, SpellsLiteral, Keeps, On, letter_name}
+use Rattle.pb_proof.proofs.Common.{after_it, next, nil_first, none_yet, regroup3, as_unmarked, Next, is_blank, Blanks0, Blanks1, Byte, Empty, NameByte}
+use Rattle.pb_proof.proofs.Common.{SolutionPhase, First, More, Negation, name_byte, flushed, literal, solution_automaton, SolutionState, SpellsJoined, LineEnd}
+use Rattle.pb_proof.proofs.Common.{Listed, append-nil, append_assoc, map, reads_after, Walks, walks_then, End, Go, ReadsStatement, is_letter, Each, solution_at}
+use Rattle.pb_proof.proofs.Common.{solution_first, solution_last}
 use Rattle.pb_proof.specs.engine.line.Solution.{act, transition, next_action, before, step}
 use Rattle.pb_proof.proofs.lemmas.line.ByteKinds.{NameMeans, name_means, name_blank, name_letter, name_inner}
 use Rattle.pb_proof.proofs.lemmas.line.Ends.{TakesBlanks, MayEnd, closing_feeds, blanks1_lead, line_reads, listed_walks}
@@ -38,8 +38,7 @@ Before true [] = Blanks0
 Before true (l ∷ ls) = Row true (l ∷ ls) ⋅ Blanks1
 
 row_empty : (joined : Bool) (p : List Letter) → Empty p → Row joined [] p
-row_empty true p h = h
-row_empty false p h = h
+row_empty joined p h = grind arith
 
 row_append : (joined : Bool) (ls : List Literal) (l : Literal) (p : List Letter) → (Before joined ls ⋅ SpellsLiteral l) p → Row joined (ls ++ l ∷ []) p
 row_append false ls l p h = ends.listed_append SpellsLiteral ls l p h
@@ -56,9 +55,7 @@ before_of true [] p h = nil_first Blanks0 p (ends.gapped_some Empty p h)
 before_of true (l ∷ ls) p h = h
 
 whole : (joined : Bool) (ls : List Literal) (q : List Letter) → (Row joined ls ⋅ LineEnd) q → SpellsJoined joined ls q
-whole false ls q h = h
-whole true [] q h = nil_first LineEnd q h
-whole true (l ∷ ls) q h = h
+whole joined ls q h = grind (arith, nil_first)
 
 abbrev pub prefix : Bool → SolutionPhase → List Literal → List ℕ → Language
 prefix joined SolutionPhase.Start ls name = λ t. (ls ≡ []) × Empty t
@@ -89,35 +86,24 @@ module _ (joined : Bool) where
   before_sound : (ls : List Literal) (name : List ℕ) (k : NameByte) (l : Letter) (p : List Letter) → NameMeans k l.byte → Before joined ls p → ends.Gapped (Row joined ls) p
       → (IsTrue (is_blank l.byte) → l.numeral ≡ false → (Row joined ls ⋅ Blanks1) (p ++ l ∷ [])) → OnNext (act joined ls ls name (before k)) l (p ++ l ∷ [])
   before_sound ls name NameByte.Tilde l p m b h f = λ _ n. next (Before joined ls) (Byte 126) p l b (ap (λ x. x ∷ []) (as_unmarked l 126 n m))
-  before_sound ls name (NameByte.Letter c) l p m b h f =
-      λ _ n. next (Before joined ls) (FirstOf false (c ∷ [])) p l b (m.1, ap (λ x. x ∷ []) (as_unmarked l c n m.0))
+  before_sound ls name (NameByte.Letter c) l p m b h f = grind (arith, next, as_unmarked)
   before_sound ls name k l p m b h f = after_sound ls ls name k l p m h f
-
-  start_row : (ls : List Literal) (p : List Letter) → ls ≡ [] → Empty p → Row joined ls p
-  start_row ls p e h = subst (λ y. Row joined y p) (sym e) (row_empty joined p h)
 
 start_sound : (joined : Bool) (ls : List Literal) (name : List ℕ) (k : NameByte) (l : Letter) (p : List Letter) → NameMeans k l.byte → ls ≡ [] → Empty p
     → OnNext (act joined ls ls name (cond joined (before k) (next_action k))) l (p ++ l ∷ [])
-start_sound true ls name k l p m e h =
-    before_sound true ls name k l p m (subst (λ y. Before true y p) (sym e) ([], tt, h)) (ends.gapped (Row true ls) p (start_row true ls p e h))
-    (λ b n. ends.blanks_begin (Row true ls) l p b n (start_row true ls p e h))
-start_sound false ls name k l p m e h =
-    after_sound false ls ls name k l p m (ends.gapped (Row false ls) p (start_row false ls p e h)) (λ b n. ends.blanks_begin (Row false ls) l p b n (start_row false ls p e h))
+start_sound joined ls name k l p m e h = grind (arith, before_sound, ends.gapped, ends.blanks_begin, after_sound, row_empty)
 
 module _ (joined : Bool) where
   sound : (ph : SolutionPhase) (ls : List Literal) (name : List ℕ) (k : NameByte) (l : Letter) (p : List Letter) → NameMeans k l.byte → prefix joined ph ls name p
       → OnNext (act joined (flushed ph ls name) ls name (transition joined ph k)) l (p ++ l ∷ [])
   sound SolutionPhase.Start ls name k l p m h = start_sound joined ls name k l p m h.0 h.1
-  sound SolutionPhase.Gap ls name k l p m h =
-      before_sound joined ls name k l p m (before_of joined ls p h) (ends.gapped_some (Row joined ls) p h) (λ b n. ends.blanks_go_on (Row joined ls) l p b n h)
+  sound SolutionPhase.Gap ls name k l p m h = search (rules, before_sound, before_of, ends.gapped_some, ends.blanks_go_on)
   sound Negation ls name (NameByte.Letter c) l p m h =
       λ _ n. grown (Before joined ls) (Byte 126) (FirstOf true (c ∷ [])) p l
       (λ q r. (m.1, ap (λ x. x ++ l ∷ []) r ∙ ap (λ y. unmarked 126 ∷ y ∷ []) (as_unmarked l c n m.0))) h
-  sound (First negated) ls name (NameByte.Letter c) l p m h =
-      λ _ n. first_grown (Before joined ls) negated name c l p (as_unmarked l c n m.0) (letter_name c m.1) h
+  sound (First negated) ls name (NameByte.Letter c) l p m h = grind (arith, first_grown, as_unmarked, letter_name)
   sound (First negated) ls name (NameByte.Inner c) l p m h = λ _ n. first_grown (Before joined ls) negated name c l p (as_unmarked l c n m.0) m.1 h
-  sound (More negated) ls name (NameByte.Letter c) l p m h =
-      λ _ n. more_grown (Before joined ls) negated name c l p (as_unmarked l c n m.0) (letter_name c m.1) h
+  sound (More negated) ls name (NameByte.Letter c) l p m h = grind (arith, more_grown, as_unmarked, letter_name)
   sound (More negated) ls name (NameByte.Inner c) l p m h = λ _ n. more_grown (Before joined ls) negated name c l p (as_unmarked l c n m.0) m.1 h
   sound (More negated) ls name k l p m h =
       let ms : List Literal = ls ++ literal negated name ∷ [] in
@@ -155,22 +141,13 @@ module _ (joined : Bool) where
     pub feed : solution_automaton.step s 10 ≡ End ls (solution_last joined)
 
   more_after : (ls : List Literal) (negated : Bool) (name : List ℕ) → IsAfter (ls ++ literal negated name ∷ []) (at_more ls negated name)
-  more_after ls negated name = record {
-    blank = λ b h. by_kind (at_more ls negated name) b NameByte.Blank (name_blank b h);
-    semicolon = refl;
-    feed = refl;
-  }
+  more_after ls negated name = grind (arith, by_kind, name_blank)
 
   takes_blanks : (ls : List Literal) (s : S) → IsAfter ls s → TakesBlanks solution_automaton s (at_gap ls)
   takes_blanks ls s h = record { enters = h.blank; stays = λ b i. by_kind (at_gap ls) b NameByte.Blank (name_blank b i); begun = refl; plain = refl }
 
   may_end : (ls : List Literal) (s : S) → IsAfter ls s → MayEnd solution_automaton s (at_gap ls) (at_closing ls) ls (solution_last joined)
-  may_end ls s h = record {
-    feeds = record { blanks = takes_blanks ls s h; ends = h.feed; ends_gap = refl };
-    finishes = h.semicolon;
-    closes_gap = refl;
-    last = closing_feeds solution_automaton (at_closing ls) (solution_last joined) ls (λ b i. by_kind (at_closing ls) b NameByte.Blank (name_blank b i)) refl refl refl;
-  }
+  may_end ls s h = grind (arith, takes_blanks, closing_feeds, by_kind, name_blank)
 
   -- A literal may begin here.
   pub record Opens (ls : List Literal) (s : S) : Type 0 where
@@ -182,10 +159,7 @@ module _ (joined : Bool) where
 
   -- a state that takes letters and other bytes of names in the same way
   name_step : (s next : S) (b : ℕ) → step s (NameByte.Letter b) ≡ Go next → step s (NameByte.Inner b) ≡ Go next → IsTrue (is_name_byte b) → solution_automaton.step s b ≡ Go next
-  name_step s next b f g h = elim (name_inner b h) [
-    | inl e ↦ by_kind s b (NameByte.Letter b) e ∙ f
-    | inr e ↦ by_kind s b (NameByte.Inner b) e ∙ g
-  ]
+  name_step s next b f g h = grind (arith, name_inner, by_kind)
 
   name_walks : (ls : List Literal) (negated : Bool) (name bs : List ℕ) → Each (λ b. IsTrue (is_name_byte b)) bs
       → Walks solution_automaton (at_more ls negated name) (map unmarked bs) (at_more ls negated (name ++ bs))
@@ -211,8 +185,7 @@ module _ (joined : Bool) where
       let second = by_kind (solution_at joined ls [] Negation) a (NameByte.Letter a) (name_letter a h.0.0) in
       rw h.1
       (solution_at joined ls [] Negation, o.tilde, refl, refl, (solution_at joined ls (a ∷ []) (First true), second, refl, refl, first_walks ls true a b bs h.0.1))
-  literal_walks ls s false (a ∷ b ∷ bs) t o h =
-      rw h.1 (solution_at joined ls (a ∷ []) (First false), o.letter a h.0.0, refl, refl, first_walks ls false a b bs h.0.1)
+  literal_walks ls s false (a ∷ b ∷ bs) t o h = grind (arith, first_walks)
   literal_walks ls s negated _ t o h = absurd h.0
 
   -- a further literal
@@ -231,17 +204,14 @@ module _ (joined : Bool) where
       (line_reads solution_automaton mid (at_gap (ls ++ ms)) (at_closing (ls ++ ms)) (solution_last joined) (ls ++ ms) (may_end (ls ++ ms) mid g) b k))
 
 first_after : (joined : Bool) → IsAfter joined [] (solution_first joined)
-first_after true = record { blank = λ b h. by_kind true (solution_first true) b NameByte.Blank (name_blank b h); semicolon = refl; feed = refl }
-first_after false = record { blank = λ b h. by_kind false (solution_first false) b NameByte.Blank (name_blank b h); semicolon = refl; feed = refl }
+first_after joined = grind (arith, by_kind, name_blank)
 
 first_opens : Opens true [] (solution_first true)
 first_opens = record { tilde = refl; letter = λ b h. by_kind true (solution_first true) b (NameByte.Letter b) (name_letter b h) }
 
 -- the first literal, if it is joined
 first_joined : (l : Literal) (t : List Letter) → (Blanks0 ⋅ SpellsLiteral l) t → Walks solution_automaton (solution_first true) t (at_more true [] l.negated l.name)
-first_joined l t (a, b, e, ([], i, f), k) =
-    let g : t ≡ b = e ∙ ap (λ x. x ++ b) f in
-    rw g (literal_walks true [] (solution_first true) l.negated l.name b first_opens k)
+first_joined l t (a, b, e, ([], i, f), k) = grind (arith, literal_walks, first_opens)
 first_joined l t (a, b, e, (c ∷ cs, i, f), k) = further_walks true [] l (solution_first true) t (first_after true) (a, b, e, (c, cs, i.0, i.1, f), k)
 
 pub reads_each : (joined : Bool) (e : List Literal) (t : List Letter) → SpellsJoined joined e t → ReadsStatement solution_automaton (solution_first joined) t e (solution_last joined)

@@ -1,10 +1,9 @@
 -- The laws of the literals machine.
-use Rattle.pb_proof.proofs.Common.{ℕ, ◌++◌, ◌+◌, ◌-◌, ◌^◌, ◌↔◌, ◌∷◌, ◌≡◌, ◌≤◌, [], ap, arith, Bool, cond, false, length, length-append, List, refl}
-use Rattle.pb_proof.proofs.Common.{subst, sym, true, min-le_left, add-grows, begin-grows, to-grows, Literal, reads_before, ReadsOn, is_state, IsOfOne}
-use Rattle.pb_proof.proofs.Common.{one_state, never, End, Go, IsState, ReadsStatement, Refuse, unmarked, Letter, NameByte, SolutionAction}
-use Rattle.pb_proof.proofs.Common.{SolutionPhase, First, More, Negation, name_byte, flushed, is_begun, IsSolutionInOrder, literal, solution_at}
-use Rattle.pb_proof.proofs.Common.{solution_automaton, solution_first, solution_last, SolutionState, SpellsJoined, ◌<◌, ◌||◌, ◌∙◌, get_or, IsTrue}
-use Rattle.pb_proof.proofs.Common.{min, take, take_more, admits, end_or_refuse, go_or_refuse, Admits, adds, is_more}
+use Rattle.pb_proof.proofs.Common.{ℕ, ◌++◌, ◌+◌, ◌-◌, ◌^◌, ◌↔◌, ◌∷◌, ◌≡◌, ◌≤◌, [], ap, arith, Bool, false, length, length-append, List, refl, sym, true, min-le_left}
+use Rattle.pb_proof.proofs.Common.{add-grows, begin-grows, to-grows, Literal, reads_before, ReadsOn, is_state, IsOfOne, one_state, never, End, Go, IsState}
+use Rattle.pb_proof.proofs.Common.{ReadsStatement, Refuse, unmarked, Letter, NameByte, SolutionAction, SolutionPhase, First, More, Negation, name_byte, flushed}
+use Rattle.pb_proof.proofs.Common.{is_begun, IsSolutionInOrder, literal, solution_at, solution_automaton, solution_first, solution_last, SolutionState, SpellsJoined}
+use Rattle.pb_proof.proofs.Common.{◌<◌, ◌||◌, ◌∙◌, get_or, IsTrue, min, take, take_more, admits, end_or_refuse, go_or_refuse, Admits, adds, is_more}
 use Rattle.pb_proof.specs.engine.line.Solution.{act, transition, next_action, before, is_midway, is_done, units, in_hand, ready, all_units}
 use Rattle.pb_proof.proofs.lemmas.solution.Texts.{reads_each, Prefix, Whole, keeps_prefix}
 use Rattle.pb_proof.proofs.lemmas.line.Ends.{reads_exactly}
@@ -18,49 +17,24 @@ IsSane joined ph (SolutionAction.Add q b) = (is_midway q ≡ true) × (in_hand q
 IsSane joined ph _ = Unit {0}
 
 after_sane : (joined : Bool) (ph : SolutionPhase) (k : NameByte) → IsSane joined ph (next_action k)
-after_sane joined ph NameByte.Blank = (refl, refl)
-after_sane joined ph NameByte.Semicolon = (refl, refl)
-after_sane joined ph _ = tt
+after_sane joined ph k = grind arith
 
 before_sane : (joined : Bool) (ph : SolutionPhase) (k : NameByte) → ready joined ph ≡ 1 → IsSane joined ph (before k)
-before_sane joined ph NameByte.Tilde h = (refl, refl)
-before_sane joined ph (NameByte.Letter b) h = (refl, refl, h)
-before_sane joined ph k h = after_sane joined ph k
-
-start_sane : (joined : Bool) (k : NameByte) → IsSane joined SolutionPhase.Start (cond joined (before k) (next_action k))
-start_sane true k = before_sane true SolutionPhase.Start k refl
-start_sane false k = after_sane false SolutionPhase.Start k
+before_sane joined ph k h = grind (arith, after_sane)
 
 transition_sane : (joined : Bool) (ph : SolutionPhase) (k : NameByte) → IsSane joined ph (transition joined ph k)
-transition_sane joined SolutionPhase.Start k = start_sane joined k
-transition_sane joined SolutionPhase.Gap k = before_sane joined SolutionPhase.Gap k refl
-transition_sane joined Negation (NameByte.Letter b) = (refl, refl, refl)
-transition_sane joined (First negated) (NameByte.Letter b) = (refl, refl, refl)
-transition_sane joined (First negated) (NameByte.Inner b) = (refl, refl, refl)
-transition_sane joined (More negated) (NameByte.Letter b) = (refl, refl, refl)
-transition_sane joined (More negated) (NameByte.Inner b) = (refl, refl, refl)
-transition_sane joined (More negated) k = after_sane joined (More negated) k
-transition_sane joined SolutionPhase.Closing NameByte.Blank = (refl, refl)
-transition_sane _ _ _ = tt
+transition_sane joined ph k = grind (arith, before_sane, after_sane)
 
 midway_begun : (joined : Bool) (ph : SolutionPhase) → is_midway ph ≡ true → is_begun joined ph ≡ true
-midway_begun joined SolutionPhase.Start h = cc
-midway_begun joined _ h = h
+midway_begun joined ph h = grind arith
 
 -- what is stored grows by at most one unit per byte
 pub units_append : (ls : List Literal) (l : Literal) → units (ls ++ l ∷ []) ≡ units ls + (1 + length l.name)
 units_append [] l = omega arith
 units_append (x ∷ ls) l = omega (arith, units_append ls l)
 
-flushed_units : (ph : SolutionPhase) (ls : List Literal) (name : List ℕ) → units (flushed ph ls name) ≤ units ls + in_hand ph + length name
-flushed_units (More negated) ls name = omega (arith, units_append ls (literal negated name))
-flushed_units (First negated) ls name = omega arith
-flushed_units _ ls name = omega arith
-
 ready_one : (joined : Bool) (ph : SolutionPhase) → ready joined ph ≤ 1
-ready_one true SolutionPhase.Start = omega arith
-ready_one false SolutionPhase.Start = omega arith
-ready_one joined _ = omega arith
+ready_one joined ph = grind arith
 
 abbrev spent : SolutionState → ℕ
 spent s = all_units s + ready s.joined s.phase
@@ -75,51 +49,23 @@ module _ (joined : Bool) (ls : List Literal) (name : List ℕ) (ph : SolutionPha
   abbrev here : SolutionState
   here = solution_at joined ls name ph
 
-  to_steps : (q : SolutionPhase) → is_midway q ≡ true → in_hand q ≡ 0 → Steps here (solution_at joined (flushed ph ls name) [] q)
-  to_steps q m h = record {
-    midway = m;
-    joined = refl;
-    grows = to-grows (units (flushed ph ls name)) (units ls) (in_hand ph) (length name) (ready joined ph) (in_hand q) (ready joined q) (flushed_units ph ls name) h (ready_one joined q);
-  }
-
   begin_steps : (q : SolutionPhase) (b : ℕ) → is_midway q ≡ true → in_hand q + ready joined q ≡ 1 → ready joined ph ≡ 1 → Steps here (solution_at joined ls (b ∷ []) q)
-  begin_steps q b m h r = record {
-    midway = m;
-    joined = refl;
-    grows = begin-grows (units ls) (in_hand ph) (length name) (ready joined ph) (in_hand q) (ready joined q) h r;
-  }
+  begin_steps q b m h r = grind (arith, begin-grows, length)
 
   add_steps : (q : SolutionPhase) (b : ℕ) → is_midway q ≡ true → in_hand q + ready joined q ≡ 1 → in_hand ph ≡ 1 → Steps here (solution_at joined ls (name ++ b ∷ []) q)
-  add_steps q b m h r = record {
-    midway = m;
-    joined = refl;
-    grows = add-grows (units ls) (in_hand ph) (length name) (ready joined ph) (in_hand q) (ready joined q) (length (name ++ b ∷ [])) h r (length-append name (b ∷ []));
-  }
+  add_steps q b m h r = grind (arith, add-grows, length, length-append)
 
   acted : (m : SolutionAction) (next : SolutionState) → IsSane joined ph m → act joined (flushed ph ls name) ls name m ≡ Go next → Steps here next
-  acted (SolutionAction.To q) next h e = subst (λ x. Steps here x) (one_state _ next e) (to_steps q h.0 h.1)
-  acted (SolutionAction.Begin q b) next h e = subst (λ x. Steps here x) (one_state _ next e) (begin_steps q b h.0 h.1 h.2)
-  acted (SolutionAction.Add q b) next h e = subst (λ x. Steps here x) (one_state _ next e) (add_steps q b h.0 h.1 h.2)
-  acted _ next h e = cc
+  acted m next h e = grind (arith, one_state, begin_steps, add_steps, to-grows, length, ready_one, units_append)
 
   ended : (m : SolutionAction) (next : SolutionState) (e : List Literal) → act joined (flushed ph ls name) ls name m ≡ End e next → next ≡ solution_last joined
-  ended (SolutionAction.To q) next e i = cc
-  ended _ next e i = cc
+  ended m next e i = grind arith
 
 continues : (s next : SolutionState) (b : ℕ) → solution_automaton.step s b ≡ Go next → Steps s next
 continues s next b e = acted s.joined s.literals s.name s.phase (transition s.joined s.phase (name_byte b)) next (transition_sane s.joined s.phase (name_byte b)) e
 
 abbrev last : SolutionState → SolutionState
 last s = solution_last s.joined
-
-owes : (joined : Bool) (ph : SolutionPhase) → is_begun joined ph ≡ true → is_done ph ≡ false
-owes joined SolutionPhase.Done h = sym h
-owes joined _ h = refl
-
-stops : (joined : Bool) (ph : SolutionPhase) (ls : List Literal) (name : List ℕ) (k : NameByte) → is_done ph ≡ true
-    → act joined (flushed ph ls name) ls name (transition joined ph k) ≡ Refuse
-stops joined SolutionPhase.Done ls name k h = refl
-stops joined _ ls name k h = cc
 
 -- a further byte or two of a name, and the line feed
 some_more : (joined negated : Bool) (ls : List Literal) (name : List ℕ) → ReadsOn solution_automaton (solution_at joined ls name (More negated))
@@ -141,11 +87,11 @@ pub solution_of_one : IsOfOne solution_automaton IsSolutionInOrder last
 solution_of_one = record {
   keeps = λ s next b g e i. never (is_midway next.phase) (continues s next b e).midway i;
   begins = λ s next b e. midway_begun next.joined next.phase (continues s next b e).midway;
-  owes = λ s h. owes s.joined s.phase h;
+  owes = λ s h. grind arith;
   leads = λ s next b e. ap solution_last (continues s next b e).joined;
   ends = λ s next b e i. ended s.joined s.literals s.name s.phase (transition s.joined s.phase (name_byte b)) next e i;
   done = λ s. refl;
-  stops = λ s h b. stops s.joined s.phase s.literals s.name (name_byte b) h;
+  stops = λ s h b. grind arith;
   goes_on = λ s g h. some_text s.joined s.phase s.literals s.name h;
   plain = λ s h. refl;
   grows = λ s next b e. (continues s next b e).grows;
@@ -181,9 +127,7 @@ IsTaken SolutionAction.Stop = ⊥
 IsTaken _ = Unit {0}
 
 taken_acts : (joined : Bool) (ms ls : List Literal) (name : List ℕ) (m : SolutionAction) → IsTaken m → act joined ms ls name m ≡ Refuse → ⊥
-taken_acts joined ms ls name SolutionAction.End h e = end_or_refuse _ _ e
-taken_acts joined ms ls name SolutionAction.Stop h e = h
-taken_acts joined ms ls name _ h e = go_or_refuse _ e
+taken_acts joined ms ls name m h e = grind (arith, end_or_refuse, go_or_refuse)
 
 -- a push may allocate at a byte of a name or one that ends a literal, and only if the byte is taken
 pub wants : (s : SolutionState) (b : ℕ) (m : SolutionAction) → IsSolutionInOrder s → m ≡ transition s.joined s.phase (name_byte b) → IsTaken m → (adds m || is_more s.phase) ≡ true

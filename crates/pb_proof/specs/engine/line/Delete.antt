@@ -4,11 +4,8 @@ use Rattle.pb_text.specs.contract.Automaton.{Automaton, Next, Go, End, Refuse}
 use Rattle.pb_text.specs.meaning.Numbers.{signed}
 use Rattle.pb_proof.specs.engine.line.ByteKind.{number_byte}
 use Rattle.pb_proof.specs.declared.line.byte_kind.NumberByte.{NumberByte}
-use Rattle.pb_proof.specs.declared.line.byte_kind.NumberByte.TheVariants as kind
 use Rattle.pb_proof.specs.declared.line.delete.phase.DeletePhase.{DeletePhase}
-use Rattle.pb_proof.specs.declared.line.delete.phase.DeletePhase.TheVariants.{Start, Gap, Between, Minus, Digits, Closing, Done}
 use Rattle.pb_proof.specs.declared.line.delete.phase.DeleteAction.{DeleteAction}
-use Rattle.pb_proof.specs.declared.line.delete.phase.DeleteAction.TheVariants as action
 
 -- the largest magnitude of an id, the ids that are complete, and what was read last
 pub record DeleteState : Type 0 where
@@ -21,76 +18,76 @@ delete_at top ids p = record { top = top; ids = ids; phase = p }
 
 -- before the ids, and after them
 abbrev pub delete_first : ℕ → DeleteState
-delete_first top = delete_at top [] Start
+delete_first top = delete_at top [] DeletePhase.Start
 
 abbrev pub delete_last : ℕ → DeleteState
-delete_last top = delete_at top [] Done
+delete_last top = delete_at top [] DeletePhase.Done
 
 -- the action for the next digit of an id
 abbrev pub digits : ℕ → Bool → ℕ → ℕ → DeleteAction
-digits top negative n d = cond (nat_le (10 * n + d) top) (action.To (Digits negative (10 * n + d))) action.Stop
+digits top negative n d = cond (nat_le (10 * n + d) top) (DeleteAction.To (DeletePhase.Digits negative (10 * n + d))) DeleteAction.Stop
 
 -- the action for a byte at which an id may begin
 abbrev pub before : ℕ → NumberByte → DeleteAction
-before top kind.Minus = action.To Minus
-before top (kind.Digit d) = digits top false 0 d
-before top _ = action.Stop
+before top NumberByte.Minus = DeleteAction.To DeletePhase.Minus
+before top (NumberByte.Digit d) = digits top false 0 d
+before top _ = DeleteAction.Stop
 
 -- the action for a byte at which an id may end
 abbrev pub next_action : ℤ → NumberByte → DeleteAction
-next_action id kind.Blank = action.Keep Between id
-next_action id kind.Semicolon = action.Keep Closing id
-next_action id kind.Feed = action.EndWith id
-next_action id _ = action.Stop
+next_action id NumberByte.Blank = DeleteAction.Keep DeletePhase.Between id
+next_action id NumberByte.Semicolon = DeleteAction.Keep DeletePhase.Closing id
+next_action id NumberByte.Feed = DeleteAction.EndWith id
+next_action id _ = DeleteAction.Stop
 
 abbrev pub transition : ℕ → DeletePhase → NumberByte → DeleteAction
-transition top Start kind.Blank = action.To Gap
-transition top Gap kind.Blank = action.To Gap
-transition top Gap k = before top k
-transition top Between kind.Blank = action.To Between
-transition top Between kind.Semicolon = action.To Closing
-transition top Between kind.Feed = action.End
-transition top Between k = before top k
-transition top Minus (kind.Digit d) = digits top true 0 d
-transition top (Digits negative n) (kind.Digit d) = digits top negative n d
-transition top (Digits negative n) k = cond (nat_eq n 0) action.Stop (next_action (signed negative n) k)
-transition top Closing kind.Blank = action.To Closing
-transition top Closing kind.Feed = action.End
-transition _ _ _ = action.Stop
+transition top DeletePhase.Start NumberByte.Blank = DeleteAction.To DeletePhase.Gap
+transition top DeletePhase.Gap NumberByte.Blank = DeleteAction.To DeletePhase.Gap
+transition top DeletePhase.Gap k = before top k
+transition top DeletePhase.Between NumberByte.Blank = DeleteAction.To DeletePhase.Between
+transition top DeletePhase.Between NumberByte.Semicolon = DeleteAction.To DeletePhase.Closing
+transition top DeletePhase.Between NumberByte.Feed = DeleteAction.End
+transition top DeletePhase.Between k = before top k
+transition top DeletePhase.Minus (NumberByte.Digit d) = digits top true 0 d
+transition top (DeletePhase.Digits negative n) (NumberByte.Digit d) = digits top negative n d
+transition top (DeletePhase.Digits negative n) k = cond (nat_eq n 0) DeleteAction.Stop (next_action (signed negative n) k)
+transition top DeletePhase.Closing NumberByte.Blank = DeleteAction.To DeletePhase.Closing
+transition top DeletePhase.Closing NumberByte.Feed = DeleteAction.End
+transition _ _ _ = DeleteAction.Stop
 
 abbrev pub act : ℕ → List ℤ → DeleteAction → Next DeleteState (List ℤ)
-act top ids (action.To p) = Go (delete_at top ids p)
-act top ids (action.Keep p id) = Go (delete_at top (ids ++ id ∷ []) p)
-act top ids action.End = End ids (delete_last top)
-act top ids (action.EndWith id) = End (ids ++ id ∷ []) (delete_last top)
-act top ids action.Stop = Refuse
+act top ids (DeleteAction.To p) = Go (delete_at top ids p)
+act top ids (DeleteAction.Keep p id) = Go (delete_at top (ids ++ id ∷ []) p)
+act top ids DeleteAction.End = End ids (delete_last top)
+act top ids (DeleteAction.EndWith id) = End (ids ++ id ∷ []) (delete_last top)
+act top ids DeleteAction.Stop = Refuse
 
 abbrev pub step : DeleteState → NumberByte → Next DeleteState (List ℤ)
 step s k = act s.top s.ids (transition s.top s.phase k)
 
 abbrev pub is_midway : DeletePhase → Bool
-is_midway Start = false
-is_midway Done = false
+is_midway DeletePhase.Start = false
+is_midway DeletePhase.Done = false
 is_midway _ = true
 
 abbrev pub is_done : DeletePhase → Bool
-is_done Done = true
+is_done DeletePhase.Done = true
 is_done _ = false
 
 abbrev pub is_in_number : DeletePhase → Bool
-is_in_number (Digits negative n) = true
+is_in_number (DeletePhase.Digits negative n) = true
 is_in_number _ = false
 
 -- an id may begin
 abbrev pub begins_id : DeletePhase → Bool
-begins_id Gap = true
-begins_id Between = true
+begins_id DeletePhase.Gap = true
+begins_id DeletePhase.Between = true
 begins_id _ = false
 
 -- whether the machine may allocate: at a byte that ends an id
 abbrev pub keeps : DeleteAction → Bool
-keeps (action.Keep p id) = true
-keeps (action.EndWith id) = true
+keeps (DeleteAction.Keep p id) = true
+keeps (DeleteAction.EndWith id) = true
 keeps _ = false
 
 -- the automaton: it stores ids, and their count saturates
@@ -107,12 +104,12 @@ delete_automaton = record {
 
 -- an id that is being read is at most top
 abbrev pub PhaseFits : ℕ → DeletePhase → Type 0
-PhaseFits top (Digits negative n) = n ≤ top
+PhaseFits top (DeletePhase.Digits negative n) = n ≤ top
 PhaseFits top _ = Unit {0}
 
 abbrev pub ActionFits : ℕ → DeleteAction → Type 0
-ActionFits top (action.To p) = PhaseFits top p × (is_midway p ≡ true)
-ActionFits top (action.Keep p id) = PhaseFits top p × (is_midway p ≡ true)
+ActionFits top (DeleteAction.To p) = PhaseFits top p × (is_midway p ≡ true)
+ActionFits top (DeleteAction.Keep p id) = PhaseFits top p × (is_midway p ≡ true)
 ActionFits top _ = Unit {0}
 
 -- The invariant of a machine: some id is within top, and no id is stored before the ids and after them.

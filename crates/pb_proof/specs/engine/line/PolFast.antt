@@ -1,26 +1,23 @@
 -- The fast path for postfix words.
 use Rattle.std.specs.Prelude.{ℕ, ◌&&◌, cond, nat_eq, nat_le, Option, Some, None}
 use Rattle.pb_proof.specs.declared.line.pol.phase.Held.{Held}
-use Rattle.pb_proof.specs.declared.line.pol.phase.Held.TheVariants as held
 use Rattle.pb_proof.specs.declared.line.pol.phase.Phase.{Phase}
-use Rattle.pb_proof.specs.declared.line.pol.phase.Phase.TheVariants as phase
 use Rattle.pb_proof.specs.declared.line.pol.phase.Change.{Change}
-use Rattle.pb_proof.specs.declared.line.pol.phase.Change.TheVariants as change
 
 -- how the last word may still change, if another word may begin
 abbrev pub held_before : Phase → Option Held
-held_before (phase.Gap held.Large) = None
-held_before (phase.Gap h) = Some h
+held_before (Phase.Gap Held.Large) = None
+held_before (Phase.Gap h) = Some h
 held_before _ = None
 
 -- an operator that takes the last word
 abbrev pub held_operator : Held → ℕ → Option Change
-held_operator held.Number b = cond (nat_eq b 42) (Some change.Multiply) (cond (nat_eq b 100) (Some change.Divide) None)
-held_operator held.Name b = cond (nat_eq b 119) (Some change.Weaken) None
+held_operator Held.Number b = cond (nat_eq b 42) (Some Change.Multiply) (cond (nat_eq b 100) (Some Change.Divide) None)
+held_operator Held.Name b = cond (nat_eq b 119) (Some Change.Weaken) None
 held_operator h b = None
 
 -- an operator of one byte, if it may come here
 abbrev pub operator : ℕ → Held → ℕ → Option Change
 operator depth h b =
-    cond (nat_eq b 43 && nat_le 2 depth) (Some change.Sum)
-    (cond (nat_eq b 115 && nat_le 1 depth) (Some change.Saturate) (held_operator h b))
+    cond (nat_eq b 43 && nat_le 2 depth) (Some Change.Sum)
+    (cond (nat_eq b 115 && nat_le 1 depth) (Some Change.Saturate) (held_operator h b))

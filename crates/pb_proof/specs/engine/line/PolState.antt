@@ -1,11 +1,10 @@
 -- The states of the machine for postfix words, and its automaton.
 use Rattle.std.specs.Prelude.{◌≡◌, ℕ, ◌+◌, ◌-◌, ◌^◌, ◌<◌, min, false, List, [], ◌∷◌, length}
-use Rattle.pb_text.specs.contract.Automaton.{Automaton, Next, Go, End, Refuse}
+use Rattle.pb_text.specs.contract.Automaton.{Automaton, Next}
+use Rattle.pb_proof.specs.engine.line.Carried.{carried}
 use Rattle.pb_proof.specs.engine.line.Pol.{Work, Outcome, fresh, finished, step, transition, kind_of, is_in_number, is_midway, is_done, wants}
 use Rattle.pb_proof.specs.declared.word.PolWord.{PolWord}
-use Rattle.pb_proof.specs.declared.word.PolWord.TheVariants.{Axiom, Weaken}
 use Rattle.pb_proof.specs.declared.line.pol.phase.Phase.{Phase}
-use Rattle.pb_proof.specs.declared.line.pol.phase.Phase.TheVariants as phase
 
 -- the largest factor, the largest magnitude of an id, and what the machine stores
 pub record PolState : Type 0 where
@@ -27,14 +26,12 @@ pol_last limit top = record { limit = limit; top = top; work = finished }
 
 -- an outcome as a step of the state
 abbrev pub over : PolState → Outcome → Next PolState (List PolWord)
-over s (Go w) = Go (pol_with s w)
-over s (End e w) = End e (pol_with s w)
-over s Refuse = Refuse
+over s = carried (pol_with s) (λ e. e) (λ e w. pol_with s w)
 
 -- one for the word, plus the number of bytes of its name
 abbrev pub word_units : PolWord → ℕ
-word_units (Axiom literal) = 1 + length literal.name
-word_units (Weaken name) = 1 + length name
+word_units (PolWord.Axiom literal) = 1 + length literal.name
+word_units (PolWord.Weaken name) = 1 + length name
 word_units _ = 1
 
 -- the sum over all words
@@ -44,18 +41,18 @@ units (w ∷ ws) = word_units w + units ws
 
 -- a literal counts as stored from the first byte of its name on
 abbrev pub in_hand : Phase → ℕ
-in_hand phase.First = 1
-in_hand (phase.Lone r) = 1
-in_hand (phase.Name negated) = 1
+in_hand Phase.First = 1
+in_hand (Phase.Lone r) = 1
+in_hand (Phase.Name negated) = 1
 in_hand _ = 0
 
 -- one unit in the phases that leave room for a word
 abbrev pub ready : Phase → ℕ
-ready (phase.Gap h) = 1
-ready phase.Minus = 1
-ready (phase.Signed n) = 1
-ready (phase.Number n) = 1
-ready phase.Tilde = 1
+ready (Phase.Gap h) = 1
+ready Phase.Minus = 1
+ready (Phase.Signed n) = 1
+ready (Phase.Number n) = 1
+ready Phase.Tilde = 1
 ready _ = 0
 
 -- what is stored

@@ -6,13 +6,11 @@ use Rattle.pb_proof.specs.engine.line.PolState.{PolState, pol_automaton}
 use Rattle.pb_proof.specs.declared.word.PolWord.{PolWord}
 use Rattle.pb_proof.specs.declared.line.pol.phase.Change.{Change}
 use Rattle.pb_proof.specs.declared.line.pol.phase.Held.{Held}
-use Rattle.pb_proof.specs.declared.line.pol.phase.Held.TheVariants as held
 use Rattle.pb_proof.specs.declared.line.pol.phase.Phase.{Phase}
-use Rattle.pb_proof.specs.declared.line.pol.phase.Phase.TheVariants as phase
 
 -- The operator of a large factor is not missing.
 abbrev pub IsFree : Held → Type 0
-IsFree held.Large = ⊥
+IsFree Held.Large = ⊥
 IsFree _ = Unit {0}
 
 module _ (limit top : ℕ) where
@@ -27,15 +25,15 @@ module _ (limit top : ℕ) where
   -- The text is a word after a blank, or nothing. A literal has the name `n`.
   abbrev pub IsWord : ℕ → Held → List ℕ → Change → List ℕ → Held → Type 0
   IsWord d h text c n next = (ws : List PolWord) (name : List ℕ) → 0 < top → IsFree h →
-      EndsAs (standing ws d name (phase.Gap h)) text (changed c ws n) (counted c d) next × IsFree next
+      EndsAs (standing ws d name (Phase.Gap h)) text (changed c ws n) (counted c d) next × IsFree next
 
   -- before the first word, after a blank
   abbrev pub no_words : PolState
-  no_words = standing [] 0 [] (phase.Gap held.Nothing)
+  no_words = standing [] 0 [] (Phase.Gap Held.Nothing)
 
   -- The text is words with a blank after each.
   abbrev pub AreWords : List ℕ → List PolWord → ℕ → List ℕ → Held → Type 0
-  AreWords text ws d name h = 0 < top → Runs pol_automaton no_words text (standing ws d name (phase.Gap h)) × IsFree h
+  AreWords text ws d name h = 0 < top → Runs pol_automaton no_words text (standing ws d name (Phase.Gap h)) × IsFree h
 
   -- The text is the words of one expression.
   abbrev pub IsExpression : List ℕ → List PolWord → Type 0

@@ -1,6 +1,5 @@
 use Rattle.pb_proof.proofs.Common.{arith}
 use Rattle.pb_proof.proofs.lemmas.pol.Theorems.{waits}
-use Rattle.pb_proof.proofs.line.pol.PolMachineMachine.try_finish.Goals.{in-End, in_default}
 use Rattle.pb_proof.proofs.line.pol.PolMachineMachine.try_finish.Goals as goal
 
 pub returns-in_default-answer : goal.returns-in_default-answer
