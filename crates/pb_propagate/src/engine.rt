@@ -1,5 +1,7 @@
 //! The engine: live forms by number, and the results of propagation over them.
 
+#![tactic(auto, using(crate::proofs::rules::Engine::engine))]
+
 pub mod completion;
 pub mod conflict;
 pub mod denial;

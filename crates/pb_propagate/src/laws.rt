@@ -1,5 +1,7 @@
 //! A law of propagation. The function does nothing: what it ensures is the law.
 
+#![tactic(auto, using(crate::proofs::rules::Store::laws))]
+
 ghost use Rattle.pb_propagate.specs.engine.engine.Laws.{CompletionsExist};
 
 /// Propagation over a list of constraints ends: there is a derivation that cannot be extended.

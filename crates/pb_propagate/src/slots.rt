@@ -1,5 +1,7 @@
 //! Forms take slots and leave them.
 
+#![tactic(auto, using(crate::proofs::rules::Store::slots))]
+
 ghost use Rattle.std.specs.Prelude.{◌≡◌, ℕ, ◌<◌, ◌++◌, ◌∷◌, [], All, Some, None, length, slice_get, slice_set, slice_index_or, IfSome, IfOk, OnOk, OnErr};
 ghost use Rattle.pb_propagate.specs.engine.engine.Fields.{forms_of};
 ghost use Rattle.pb_propagate.specs.engine.engine.Rest.{IsAtRest};

@@ -1,5 +1,7 @@
 //! The forms that may propagate with nothing assigned.
 
+#![tactic(auto, using(crate::proofs::rules::Store::waiting))]
+
 ghost use Rattle.std.specs.Prelude.{◌≡◌, ℕ, ◌<◌, ◌≤◌, ◌+◌, ◌++◌, ◌∷◌, [], Some, length, slice_get, swap_remove, true, false, vec_capacity, OnOk};
 ghost use Rattle.pb_propagate.specs.engine.engine.Counts.{IsAbsent};
 ghost use Rattle.pb_propagate.specs.engine.engine.Waiting.{IsWithout};

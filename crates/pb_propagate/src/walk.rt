@@ -1,5 +1,7 @@
 //! Visits to the clauses in which a falsified literal is watched.
 
+#![tactic(auto, using(crate::proofs::rules::Clauses::walk))]
+
 ghost use Rattle.std.specs.Prelude.{◌≡◌, ◌≤◌, ◌+◌, ◌<◌, true, false, length, OnOk, OnErr};
 ghost use Rattle.pb_propagate.specs.engine.engine.Lists.{Conflicts};
 ghost use Rattle.pb_propagate.specs.engine.engine.Progress.{IfFound, IfNotFound, RunIsOpen, list_of, values_of, WalkCosts, HasWalked};

@@ -1,25 +1,16 @@
 -- Lemmas of clauses and their watches.
 pub mod Blocks
-pub mod BlocksFitted
 pub mod BlocksWritten
 pub mod Counts
-pub mod Few
 pub mod Heads
-pub mod Killed
 pub mod Linked
 pub mod Listed
 pub mod Literals
-pub mod Marks
-pub mod Readings
 pub mod Reasons
 pub mod Searches
 pub mod Shapes
-pub mod Slots
-pub mod Steps
 pub mod Stores
-pub mod Tables
 pub mod Truths
-pub mod Turned
 pub mod Visited
 pub mod Walks
 pub mod Watching

@@ -1,24 +1,14 @@
 -- Lemmas of propagation.
 pub mod Chains
 pub mod Advances
-pub mod Assumed
-pub mod Bounds
 pub mod Bridge
-pub mod Derivations
-pub mod Ends
 pub mod Literals
 pub mod VisitSteps
 pub mod Propagated
-pub mod Stopped
 pub mod Puts
 pub mod Reasoned
 pub mod Rests
 pub mod Runs
-pub mod Sources
-pub mod Spent
-pub mod Undone
 pub mod Values
-pub mod Watched
-pub mod Wider
 pub mod Choices
 pub mod Completing

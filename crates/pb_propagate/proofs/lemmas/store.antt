@@ -1,15 +1,11 @@
 -- Lemmas of the store of forms: their terms, entries and slots.
 pub mod Changes
-pub mod Crosses
 pub mod Gets
 pub mod Links
 pub mod Placed
 pub mod Places
 pub mod Positions
 pub mod Slots
-pub mod Sorted
-pub mod Storages
 pub mod Stored
-pub mod Unlinks
 pub mod Weights
 pub mod Options

@@ -1,5 +1,7 @@
 //! For each literal the list of the watches on it.
 
+#![tactic(auto, using(crate::proofs::rules::Clauses::lists))]
+
 ghost use Rattle.std.specs.Prelude.{◌≡◌, ℕ, ◌+◌, ◌-◌, ◌/◌, ◌^◌, ◌<◌, ◌++◌, ◌∷◌, [], true, false, length, slice_get, slice_set, swap_remove, OnOk, IfOk, IfSome, IfNone, Some};
 ghost use Rattle.pb_propagate.specs.declared.clauses.lists.Listed.{Listed};
 ghost use Rattle.pb_propagate.specs.engine.clauses.Links.{watch_lists, list_at, watch_at, idle, AreLinked, Remains, AreFewer, AreMore};

@@ -1,5 +1,7 @@
 //! A visit to one watch of a falsified literal.
 
+#![tactic(auto, using(crate::proofs::rules::Clauses::visiting))]
+
 ghost use Rattle.std.specs.Prelude.{◌≡◌, ℕ, ◌+◌, ◌-◌, ◌/◌, ◌^◌, ◌<◌, ◌≤◌, ◌⊎◌, ◌++◌, ◌∷◌, [], true, false, All, List, length, min, sum, slice_get, OnOk, IfOk, Some};
 ghost use Rattle.pb_propagate.specs.engine.clauses.Truths.{flip, true_at, false_at};
 ghost use Rattle.pb_propagate.specs.engine.clauses.Links.{watch_lists, list_at, watch_at, AreLinked, Remains, IsListed, AreMore};

@@ -1,5 +1,7 @@
 //! The completion of given literals.
 
+#![tactic(auto, using(crate::proofs::rules::Engine::completion))]
+
 ghost use Rattle.std.specs.Prelude.{◌≡◌, [], ◌*◌, ◌<◌, ◌≤◌, true, All, length, OnOk, IfOk, IfSome, IfNone};
 ghost use Rattle.pb_normal.specs.declared.numbered.NumberedLiteral.{NumberedLiteral};
 ghost use Rattle.pb_propagate.specs.engine.engine.Lists.{IsWithin};

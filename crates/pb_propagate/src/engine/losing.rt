@@ -1,5 +1,7 @@
 //! A form goes: what the root keeps. Nothing is allocated.
 
+#![tactic(auto, using(crate::proofs::rules::Engine::losing))]
+
 ghost use Rattle.std.specs.Prelude.{◌≡◌, ◌-◌, ◌*◌, ◌<◌, length, take};
 ghost use Rattle.pb_propagate.specs.declared.store.Store.{Store};
 ghost use Rattle.pb_propagate.specs.declared.clauses.Clauses.{Clauses};

@@ -1,5 +1,7 @@
 //! A question that continues from the root.
 
+#![tactic(auto, using(crate::proofs::rules::Engine::question))]
+
 ghost use Rattle.std.specs.Prelude.{◌≡◌, All, ◌≤◌, ◌+◌, ◌*◌, ◌<◌, true, length, sum_by, OnOk, OnErr, IfOk};
 ghost use Rattle.pb_propagate.specs.engine.engine.Fields.{forms_of};
 ghost use Rattle.pb_normal.specs.meaning.Rules.{negation_of};

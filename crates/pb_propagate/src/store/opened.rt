@@ -1,5 +1,7 @@
 //! A form under the values of some literals, outside of questions. No visit is counted.
 
+#![tactic(auto, using(crate::proofs::rules::Store::opened))]
+
 ghost use Rattle.std.specs.Prelude.{◌≡◌, ◌≤◌, ◌<◌, ◌^◌, false, List, length, sum_by};
 ghost use Rattle.pb_normal.specs.declared.numbered.NumberedLiteral.{NumberedLiteral};
 ghost use Rattle.pb_normal.specs.meaning.Rules.{negation};

@@ -1,5 +1,7 @@
 //! A form goes: the literals that it has forced need other reasons.
 
+#![tactic(auto, using(crate::proofs::rules::Store::reasons))]
+
 ghost use Rattle.std.specs.Prelude.{◌≡◌, ℕ, ◌*◌, ◌^◌, ◌<◌, [], true, length, slice_index_or};
 ghost use Rattle.pb_propagate.specs.declared.term.Term.{Term};
 ghost use Rattle.pb_propagate.specs.engine.engine.Lists.{HaveReasons, IsDue};

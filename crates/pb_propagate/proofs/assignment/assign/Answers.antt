@@ -1,5 +1,8 @@
-use Rattle.pb_propagate.proofs.lemmas.clauses.Marks.{marked-assigned}
+use Rattle.pb_propagate.proofs.Common.{arith, not, Some}
+use Rattle.pb_propagate.proofs.lemmas.clauses.Truths.{marked-set}
 use Rattle.pb_propagate.proofs.assignment.assign.Goals as goal
 
 pub returns-clause-marked : goal.returns-clause-marked
-returns-clause-marked c = marked-assigned c.args.values.now.items c.args.failed.now.items c.args.literal.variable c.args.literal.negated c.requires.inside c.requires.marked
+returns-clause-marked c =
+    let n = c.args.literal.negated in
+    marked-set {a = n} {b = not n} (Some (not n)) c.requires.inside (grind arith) (grind arith) c.requires.marked

@@ -1,5 +1,5 @@
-use Rattle.pb_propagate.proofs.Common.{ℕ, ◌+◌, ◌-◌, ◌<◌, ◌∙◌, ◌≡◌, ap, arith, length, None, set, subst, sym, take}
-use Rattle.pb_propagate.proofs.lemmas.root.Cuts.{IsCut, cut-inside, cut-next}
+use Rattle.pb_propagate.proofs.Common.{◌+◌, ◌-◌, ◌<◌, ◌≡◌, arith, length}
+use Rattle.pb_propagate.proofs.lemmas.root.Cuts.{cut-inside, cut-next}
 use Rattle.pb_propagate.proofs.assignment.shorten.Goals as goal
 
 pub unassign-requires-clause-inside : goal.unassign-requires-clause-inside
@@ -10,8 +10,4 @@ list-preserved c =
     let size : length c.list.list.items ≡ (c.len-last.result - 1) + 1 = omega (arith, c.list-test.true, c.list.list.ok.0, c.len.ensures, c.len-last.ensures) in
     let more : c.args.count < length c.list.list.items = omega (arith, c.list-test.true, c.list.list.ok.0, c.len.ensures) in
     let next = cut-next c.args.values.now.items c.args.list.now.items c.args.count c.list.values.items c.list.list.items (c.len-last.result - 1) c.index-literal.result.now more size c.index-literal.ensures c.list.invariant.cut in
-    let shorter = subst (IsCut c.args.values.now.items c.args.list.now.items c.args.count (set c.list.values.items c.index-literal.result.now.variable None)) (sym (c.pop.ensures.rest ∙ ap (λ (n : ℕ). take (n - 1) c.list.list.items) (sym c.len-last.ensures))) next in
-    record {
-      cut = subst (λ vs. IsCut c.args.values.now.items c.args.list.now.items c.args.count vs c.pop.new.self.items) (sym c.unassign.ensures.values) shorter;
-      marked = c.unassign.ensures.marked;
-    }
+    record { cut = rw (c.unassign.ensures.values, c.pop.ensures.rest, ← c.len-last.ensures) next; marked = c.unassign.ensures.marked }

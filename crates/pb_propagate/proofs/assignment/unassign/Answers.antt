@@ -1,5 +1,6 @@
-use Rattle.pb_propagate.proofs.lemmas.clauses.Marks.{marked-removed}
+use Rattle.pb_propagate.proofs.Common.{None, refl}
+use Rattle.pb_propagate.proofs.lemmas.clauses.Truths.{marked-set}
 use Rattle.pb_propagate.proofs.assignment.unassign.Goals as goal
 
 pub returns-clause-marked : goal.returns-clause-marked
-returns-clause-marked c = marked-removed c.args.values.now.items c.args.failed.now.items c.args.variable c.requires.inside c.requires.marked
+returns-clause-marked c = marked-set None c.requires.inside refl refl c.requires.marked

@@ -1,270 +1,135 @@
--- What blocks of words store, and where.
-use Rattle.pb_propagate.proofs.Common.{ℕ, ◌*◌, ◌+◌, ◌/◌, ◌<◌, ◌∙◌, ◌≡◌, ◌≤◌, ◌⊎◌, ◌%◌, [], ap, arith, both_ways, cases_eq, cases_lt}
-use Rattle.pb_propagate.proofs.Common.{drop, get_or, get_or_past, get_or_read, inl, inr, length, List, nat_tests, refl, subst, sym, take, true}
-use Rattle.pb_propagate.proofs.Common.{AreBlocks, begun, Contents, contents, HasBlock, idle, IsBare, IsRenewed, list_at, nowhere, number_at, passed_by}
-use Rattle.pb_propagate.proofs.Common.{Search, search_at, stored_clause, stored_search, stored_watch, table, Watch, watch_at, watch_of, watch_place}
-use Rattle.pb_propagate.proofs.lemmas.clauses.Tables.{slice-same, table-at, table-length}
+-- What blocks of words store, and what their writes change.
+use Rattle.pb_propagate.proofs.Common.{ℕ, ◌*◌, ◌+◌, ◌/◌, ◌<◌, ◌≡◌, ◌≤◌, ◌⊎◌, ◌%◌, [], arith, cases_lt, drop, ext_get_or, get_or, get_or-drop, get_or-take}
+use Rattle.pb_propagate.proofs.Common.{get_or_past, get_or_read, length, length-drop, length-take, List, nat_tests, refl, set-get_or, subst, sym, take, true}
+use Rattle.pb_propagate.proofs.Common.{AreBlocks, begun, Contents, contents, HasBlock, idle, IsRenewed, list_at, number_at, passed_by, Search, search_at}
+use Rattle.pb_propagate.proofs.Common.{searched, stored_clause, stored_search, stored_watch, Watch, watch_at, watch_of}
+use Rattle.std.proofs.lemmas.List.FromFn.{fill_by_all, get_or-map-range_with_len, length-map-range_with_len}
 
-watch-shown : (l spot : ℕ) → (watch_of l spot).live ≡ true →
-    watch_of l spot ≡ record { literal = l; live = true; spot = spot }
-watch-shown l spot live = grind (arith, nat_tests)
+-- what a block stores for a slot: its clause, its search and its watches
+pub record IsBlock (words : List ℕ) (start run s : ℕ) (xs : List ℕ) (x : Search) (ws : List Watch) : Type 0 where
+  pub count : number_at words (start + 6) ≡ length xs
+  pub literal : (k : ℕ) → k < length xs → number_at words (start + (8 + k)) ≡ number_at xs k
+  pub position : number_at words (start + 4) ≡ x.position
+  pub passed : passed_by run (number_at words (start + 7)) (number_at words (start + 5)) ≡ x.passed
+  pub watch : (e : ℕ) → e / 2 ≡ s →
+      watch_of (number_at words (start + 2 * (e % 2))) (number_at words (start + (2 * (e % 2) + 1))) ≡ watch_at ws e
 
-pub watch-made : (l spot l' spot' : ℕ) → l ≡ l' → spot ≡ spot' → spot' < nowhere →
-    watch_of l spot ≡ record { literal = l'; live = true; spot = spot' }
-watch-made l spot l' spot' e f small = grind (arith, nat_tests)
+-- what all blocks store, slot by slot
+pub record Stores (words starts rooms : List ℕ) (run : ℕ) (v : Contents) : Type 0 where
+  pub blocks : AreBlocks words starts rooms run
+  pub clauses : length v.literals ≡ length starts
+  pub searches : length v.searches ≡ length starts
+  pub watches : length v.watches ≡ 2 * length starts
+  pub rooms_are : v.rooms ≡ rooms
+  pub slot : (s : ℕ) → s < length starts →
+      IsBlock words (number_at starts s) run s (list_at v.literals s) (search_at v.searches s) v.watches
 
-pub search-made : (p q p' q' : ℕ) → p ≡ p' → q ≡ q' →
-    ◌≡◌ {A = Search} (record { position = p; passed = q }) (record { position = p'; passed = q' })
-search-made p q p' q' e f = rw (e, f) refl
+-- the same as one value
+pub record Store (words starts rooms : List ℕ) (run : ℕ) (v : Contents) : Type 0 where
+  pub blocks : AreBlocks words starts rooms run
+  pub is : contents words starts rooms run ≡ v
 
-pub passed-same : (run own passed own' passed' : ℕ) → own ≡ own' → passed ≡ passed' →
-    passed_by run own passed ≡ passed_by run own' passed'
-passed-same run own passed own' passed' e f = rw (e, f) refl
+slice-is : (ws : List ℕ) (a : ℕ) (xs : List ℕ) → a + length xs ≤ length ws →
+    ((k : ℕ) → k < length xs → number_at ws (a + k) ≡ number_at xs k) → take (length xs) (drop a ws) ≡ xs
+slice-is ws a xs room each = ext_get_or 0 (take (length xs) (drop a ws)) xs (omega (arith, length-take {A = ℕ}, length-drop {A = ℕ}))
+    (λ k h. grind (arith, get_or-take, get_or-drop, each k, length-take))
 
-pub passed-none : (run own passed : ℕ) → passed ≡ 0 → passed_by run own passed ≡ 0
-passed-none run own passed none = grind (arith, nat_tests)
-
-pub passed-own : (run own passed : ℕ) → own ≡ run → passed_by run own passed ≡ passed
-passed-own run own passed is = grind (arith, nat_tests)
-
-passed-before : (run own passed : ℕ) → own ≤ run → passed_by (run + 1) own passed ≡ 0
-passed-before run own passed less = grind (arith, nat_tests)
-
-pub contents-are : (a b : Contents) → a.literals ≡ b.literals → a.searches ≡ b.searches → a.watches ≡ b.watches →
-    a.rooms ≡ b.rooms → a ≡ b
+contents-are : (a b : Contents) → a.literals ≡ b.literals → a.searches ≡ b.searches → a.watches ≡ b.watches → a.rooms ≡ b.rooms → a ≡ b
 contents-are a b p q r s = rw (p, q, r, s) refl
 
-half : (n : ℕ) → (n % 2 ≡ 0) ⊎ (n % 2 ≡ 1)
+pub stored : {words starts rooms : List ℕ} {run : ℕ} {v : Contents} → Stores words starts rooms run v → Store words starts rooms run v
+stored {words} {starts} {rooms} {run} {v} st = record {
+  blocks = st.blocks;
+  is = sym (contents-are v (contents words starts rooms run)
+      (fill_by_all (stored_clause words starts) v.literals (length starts) [] st.clauses
+      (λ s h. grind (arith, st.slot s h, slice-is, st.blocks.within s h, st.blocks.inside s h)))
+      (fill_by_all (stored_search words starts run) v.searches (length starts) begun st.searches (λ s h. grind (arith, st.slot s h)))
+      (fill_by_all (stored_watch words starts) v.watches (2 * length starts) idle st.watches (λ e h. grind (arith, st.slot (e / 2))))
+      st.rooms_are);
+}
+
+pub half : (n : ℕ) → (n % 2 ≡ 0) ⊎ (n % 2 ≡ 1)
 half n = grind arith
 
--- what is stored in a block with no clause
-pub bare-clause : {words : List ℕ} (starts : List ℕ) (s : ℕ) → IsBare words (number_at starts s) →
-    stored_clause words starts s ≡ []
-bare-clause {words} starts s bare = ap (λ k. take k (drop (number_at starts s + 8) words)) bare.count
-
-pub bare-search : {words : List ℕ} (starts : List ℕ) (run s : ℕ) → IsBare words (number_at starts s) →
-    stored_search words starts run s ≡ begun
-bare-search starts run s bare = search-made _ _ _ _ bare.position (passed-none run _ _ bare.passed)
-
-pub bare-watch : {words : List ℕ} (starts : List ℕ) (e : ℕ) → IsBare words (number_at starts (e / 2)) →
-    stored_watch words starts e ≡ idle
-bare-watch starts e bare = grind (arith, nat_tests, half e, bare.first, bare.second)
-
-pub bare-kept : {words words' : List ℕ} → ((i : ℕ) → i < 8 → number_at words' i ≡ number_at words i) → IsBare words 0 → IsBare words' 0
-bare-kept kept b = omega (arith, kept, b)
-
--- what is stored of a slot is as before
-pub record IsSame (words words' starts starts' : List ℕ) (run s : ℕ) : Type 0 where
-  pub clause : stored_clause words' starts' s ≡ stored_clause words starts s
-  pub search : stored_search words' starts' run s ≡ stored_search words starts run s
-  pub watch : (e : ℕ) → e / 2 ≡ s → stored_watch words' starts' e ≡ stored_watch words starts e
-
--- the words of the block are
-pub same-block : {words words' starts starts' : List ℕ} {run : ℕ} (s room : ℕ) →
-    number_at starts' s ≡ number_at starts s →
-    number_at words (number_at starts s + 6) ≤ room → number_at starts s + 8 + room ≤ length words →
-    length words ≤ length words' →
-    ((i : ℕ) → number_at starts s ≤ i → i < number_at starts s + 8 + room → number_at words' i ≡ number_at words i) →
-    IsSame words words' starts starts' run s
-same-block {words} {words'} {starts} {starts'} s room start most inside longer each = record {
-  clause =
-      ap (λ i. take (number_at words' (i + 6)) (drop (i + 8) words')) start
-      ∙ ap (λ k. take k (drop (number_at starts s + 8) words'))
-      (each (number_at starts s + 6) (omega arith) (omega arith))
-      ∙ slice-same words words' (number_at starts s + 8) (number_at words (number_at starts s + 6))
-      (omega (arith, most, inside))
-      (omega (arith, most, inside, longer)) (λ i from below. each i (omega (arith, from)) (omega (arith, below, most)));
-  search =
-      let p = each (number_at starts s + 4) (omega arith) (omega arith) in
-      let q = each (number_at starts s + 5) (omega arith) (omega arith) in
-      let r = each (number_at starts s + 7) (omega arith) (omega arith) in
-      rw start (rw (p, q, r) refl);
-  watch = λ e is.
-      let at : number_at starts (e / 2) ≡ number_at starts s = ap (number_at starts) is in
-      let now : number_at starts' (e / 2) ≡ number_at starts (e / 2) = ap (number_at starts') is ∙ start ∙ sym at in
-      let p = each (watch_place starts e) (omega (arith, at)) (omega (arith, at)) in
-      let q = each (watch_place starts e + 1) (omega (arith, at)) (omega (arith, at)) in
-      rw now (rw (p, q) refl);
-}
-
--- it had no clause and has none
-pub same-bare : {words words' starts starts' : List ℕ} {run : ℕ} (s : ℕ) →
-    IsBare words (number_at starts s) → IsBare words' (number_at starts' s) → IsSame words words' starts starts' run s
-same-bare {words} {words'} {starts} {starts'} {run} s was now = record {
-  clause = bare-clause starts' s now ∙ sym (bare-clause starts s was);
-  search = bare-search starts' run s now ∙ sym (bare-search starts run s was);
-  watch = λ e is.
-      bare-watch starts' e (subst (λ u. IsBare words' (number_at starts' u)) (sym is) now)
-      ∙ sym (bare-watch starts e (subst (λ u. IsBare words (number_at starts u)) (sym is) was));
-}
-
--- what is known of the slots with a block of their own
-pub room-inside : {words starts rooms : List ℕ} {run : ℕ} → AreBlocks words starts rooms run → (s : ℕ) →
-    0 < number_at rooms s → s < length starts
-room-inside old s some = grind (arith, get_or_past, old.sizes)
-
-module _ {words starts rooms : List ℕ} {run : ℕ} (old : AreBlocks words starts rooms run) where
-  pub room-start : (s : ℕ) → 0 < number_at rooms s → 8 ≤ number_at starts s
-  room-start s some = grind (arith, room-inside old s some, old.apart s (length starts), get_or_past, old.sizes)
-
-  -- a block that is not the common one is a slot's own
-  pub start-room : (s : ℕ) → 0 < number_at starts s → 0 < number_at rooms s
-  start-room s some = grind (arith, old.shared)
-
-  -- a slot with no block of its own
-  pub shared-bare : (s : ℕ) → s < length starts → number_at rooms s ≡ 0 → IsBare words (number_at starts s)
-  shared-bare s inside none = subst (IsBare words) (sym (old.shared s none)) (old.common (omega (arith, inside)))
-
-  filled-room : (s : ℕ) → 0 < length (list_at (contents words starts rooms run).literals s) → 0 < number_at rooms s
-  filled-room s some = elim (cases_lt s (length starts)) [
-    | inr past ↦ absurd (omega (
-      arith,
-      some,
-      ap length (get_or_past (table (length starts) (stored_clause words starts)) s []
-          (omega (arith, past, table-length (length starts) (stored_clause words starts)))),
-    ))
-    | inl inside ↦ elim (cases_eq (number_at rooms s) 0) [
-      | inr has ↦ grind arith
-      | inl none ↦ absurd (omega (
-        arith,
-        some,
-        ap length (table-at (length starts) (stored_clause words starts) s [] inside
-            ∙ bare-clause starts s (shared-bare s inside none)),
-      ))
-    ]
-  ]
-
--- where the program finds the block of a slot
-pub record IsAt (words starts rooms : List ℕ) (s start : ℕ) : Type 0 where
+-- where the program finds the block of a slot, and what this stores
+pub record IsAt (words starts rooms : List ℕ) (run : ℕ) (v : Contents) (s start : ℕ) : Type 0 where
   pub slot : s < length starts
   pub at : start ≡ number_at starts s
   pub end : start + 8 + number_at rooms s ≤ length words
   pub count : number_at words (start + 6) ≤ number_at rooms s
-
-block-at : {words starts rooms : List ℕ} {run : ℕ} → AreBlocks words starts rooms run → (s start : ℕ) →
-    s < length starts →
-    start ≡ get_or starts s start → IsAt words starts rooms s start
-block-at {words} {starts} {rooms} old s start inside read =
-    let at = get_or_read starts s start inside read 0 in
-    record {
-      slot = inside;
-      at = at;
-      end = omega (arith, at, old.inside s inside);
-      count = omega (arith, ap (λ i. number_at words (i + 6)) at, old.within s inside);
-    }
-
--- what a value says of the words that store it
-module _ {words starts rooms : List ℕ} {run : ℕ} {v : Contents} (old : AreBlocks words starts rooms run)
-    (is : contents words starts rooms run ≡ v) where
-  pub slot-stored : (s : ℕ) → s < length v.literals → s < length starts
-  slot-stored s inside = omega (
-    arith,
-    inside,
-    ap (λ (x : Contents). length x.literals) is,
-    table-length (length starts) (stored_clause words starts),
-  )
-
-  pub slot-block : (s start : ℕ) → s < length v.literals → start ≡ get_or starts s start → IsAt words starts rooms s start
-  slot-block s start inside read = block-at old s start (slot-stored s inside) read
-
-  pub block-stored : (s : ℕ) → HasBlock v s → 0 < number_at rooms s
-  block-stored s (inl some) = filled-room old s
-      (omega (arith, some, ap (λ (x : Contents). length (list_at x.literals s)) is))
-  block-stored s (inr some) = omega (arith, some, ap (λ (x : Contents). number_at x.rooms s) is)
-
-  pub own-slot : (s : ℕ) → HasBlock v s → s < length starts
-  own-slot s some = room-inside old s (block-stored s some)
-
-  pub clause-stored : (s : ℕ) → s < length starts → stored_clause words starts s ≡ list_at v.literals s
-  clause-stored s inside = sym (table-at (length starts) (stored_clause words starts) s [] inside)
-      ∙ ap (λ (x : Contents). list_at x.literals s) is
-
-  pub search-stored : (s : ℕ) → s < length starts → stored_search words starts run s ≡ search_at v.searches s
-  search-stored s inside = sym (table-at (length starts) (stored_search words starts run) s begun inside)
-      ∙ ap (λ (x : Contents). search_at x.searches s) is
+  pub room_is : number_at v.rooms s ≡ number_at rooms s
+  pub stamp : number_at words (start + 7) ≤ run
+  pub block : IsBlock words start run s (list_at v.literals s) (search_at v.searches s) v.watches
 
 -- the block is the slot's own
-pub record IsOwn (words starts rooms : List ℕ) (s start : ℕ) : Type 0 where
+pub record IsOwn (words starts rooms : List ℕ) (run : ℕ) (v : Contents) (s start : ℕ) : Type 0 where
   pub room : 0 < number_at rooms s
-  pub at : start ≡ number_at starts s
-  pub end : start + 8 + number_at rooms s ≤ length words
+  pub at : IsAt words starts rooms run v s start
 
-pub own-by : {words starts rooms : List ℕ} {run : ℕ} → AreBlocks words starts rooms run → (s start : ℕ) →
-    0 < number_at rooms s →
-    start ≡ get_or starts s start → IsOwn words starts rooms s start
-own-by old s start some read =
-    let b = block-at old s start (room-inside old s some) read in
-    record { room = some; at = b.at; end = b.end }
+module _ {words starts rooms : List ℕ} {run : ℕ} {v : Contents} (old : AreBlocks words starts rooms run)
+    (is : contents words starts rooms run ≡ v) where
+  pub stores : Stores words starts rooms run v
+  stores = subst (Stores words starts rooms run) is
+      (grind (arith, old, length-take, length-drop, get_or-take, get_or-drop, get_or-map-range_with_len, length-map-range_with_len))
 
-pub own-at : {words starts rooms : List ℕ} {run : ℕ} {v : Contents} → AreBlocks words starts rooms run →
-    contents words starts rooms run ≡ v →
-    (s start : ℕ) → HasBlock v s → start ≡ get_or starts s start → IsOwn words starts rooms s start
-own-at old is s start some read = own-by old s start (block-stored old is s some) read
+  pub slot-stored : (s : ℕ) → s < length v.literals → s < length starts
+  slot-stored s inside = omega (arith, inside, stores.clauses)
 
--- where one of its watches is
-pub place-at : (starts : List ℕ) (e start place : ℕ) → e / 2 < length starts → start ≡ get_or starts (e / 2) start →
-    place ≡ start + 2 * (e % 2) → place ≡ watch_place starts e
-place-at starts e start place inside read is = is
-    ∙ ap (λ i. i + 2 * (e % 2)) (get_or_read starts (e / 2) start inside read 0)
+  block-at : (s start : ℕ) → s < length starts → start ≡ get_or starts s start → IsAt words starts rooms run v s start
+  block-at s start inside read = rw (get_or_read starts s start inside read 0) (grind (arith, inside, stores.slot s, stores.rooms_are, old))
 
--- a live watch has a block
-pub record IsLiveAt (v : Contents) (words starts rooms : List ℕ) (e : ℕ) : Type 0 where
-  pub room : 0 < number_at rooms (e / 2)
-  pub slot : e / 2 < length starts
-  pub place : watch_place starts e + 1 < length words
-  pub shown : watch_at v.watches e ≡ record {
-    literal = number_at words
-        (watch_place starts e);
-    live = true;
-    spot = number_at words (watch_place starts e + 1);
-  }
+  pub slot-at : (s start : ℕ) → s < length v.literals → start ≡ get_or starts s start → IsAt words starts rooms run v s start
+  slot-at s start inside read = block-at s start (slot-stored s inside) read
 
-pub live-stored : {words starts rooms : List ℕ} {run : ℕ} {v : Contents} → AreBlocks words starts rooms run →
-    contents words starts rooms run ≡ v →
-    (e : ℕ) → (watch_at v.watches e).live ≡ true → IsLiveAt v words starts rooms e
-live-stored {words} {starts} {rooms} {v = v} old is e live =
-    let ws = table (2 * length starts) (stored_watch words starts) in
-    let alive : idle ≡ watch_at v.watches e → ⊥ = λ none. both_ways _ (ap (λ (w : Watch). w.live) (sym none)) live in
-    let stored : watch_at ws e ≡ watch_at v.watches e = ap (λ (x : Contents). watch_at x.watches e) is in
-    let inside : e < 2 * length starts = elim (cases_lt e (2 * length starts)) [
-      | inl less ↦ less
-      | inr past ↦ absurd (alive (sym (get_or_past ws e idle
-          (omega (arith, past, table-length (2 * length starts) (stored_watch words starts)))) ∙ stored))
-    ] in
-    let slot : e / 2 < length starts = omega (arith, inside) in
-    let at : stored_watch words starts e ≡ watch_at v.watches e =
-    sym (table-at (2 * length starts) (stored_watch words starts) e idle inside) ∙ stored in
-    record {
-      room = elim (cases_eq (number_at rooms (e / 2)) 0) [
-        | inl none ↦ absurd (alive (sym (bare-watch starts e (shared-bare old (e / 2) slot none)) ∙ at))
-        | inr some ↦ grind arith
-      ];
-      slot = slot;
-      place = omega (arith, old.inside (e / 2) slot);
-      shown = sym at ∙ watch-shown _ _ (ap (λ (w : Watch). w.live) at ∙ live);
-    }
+  block-room : (s : ℕ) → HasBlock v s → 0 < number_at rooms s
+  block-room s some = grind (arith, stores.rooms_are, some, cases_lt, get_or_past, stores.clauses, stores.slot s, old.within s)
+
+  pub own-slot : (s : ℕ) → HasBlock v s → s < length starts
+  own-slot s some = grind (arith, get_or_past, old.sizes, block-room s some)
+
+  pub own-at : (s start : ℕ) → HasBlock v s → start ≡ get_or starts s start → IsOwn words starts rooms run v s start
+  own-at s start some read = record { room = block-room s some; at = block-at s start (own-slot s some) read }
+
+  -- a block that is not the common one is a slot's own
+  pub start-own : (s start : ℕ) → s < length v.literals → start ≡ get_or starts s start → 0 < start → IsOwn words starts rooms run v s start
+  start-own s start inside read some =
+      let b = slot-at s start inside read in record { room = grind (arith, b.at, old.shared s, some); at = b }
+
+  live-room : (e : ℕ) → (watch_at v.watches e).live ≡ true → 0 < number_at rooms (e / 2)
+  live-room e live = grind (arith, nat_tests, half e, cases_lt (e / 2) (length starts), get_or_past, stores.watches, stores.slot (e / 2), old.shared, old.common)
+
+  pub live-slot : (e : ℕ) → (watch_at v.watches e).live ≡ true → e / 2 < length starts
+  live-slot e live = grind (arith, get_or_past, old.sizes, live-room e live)
+
+  pub live-at : (e start : ℕ) → (watch_at v.watches e).live ≡ true → start ≡ get_or starts (e / 2) start → IsOwn words starts rooms run v (e / 2) start
+  live-at e start live read = record { room = live-room e live; at = block-at (e / 2) start (live-slot e live) read }
+
+  -- the common block is not written, and its search has passed nothing
+  pub shared-begun : (s : ℕ) → s < length starts → number_at starts s ≡ 0 →
+      v ≡ searched v s (record { position = (search_at v.searches s).position; passed = 0 })
+  shared-begun s inside none = let st = stores in grind (arith, nat_tests, st.slot s, old.common, contents-are, set-get_or)
+
+-- what is read of a block
+module _ {words starts rooms : List ℕ} {run s start : ℕ} {v : Contents} (b : IsAt words starts rooms run v s start) where
+  pub clause-read : (n : ℕ) → n ≡ number_at words (start + 6) → take n (drop (start + 8) words) ≡ list_at v.literals s
+  clause-read n is = rw (is, b.block.count) (slice-is words (start + 8) (list_at v.literals s) (omega (arith, b.end, b.count, b.block.count))
+      (λ k h. grind (arith, b.block.literal k)))
+
+  pub search-read : (header : List ℕ) (passed : ℕ) → ((k : ℕ) → k < 8 → number_at header k ≡ number_at words (start + k)) →
+      passed ≡ passed_by run (number_at header 7) (number_at header 5) →
+      ◌≡◌ {A = Search} (record { position = number_at header 4; passed = passed }) (search_at v.searches s)
+  search-read header passed each is = grind (arith, each 4, each 5, each 7, is, b.block)
+
+pub watch-read : {words starts rooms : List ℕ} {run : ℕ} {v : Contents} (e start place : ℕ) → IsAt words starts rooms run v (e / 2) start →
+    (watch_at v.watches e).live ≡ true → place ≡ start + 2 * (e % 2) →
+    (number_at words place ≡ (watch_at v.watches e).literal) × (number_at words (place + 1) ≡ (watch_at v.watches e).spot)
+watch-read e start place b live is = grind (arith, nat_tests, b.block.watch e, live, is)
 
 -- another run
-pub next-run : {words starts rooms : List ℕ} {run : ℕ} → AreBlocks words starts rooms run →
-    AreBlocks words starts rooms (run + 1)
-next-run old = record {
-  sizes = old.sizes;
-  common = old.common;
-  shared = old.shared;
-  small = old.small;
-  apart = old.apart;
-  inside = old.inside;
-  within = old.within;
-  begun_by = λ s h. omega (arith, old.begun_by s h);
-}
+pub next-run : {words starts rooms : List ℕ} {run : ℕ} → AreBlocks words starts rooms run → AreBlocks words starts rooms (run + 1)
+next-run old = grind (arith, old)
 
 pub renewed-by : {words starts rooms : List ℕ} {run : ℕ} {v : Contents} → AreBlocks words starts rooms run →
     contents words starts rooms run ≡ v → IsRenewed v (contents words starts rooms (run + 1))
-renewed-by {words} {starts} {rooms} {run} old is =
-    subst (λ u. IsRenewed u (contents words starts rooms (run + 1))) is (record {
-      literals = refl;
-      watches = refl;
-      rooms = refl;
-      sizes = omega (arith, table-length (length starts) (stored_search words starts run), table-length (length starts) (stored_search words starts (run + 1)));
-      searches = λ s. grind (arith, cases_lt s (length starts), table-at, table-length, get_or_past, passed-before run, old.begun_by s);
-    })
+renewed-by old is = let st = stores old is in let now = stores (next-run old) refl in
+    grind (arith, nat_tests, cases_lt, get_or_past, st, now, old.begun_by)

@@ -1,24 +1,16 @@
 -- The reasons of literals among all constraints.
-use Rattle.pb_propagate.proofs.Common.{RunRecords, values_of, ℕ, ◌++◌, ◌<◌, ◌∙◌, ◌∷◌, ◌≡◌, [], ap, arith, get_or, length, List, refl, subst, sym}
-use Rattle.pb_propagate.proofs.Common.{slice_get, Some, get_or_from_slice_get, slice_get-get_or, slice_get_within, NumberedLiteral, Run, list_at}
-use Rattle.pb_propagate.proofs.Common.{IsUnit, AreJoined, clause_shape, joined, literal_at, slot_shape, by_reason, HaveReasons, Puts, Shape, list_of}
-use Rattle.pb_propagate.proofs.Common.{reasons_of, RunKeepsReasons, RunReasons}
+use Rattle.pb_propagate.proofs.Common.{RunRecords, values_of, ℕ, ◌++◌, ◌<◌, ◌∷◌, ◌≡◌, [], arith, length, List, subst, sym, slice_get, Some, get_or_from_slice_get}
+use Rattle.pb_propagate.proofs.Common.{slice_get-get_or, slice_get_within, NumberedLiteral, Run, list_at, IsUnit, AreJoined, clause_shape, joined, literal_at}
+use Rattle.pb_propagate.proofs.Common.{by_reason, HaveReasons, Puts, Shape, list_of, reasons_of, RunKeepsReasons, RunReasons}
 use Rattle.pb_propagate.proofs.lemmas.clauses.Shapes.{clause-stored, joined-at, joined-length, unit-puts}
 use Rattle.pb_propagate.proofs.lemmas.engine.Reasoned.{keeps-then, reasons-within, moved-same, reasons-keep, reasons-moved}
 
 -- a constraint with terms in the occurrence lists is that of its slot
 pub stored-joined : (xs : List Shape) (clauses : List (List ℕ)) (s : ℕ) (x : Shape) → AreJoined xs clauses → slice_get xs s ≡ Some x → 0 < length x.terms → slice_get (joined xs clauses) s ≡ Some x
-stored-joined xs clauses s x j at some = by (list_at clauses s) refl
-  where
-    inside : s < length xs
-    inside = slice_get_within xs s x at
-
-    is : get_or xs s x ≡ x
-    is = get_or_from_slice_get xs s x x at
-
-    by : (codes : List ℕ) → list_at clauses s ≡ codes → slice_get (joined xs clauses) s ≡ Some x
-    by [] e = slice_get-get_or (joined xs clauses) s x (omega (arith, inside, joined-length xs clauses)) ∙ ap (λ y. Some y) (joined-at xs clauses s x inside ∙ ap (slot_shape (get_or xs s x)) e ∙ is)
-    by (c ∷ codes) e = absurd (omega (arith, some, ap (λ (y : Shape). length y.terms) is, ap length (j.apart s x inside (omega (arith, ap length e))).0))
+stored-joined xs clauses s x j at some =
+    let inside = slice_get_within xs s x at in
+    let is = get_or_from_slice_get xs s x x at in
+    grind (arith, slice_get-get_or (joined xs clauses) s x, joined-length xs clauses, joined-at xs clauses s x inside, is, j.apart s x inside)
 
 pub run-reasons-joined : (xs : List Shape) (clauses : List (List ℕ)) (old new : Run) → AreJoined xs clauses → RunKeepsReasons old new → HaveReasons xs (reasons_of new) (list_of old) (list_of new) → RunReasons (joined xs clauses) old new
 run-reasons-joined xs clauses old new j kept h = record { kept = kept; added = reasons-moved xs (joined xs clauses) (reasons_of new) (reasons_of new) (list_of old) (list_of new) (λ l s x on at stored some. moved-same (joined xs clauses) (reasons_of new) l s x at (stored-joined xs clauses s x j stored some)) h }

@@ -1,181 +1,205 @@
 -- What a search in a clause has found, and what it leaves.
-use Rattle.pb_propagate.proofs.Common.{ArePassed, AreRound, AreWithin, map, set, sum, rules}
-use Rattle.pb_propagate.proofs.Common.{sum_by-set, ℕ, ◌*◌, ◌+◌, ◌/◌, ◌<◌, ◌∙◌, ◌≡◌, ◌≤◌, ◌⊎◌, ap, arith, Bool, false, get_or, Global, length, List}
-use Rattle.pb_propagate.proofs.Common.{refl, subst, sym, true, Vec, Contains, Option, slice_get, Some, All-contains, Clauses, Listed, Search}
-use Rattle.pb_propagate.proofs.Common.{Falsified, Forces, Leaves, Stays, Contents, rewatched, searched, AreLinked, AreMore, IsListed, list_at}
-use Rattle.pb_propagate.proofs.Common.{Remains, watch_at, watch_lists, all_turned, AreStored, around, HasVisited, IsRound, IsRunning, passed_of}
-use Rattle.pb_propagate.proofs.Common.{turned, false_at, true_at}
-use Rattle.pb_propagate.proofs.lemmas.clauses.Readings.{Reading, Resuming, reading-slot, other-watched, resuming-from, resuming-turned, resuming-round, running-bounded}
-use Rattle.pb_propagate.proofs.lemmas.clauses.Searches.{turned-round, round-next, round-set, within-set, passed-set, passed-length}
-use Rattle.pb_propagate.proofs.lemmas.clauses.Steps.{broken-of, unit-of, served-true, served-move, shifted-old, passed-end, passed-move, stored-move, HasSearched, Shifted, Visiting}
-use Rattle.pb_propagate.proofs.lemmas.clauses.Turned.{turned-length, turned-size, stored-turned, stored-back, unit-back, broken-back}
+use Rattle.pb_propagate.proofs.Common.{AreWithin, map, map-set, set, sum, rules, ℕ, ◌*◌, ◌+◌, ◌/◌, ◌<◌, ◌∙◌, ◌≡◌, ◌≤◌, ◌⊎◌, sum_by-set, ap, arith, Bool}
+use Rattle.pb_propagate.proofs.Common.{both_ways, cases_eq, cases_lt, false, get_or, get_or_default, Global, inl, inr, get_or-set_other, get_or-set_same}
+use Rattle.pb_propagate.proofs.Common.{length, length-map, length-set, min, List, refl, subst, sym, true, Vec, Contains, Contains-get_or, Option, slice_get}
+use Rattle.pb_propagate.proofs.Common.{Some, Clauses, Listed, Search, Watch, Falsified, Forces, Leaves, Stays, rewatched, searched, AreLinked, AreMore, list_at}
+use Rattle.pb_propagate.proofs.Common.{Remains, Sits, watch_at, watch_lists, AreBlocked, AreStored, HasVisited, IsBroken, IsRound, IsRunning, IsUnit, passed_of}
+use Rattle.pb_propagate.proofs.Common.{search_at, turned, false_at, true_at, nat_tests}
+use Rattle.std.proofs.lemmas.Grind.{get_or-set_at}
+use Rattle.pb_propagate.specs.engine.clauses.Truths.{flip}
+use Rattle.pb_propagate.specs.engine.clauses.Runs.{IsPassed, ArePassed, AreRound}
+use Rattle.pb_propagate.proofs.lemmas.clauses.Searches.{entry-round, entry-slot, other-watched, passed-at, round-inside, turned-contains, turned-length}
+use Rattle.pb_propagate.proofs.lemmas.clauses.Searches.{turned-round}
+use Rattle.pb_propagate.proofs.lemmas.clauses.Truths.{flip-apart, flip-flip}
+use Rattle.pb_propagate.proofs.lemmas.clauses.Walks.{served-true}
 use Rattle.pb_propagate.proofs.lemmas.clauses.Listed.{lists-length, blocked-more}
 
--- each clause in the order of its search
-abbrev turned_to : List ℕ → Clauses → Clauses
-turned_to starts c = record { blocks = record { literals = all_turned starts c.blocks.literals; searches = c.blocks.searches; watches = c.blocks.watches; rooms = c.blocks.rooms }; lists = c.lists }
+-- the clause of a watch, its search, where that began, and the literals in its order
+abbrev pub clause_of : Clauses → ℕ → List ℕ
+clause_of c e = list_at c.blocks.literals (e / 2)
+
+abbrev pub search_of : Clauses → ℕ → Search
+search_of c e = search_at c.blocks.searches (e / 2)
+
+abbrev pub start_of : {c : Clauses} {values : List (Option Bool)} → IsRunning values c → ℕ → ℕ
+start_of run e = get_or run.starts (e / 2) 0
+
+abbrev pub ordered : {c : Clauses} {values : List (Option Bool)} → IsRunning values c → ℕ → List ℕ
+ordered {c} run e = turned (start_of run e) (clause_of c e)
 
 -- a search for a literal to watch in place of a falsified one
-pub record IsSought (c : Clauses) (values : List (Option Bool)) (l index e other : ℕ) (from stop : Search) (xs : List ℕ) : Type 0 where
+pub record IsSought (c : Clauses) (values : List (Option Bool)) (l index e other : ℕ) (stop : Search) (v0 v1 : ℕ) : Type 0 where
   pub run : IsRunning values c
   pub failed : false_at values l ≡ true
-  pub reading : Reading c l index e other
-  pub resuming : Resuming c (e / 2) from xs
-  pub after : from.passed ≤ stop.passed
-  pub within : stop.passed ≤ length xs
-  pub round : (start : ℕ) → IsRound start from (length xs) → IsRound start stop (length xs)
-  pub passed : (start k d : ℕ) → IsRound start from (length xs) → from.passed ≤ k → k < stop.passed → (false_at values (get_or (turned start xs) k d) ≡ true) ⊎ (get_or (turned start xs) k d ≡ other)
-  pub found : stop.passed < length xs → (d : ℕ) → (false_at values (get_or xs stop.position d) ≡ false) × (get_or xs stop.position d ≡ other → ⊥)
+  pub item : slice_get (list_at (watch_lists c.lists.items) l) index ≡ Some e
+  pub other_is : other ≡ (watch_at c.blocks.watches (flip e)).literal
+  pub within : ((search_of c e).passed ≤ stop.passed) × (stop.passed ≤ length (clause_of c e))
+  pub round : (start : ℕ) → IsRound start (search_of c e) (length (clause_of c e)) → IsRound start stop (length (clause_of c e))
+  pub passed : (start k d : ℕ) → IsRound start (search_of c e) (length (clause_of c e)) → (search_of c e).passed ≤ k → k < stop.passed →
+      (false_at values (get_or (turned start (clause_of c e)) k d) ≡ true) ⊎ (get_or (turned start (clause_of c e)) k d ≡ other)
+  pub few : v1 + (search_of c e).passed ≤ v0 + min (stop.passed + 1) (length (clause_of c e))
+  pub found : stop.passed < length (clause_of c e) → (d : ℕ) →
+      (false_at values (get_or (clause_of c e) stop.position d) ≡ false) × (get_or (clause_of c e) stop.position d ≡ other → ⊥)
 
--- the watch has moved to the literal that was found, and the search of its clause is another
-pub record HasMoved (c : Clauses) (index e other x : ℕ) (next : Search) (lists' : Vec (Vec Listed Global) Global) (between new : Contents) : Type 0 where
-  pub sought : between ≡ searched c.blocks (e / 2) next
-  pub watches : new ≡ rewatched between new.watches
-  pub linked : AreLinked new.watches (watch_lists lists'.items)
-  pub moved : ((watch_at new.watches e).literal ≡ x) × ((watch_at new.watches e).live ≡ true)
-  pub others : (k : ℕ) → (k ≡ e → ⊥) → Remains index (watch_at between.watches k) (watch_at new.watches k)
-  pub sizes : (length new.watches ≡ length between.watches) × (length lists'.items ≡ length c.lists.items)
+-- the watch has moved to another literal
+pub record HasMoved (c : Clauses) (index e other x : ℕ) (ws : List Watch) (lists' : Vec (Vec Listed Global) Global) : Type 0 where
+  pub linked : AreLinked ws (watch_lists lists'.items)
+  pub moved : ((watch_at ws e).literal ≡ x) × ((watch_at ws e).live ≡ true)
+  pub others : (k : ℕ) → (k ≡ e → ⊥) → Remains index (watch_at c.blocks.watches k) (watch_at ws k)
+  pub sizes : (length ws ≡ length c.blocks.watches) × (length lists'.items ≡ length c.lists.items)
   pub more : AreMore (record { watch = e; blocker = other }) c.lists.items lists'.items
 
-module _ {c : Clauses} {values : List (Option Bool)} {l index e other : ℕ} {from stop : Search} {xs : List ℕ} (s : IsSought c values l index e other from stop xs) where
-  begun : IsRound (get_or s.run.starts (e / 2) 0) from (length xs)
-  begun = resuming-round s.run s.reading s.resuming
+-- each clause has two watches, once one of them has moved to another literal of its clause
+stored-move : {c : Clauses} {index e other x : ℕ} {ws : List Watch} {lists' : Vec (Vec Listed Global) Global} → AreStored c.blocks.literals c.blocks.watches
+    (watch_lists c.lists.items) → (watch_at c.blocks.watches e).live ≡ true →
+    Contains (clause_of c e) x → (x ≡ (watch_at c.blocks.watches (flip e)).literal → ⊥) → HasMoved c index e other x ws lists' →
+    AreStored c.blocks.literals ws (watch_lists lists'.items)
+stored-move {c} {index} {e} {other} {x} {ws} {lists'} old on there away m = record {
+  linked = m.linked;
+  pairs = m.sizes.0 ∙ old.pairs;
+  watched = λ k live. elim (cases_eq k e) [
+    | inl is ↦ rw (is, m.moved.0) there
+    | inr n ↦ rw (m.others k n).literal (old.watched k (sym (m.others k n).live ∙ live))
+  ];
+  paired = λ k live. grind (arith, cases_eq k e, cases_eq (flip k) e, m.others k, m.others (flip k), flip-apart, old.paired k, m.moved.1, on);
+  apart = λ k live h. grind (arith, cases_eq k e, cases_eq (flip k) e, m.others k, m.others (flip k), flip-apart, flip-flip, old.apart k, m.moved, on, away, h);
+  full = λ t some. grind (arith, cases_eq (2 * t) e, m.others (2 * t), old.full t, m.moved.1);
+  inside = λ t k d h. omega (arith, old.inside t k d h, lists-length lists'.items, lists-length c.lists.items, m.sizes.1);
+}
 
-  stopped : IsRound (get_or s.run.starts (e / 2) 0) stop (length xs)
-  stopped = s.round (get_or s.run.starts (e / 2) 0) begun
+-- a watch and the other one of its slot
+halves : (e : ℕ) → ((e ≡ 2 * (e / 2)) × (flip e ≡ 2 * (e / 2) + 1)) ⊎ ((e ≡ 2 * (e / 2) + 1) × (flip e ≡ 2 * (e / 2)))
+unfolding flip
+halves e = grind (arith, nat_tests)
 
-  searched-by : HasSearched values (turned (get_or s.run.starts (e / 2) 0) xs) from.passed other stop.passed
-  searched-by = record {
-    after = s.after;
-    within = omega (arith, s.within, turned-length (get_or s.run.starts (e / 2) 0) xs);
-    passed = λ k d. s.passed (get_or s.run.starts (e / 2) 0) k d begun;
-    found = λ h d.
-        let less : stop.passed < length xs = omega (arith, h, turned-length (get_or s.run.starts (e / 2) 0) xs) in
-        let here = turned-round (get_or s.run.starts (e / 2) 0) stop xs d stopped less in
-        (ap (false_at values) here ∙ (s.found less d).0, λ is. (s.found less d).1 (sym here ∙ is));
-  }
+module _ {c : Clauses} {values : List (Option Bool)} {l index e other : ℕ} {stop : Search} {v0 v1 : ℕ} (s : IsSought c values l index e other stop v0 v1) where
+  -- the watch that is visited is on the falsified literal
+  was : Sits (watch_at c.blocks.watches e) l index
+  was = s.run.stored.linked.named e l index s.item
 
-  visiting : Visiting values (turned_to s.run.starts c) l index e other stop.passed
-  visiting = record {
-    stored = stored-turned s.run.starts c.blocks.literals c.blocks.watches (watch_lists c.lists.items) s.run.stored;
-    passes = s.run.passed;
-    failed = s.failed;
-    item = s.reading.item;
-    other_is = s.reading.other_is;
-    searched = subst (λ ys. HasSearched values ys (get_or (passed_of c) (e / 2) 0) other stop.passed) (resuming-turned s.run.starts s.resuming)
-        (subst (λ n. HasSearched values (turned (get_or s.run.starts (e / 2) 0) xs) n other stop.passed) (resuming-from s.resuming) searched-by);
-  }
+  pub stopped : IsRound (start_of s.run e) stop (length (clause_of c e))
+  stopped = s.round (start_of s.run e) (entry-round s.run e was.live)
 
-  -- the searches, once that of the clause is another
-  rounds : (next : Search) → IsRound (get_or s.run.starts (e / 2) 0) next (length xs) → AreRound s.run.starts c.blocks.literals (set c.blocks.searches (e / 2) next)
-  rounds next round = round-set s.run.starts c.blocks.literals c.blocks.searches (set c.blocks.searches (e / 2) next) (e / 2) next (reading-slot s.run s.reading).1 refl s.run.round (subst (λ ys. IsRound (get_or s.run.starts (e / 2) 0) next (length ys)) s.resuming.items round)
+  -- what is known of the literals that the search has passed
+  seen : (k d : ℕ) → k < stop.passed → IsPassed values c.blocks.watches (e / 2) (get_or (ordered s.run e) k d)
+  seen k d h =
+      let passed = s.passed (start_of s.run e) k d (entry-round s.run e was.live) in
+      grind (arith, cases_lt k (search_of c e).passed, s.run.passed.each (e / 2) k d, passed, passed-at c.blocks.searches (e / 2), halves e, s.other_is)
+
+  -- the searches and watches, once that of the clause has gone on, and a watch may have moved
+  resumed : {ws : List Watch} {lists' : Vec (Vec Listed Global) Global} (next : Search) → IsRound (start_of s.run e) next (length (clause_of c e)) →
+      next.passed ≤ length (clause_of c e) →
+      AreStored c.blocks.literals ws (watch_lists lists'.items) → AreBlocked c.blocks.literals lists'.items → length lists'.items ≡ length c.lists.items →
+      ((t x : ℕ) → IsPassed values c.blocks.watches t x → IsPassed values ws t x) →
+      ((k d : ℕ) → stop.passed ≤ k → k < next.passed → IsPassed values ws (e / 2) (get_or (ordered s.run e) k d)) →
+      IsRunning values (record { blocks = rewatched (searched c.blocks (e / 2) next) ws; lists = lists' })
+  resumed {ws} next round most stored blocked lists still last =
+      let room = (entry-slot s.run e was.live).1 in
+      let passed : ArePassed values s.run.starts c.blocks.literals (set (passed_of c) (e / 2) next.passed) ws = record {
+        sizes = length-set (passed_of c) (e / 2) next.passed ∙ s.run.passed.sizes;
+        bounded = λ t. grind (arith, cases_eq t (e / 2), get_or-set_at, get_or-set_other, s.run.passed.bounded t, most, room);
+        each = λ t k d h.
+            let old = still t (get_or (turned (get_or s.run.starts t 0) (list_at c.blocks.literals t)) k d) in
+            grind (arith, h, cases_eq t (e / 2), cases_lt k stop.passed, get_or-set_at, get_or-set_other, room, seen k d, last k d, s.run.passed.each t k d, old);
+      } in
+      let inside : e / 2 < length c.blocks.searches = omega (arith, room, length-map c.blocks.searches (λ (x : Search). x.passed)) in
+      let rounds : AreRound s.run.starts c.blocks.literals (set c.blocks.searches (e / 2) next) = λ t some. elim (cases_eq t (e / 2)) [
+        | inl is ↦ rw (is, get_or-set_same c.blocks.searches (e / 2) next (record { position = 0; passed = 0 }) inside) round
+        | inr off ↦ rw (get_or-set_other c.blocks.searches (e / 2) t next (record { position = 0; passed = 0 }) off) (s.run.round t some)
+      ] in
+      let now = rw (← map-set (λ (x : Search). x.passed) c.blocks.searches (e / 2) next) at passed in
+      record { starts = s.run.starts; stored = stored; blocked = blocked; passed = now; round = rounds; sizes = lists ∙ s.run.sizes }
 
   -- what pays for the visits of a search
-  pub sought-covered : (next : Search) (ss' : List Search) (v0 v1 : ℕ) → ss' ≡ set c.blocks.searches (e / 2) next → v1 + from.passed ≤ v0 + next.passed → v1 + sum (passed_of c) ≤ v0 + sum (map (λ (x : Search). x.passed) ss')
-  sought-covered next ss' v0 v1 now few =
-      let room : e / 2 < length (passed_of c) = omega (arith, (reading-slot s.run s.reading).1, passed-length c) in
-      omega (arith, sum_by-set (λ y. y) (passed_of c) (e / 2) next.passed 0 room, resuming-from s.resuming, few, ap sum (passed-set c ss' (e / 2) next now))
+  pub sought-left : (next : Search) → next.passed ≡ min (stop.passed + 1) (length (clause_of c e)) →
+      (v1 + sum (passed_of c) ≤ v0 + sum (map (λ (x : Search). x.passed) (set c.blocks.searches (e / 2) next))) ×
+      AreWithin (map (λ (x : Search). x.passed) (set c.blocks.searches (e / 2) next)) c.blocks.literals
+  sought-left next is =
+      let room = (entry-slot s.run e was.live).1 in
+      rw (map-set (λ (x : Search). x.passed) c.blocks.searches (e / 2) next) (
+        omega (arith, sum_by-set (λ y. y) (passed_of c) (e / 2) next.passed 0 room, passed-at c.blocks.searches (e / 2), s.few, is),
+        λ t. grind (arith, cases_eq t (e / 2), get_or-set_at, get_or-set_other, s.run.passed.bounded t, is, room),
+      )
 
-  pub sought-bounded : (next : Search) (ss' : List Search) → ss' ≡ set c.blocks.searches (e / 2) next → next.passed ≤ length xs → AreWithin (map (λ (x : Search). x.passed) ss') c.blocks.literals
-  sought-bounded next ss' now within =
-      within-set (passed_of c) (map (λ (x : Search). x.passed) ss') c.blocks.literals (e / 2) next.passed (passed-set c ss' (e / 2) next now)
-      (omega (arith, (reading-slot s.run s.reading).1, passed-length c)) (omega (arith, within, ap length s.resuming.items)) (running-bounded c values s.run)
-
-  module _ (end : length xs ≤ stop.passed) {blocks' : Contents} (now : blocks' ≡ searched c.blocks (e / 2) stop) where
-    end-at : length (list_at (all_turned s.run.starts c.blocks.literals) (e / 2)) ≤ stop.passed
-    end-at = omega (arith, end, ap length s.resuming.items, turned-size s.run.starts c.blocks.literals (e / 2))
-
+  module _ (end : length (clause_of c e) ≤ stop.passed) where
     -- no literal is left that may be watched
     ended : IsRunning values (record { blocks = searched c.blocks (e / 2) stop; lists = c.lists })
-    ended = record {
-      starts = s.run.starts;
-      stored = s.run.stored;
-      blocked = s.run.blocked;
-      passed = subst (λ p. ArePassed values (all_turned s.run.starts c.blocks.literals) p c.blocks.watches) (sym (passed-set c (set c.blocks.searches (e / 2) stop) (e / 2) stop refl)) (passed-end visiting end-at);
-      round = rounds stop stopped;
-      sizes = s.run.sizes;
-    }
+    ended = resumed stop stopped s.within.1 s.run.stored s.run.blocked refl (λ t x p. p) (λ k d at less. absurd (omega (arith, at, less)))
+
+    -- all but the other watched literal are falsified
+    all-but : (k d : ℕ) → k < length (clause_of c e) → (false_at values (get_or (clause_of c e) k d) ≡ true) ⊎ (get_or (clause_of c e) k d ≡ other)
+    all-but k d h =
+        let x = get_or (clause_of c e) k d in
+        let there = turned-contains (start_of s.run e) (clause_of c e) x (Contains-get_or (clause_of c e) k d h) in
+        let here : IsPassed values c.blocks.watches (e / 2) x =
+        rw there.2 at (seen there.0 x (omega (arith, there.1, end, turned-length (start_of s.run e) (clause_of c e)))) in
+        grind (arith, here, halves e, was.literal, s.failed, s.other_is)
 
     -- all literals are falsified
-    pub visited-falsified : false_at values other ≡ true → HasVisited values c (record { blocks = blocks'; lists = c.lists }) l index Falsified
-    visited-falsified low = subst (λ (b : Contents). HasVisited values c (record { blocks = b; lists = c.lists }) l index Falsified) (sym now) (record {
-      lists = refl;
-      running = ended;
-      served = λ walked old. old;
-      found = broken-back s.run.starts c.blocks.literals values (broken-of visiting end-at low);
-      kept = λ k live failed. (refl, refl);
-    })
+    pub visited-falsified : false_at values other ≡ true → HasVisited values c (record { blocks = searched c.blocks (e / 2) stop; lists = c.lists }) l index Falsified
+    visited-falsified low =
+        let broken : IsBroken values c.blocks.literals =
+        record { slot = e / 2; some = omega (arith, (s.run.stored.watched e was.live).1); all = λ k d h. grind (arith, all-but k d h, low) } in
+        search (rules, ended, broken)
 
     -- all but one are falsified
-    pub visited-forces : true_at values other ≡ false → false_at values other ≡ false → HasVisited values c (record { blocks = blocks'; lists = c.lists }) l index (Forces record { code = other; slot = e / 2 })
-    visited-forces untrue unfailed = subst (λ (b : Contents). HasVisited values c (record { blocks = b; lists = c.lists }) l index (Forces record { code = other; slot = e / 2 })) (sym now) (record {
-      lists = refl;
-      running = ended;
-      served = λ walked old. old;
-      found = (refl, unit-back s.run.starts c.blocks.literals values (e / 2) other (unit-of visiting end-at untrue unfailed), (e, s.reading.item, other-watched s.run s.reading));
-      kept = λ k live failed. (refl, refl);
-    })
-
-  pub sought-round : (next : Search) → stop.passed < length xs → next.position ≡ around (stop.position + 1) (length xs) → next.passed ≡ stop.passed + 1 → IsRound (get_or s.run.starts (e / 2) 0) next (length xs)
-  sought-round next less position passed = round-next (get_or s.run.starts (e / 2) 0) stop next (length xs) stopped less position passed
+    pub visited-forces : true_at values other ≡ false → false_at values other ≡ false →
+        HasVisited values c (record { blocks = searched c.blocks (e / 2) stop; lists = c.lists }) l index (Forces record { code = other; slot = e / 2 })
+    visited-forces untrue unfailed =
+        let there : Contains (clause_of c e) other = rw s.other_is (other-watched s.run e was.live) in
+        let unit : IsUnit values c.blocks.literals (e / 2) other = record { stands = there; others = all-but; not_true = untrue; not_false = unfailed } in
+        record { lists = refl; running = ended; served = λ walked old. old; found = (refl, unit, (e, s.item, there)); kept = λ k live failed. (refl, refl) }
 
   -- the watch has moved
-  module _ (less : stop.passed < length xs) {next : Search} (round : IsRound (get_or s.run.starts (e / 2) 0) next (length xs)) (one : next.passed ≡ stop.passed + 1)
-      {lists' : Vec (Vec Listed Global) Global} {between new : Contents} (m : HasMoved c index e other (get_or xs stop.position 0) next lists' between new) where
-    watches_are : between.watches ≡ c.blocks.watches
-    watches_are = ap (λ (b : Contents). b.watches) m.sought
+  module _ (less : stop.passed < length (clause_of c e)) {next : Search} (round : IsRound (start_of s.run e) next (length (clause_of c e)))
+      (one : next.passed ≡ stop.passed + 1)
+      {ws : List Watch} {lists' : Vec (Vec Listed Global) Global} (m : HasMoved c index e other (get_or (clause_of c e) stop.position 0) ws lists') where
+    inside : stop.position < length (clause_of c e)
+    inside = round-inside (start_of s.run e) stop (length (clause_of c e)) stopped s.within.1
 
-    shifted : Shifted (turned_to s.run.starts c) (record { blocks = new; lists = lists' }) index e stop.passed
-    shifted = record {
-      within = omega (arith, turned-size s.run.starts c.blocks.literals (e / 2), less, ap length s.resuming.items);
-      linked = m.linked;
-      literal = m.moved.0 ∙ sym (turned-round (get_or s.run.starts (e / 2) 0) stop xs 0 stopped less) ∙ ap (λ (ys : List ℕ). get_or ys stop.passed 0) (resuming-turned s.run.starts s.resuming);
-      live = m.moved.1;
-      others = λ k n. subst (λ ws. Remains index (watch_at ws k) (watch_at new.watches k)) watches_are (m.others k n);
-      watches = m.sizes.0 ∙ ap length watches_are;
-      lists = lists-length lists'.items ∙ m.sizes.1 ∙ sym (lists-length c.lists.items);
-    }
+    -- what was passed is passed, as the watch has left a falsified literal
+    still : (t x : ℕ) → IsPassed values c.blocks.watches t x → IsPassed values ws t x
+    still t x p = grind (arith, p, cases_eq (2 * t) e, cases_eq (2 * t + 1) e, m.others (2 * t), m.others (2 * t + 1), was.literal, s.failed)
 
-    raised : map (λ (x : Search). x.passed) (set c.blocks.searches (e / 2) next) ≡ set (passed_of c) (e / 2) (stop.passed + 1)
-    raised = passed-set c (set c.blocks.searches (e / 2) next) (e / 2) next refl ∙ ap (set (passed_of c) (e / 2)) one
+    -- a watch that is on a falsified literal stayed
+    stayed : (k : ℕ) → false_at values (watch_at ws k).literal ≡ true → Remains index (watch_at c.blocks.watches k) (watch_at ws k)
+    stayed k low = elim (cases_eq k e) [
+      | inl is ↦ absurd (both_ways _ (s.found less 0).0 (rw (is, m.moved.0) at low))
+      | inr n ↦ m.others k n
+    ]
 
-    moved : IsRunning values (record { blocks = rewatched (searched c.blocks (e / 2) next) new.watches; lists = lists' })
-    moved = record {
-      starts = s.run.starts;
-      stored = stored-back s.run.starts c.blocks.literals new.watches (watch_lists lists'.items) (stored-move visiting shifted);
-      blocked = blocked-more c.blocks.literals (record { watch = e; blocker = other }) c.lists.items lists'.items m.more (other-watched s.run s.reading) s.run.blocked;
-      passed = subst (λ p. ArePassed values (all_turned s.run.starts c.blocks.literals) p new.watches) (sym raised) (passed-move visiting shifted);
-      round = rounds next round;
-      sizes = m.sizes.1 ∙ s.run.sizes;
-    }
-
-    pub visited-leaves : length (list_at (watch_lists lists'.items) l) + 1 ≡ length (list_at (watch_lists c.lists.items) l) → HasVisited values c (record { blocks = new; lists = lists' }) l index Leaves
-    visited-leaves shorter = subst (λ (b : Contents). HasVisited values c (record { blocks = b; lists = lists' }) l index Leaves) (sym (m.watches ∙ ap (λ (b : Contents). rewatched b new.watches) m.sought)) (record {
+    pub visited-leaves : length (list_at (watch_lists lists'.items) l) + 1 ≡ length (list_at (watch_lists c.lists.items) l) →
+        HasVisited values c (record { blocks = rewatched (searched c.blocks (e / 2) next) ws; lists = lists' }) l index Leaves
+    visited-leaves shorter = record {
       lists = m.sizes.1;
-      running = moved;
-      served = λ walked old. served-move visiting shifted c.blocks.literals walked old;
+      running = resumed next round (omega (arith, one, less)) (stored-move s.run.stored was.live (Contains-get_or (clause_of c e) stop.position 0 inside)
+          (λ h. (s.found less 0).1 (h ∙ sym s.other_is)) m) (blocked-more c.blocks.literals (record { watch = e; blocker = other }) c.lists.items lists'.items m.more
+          (rw s.other_is (other-watched s.run e was.live)) s.run.blocked) m.sizes.1 still (λ k d at now.
+          let place : k ≡ stop.passed = omega (arith, at, now, one) in
+          let next_is = turned-round (start_of s.run e) stop (clause_of c e) d stopped less ∙ get_or_default (clause_of c e) stop.position d 0 inside in
+          let same : get_or (ordered s.run e) k d ≡ (watch_at ws e).literal = rw place (next_is ∙ sym m.moved.0) in
+          grind (arith, same, halves e));
+      served = λ walked old. record {
+        failed = old.failed;
+        now = old.now;
+        done = λ k live h. let r = stayed k (old.failed (watch_at ws k).literal h) in old.done k (sym r.live ∙ live) (subst (Contains walked) r.literal h);
+        here = λ k live h less. let r = stayed k (ap (false_at values) h ∙ s.failed) in old.here k (sym r.live ∙ live) (sym r.literal ∙ h)
+            (omega (arith, r.spot less, less));
+      };
       found = shorter;
-      kept = λ k live failed.
-          let r = shifted-old visiting shifted k failed in
-          (r.live, r.literal);
-    })
+      kept = λ k live failed. let r = stayed k failed in (r.live, r.literal);
+    }
 
 -- an entry has another blocker, a literal of its clause
 pub running-blocked : (c : Clauses) (values : List (Option Bool)) (entry : Listed) (lists' : Vec (Vec Listed Global) Global) → IsRunning values c → watch_lists lists'.items ≡ watch_lists c.lists.items → AreMore entry c.lists.items lists'.items → Contains (list_at c.blocks.literals (entry.watch / 2)) entry.blocker → IsRunning values (record { blocks = c.blocks; lists = lists' })
-running-blocked c values entry lists' run same more here = record {
-  starts = run.starts;
-  stored = subst (AreStored c.blocks.literals c.blocks.watches) (sym same) run.stored;
-  blocked = blocked-more c.blocks.literals entry c.lists.items lists'.items more here run.blocked;
-  passed = run.passed;
-  round = run.round;
-  sizes = omega (arith, run.sizes, lists-length c.lists.items, lists-length lists'.items, ap length same);
-}
+running-blocked c values entry lists' run same more here =
+    let blocked = blocked-more c.blocks.literals entry c.lists.items lists'.items more here run.blocked in
+    let sizes : length lists'.items ≡ 4 * length values = omega (arith, run.sizes, lists-length c.lists.items, lists-length lists'.items, ap length same) in
+    record { starts = run.starts; stored = rw same run.stored; blocked = blocked; passed = run.passed; round = run.round; sizes = sizes }
 
 -- a true literal of the clause was read
-pub visited-stays : (c : Clauses) (values : List (Option Bool)) (l index e x : ℕ) (lists' : Vec (Vec Listed Global) Global) → IsRunning values (record { blocks = c.blocks; lists = lists' }) → watch_lists lists'.items ≡ watch_lists c.lists.items → slice_get (list_at (watch_lists c.lists.items) l) index ≡ Some e → Contains (list_at c.blocks.literals (e / 2)) x → true_at values x ≡ true → HasVisited values c (record { blocks = c.blocks; lists = lists' }) l index Stays
+pub visited-stays : (c : Clauses) (values : List (Option Bool)) (l index e x : ℕ) (lists' : Vec (Vec Listed Global) Global) →
+    IsRunning values (record { blocks = c.blocks; lists = lists' }) → watch_lists lists'.items ≡ watch_lists c.lists.items →
+    slice_get (list_at (watch_lists c.lists.items) l) index ≡ Some e → Contains (clause_of c e) x → true_at values x ≡ true →
+    HasVisited values c (record { blocks = c.blocks; lists = lists' }) l index Stays
 visited-stays c values l index e x lists' run same item here met = search (rules, lists-length, served-true, run.stored.linked)
-
--- the blocker of an entry is a literal of the clause
-pub blocker-small : (c : Clauses) (values : List (Option Bool)) (x : Listed) → IsRunning values c → IsListed c.lists.items x → x.blocker < 4 * length values
-blocker-small c values x run there =
-    omega (arith, All-contains (λ y. y < length (watch_lists c.lists.items)) (list_at c.blocks.literals (x.watch / 2)) x.blocker (run.stored.inside (x.watch / 2)) (run.blocked x there), lists-length c.lists.items, run.sizes)

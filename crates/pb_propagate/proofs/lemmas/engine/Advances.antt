@@ -1,6 +1,6 @@
 -- What a part of a run does: nothing, one part after another, and more that pays.
-use Rattle.pb_propagate.proofs.Common.{rules, ℕ, ◌+◌, ◌≡◌, ◌≤◌, arith, length, List, refl, Err, Ok, OnErr, Result, sum, Advances, Costs}
-use Rattle.pb_propagate.proofs.Common.{Database, Progress, visited_to}
+use Rattle.pb_propagate.proofs.Common.{rules, ℕ, ◌+◌, ◌≡◌, ◌≤◌, arith, length, List, refl, Err, Ok, OnErr, Result, sum, Advances, Costs, Database, Progress}
+use Rattle.pb_propagate.proofs.Common.{◌*◌, ◌-◌, ◌<◌, Clauses, list_at, watch_lists, passed_of}
 use Rattle.pb_propagate.proofs.lemmas.root.Extends.{extends-none, extends-then}
 
 pub on-err : {A E P : Type 0} (r : Result A E) → P → OnErr r P
@@ -32,5 +32,40 @@ pub advances-refl : (d : Database) (p : Progress) → Advances d 0 0 p p
 advances-refl d p = advances-counted d p p.candidates p.visits 0 0 refl (omega arith) (omega arith)
 
 -- some visits were made
-pub advances-visit : (d : Database) (p : Progress) (seen m n : ℕ) → p.visits ≤ seen → seen + m ≤ p.visits + n → Advances d m n p (visited_to seen p)
+pub advances-visit : (d : Database) (p : Progress) (seen m n : ℕ) → p.visits ≤ seen → seen + m ≤ p.visits + n → Advances d m n p (record p { visits = seen })
 advances-visit d p seen m n rising most = advances-counted d p p.candidates seen m n refl rising (omega (arith, most))
+
+-- What a walk over the watches of a literal costs.
+
+-- the length of a literal's list of watches
+abbrev pub size_at : Clauses → ℕ → ℕ
+size_at c l = length (list_at (watch_lists c.lists.items) l)
+
+-- two visits are left for each watch from a position on
+abbrev pub WalkIsAt : Database → Clauses → Clauses → ℕ → ℕ → Progress → Progress → Type 0
+WalkIsAt d c0 c l index start now = Advances d (sum (passed_of c0) + 2 * (size_at c l - index)) (2 * size_at c0 l + sum (passed_of c)) start now
+
+abbrev pub WalkIsDone : Database → Clauses → Clauses → ℕ → Progress → Progress → Type 0
+WalkIsDone d c0 c l start now = Advances d (sum (passed_of c0)) (2 * size_at c0 l + sum (passed_of c)) start now
+
+pub walk-start : (d : Database) (c : Clauses) (l : ℕ) (start : Progress) → WalkIsAt d c c l 0 start start
+walk-start d c l start = advances-as (sum (passed_of c) + 2 * (size_at c l - 0)) (2 * size_at c l + sum (passed_of c)) (omega arith) (advances-refl d start)
+
+-- a visit to the watch at a position
+pub walk-next : (d : Database) (c0 c c' : Clauses) (l index index' seen : ℕ) {start now : Progress} → index < size_at c l → index' ≤ size_at c' l → size_at c' l + index + 1 ≡ size_at c l + index' → seen + sum (passed_of c) ≤ now.visits + 2 + sum (passed_of c') → now.visits ≤ seen → WalkIsAt d c0 c l index start now → WalkIsAt d c0 c' l index' start (record now { visits = seen })
+walk-next d c0 c c' l index index' seen {start} {now} inside within count covered rising a = grind (arith, advances-as, advances-then, advances-visit)
+
+-- watches that are passed
+pub walk-pass : (d : Database) (c0 c : Clauses) (l index j seen : ℕ) {start now : Progress} → index ≤ j → j ≤ size_at c l → seen ≤ now.visits + (j - index) → now.visits ≤ seen → WalkIsAt d c0 c l index start now → WalkIsAt d c0 c l j start (record now { visits = seen })
+walk-pass d c0 c l index j seen {start} {now} after within few rising a = grind (arith, advances-as, advances-then, advances-visit)
+
+-- a visit that ends the walk
+pub walk-ends : (d : Database) (c0 c c' : Clauses) (l index seen : ℕ) {start now : Progress} → index < size_at c l → seen + sum (passed_of c) ≤ now.visits + 2 + sum (passed_of c') → now.visits ≤ seen → WalkIsAt d c0 c l index start now → WalkIsDone d c0 c' l start (record now { visits = seen })
+walk-ends d c0 c c' l index seen {start} {now} inside covered rising a = grind (arith, advances-as, advances-then, advances-visit)
+
+-- what costs nothing more
+pub walk-then : {d : Database} {m n : ℕ} {start now after : Progress} → Advances d m n start now → Advances d 0 0 now after → Advances d m n start after
+walk-then {d} {m} {n} a b = advances-as m n (omega arith) (advances-then a b)
+
+pub walk-costs : {d : Database} {m n : ℕ} {start now after : Progress} → Costs d m n start now → Costs d 0 0 now after → Costs d m n start after
+walk-costs {d} {m} {n} a b = costs-as m n (omega arith) (costs-then a b)

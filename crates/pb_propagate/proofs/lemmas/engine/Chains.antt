@@ -1,6 +1,6 @@
 -- Lists of free slots, of which one is changed.
-use Rattle.pb_propagate.proofs.Common.{ℕ, ◌++◌, ◌<◌, ◌∷◌, ◌≡◌, [], arith, Contains, get_or, get_or-set_other, get_or_append_left, length}
-use Rattle.pb_propagate.proofs.Common.{length-append, length-set, List, set, subst, suc, sym, get_or-set_same, get_or_past}
+use Rattle.pb_propagate.proofs.Common.{ℕ, ◌++◌, ◌<◌, ◌∷◌, ◌≡◌, [], arith, Contains, get_or, get_or-set_other, get_or_append_left, length, length-append, length-set}
+use Rattle.pb_propagate.proofs.Common.{List, set, subst, suc, sym, get_or-set_same, get_or_past}
 use Rattle.std.proofs.lemmas.List.{get_or-replicate, length-replicate}
 use Rattle.std.specs.Prelude.{replicate}
 use Rattle.pb_propagate.specs.declared.free.Free.{Free}

@@ -1,14 +1,13 @@
 -- Literals on a list, tested and counted. Offered to other crates.
-use Rattle.pb_propagate.proofs.Common.{ℕ, ◌++◌, ◌+◌, ◌<◌, ◌||◌, ◌∙◌, ◌∷◌, ◌≡◌, ◌≤◌, ◌⊎◌, [], ap, arith, Bool, eq-eqb, false, get_or, length, List, not, refl}
-use Rattle.pb_propagate.proofs.Common.{suc, true, zero, ◌==◌, Contains, sum_by, not-not, or-false, and_parts, eqb-true, or_left, or_right, list_any-append}
-use Rattle.pb_propagate.proofs.Common.{sum_by-cons, sum_by-le-sum_by, beq, list_any, NumberedLiteral, negation, Term, IsWithin, open_sum}
-use Rattle.pb_propagate.specs.engine.engine.Lists.{same, has, open_part}
-
-pub beq-true : (a b : Bool) → beq a b ≡ true → a ≡ b
-beq-true a b h = grind arith
-
-pub beq-refl : (a : Bool) → beq a a ≡ true
-beq-refl a = grind arith
+use Rattle.pb_propagate.proofs.Common.{ℕ, ◌+◌, ◌<◌, ◌∷◌, ◌≡◌, ◌≤◌, [], arith, get_or, get_or-set_other, length, List, refl, set, suc, true, sum, sum_by, or_left}
+use Rattle.pb_propagate.proofs.Common.{or_right, get_or_past, set_past, sum_by-cons, sum_by-set, sum_by_push, NumberedLiteral, negation, AreSingle, more, none, place}
+use Rattle.pb_propagate.proofs.Common.{spent, begin, Derives, put, Shape, Weighted, ◌++◌, ◌||◌, ◌∙◌, ◌⊎◌, ap, Bool, eq-eqb, false, not, zero, Contains, not-not}
+use Rattle.pb_propagate.proofs.Common.{or-false, eqb-true, list_any-append, sum_by-le-sum_by, beq, Term, IsWithin, open_sum, IsSettled, Puts, get_or_append_left}
+use Rattle.pb_propagate.proofs.Common.{get_or_push, length-append}
+use Rattle.pb_propagate.specs.engine.engine.Lists.{has, same, open_part}
+use Rattle.std.proofs.lemmas.List.Sums.{sum_by-remove}
+use Rattle.std.proofs.lemmas.List.Folds.{list_any_at}
+use Rattle.std.specs.List.{remove}
 
 pub beq-not : (a b : Bool) → beq (not a) b ≡ not (beq a b)
 beq-not a b = grind arith
@@ -21,13 +20,11 @@ literal_ext a b v n = grind (arith, a.negated, b.negated)
 
 pub same-true : (a b : NumberedLiteral) → same a b ≡ true → a ≡ b
 unfolding same
-same-true a b h =
-    let parts = and_parts (a.variable == b.variable) (beq a.negated b.negated) h in
-    literal_ext a b (eqb-true a.variable b.variable parts.0) (beq-true a.negated b.negated parts.1)
+same-true a b h = grind (arith, eqb-true, a.negated, b.negated, literal_ext)
 
 pub same-refl : (a : NumberedLiteral) → same a a ≡ true
 unfolding same
-same-refl a = rw (eq-eqb a.variable a.variable refl, beq-refl a.negated)
+same-refl a = grind (arith, eq-eqb a.variable a.variable refl, a.negated)
 
 pub negation-negation : (l : NumberedLiteral) → negation (negation l) ≡ l
 negation-negation l = literal_ext _ _ refl (not-not l.negated)
@@ -35,9 +32,7 @@ negation-negation l = literal_ext _ _ refl (not-not l.negated)
 -- one more literal
 pub has-push : (xs : List NumberedLiteral) (l k : NumberedLiteral) → has (xs ++ (l ∷ [])) k ≡ (has xs k || same l k)
 unfolding has
-has-push xs l k =
-    let split = list_any-append (λ x. same x k) xs (l ∷ []) in
-    rw split (ap (λ b. has xs k || b) (or-false (same l k)))
+has-push xs l k = rw (list_any-append (λ x. same x k) xs (l ∷ [])) (ap (λ b. has xs k || b) (or-false (same l k)))
 
 pub has-none : (k : NumberedLiteral) → has [] k ≡ false
 unfolding has
@@ -64,31 +59,90 @@ pub open_part-open : (list : List NumberedLiteral) (t : Term) → has list (nega
 unfolding open_part
 open_part-open list t h = rw h
 
-pub open_part-within : (a b : List NumberedLiteral) → IsWithin a b → (t : Term) → open_part b t ≤ open_part a t
-open_part-within a b w t =
-    grind (arith, open_part-falsified b t, open_part-open b t, open_part-falsified a t, open_part-open a t, w (negation t.literal))
-
 pub open_sum-within : (a b : List NumberedLiteral) → IsWithin a b → (terms : List Term) → open_sum b terms ≤ open_sum a terms
-open_sum-within a b w terms =
-    sum_by-le-sum_by (open_part b) (open_part a) terms (open_part-within a b w)
-
--- if one part of a sum is lower, and no other is higher
-sum_by-lower_at : {X : Type 0} (f g : X → ℕ) → ((x : X) → f x ≤ g x) → (xs : List X) (k : ℕ) (d : X) → k < length xs → sum_by f xs + g (get_or xs k d) ≤ sum_by g xs + f (get_or xs k d)
-sum_by-lower_at f g le [] k d h = absurd (omega (arith, h))
-sum_by-lower_at f g le (x ∷ xs) zero d h =
-    let low : sum_by f xs ≤ sum_by g xs = sum_by-le-sum_by f g xs le in
-    rw (sum_by-cons f x xs, sum_by-cons g x xs) (omega (arith, low))
-sum_by-lower_at f g le (x ∷ xs) (suc k) d h =
-    let here : k < length xs = omega (arith, h) in
-    rw (sum_by-cons f x xs, sum_by-cons g x xs) (omega (arith, le x, sum_by-lower_at f g le xs k d here))
+open_sum-within a b w terms = sum_by-le-sum_by (open_part b) (open_part a) terms (λ t.
+    grind (arith, open_part-falsified b t, open_part-open b t, open_part-falsified a t, open_part-open a t, w (negation t.literal)))
 
 -- a literal that the longer list falsifies takes its coefficient from the open sum
 pub open_sum-lower : (a b : List NumberedLiteral) → IsWithin a b → (terms : List Term) (t : Term) → Contains terms t → has a (negation t.literal) ≡ false → has b (negation t.literal) ≡ true → open_sum b terms + t.coefficient ≤ open_sum a terms
-open_sum-lower a b w terms t (k, inside, is) opened gone = grind (arith, sum_by-lower_at, open_part-within, open_part-falsified, open_part-open)
+open_sum-lower a b w terms t (k, inside, is) opened gone =
+    omega (
+      arith,
+      open_sum-within a b w (remove terms k),
+      sum_by-remove (open_part a) terms k t inside,
+      sum_by-remove (open_part b) terms k t inside,
+      ap (open_part a) is,
+      ap (open_part b) is,
+      open_part-falsified b t gone,
+      open_part-open a t opened,
+    )
 
 -- which literals are on a list
 pub has-get : (list : List NumberedLiteral) (i : ℕ) (d : NumberedLiteral) → i < length list → has list (get_or list i d) ≡ true
 unfolding has
-has-get [] i d inside = absurd (omega (arith, inside))
-has-get (x ∷ xs) zero d inside = or_left (same x x) (list_any (λ k. same k x) xs) (same-refl x)
-has-get (x ∷ xs) (suc i) d inside = or_right (same x (get_or xs i d)) (list_any (λ k. same k (get_or xs i d)) xs) (has-get xs i d (omega (arith, inside)))
+has-get list i d inside = list_any_at (λ k. same k (get_or list i d)) list i d inside (same-refl (get_or list i d))
+
+-- derivations, and what forces a literal
+pub derivation-keeps : (forms : List Shape) (a b : List NumberedLiteral) → Derives forms a b → IsWithin a b
+derivation-keeps forms a _ begin = λ l h. h
+derivation-keeps forms a _ (put {list} l d m) = λ k h. has-push_old list l k (derivation-keeps forms a list d k h)
+
+pub derivation-then : (forms : List Shape) (a b c : List NumberedLiteral) → Derives forms a b → Derives forms b c → Derives forms a c
+derivation-then forms a b _ d begin = d
+derivation-then forms a b _ d (put {list} l e m) = put l (derivation-then forms a b list d e) m
+
+pub one_itself : (f : Shape) → Contains (f ∷ []) f
+one_itself f = (0, omega arith, refl)
+
+-- the same from other constraints, among them the one that forces it
+pub puts-other : (a b : List Shape) (list : List NumberedLiteral) (l : NumberedLiteral) (m : Puts a list l) → Contains b m.form → Puts b list l
+puts-other a b list l m among = grind (arith, m.absent, m.not_falsified, m.term, m.forced)
+
+-- some element is the only one of a list
+pub only-itself : (x y : Shape) → Contains (x ∷ []) y → x ≡ y
+only-itself x y (zero, inside, is) = is
+only-itself x y (suc k, inside, is) = absurd (omega (arith, inside))
+
+-- a form is settled if each term that would be propagated is on the list or falsified
+pub settled-of_terms : (f : Shape) (list : List NumberedLiteral) → f.degree ≤ open_sum list f.terms → ((k : ℕ) (d : Term) → k < length f.terms → open_sum list f.terms < f.degree + (get_or f.terms k d).coefficient → has list (get_or f.terms k d).literal ≡ false → has list (negation (get_or f.terms k d).literal) ≡ false → ⊥) → IsSettled f list
+settled-of_terms f list met each = grind (arith, only-itself, f.terms)
+
+-- the default after a list changes nothing that is read
+pub get_or-push_default : {X : Type 0} (xs : List X) (d : X) (k : ℕ) → get_or (xs ++ (d ∷ [])) k d ≡ get_or xs k d
+get_or-push_default xs d k = grind (arith, get_or_append_left, get_or_push, get_or_past, length-append)
+
+-- sums over lists of literals, and lists with each literal once
+pub sum_by-agree : (f g : NumberedLiteral → ℕ) (list : List NumberedLiteral) → ((k : NumberedLiteral) → has list k ≡ true → f k ≡ g k) → sum_by f list ≡ sum_by g list
+unfolding has
+sum_by-agree f g [] e = refl
+sum_by-agree f g (x ∷ xs) e =
+    let rest = sum_by-agree f g xs (λ k h. e k (or_right (same x k) (has xs k) h)) in
+    omega (arith, sum_by-cons f x xs, sum_by-cons g x xs, rest, e x (or_left (same x x) (has xs x) (same-refl x)))
+
+pub place-injective : (k l : NumberedLiteral) → place k ≡ place l → k ≡ l
+place-injective k l e = grind (arith, k.negated, l.negated, literal_ext)
+
+-- a list of entries is emptied
+pub lists-clear : (lists : List (List Weighted)) (p : ℕ) → sum_by length (set lists p []) + length (get_or lists p []) ≡ sum_by length lists
+lists-clear lists p = grind (arith, sum_by-set, get_or_past, set_past)
+
+-- the lists of different literals are counted once
+pub spent-le : (lists : List (List Weighted)) (list : List NumberedLiteral) → AreSingle list → spent lists list ≤ sum_by length lists
+spent-le lists _ none = omega arith
+spent-le lists _ (more {list} l d absent) =
+    let p = place (negation l) in
+    let w = λ (ls : List (List Weighted)) (k : NumberedLiteral). length (get_or ls (place (negation k)) []) in
+    let agree = sum_by-agree (w lists) (w (set lists p [])) list (λ k h. grind (arith, place-injective, negation-negation, get_or-set_other)) in
+    omega (arith, spent-le (set lists p []) list d, agree, sum_by_push (w lists) list l, lists-clear lists p)
+
+pub derivation-single : (forms : List Shape) (a b : List NumberedLiteral) → AreSingle a → Derives forms a b → AreSingle b
+derivation-single forms a _ s begin = s
+derivation-single forms a _ s (put {list} l d m) = more l (derivation-single forms a list s d) m.absent
+
+-- the terms of the forms
+pub sum-bounded : (forms : List Shape) (cands : List ℕ) → length cands ≡ length forms → ((s : ℕ) (d : Shape) → s < length forms → get_or cands s 0 ≤ length (get_or forms s d).terms) → sum cands ≤ sum_by (λ f. length f.terms) forms
+sum-bounded forms [] e h = omega arith
+sum-bounded [] (c ∷ cs) e h = absurd (omega (arith, e))
+sum-bounded (f ∷ fs) (c ∷ cs) e h =
+    let rest = sum-bounded fs cs (omega (arith, e)) (λ s d less. h (suc s) d (omega (arith, less))) in
+    omega (arith, rest, h 0 f (omega arith), sum_by-cons (λ x. x) c cs, sum_by-cons (λ (x : Shape). length x.terms) f fs)

@@ -1,10 +1,8 @@
 -- Lists of literals with their reasons.
-use Rattle.pb_propagate.proofs.Common.{ℕ, ◌<◌, ◌∙◌, ◌∷◌, ◌≡◌, [], ap, arith, false, inl, inr, length, List, set, subst, sym, true, rules}
-use Rattle.pb_propagate.proofs.Common.{Contains, slice_get, Some, both_ways, get_or_from_slice_get, slice_get_within, NumberedLiteral, negation, Run}
-use Rattle.pb_propagate.proofs.Common.{begin, by_reason, Derives, from_given, has, HaveReasons, IsDue, IsWithin, KeepsReasons, put, Puts, Shape}
-use Rattle.pb_propagate.proofs.Common.{list_of, reasons_of, RunReasons, RunRecords}
-use Rattle.pb_propagate.proofs.lemmas.engine.Derivations.{only-itself, puts-other}
-use Rattle.pb_propagate.proofs.lemmas.engine.Literals.{has-none, has-push_old, has-push_new, has-push_cases}
+use Rattle.pb_propagate.proofs.Common.{ℕ, ◌<◌, ◌∙◌, ◌∷◌, ◌≡◌, [], ap, arith, false, inl, inr, length, List, set, subst, true, rules, Contains, slice_get, Some}
+use Rattle.pb_propagate.proofs.Common.{both_ways, get_or_from_slice_get, slice_get_within, NumberedLiteral, negation, Run, begin, by_reason, Derives, from_given, has}
+use Rattle.pb_propagate.proofs.Common.{HaveReasons, IsDue, IsWithin, KeepsReasons, put, Puts, Shape, list_of, reasons_of, RunReasons, RunRecords}
+use Rattle.pb_propagate.proofs.lemmas.engine.Literals.{only-itself, puts-other, derivation-keeps, has-none, has-push_old, has-push_new, has-push_cases}
 use Rattle.pb_propagate.proofs.lemmas.engine.Values.{has-neither}
 use Rattle.pb_propagate.proofs.lemmas.store.Gets.{get-set_same, get-set_other}
 
@@ -13,7 +11,7 @@ puts-among forms s x list l at m = puts-other (x ∷ []) forms list l m (subst (
 
 -- a constraint that puts a literal has a term of it
 pub puts-term : (x : Shape) (list : List NumberedLiteral) (l : NumberedLiteral) (m : Puts (x ∷ []) list l) → Contains x.terms (record { literal = l; coefficient = m.coefficient })
-puts-term x list l m = subst (λ (y : Shape). Contains y.terms (record { literal = l; coefficient = m.coefficient })) (sym (only-itself x m.form m.among)) m.term
+puts-term x list l m = rw (only-itself x m.form m.among) m.term
 
 -- each literal with a reason was propagated
 pub reasons-derive : {forms : List Shape} {reasons : List ℕ} {a b : List NumberedLiteral} → HaveReasons forms reasons a b → Derives forms a b
@@ -31,8 +29,7 @@ pub record IsMoved (forms : List Shape) (reasons : List ℕ) (l : NumberedLitera
 pub reasons-moved : (a b : List Shape) (old new : List ℕ) (given list : List NumberedLiteral) → ((l : NumberedLiteral) (s : ℕ) (x : Shape) → has list l ≡ true → slice_get old l.variable ≡ Some s → slice_get a s ≡ Some x → 0 < length x.terms → IsMoved b new l x) → HaveReasons a old given list → HaveReasons b new given list
 reasons-moved a b old new given _ f from_given = from_given
 reasons-moved a b old new given _ f (by_reason {list} l s x h at stored puts) =
-    let term = puts-term x list l puts in
-    let m = f l s x (has-push_new list l) at stored (omega (arith, term.1)) in
+    let m = f l s x (has-push_new list l) at stored (omega (arith, (puts-term x list l puts).1)) in
     by_reason l m.slot m.form (reasons-moved a b old new given list (λ k t y on. f k t y (has-push_old list l k on)) h) m.reason m.stored (m.puts list puts)
 
 -- the same constraint in the same slot
@@ -50,8 +47,7 @@ pub keeps-then : (a b : List NumberedLiteral) (old mid new : List ℕ) → IsWit
 keeps-then a b old mid new within f g l s on at = g l s (within l on) (f l s on at)
 
 pub reasons-within : {forms : List Shape} {reasons : List ℕ} (a b : List NumberedLiteral) → HaveReasons forms reasons a b → IsWithin a b
-reasons-within a _ from_given l h = h
-reasons-within a _ (by_reason {list} k s x h at stored puts) l on = has-push_old list k l (reasons-within a list h l on)
+reasons-within a b h = derivation-keeps _ a b (reasons-derive h)
 
 -- a run to which nothing was added, and two runs after each other
 pub run-reasons-none : (forms : List Shape) (run : Run) → RunReasons forms run run
@@ -83,11 +79,7 @@ due-term forms reasons _ slot l from_given due = absurd (both_ways _ (has-none l
 due-term forms reasons _ slot l (by_reason {list} k s x h at stored puts) due = elim (has-push_cases list k l due.0) [
   | inl old ↦ due-term forms reasons list slot l h (old, due.1)
   | inr is ↦
-      let same : Some s ≡ Some slot = sym at ∙ ap (λ (n : NumberedLiteral). slice_get reasons n.variable) is ∙ due.1 in
-      record {
-        form = x;
-        stored = ap (slice_get forms) (sym (let e : s ≡ slot = cc same in e)) ∙ stored;
-        coefficient = puts.coefficient;
-        term = subst (λ n. Contains x.terms (record { literal = n; coefficient = puts.coefficient })) is (puts-term x list k puts);
-      }
+      let at_l : slice_get reasons k.variable ≡ Some slot = rw is due.1 in
+      let same : s ≡ slot = cc in
+      record { form = x; stored = rw (← same) stored; coefficient = puts.coefficient; term = rw (← is) (puts-term x list k puts) }
 ]

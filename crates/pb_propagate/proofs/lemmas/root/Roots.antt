@@ -1,8 +1,8 @@
 -- The state to which questions return becomes that of the run.
-use Rattle.pb_propagate.proofs.Common.{IsTidy, beside, rules, ℕ, ◌+◌, ◌<◌, ◌∙◌, ◌≡◌, ◌≤◌, [], ap, arith, get_or, get_or-set_other, length, List, set, sym}
-use Rattle.pb_propagate.proofs.Common.{slice_get, slice_get_within, Some, ext_get_or, get_or_default, get_or_read, length-map, Assignment, Clauses, Waiting}
-use Rattle.pb_propagate.proofs.Common.{Rests, Run, Store, all_of, Walked, IsWalkedTo, heads_at, IsAbsent, IsCounted, IsUndone, rest_open, rest_start, shapes_of}
-use Rattle.pb_propagate.proofs.Common.{stored_shape, HaveReasons, KeepsReasons, Shape, size, from_given, HasForm, IsRooted, open_sum}
+use Rattle.pb_propagate.proofs.Common.{IsTidy, beside, rules, ℕ, ◌+◌, ◌<◌, ◌∙◌, ◌≡◌, ◌≤◌, [], ap, arith, get_or, get_or-set_other, length, List, set, sym, slice_get}
+use Rattle.pb_propagate.proofs.Common.{slice_get_within, Some, ext_get_or, get_or_default, get_or_read, length-map, Clauses, Waiting, Rests, Run, Store, all_of, Walked}
+use Rattle.pb_propagate.proofs.Common.{IsWalkedTo, heads_at, IsAbsent, IsCounted, IsUndone, shapes_of, stored_shape, HaveReasons, KeepsReasons, Shape, size, from_given}
+use Rattle.pb_propagate.proofs.Common.{HasForm, IsRooted, open_sum}
 use Rattle.std.proofs.lemmas.Grind.{get_or-set_at}
 use Rattle.pb_propagate.specs.engine.engine.Progress.{RunIsCalm}
 use Rattle.pb_propagate.specs.engine.engine.Propagation.{IsSaved}
@@ -31,16 +31,9 @@ keep-next rests rests' forms opens cands trail i form o c inside is room roomc o
 
 -- all of them
 pub keep-all : (rests : Rests) (forms : List Shape) (opens cands trail : List ℕ) (i : ℕ) → length trail ≤ i → length forms ≡ length opens → length cands ≡ length opens → length rests.opens.items ≡ length opens → length rests.starts.items ≡ length cands → IsUndone rests forms opens cands trail i → (rests.opens.items ≡ opens) × (rests.starts.items ≡ cands)
-keep-all rests forms opens cands trail i end long sizes osizes ssizes u = (
-  ext_get_or 0 rests.opens.items opens osizes (λ s less. get_or_default rests.opens.items s 0 (size (get_or forms s none).terms) less ∙ sym (clean s (omega (arith, less, osizes, long))).0),
-  ext_get_or 0 rests.starts.items cands ssizes (λ s less. sym (clean s (omega (arith, less, ssizes, long, sizes))).1),
-)
-  where
-    none : Shape
-    none = record { terms = []; degree = 0 }
-
-    clean : (s : ℕ) → s < length forms → (get_or opens s 0 ≡ rest_open rests s (get_or forms s none)) × (get_or cands s 0 ≡ rest_start rests s)
-    clean s less = u.clean s none less (λ j after short. absurd (omega (arith, after, short, end)))
+keep-all rests forms opens cands trail i end long sizes osizes ssizes u =
+    let none : Shape = record { terms = []; degree = 0 } in
+    (ext_get_or 0 rests.opens.items opens osizes (λ s less. grind (arith, get_or_default, u.clean s none)), ext_get_or 0 rests.starts.items cands ssizes (λ s less. grind (arith, u.clean s none)))
 
 -- the parts of a root that lists of forms that wait do not touch
 pub record IsEnded (store : Store) (clauses : Clauses) (run : Run) (walked : Walked) : Type 0 where
@@ -68,21 +61,14 @@ kept-rooted store clauses run run' rests rests' aside waiting' walked e tidy wai
 pub new-rooted : (store : Store) (clauses : Clauses) (run : Run) (rests : Rests) (waiting : Waiting) (walked : Walked) → store.stored.items ≡ [] → store.variables ≡ 0 → run.assignment.values.items ≡ [] → run.assignment.list.items ≡ [] → run.opens.items ≡ [] → run.candidates.items ≡ [] → run.work.items ≡ [] → run.trail.items ≡ [] → run.next ≡ 0 →
     rests.opens.items ≡ [] → rests.starts.items ≡ [] → waiting.list.items ≡ [] → waiting.positions.items ≡ [] → walked.heads ≡ heads_at 0 → walked.marks.items ≡ [] → IsRooted store clauses run rests waiting walked (length store.stored.items)
 new-rooted store clauses run rests waiting walked none variables values list opens cands work trail next rest_opens rest_starts waits positions heads marks =
-    let empty = ap length none in
-    let shapes = length-map store.stored.items stored_shape in
-    let tidy : IsTidyRoot store run rests waiting (length store.stored.items) =
-    Tidy-rest (opens ∙ sym rest_opens) (cands ∙ sym rest_starts) (shapes ∙ empty ∙ sym (ap length opens)) (λ s d less. absurd (omega (arith, less, empty, shapes))) (λ s d less. absurd (omega (arith, less, empty, shapes))) (λ s d less. absurd (omega (arith, less, empty, shapes))) in
-    let walks : IsWalkedTo clauses run.assignment.list.items walked = rw list (walks-none clauses walked heads marks) in
-    let reasoned : HaveReasons (all_of store clauses) run.assignment.reasons.items [] run.assignment.list.items = rw list from_given in
-    let live : (i s : ℕ) → slice_get waiting.list.items i ≡ Some s → HasForm store s = λ i s at. absurd (omega (arith, slice_get_within waiting.list.items i s at, ap length waits)) in
-    search (rules, ap length values, ap length opens, ap length cands, ap length positions)
+    grind (arith, slice_get_within, walks-none, from_given)
 
--- other reasons for the same literals, another count of visits, and the same forms that wait
-pub rooted-as : {store : Store} {clauses : Clauses} {run : Run} {rests : Rests} {waiting : Waiting} {walked : Walked} {busy : ℕ} (a : Assignment) (visits : ℕ) (waiting' : Waiting) → a.list ≡ run.assignment.list → a.values ≡ run.assignment.values → HaveReasons (all_of store clauses) a.reasons.items [] a.list.items → waiting'.list ≡ waiting.list → waiting'.positions ≡ waiting.positions → IsRooted store clauses run rests waiting walked busy →
-    IsRooted store clauses (record run { assignment = a; visits = visits }) rests waiting' walked busy
-rooted-as a visits waiting' list values reasoned waits positions r = search (rules, list, values, waits, positions)
-
--- one more variable, which has no value
-pub widened-rooted : (store store' : Store) (clauses clauses' : Clauses) (run : Run) (assignment : Assignment) (rests : Rests) (waiting : Waiting) (walked : Walked) → store'.stored ≡ store.stored → store'.variables ≡ store.variables + 1 → clauses'.blocks.literals ≡ clauses.blocks.literals → clauses'.blocks.watches ≡ clauses.blocks.watches → assignment.list.items ≡ run.assignment.list.items → length assignment.values.items ≡ length run.assignment.values.items + 1 → KeepsReasons run.assignment.list.items run.assignment.reasons.items assignment.reasons.items →
-    IsRooted store clauses run rests waiting walked (length store.stored.items) → IsRooted store' clauses' (record run { assignment = assignment }) rests waiting walked (length store'.stored.items)
-widened-rooted store store' clauses clauses' run assignment rests waiting walked stored variables literals watches list values keeps r = grind (arith, reasons-keep, r.reasoned)
+-- the root again, over the same forms: its literals may have other reasons, and be walked otherwise
+pub rooted-again : {store store' : Store} {clauses clauses' : Clauses} {run run' : Run} {rests : Rests} {waiting : Waiting} {walked walked' : Walked} →
+    IsRooted store clauses run rests waiting walked (length store.stored.items) →
+    store'.stored.items ≡ store.stored.items → length run'.assignment.values.items ≡ store'.variables → run'.opens.items ≡ rests.opens.items →
+    run'.candidates.items ≡ rests.starts.items → run'.assignment.list.items ≡ run.assignment.list.items →
+    run'.work.items ≡ [] → run'.trail.items ≡ [] → run'.next ≡ 0 → KeepsReasons run.assignment.list.items run.assignment.reasons.items run'.assignment.reasons.items →
+    clauses'.blocks.literals ≡ clauses.blocks.literals → IsWalkedTo clauses' run.assignment.list.items walked' →
+    IsRooted store' clauses' run' rests waiting walked' (length store'.stored.items)
+rooted-again r kept values opens starts list work trail next keeps literals walks = grind (arith, reasons-keep, r.reasoned, r.opens, r.starts)

@@ -1,144 +1,182 @@
 -- The store after a form was added, removed or emptied.
-use Rattle.pb_propagate.proofs.Common.{stored_form, stored_terms}
-use Rattle.pb_propagate.proofs.Common.{ℕ, ◌++◌, ◌+◌, ◌<◌, ◌∙◌, ◌∷◌, ◌≡◌, [], ap, arith, get_or, get_or-set_other, get_or-set_same, Global}
-use Rattle.pb_propagate.proofs.Common.{length, length-append, length-set, List, None, refl, set, subst, sym, take, Vec, Option}
-use Rattle.pb_propagate.proofs.Common.{set-append_seam, cases_eq, cases_lt, get_or-take, get_or_append_left, get_or_past, get_or_push, length-map, length-take, length-take-le}
-use Rattle.pb_propagate.proofs.Common.{map-append, map-set, set-set, take-map, take_all, take_more, All-push, All-set, All-take, Form, Occurrence}
-use Rattle.pb_propagate.proofs.Common.{Spots, spots_in, StoredForm, Term, entries_of, forms_of, shapes_of, spots_of, stored_shape, cut, degree_at, IsLinked, IsStored}
-use Rattle.pb_propagate.proofs.Common.{terms_at, AreInside, Shape}
+use Rattle.pb_propagate.proofs.Common.{slice_get_past, stored_form, stored_terms, ℕ, ◌⊎◌, ◌++◌, ◌+◌, ◌<◌, ◌∙◌, ◌∷◌, ◌≡◌, [], All, All-permutation, All-set, ap, arith, get_or}
+use Rattle.pb_propagate.proofs.Common.{get_or-set_other, get_or-set_same, Global, inl, inr, IsPermutation, IsPermutation-sym, length, length-append, length-set, List}
+use Rattle.pb_propagate.proofs.Common.{map, None, NumberedLiteral, place, refl, set, set-get_or, set_past, slice_get, slice_get-get_or, slice_get_within, sym, take, Vec}
+use Rattle.pb_propagate.proofs.Common.{Option, cases_eq, cases_lt, false, get_or-take, get_or_append_left, get_or_default, get_or_from_slice_get, get_or_past}
+use Rattle.pb_propagate.proofs.Common.{get_or_push, length-map, length-take, length-take-le, map-append, map-set, take_all, Form, Occurrence, entry_of, entry_weight}
+use Rattle.pb_propagate.proofs.Common.{NameForms, weight_in, weight_on, weighted, Weighted, Spots, spots_in, StoredForm, Term, entries_of, forms_of, lists_of, shapes_of}
+use Rattle.pb_propagate.proofs.Common.{spots_of, stored_shape, cut, degree_at, IsLinked, IsStored, term_at, terms_at, AreInside, Shape}
 use Rattle.std.proofs.lemmas.Grind.{get_or-set_at}
-use Rattle.pb_propagate.proofs.lemmas.store.Gets.{last-is, push-default}
-use Rattle.pb_propagate.proofs.lemmas.store.Places.{entries-length}
+use Rattle.std.proofs.lemmas.List.Sums.{sum_by-le}
+use Rattle.std.proofs.Math.ListN.{get_or-map as get_or-map_all}
+use Rattle.std.proofs.lemmas.List.{get_or-map}
+use Rattle.pb_normal.specs.declared.entry.Entry.{Entry as Given}
+use Rattle.pb_propagate.specs.declared.store.spots.Spots.TheVariants.{Empty}
+use Rattle.pb_propagate.specs.declared.store.stored_form.StoredForm.TheVariants.{Vacant}
+use Rattle.pb_propagate.proofs.lemmas.engine.Runs.{entry_weight-other}
+use Rattle.pb_propagate.proofs.lemmas.store.Weights.{named-term, entries-length, entry-weighted, map-agree}
+use Rattle.pb_propagate.proofs.lemmas.store.Gets.{push-default}
 use Rattle.pb_propagate.proofs.lemmas.store.Links.{cut-length}
-use Rattle.pb_propagate.proofs.lemmas.store.Storages.{linked-named, link-start, link-end, link-vacant, cut-all}
-use Rattle.pb_propagate.proofs.lemmas.store.Weights.{entries-apart, others-named, others-past, terms-before, terms-set}
+use Rattle.pb_propagate.proofs.lemmas.store.Placed.{agree-sum}
 
--- the element at the end is replaced
-pub set-end : {X : Type 0} (xs ys : List X) (n : ℕ) (y z : X) → ys ≡ xs ++ (y ∷ []) → n ≡ length xs → set ys n z ≡ xs ++ (z ∷ [])
-set-end xs ys n y z e at = ap (λ zs. set zs n z) e ∙ ap (λ m. set (xs ++ (y ∷ [])) m z) at ∙ set-append_seam xs y [] z
+pub kept-inside : (ts : List Term) (es : List Given) (n : ℕ) → IsPermutation (map entry_of ts) es → All (λ e. e.variable < n) es → AreInside n ts
+kept-inside ts es n p all k d h =
+    let back = All-permutation (λ (e : Given). e.variable < n) es (map entry_of ts) (IsPermutation-sym (map entry_of ts) es p) all in
+    let here = back k (entry_of d) (omega (arith, h, length-map ts entry_of)) in
+    rw (get_or-map entry_of ts k d (entry_of d) h) at here
 
-pub empty-end : (keep keep' : List StoredForm) (k : StoredForm) (n : ℕ) → keep' ≡ keep ++ (k ∷ []) → n ≡ length keep → (stored_terms k) ≡ [] → terms_at (shapes_of keep') n ≡ []
-empty-end keep keep' k n e at empty =
-    rw (e, map-append stored_shape keep (k ∷ [])) (ap (λ (f : Shape). f.terms) (last-is (shapes_of keep) (stored_shape k) (record { terms = []; degree = 0 }) n (at ∙ sym (length-map keep stored_shape))) ∙ empty)
+-- what is read of a slot
+abbrev bare : Shape
+bare = record { terms = []; degree = 0 }
 
-none_inside : (n : ℕ) (ts : List Term) → ts ≡ [] → AreInside n ts
-none_inside n ts h i d less = absurd (omega (arith, less, ap length h))
+pub terms-read : (keep : List StoredForm) (s : ℕ) → terms_at (shapes_of keep) s ≡ stored_terms (get_or keep s Vacant)
+terms-read keep s = ap (λ (f : Shape). f.terms) (get_or-map_all stored_shape keep s Vacant)
+
+spots-read : (sp : List Spots) (s : ℕ) → get_or (spots_of sp) s [] ≡ spots_in (get_or sp s Empty)
+spots-read sp s = get_or-map_all spots_in sp s Empty
+
+module _ {old : List Shape} {spots : List (List ℕ)} {lists : List (List Weighted)} (linked : IsLinked old spots lists) where
+  -- each entry names a form of the list
+  linked-named : NameForms (length old) lists
+  linked-named p k d h =
+      let e = get_or (get_or lists p []) k d in
+      let named = named-term old spots lists p k e (slice_get-get_or (get_or lists p []) k d h) linked in
+      let inside = slice_get_within (terms_at old e.form) e.index named.term named.is in
+      grind (arith, get_or_past, inside)
+
+  -- so the lists have the coefficients of each form, also of one past the end
+  linked-any : (s : ℕ) (l : NumberedLiteral) → weight_in s (get_or lists (place l) []) ≡ weight_on l (terms_at old s)
+  linked-any s l = elim (cases_lt s (length old)) [
+    | inl less ↦ linked.linked s bare l less
+    | inr past ↦
+        let es = get_or lists (place l) [] in
+        let apart : (k : ℕ) (d : Weighted) → k < length es → s ≡ (get_or es k d).form → ⊥ = λ k d h e. omega (arith, e, linked-named (place l) k d h, past) in
+        let none = sum_by-le (entry_weight s) 0 es (λ k d h. omega (arith, entry_weight-other s (get_or es k d) (apart k d h))) in
+        let empty : weight_on l (terms_at old s) ≡ 0 = ap (λ (f : Shape). weight_on l f.terms) (get_or_past old s bare past) in
+        omega (arith, none, empty)
+  ]
+
+  -- forms with the same terms, of which each that has terms has the same positions
+  linked-same : (forms : List Shape) (spots' : List (List ℕ)) → ((s : ℕ) → terms_at forms s ≡ terms_at old s) →
+      ((s : ℕ) → (terms_at old s ≡ []) ⊎ (get_or spots' s [] ≡ get_or spots s [])) → length spots' ≡ length forms → IsLinked forms spots' lists
+  linked-same forms spots' terms positions sizes =
+      let same : (s i : ℕ) → term_at forms spots' s i ≡ term_at old spots s i = λ s i. grind (arith, positions s, terms s, slice_get_past) in
+      record {
+        linked = λ s d l less. linked-any s l ∙ ap (weight_on l) (sym (terms s) ∙ ap (λ (f : Shape). f.terms) (get_or_default forms s bare d less));
+        totals = linked.totals ∙ agree-sum (λ (f : Shape). length f.terms) bare refl old forms (λ s. ap length (sym (terms s)));
+        crossed = λ s i p q w. (λ h. (linked.crossed s i p q w).0 (sym (same s i) ∙ h), λ h. same s i ∙ (linked.crossed s i p q w).1 h);
+        sizes = sizes;
+      }
+
+-- the entries do not change with forms that no entry names
+entries-kept : {old : List Shape} {spots : List (List ℕ)} (base forms : List Shape) (occ : List (Vec Occurrence Global)) → IsLinked old spots (entries_of base occ) →
+    ((s : ℕ) → 0 < length (terms_at old s) → terms_at forms s ≡ terms_at old s) → entries_of forms occ ≡ entries_of base occ
+entries-kept {old} {spots} base forms occ linked same =
+    let each = λ (xs : List Shape) (v : Vec Occurrence Global). map (weighted xs) v.items in
+    map-agree (each forms) (each base) occ (λ p v h. map-agree (weighted forms) (weighted base) (get_or occ p v).items (λ k o less.
+    let items = (get_or occ p v).items in
+    let x = get_or items k o in
+    let listed : get_or (lists_of occ) p [] ≡ items = get_or-map (λ (u : Vec Occurrence Global). u.items) occ p v [] h in
+    let got = entry-weighted base occ p k x (ap (λ (xs : List Occurrence). slice_get xs k) listed ∙ slice_get-get_or items k o less) in
+    let named = named-term old spots (entries_of base occ) p k (weighted base x) got linked in
+    let inside = slice_get_within (terms_at old x.form) x.index named.term named.is in
+    let none : Term = record { literal = record { variable = 0; negated = false }; coefficient = 0 } in
+    grind (arith, same x.form (omega (arith, inside)), get_or_from_slice_get (terms_at old x.form) x.index named.term none named.is, named.weight)))
+
+-- one slot has no terms, and the others are as they were
+pub record IsEmptied (keep keep' : List StoredForm) (sp sp' : List Spots) (slot : ℕ) : Type 0 where
+  pub terms : terms_at (shapes_of keep') slot ≡ []
+  pub spots : get_or (spots_of sp') slot [] ≡ []
+  pub others : (s : ℕ) → (s ≡ slot) ⊎ ((terms_at (shapes_of keep') s ≡ terms_at (shapes_of keep) s) × (get_or (spots_of sp') s [] ≡ get_or (spots_of sp) s []))
+  pub sizes : length sp' ≡ length keep'
+
+pub emptied-stored : {keep keep' : List StoredForm} {sp sp' : List Spots} {n slot : ℕ} (sp0 : List Spots) (occ occ0 : List (Vec Occurrence Global)) →
+    IsEmptied keep keep' sp sp' slot → length occ ≡ length occ0 → ((s : ℕ) → length (get_or (spots_of sp) s []) ≡ length (get_or (spots_of sp0) s [])) →
+    IsLinked (cut (shapes_of keep) slot 0) (spots_of sp) (entries_of (shapes_of keep) occ) →
+    IsStored (shapes_of keep) (spots_of sp0) (entries_of (shapes_of keep) occ0) n → IsStored (shapes_of keep') (spots_of sp') (entries_of (shapes_of keep') occ) n
+emptied-stored {keep} {keep'} {sp} {sp'} {n} {slot} sp0 occ occ0 e count rooms linked old =
+    let base = shapes_of keep in
+    let forms = shapes_of keep' in
+    let mid = cut base slot 0 in
+    let terms : (s : ℕ) → terms_at forms s ≡ terms_at mid s =
+    λ s. grind (arith, e.others s, cases_eq s slot, cases_lt slot (length base), get_or-set_at, get_or-set_other, set_past, get_or_past, e.terms) in
+    let positions : (s : ℕ) → (terms_at mid s ≡ []) ⊎ (get_or (spots_of sp') s [] ≡ get_or (spots_of sp) s []) = λ s. grind (arith, e.others s, terms s, e.terms) in
+    let sizes : length (spots_of sp') ≡ length forms = omega (arith, e.sizes, length-map sp' spots_in, length-map keep' stored_shape) in
+    let whole = linked-same linked forms (spots_of sp') terms positions sizes in
+    let room : (s : ℕ) → length (get_or (spots_of sp0) s []) ≡ length (terms_at base s) =
+    λ s. grind (arith, cases_lt s (length base), get_or_past, old.rooms s, old.whole.sizes) in
+    rw (entries-kept base forms occ linked (λ s some. terms s)) (record {
+      whole = whole;
+      named = linked-named whole;
+      places = omega (arith, old.places, count, entries-length base occ, entries-length base occ0);
+      inside = λ s d less k t h. grind (arith, e.others s, e.terms, h, get_or_default forms s d bare, less, cases_lt s (length base), get_or_past, old.inside s bare);
+      rooms = λ s less. grind (arith, e.others s, e.terms, e.spots, rooms s, room s);
+    })
 
 -- an empty form after the others
-pub widened-forms : (keep : List StoredForm) (k : StoredForm) (sp : List Spots) (v : Spots) (occ : List (Vec Occurrence Global)) (n : ℕ) → (stored_terms k) ≡ [] → spots_in v ≡ [] →
-    IsStored (shapes_of keep) (spots_of sp) (entries_of (shapes_of keep) occ) n → IsStored (shapes_of (keep ++ (k ∷ []))) (spots_of (sp ++ (v ∷ []))) (entries_of (shapes_of (keep ++ (k ∷ []))) occ) n
-widened-forms keep k sp v occ n empty no_spots old =
-    let forms = shapes_of keep in
-    let x : Shape = stored_shape k in
-    let base = forms ++ (x ∷ []) in
-    let long : length base ≡ length forms + 1 = length-append forms (x ∷ []) in
-    let terms_here : terms_at base (length forms) ≡ [] = ap (λ (f : Shape). f.terms) (last-is forms x (record { terms = []; degree = 0 }) (length forms) refl) ∙ empty in
-    let same : entries_of base occ ≡ entries_of forms occ = entries-apart forms base occ (length forms) (λ k n. terms-before forms x k n) (others-past forms occ (length forms) old.named) in
-    let with_end : IsLinked base (spots_of sp ++ ([] ∷ [])) (entries_of forms occ) = rw (cut-all base (length forms) 0 (omega (arith, ap length terms_here))) at (link-start forms (spots_of sp) (entries_of forms occ) x old.whole) in
-    let whole : IsLinked base (spots_of sp ++ ([] ∷ [])) (entries_of base occ) = subst (IsLinked base (spots_of sp ++ ([] ∷ []))) (sym same) with_end in
-    let forms_more : shapes_of (keep ++ (k ∷ [])) ≡ base = map-append stored_shape keep (k ∷ []) in
-    let spots_more : spots_of (sp ++ (v ∷ [])) ≡ spots_of sp ++ ([] ∷ []) = map-append spots_in sp (v ∷ []) ∙ ap (λ ys. spots_of sp ++ (ys ∷ [])) no_spots in
-    rw (forms_more, spots_more) (record {
-      whole = whole;
-      named = linked-named base (spots_of sp ++ ([] ∷ [])) (entries_of base occ) whole;
-      places = omega (arith, old.places, entries-length forms occ, entries-length base occ);
-      inside = All-push (λ (f : Shape). AreInside n f.terms) forms x old.inside (none_inside n (stored_terms k) empty);
-      rooms = λ s less. grind (arith, cases_lt s (length forms), push-default (spots_of sp) s [], get_or_append_left, get_or_past, get_or_push, old.rooms s, old.whole.sizes, long, empty);
-    })
+pub emptied-push : {keep keep' : List StoredForm} {sp sp' : List Spots} (k : StoredForm) → keep' ≡ keep ++ (k ∷ []) → sp' ≡ sp ++ (Empty ∷ []) → stored_terms k ≡ [] →
+    length sp ≡ length keep → IsEmptied keep keep' sp sp' (length keep)
+emptied-push {keep} {keep'} {sp} {sp'} k a b empty sizes = rw (a, b) (record {
+  terms = terms-read (keep ++ (k ∷ [])) (length keep) ∙ ap stored_terms (get_or_push keep k Vacant (length keep) refl) ∙ empty;
+  spots = spots-read (sp ++ (Empty ∷ [])) (length keep) ∙ ap spots_in (push-default sp (length keep) Empty ∙ get_or_past sp (length keep) Empty (omega (arith, sizes)));
+  others = λ s.
+      grind (arith, cases_eq s (length keep), cases_lt s (length keep), terms-read, spots-read, push-default, get_or_append_left, get_or_past, length-append, sizes);
+  sizes = grind (arith, length-append, sizes);
+})
+
+-- a form is emptied
+pub emptied-set : {keep keep' : List StoredForm} {sp sp' : List Spots} {slot : ℕ} (k : StoredForm) → keep' ≡ set keep slot k → sp' ≡ set sp slot Empty →
+    stored_terms k ≡ [] → length sp ≡ length keep → slot < length keep → IsEmptied keep keep' sp sp' slot
+emptied-set {keep} {keep'} {sp} {sp'} {slot} k a b empty sizes inside = rw (a, b) (record {
+  terms = terms-read (set keep slot k) slot ∙ ap stored_terms (get_or-set_same keep slot k Vacant inside) ∙ empty;
+  spots = spots-read (set sp slot Empty) slot ∙ ap spots_in (get_or-set_same sp slot Empty Empty (omega (arith, inside, sizes)));
+  others = λ s. grind (arith, cases_eq s slot, terms-read, spots-read, get_or-set_other);
+  sizes = grind (arith, length-set, sizes);
+})
+
+-- the last form is removed
+pub emptied-take : {keep keep' : List StoredForm} {sp sp' : List Spots} {slot : ℕ} → keep' ≡ take slot keep → sp' ≡ take slot sp → length sp ≡ length keep →
+    length keep ≡ slot + 1 → IsEmptied keep keep' sp sp' slot
+emptied-take {keep} {keep'} {sp} {sp'} {slot} a b sizes count = rw (a, b) (record {
+  terms = terms-read (take slot keep) slot ∙ ap stored_terms (get_or_past (take slot keep) slot Vacant (omega (arith, length-take slot keep)));
+  spots = spots-read (take slot sp) slot ∙ ap spots_in (get_or_past (take slot sp) slot Empty (omega (arith, length-take slot sp)));
+  others = λ s. grind (arith, cases_eq s slot, cases_lt s slot, terms-read, spots-read, get_or-take, get_or_past, length-take);
+  sizes = grind (arith, length-take-le, sizes, count);
+})
 
 -- a form in the slot of an empty one
-pub filled-stored : (keep : List StoredForm) (k : StoredForm) (sp : List Spots) (v : Spots) (occ occ' : List (Vec Occurrence Global)) (n form : ℕ) (terms : List Term) →
-    form < length keep → terms_at (shapes_of keep) form ≡ [] → terms ≡ (stored_terms k) → length occ' ≡ length occ → length (spots_in v) ≡ length terms → AreInside n (stored_terms k) →
-    ((base : List Shape) (all : List (List ℕ)) → form < length base → terms_at base form ≡ terms → form < length all → IsLinked (cut base form 0) (set all form []) (entries_of base occ) → IsLinked (cut base form (length terms)) (set all form (spots_in v)) (entries_of base occ')) →
-    IsStored (shapes_of keep) (spots_of sp) (entries_of (shapes_of keep) occ) n → IsStored (shapes_of (set keep form k)) (spots_of (set sp form v)) (entries_of (shapes_of (set keep form k)) occ') n
-filled-stored keep k sp v occ occ' n form terms room empty terms_is sizes count inside link old =
+pub filled-stored : (keep : List StoredForm) (k : StoredForm) (sp : List Spots) (v : Spots) (occ occ' : List (Vec Occurrence Global)) (n form : ℕ) →
+    form < length keep → terms_at (shapes_of keep) form ≡ [] → length occ' ≡ length occ → length (spots_in v) ≡ length (stored_terms k) → AreInside n (stored_terms k) →
+    ((base : List Shape) (all : List (List ℕ)) → form < length base → terms_at base form ≡ stored_terms k → form < length all →
+    IsLinked (cut base form 0) (set all form []) (entries_of base occ) →
+    IsLinked (cut base form (length (stored_terms k))) (set all form (spots_in v)) (entries_of base occ')) →
+    IsStored (shapes_of keep) (spots_of sp) (entries_of (shapes_of keep) occ) n →
+    IsStored (shapes_of (set keep form k)) (spots_of (set sp form v)) (entries_of (shapes_of (set keep form k)) occ') n
+filled-stored keep k sp v occ occ' n form room empty sizes count inside link old =
     let forms = shapes_of keep in
-    let x : Shape = stored_shape k in
-    let base = set forms form x in
-    let none : Shape = record { terms = []; degree = 0 } in
-    let here : form < length forms = omega (arith, room, length-map keep stored_shape) in
-    let wide : form < length (spots_of sp) = omega (arith, here, old.whole.sizes) in
-    let form_in : form < length base = omega (arith, here, length-set forms form x) in
-    let terms_here : terms_at base form ≡ terms = ap (λ (f : Shape). f.terms) (get_or-set_same forms form x none here) ∙ sym terms_is in
-    let bare : IsLinked (cut forms form 0) (spots_of sp) (entries_of forms occ) = rw (cut-all forms form 0 (omega (arith, ap length empty))) old.whole in
-    let first : Shape = record { terms = take 0 (terms_at base form); degree = degree_at base form } in
-    let same : entries_of base occ ≡ entries_of forms occ = entries-apart forms base occ form (λ j n. terms-set forms form x j n) (others-named forms (spots_of sp) occ form here bare) in
-    let ready : IsLinked (cut base form 0) (set (spots_of sp) form []) (entries_of forms occ) = rw (set-set forms form x first) (link-vacant forms (spots_of sp) (entries_of forms occ) form first here refl bare) in
-    let start : IsLinked (cut base form 0) (set (spots_of sp) form []) (entries_of base occ) = subst (IsLinked (cut base form 0) (set (spots_of sp) form [])) (sym same) ready in
-    let done : IsLinked (cut base form (length terms)) (set (spots_of sp) form (spots_in v)) (entries_of base occ') = link base (spots_of sp) form_in terms_here wide start in
-    let whole : IsLinked base (set (spots_of sp) form (spots_in v)) (entries_of base occ') = rw (cut-all base form (length terms) (omega (arith, ap length terms_here))) at done in
-    let forms_set : shapes_of (set keep form k) ≡ base = map-set stored_shape keep form k in
-    let spots_set : spots_of (set sp form v) ≡ set (spots_of sp) form (spots_in v) = map-set spots_in sp form v in
-    rw (forms_set, spots_set) (record {
-      whole = whole;
-      named = linked-named base (set (spots_of sp) form (spots_in v)) (entries_of base occ') whole;
-      places = omega (arith, old.places, sizes, entries-length forms occ, entries-length base occ');
-      inside = All-set (λ (f : Shape). AreInside n f.terms) forms form x inside old.inside;
-      rooms = λ s less. grind (arith, cases_eq s form, get_or-set_at, get_or-set_other, length-set, here, wide, count, terms_is, less, old.rooms s);
-    })
-
-split-last : {X : Type 0} (xs : List X) (n : ℕ) (d : X) → length xs ≡ n + 1 → xs ≡ take n xs ++ (get_or xs n d ∷ [])
-split-last xs n d h = sym (take_all (n + 1) xs (omega (arith, h))) ∙ take_more xs n d (omega (arith, h))
-
-terms-taken : (forms : List Shape) (n k : ℕ) → length forms ≡ n + 1 → (k ≡ n → ⊥) → terms_at (take n forms) k ≡ terms_at forms k
-terms-taken forms n k size other = grind (arith, cases_lt k n, get_or-take, get_or_past, length-take)
-
-pub left-stored : (keep : List StoredForm) (sp sp0 : List Spots) (occ occ0 : List (Vec Occurrence Global)) (n number : ℕ) → length keep ≡ number + 1 → length occ ≡ length occ0 →
-    ((s : ℕ) → length (get_or (spots_of sp) s []) ≡ length (get_or (spots_of sp0) s [])) → IsLinked (cut (shapes_of keep) number 0) (spots_of sp) (entries_of (shapes_of keep) occ) → IsStored (shapes_of keep) (spots_of sp0) (entries_of (shapes_of keep) occ0) n →
-    IsStored (shapes_of (take number keep)) (spots_of (take number sp)) (entries_of (shapes_of (take number keep)) occ) n
-left-stored keep sp sp0 occ occ0 n number count sizes rooms linked old =
-    let forms = shapes_of keep in
-    let prefix = take number forms in
-    let e : Shape = record { terms = []; degree = 0 } in
-    let forms_size : length forms ≡ number + 1 = length-map keep stored_shape ∙ count in
-    let spots_size : length (spots_of sp) ≡ number + 1 = omega (arith, linked.sizes, cut-length forms number 0, forms_size) in
-    let prefix_size : length prefix ≡ number = length-take-le number forms (omega (arith, forms_size)) in
-    let spots_prefix : length (take number (spots_of sp)) ≡ number = length-take-le number (spots_of sp) (omega (arith, spots_size)) in
-    let forms_split = split-last forms number e forms_size in
-    let spots_split = split-last (spots_of sp) number [] spots_size in
-    let split : IsLinked (cut (prefix ++ (get_or forms number e ∷ [])) number 0) (take number (spots_of sp) ++ (get_or (spots_of sp) number [] ∷ [])) (entries_of forms occ) =
-    subst (λ xs. IsLinked (cut xs number 0) (take number (spots_of sp) ++ (get_or (spots_of sp) number [] ∷ [])) (entries_of forms occ)) forms_split (subst (λ ys. IsLinked (cut forms number 0) ys (entries_of forms occ)) spots_split linked) in
-    let at_end : IsLinked (cut (prefix ++ (get_or forms number e ∷ [])) (length prefix) 0) (take number (spots_of sp) ++ (get_or (spots_of sp) number [] ∷ [])) (entries_of forms occ) = rw prefix_size split in
-    let bare : IsLinked prefix (take number (spots_of sp)) (entries_of forms occ) = link-end prefix (take number (spots_of sp)) (entries_of forms occ) (get_or forms number e) (get_or (spots_of sp) number []) (omega (arith, prefix_size, spots_prefix)) at_end in
-    let same : entries_of prefix occ ≡ entries_of forms occ = entries-apart forms prefix occ number (λ k n. terms-taken forms number k forms_size n) (others-named forms (spots_of sp) occ number (omega (arith, forms_size)) linked) in
-    let whole : IsLinked prefix (take number (spots_of sp)) (entries_of prefix occ) = subst (IsLinked prefix (take number (spots_of sp))) (sym same) bare in
-    let forms_less : shapes_of (take number keep) ≡ prefix = sym (take-map stored_shape number keep) in
-    let spots_less : spots_of (take number sp) ≡ take number (spots_of sp) = sym (take-map spots_in number sp) in
-    rw (forms_less, spots_less) (record {
-      whole = whole;
-      named = linked-named prefix (take number (spots_of sp)) (entries_of prefix occ) whole;
-      places = omega (arith, old.places, sizes, entries-length prefix occ, entries-length forms occ0);
-      inside = All-take (λ (f : Shape). AreInside n f.terms) number forms old.inside;
-      rooms = λ s less.
-          let before : s < number = omega (arith, less, prefix_size) in
-          ap length (get_or-take number (spots_of sp) s [] before) ∙ rooms s ∙ old.rooms s (omega (arith, before, forms_size)) ∙ sym (ap (λ (f : Shape). length f.terms) (get_or-take number forms s e before));
-    })
-
-pub vacated-stored : (keep : List StoredForm) (k : StoredForm) (sp sp0 : List Spots) (v : Spots) (occ occ0 : List (Vec Occurrence Global)) (n form : ℕ) → form < length keep → (stored_terms k) ≡ [] → spots_in v ≡ [] → length occ ≡ length occ0 →
-    ((s : ℕ) → length (get_or (spots_of sp) s []) ≡ length (get_or (spots_of sp0) s [])) → IsLinked (cut (shapes_of keep) form 0) (spots_of sp) (entries_of (shapes_of keep) occ) → IsStored (shapes_of keep) (spots_of sp0) (entries_of (shapes_of keep) occ0) n →
-    IsStored (shapes_of (set keep form k)) (spots_of (set sp form v)) (entries_of (shapes_of (set keep form k)) occ) n
-vacated-stored keep k sp sp0 v occ occ0 n form inside empty no_spots sizes rooms linked old =
-    let forms = shapes_of keep in
-    let e : Shape = record { terms = []; degree = 0 } in
-    let forms_size : length forms ≡ length keep = length-map keep stored_shape in
-    let here : form < length forms = omega (arith, inside, forms_size) in
-    let spots_size : length (spots_of sp) ≡ length forms = omega (arith, linked.sizes, cut-length forms form 0) in
-    let forms_set : shapes_of (set keep form k) ≡ set forms form (stored_shape k) = map-set stored_shape keep form k in
-    let spots_set : spots_of (set sp form v) ≡ set (spots_of sp) form [] = map-set spots_in sp form v ∙ ap (λ xs. set (spots_of sp) form xs) no_spots in
+    let spots = spots_of sp in
+    let terms = stored_terms k in
     let base = set forms form (stored_shape k) in
-    let same : entries_of base occ ≡ entries_of forms occ = entries-apart forms base occ form (λ j n. terms-set forms form (stored_shape k) j n) (others-named forms (spots_of sp) occ form here linked) in
-    let bare : IsLinked base (set (spots_of sp) form []) (entries_of forms occ) = link-vacant forms (spots_of sp) (entries_of forms occ) form (stored_shape k) here empty linked in
-    let whole : IsLinked base (set (spots_of sp) form []) (entries_of base occ) = subst (IsLinked base (set (spots_of sp) form [])) (sym same) bare in
-    rw (forms_set, spots_set) (record {
+    let long = length-set forms form (stored_shape k) in
+    let here : form < length forms = omega (arith, room, length-map keep stored_shape) in
+    let wide : form < length spots = omega (arith, here, old.whole.sizes) in
+    let terms_here : terms_at base form ≡ terms = ap (λ (f : Shape). f.terms) (get_or-set_same forms form (stored_shape k) bare here) in
+    let same : entries_of base occ ≡ entries_of forms occ = entries-kept forms base occ old.whole
+    (λ s some. grind (arith, cases_eq s form, get_or-set_other, empty, some)) in
+    let start = linked-same old.whole (cut base form 0) (set spots form [])
+    (λ s. grind (arith, cases_eq s form, get_or-set_at, get_or-set_other, length-set, here, empty)) (λ s. grind (arith, cases_eq s form, get_or-set_other, empty))
+    (omega (arith, old.whole.sizes, length-set spots form [], cut-length base form 0, long)) in
+    let done = link base spots (omega (arith, here, long)) terms_here wide (rw same start) in
+    let all : take (length terms) (terms_at base form) ≡ terms_at base form = take_all (length terms) (terms_at base form) (omega (arith, ap length terms_here)) in
+    let uncut : cut base form (length terms) ≡ base = ap (λ ts. set base form (record { terms = ts; degree = degree_at base form })) all ∙ set-get_or base form bare in
+    let whole : IsLinked base (set spots form (spots_in v)) (entries_of base occ') = rw uncut at done in
+    rw (map-set stored_shape keep form k, map-set spots_in sp form v) (record {
       whole = whole;
-      named = linked-named base (set (spots_of sp) form []) (entries_of base occ) whole;
-      places = omega (arith, old.places, sizes, entries-length base occ, entries-length forms occ0);
-      inside = All-set (λ (f : Shape). AreInside n f.terms) forms form (stored_shape k) (none_inside n (stored_terms k) empty) old.inside;
-      rooms = λ s less. grind (arith, cases_eq s form, get_or-set_at, get_or-set_other, length-set, here, spots_size, empty, less, rooms s, old.rooms s);
+      named = linked-named whole;
+      places = omega (arith, old.places, sizes, entries-length forms occ, entries-length base occ');
+      inside = All-set (λ (f : Shape). AreInside n f.terms) forms form (stored_shape k) inside old.inside;
+      rooms = λ s less. grind (arith, cases_eq s form, get_or-set_at, get_or-set_other, length-set, here, wide, count, less, old.rooms s);
     })
-
-pub take-at : {X : Type 0} (xs ys : List X) (a b : ℕ) → a ≡ b → xs ≡ ys → take a xs ≡ take b ys
-take-at xs ys a b e f = ap (λ n. take n xs) e ∙ ap (take b) f
 
 -- the forms, as one is added or removed
 pub forms-widened : (keep keep' : List StoredForm) (k : StoredForm) → keep' ≡ keep ++ (k ∷ []) → stored_form k ≡ None → forms_of keep' ≡ forms_of keep ++ (None ∷ [])

@@ -1,9 +1,10 @@
 -- The elements at positions of a list. Offered to other crates.
-use Rattle.pb_propagate.proofs.Common.{get_or-set_same, get_or_from_slice_get, get_or_push, length-append, length-map, length-set, length-take, length-take-le, map-set, option_map, slice_get-get_or, slice_get-map, slice_get_past, swap_remove, take-map, get_or_append_left, get_or_past, ◌-◌}
-use Rattle.pb_propagate.proofs.Common.{ℕ, ◌++◌, ◌+◌, ◌<◌, ◌∙◌, ◌∷◌, ◌≡◌, ◌≤◌, [], ap, arith, get_or, length, List, map, None, refl, set}
+use Rattle.pb_propagate.proofs.Common.{get_or-set_same, get_or_from_slice_get, get_or_push, length-append, length-map, length-set, length-take, length-take-le, map-set}
+use Rattle.pb_propagate.proofs.Common.{option_map, slice_get-get_or, slice_get-map, slice_get_past, swap_remove, take-map, get_or_append_left, get_or_past, ◌-◌, ℕ, ◌++◌}
+use Rattle.pb_propagate.proofs.Common.{◌+◌, ◌<◌, ◌∙◌, ◌∷◌, ◌≡◌, ◌≤◌, [], ap, arith, get_or, length, List, map, None, refl, set, sym, take, Contains, slice_get, Some}
+use Rattle.pb_propagate.proofs.Common.{cases_lt, get_or-take, get_or-set_other}
 use Rattle.std.proofs.Math.ListN.{get_or-map}
-use Rattle.std.proofs.lemmas.Option.{slice_get_read}
-use Rattle.pb_propagate.proofs.Common.{suc, sym, take, zero, Contains, slice_get, Some, cases_lt}
+use Rattle.std.proofs.lemmas.Option.{slice_get_cases, slice_get_read}
 
 -- the empty list has no element
 pub contains-none : {X : Type 0} (xs : List X) (x : X) → xs ≡ [] → Contains xs x → ⊥
@@ -11,37 +12,24 @@ contains-none [] x e (k, lt, is) = omega (arith, lt)
 contains-none (y ∷ xs) x e c = cc
 
 pub get-take_less : {X : Type 0} (xs : List X) (i j : ℕ) → j < i → slice_get (take i xs) j ≡ slice_get xs j
-get-take_less [] zero j h = absurd (omega (arith, h))
-get-take_less [] (suc i) j h = refl
-get-take_less (x ∷ xs) zero j h = absurd (omega (arith, h))
-get-take_less (x ∷ xs) (suc i) zero h = refl
-get-take_less (x ∷ xs) (suc i) (suc j) h = get-take_less xs i j (omega (arith, h))
+get-take_less xs i j h = grind (arith, slice_get_cases (take i xs) j, slice_get_cases xs j, get_or-take, get_or_from_slice_get, length-take)
 
 pub get-take_past : {X : Type 0} (xs : List X) (i j : ℕ) → i ≤ j → slice_get (take i xs) j ≡ None
 get-take_past xs i j h = slice_get_past (take i xs) j (omega (arith, length-take i xs, h))
 
-pub get-take_step : {X : Type 0} (xs : List X) (i j : ℕ) → (j ≡ i → ⊥) → slice_get (take (i + 1) xs) j ≡ slice_get (take i xs) j
-get-take_step xs i j n = grind (arith, get-take_less, get-take_past, cases_lt j i)
-
 pub get-set_same : {X : Type 0} (xs : List X) (j : ℕ) (y : X) → j < length xs → slice_get (set xs j y) j ≡ Some y
-get-set_same xs j y h = slice_get-get_or (set xs j y) j y (omega (arith, h, length-set xs j y)) ∙ ap (λ x. Some x) (get_or-set_same xs j y y h)
+get-set_same xs j y h = grind (arith, slice_get-get_or (set xs j y) j y, get_or-set_same, length-set)
 
 -- the same at a number that is equal, for `grind`
 pub get-set_at : {X : Type 0} (xs : List X) (j k : ℕ) (y : X) → k ≡ j → j < length xs → slice_get (set xs j y) k ≡ Some y
 get-set_at xs j k y is h = rw is (get-set_same xs j y h)
 
 pub get-set_other : {X : Type 0} (xs : List X) (j k : ℕ) (y : X) → (k ≡ j → ⊥) → slice_get (set xs j y) k ≡ slice_get xs k
-get-set_other [] j k y n = refl
-get-set_other (x ∷ xs) zero zero y n = absurd (n refl)
-get-set_other (x ∷ xs) zero (suc k) y n = refl
-get-set_other (x ∷ xs) (suc j) zero y n = refl
-get-set_other (x ∷ xs) (suc j) (suc k) y n = get-set_other xs j k y (λ e. n (omega (arith, e)))
+get-set_other xs j k y n = grind (arith, cases_lt k (length xs), slice_get-get_or (set xs j y) k y, slice_get-get_or xs k y, slice_get_past, get_or-set_other, length-set)
 
 pub get-push_other : {X : Type 0} (xs : List X) (k : ℕ) (y : X) → (k ≡ length xs → ⊥) → slice_get (xs ++ (y ∷ [])) k ≡ slice_get xs k
-get-push_other [] zero y n = absurd (n refl)
-get-push_other [] (suc k) y n = refl
-get-push_other (x ∷ xs) zero y n = refl
-get-push_other (x ∷ xs) (suc k) y n = get-push_other xs k y (λ e. n (omega (arith, e)))
+get-push_other xs k y n =
+    grind (arith, cases_lt k (length xs), slice_get-get_or (xs ++ (y ∷ [])) k y, slice_get-get_or xs k y, slice_get_past, get_or_append_left, length-append)
 
 pub get-push_less : {X : Type 0} (xs : List X) (k : ℕ) (y : X) → k < length xs → slice_get (xs ++ (y ∷ [])) k ≡ slice_get xs k
 get-push_less xs k y h = get-push_other xs k y (λ e. absurd (omega (arith, h, e)))
@@ -66,9 +54,6 @@ swap-other es q k d n m = grind (arith, get-take_less, get-take_past, get-set_ot
 
 pub swap-past : {X : Type 0} (es : List X) (q j : ℕ) (d : X) → length es - 1 ≤ j → slice_get (swap_remove es q d) j ≡ None
 swap-past es q j d past = get-take_past (set es q (get_or es (length es - 1) d)) (length es - 1) j past
-
-pub swap-last : {X : Type 0} (es : List X) (q : ℕ) (d : X) → slice_get (swap_remove es q d) (length es - 1) ≡ None
-swap-last es q d = swap-past es q (length es - 1) d (omega arith)
 
 pub swap-here : {X : Type 0} (es : List X) (q : ℕ) (d e : X) → q + 1 < length es → slice_get es (length es - 1) ≡ Some e → slice_get (swap_remove es q d) q ≡ Some e
 swap-here es q d e more is = grind (arith, get-take_less, get-set_same, get_or_from_slice_get)

@@ -1,24 +1,21 @@
 -- One term is added to the lists or removed.
-use Rattle.pb_propagate.proofs.Common.{ℕ, ◌++◌, ◌+◌, ◌<◌, ◌∙◌, ◌∷◌, ◌≡◌, ◌≤◌, [], ap, arith, get_or, get_or-set_other, get_or-set_same, inl, inr}
-use Rattle.pb_propagate.proofs.Common.{length, length-append, length-set, List, None, refl, set, sym, take, slice_get, Some, sum_by, cases_Bool}
-use Rattle.pb_propagate.proofs.Common.{cases_eq, length-take-le, sum_by-set, sum_by_more, sum_by_push, slice_get-get_or, slice_get_past}
-use Rattle.pb_propagate.proofs.Common.{NumberedLiteral, Term, entry_weight, place, term_weight, weight_in, weight_on, cut, degree_at, entry_at}
-use Rattle.pb_propagate.proofs.Common.{entry_cross, IsLinked, term_at, term_cross, terms_at, same, Shape, Weighted}
-use Rattle.pb_propagate.specs.engine.engine.Counts.{AreLinked}
+use Rattle.pb_propagate.proofs.Common.{ℕ, ◌++◌, ◌+◌, ◌-◌, ◌<◌, ◌∙◌, ◌∷◌, ◌≡◌, ◌≤◌, ◌⊎◌, [], ap, arith, get_or, get_or-set_other, Global, length, length-append}
+use Rattle.pb_propagate.proofs.Common.{length-set, lists_of, List, None, Occurrence, refl, set, sym, take, slice_get, Some, sum_by, swap_remove, cases_Bool}
+use Rattle.pb_propagate.proofs.Common.{cases_eq, false, inl, inr, get_or_default, get_or_from_slice_get, last, length-take-le, Moved, sum_by-set}
+use Rattle.pb_propagate.proofs.Common.{sum_by-swap_remove, sum_by_more, sum_by_push, slice_get-get_or, slice_get_past, slice_get_within, Vec, weighted}
+use Rattle.pb_propagate.proofs.Common.{NumberedLiteral, Term, entries_of, entry_weight, place, term_weight, weight_in, weight_on, cut, degree_at, entry_at}
+use Rattle.pb_propagate.proofs.Common.{entry_cross, IsLinked, Option, term_at, term_cross, terms_at, cases_lt, same, Shape, Weighted}
+use Rattle.pb_propagate.specs.engine.engine.Links.{none}
 use Rattle.std.proofs.lemmas.Grind.{get_or-set_at}
 use Rattle.pb_propagate.proofs.lemmas.engine.Runs.{entry_weight-same, entry_weight-other, term_weight-same, term_weight-other}
-use Rattle.pb_propagate.proofs.lemmas.engine.Literals.{same-true, same-refl}
-use Rattle.pb_propagate.proofs.lemmas.engine.Spent.{place-injective}
-use Rattle.pb_propagate.proofs.lemmas.store.Gets.{get-take_less, get-take_past, get-take_step, get-push_same, get-push_other}
-use Rattle.pb_propagate.proofs.lemmas.store.Crosses.{to, Same, crossed-add}
+use Rattle.pb_propagate.proofs.lemmas.engine.Literals.{same-true, same-refl, place-injective}
+use Rattle.pb_propagate.proofs.lemmas.store.Gets.{get-take_less, get-take_past, get-push_same, get-push_other, get-set_at, get-set_other, swap-other, swap-past}
+use Rattle.pb_propagate.proofs.lemmas.store.Gets.{swap-here, swap-length}
+use Rattle.pb_propagate.proofs.lemmas.store.Weights.{to, Same, crossed-add, crossed-drop, crossed-move, entry-back, named-term, named-spot, entries-length}
+use Rattle.pb_propagate.proofs.lemmas.store.Weights.{entries-size, entries-pushed, entries-taken, entry-weighted, item-taken}
+use Rattle.pb_propagate.proofs.lemmas.store.Positions.{taken-is}
 
--- what the cut form and the others are
-pub cut-here : (base : List Shape) (s i : ℕ) → s < length base → (d : Shape) → (get_or (cut base s i) s d).terms ≡ take i (terms_at base s)
-cut-here base s i inside d = ap (λ (f : Shape). f.terms) (get_or-set_same base s (record { terms = take i (terms_at base s); degree = degree_at base s }) d inside)
-
-pub cut-other : (base : List Shape) (s i k : ℕ) → (k ≡ s → ⊥) → (d : Shape) → get_or (cut base s i) k d ≡ get_or base k d
-cut-other base s i k n d = get_or-set_other base s k (record { terms = take i (terms_at base s); degree = degree_at base s }) d n
-
+-- how many forms there are when one is cut
 pub cut-length : (base : List Shape) (s i : ℕ) → length (cut base s i) ≡ length base
 cut-length base s i = length-set base s (record { terms = take i (terms_at base s); degree = degree_at base s })
 
@@ -32,107 +29,143 @@ abbrev pub entry_for : ℕ → ℕ → Term → Weighted
 entry_for s i t = record { form = s; index = i; coefficient = t.coefficient }
 
 -- a list that gains an entry
-pub record Gains (lists lists' : List (List Weighted)) (p : ℕ) (e : Weighted) : Type 0 where
-  pub here : (s : ℕ) → weight_in s (get_or lists' p []) ≡ weight_in s (get_or lists p []) + entry_weight s e
-  pub others : (q : ℕ) → (q ≡ p → ⊥) → get_or lists' q [] ≡ get_or lists q []
-  pub total : sum_by length lists' ≡ sum_by length lists + 1
+record Gains (lists lists' : List (List Weighted)) (p : ℕ) (e : Weighted) : Type 0 where
+  here : (s : ℕ) → weight_in s (get_or lists' p []) ≡ weight_in s (get_or lists p []) + entry_weight s e
+  others : (q : ℕ) → (q ≡ p → ⊥) → get_or lists' q [] ≡ get_or lists q []
+  total : sum_by length lists' ≡ sum_by length lists + 1
 
-term_weight-apart : (l : NumberedLiteral) (t : Term) → (t.literal ≡ l → ⊥) → term_weight l t ≡ 0
+term_weight-apart : (l : NumberedLiteral) (t : Term) → (place l ≡ place t.literal → ⊥) → term_weight l t ≡ 0
 term_weight-apart l t n = grind (arith, cases_Bool (same t.literal l), same-true t.literal l, term_weight-other l t, n)
 
-term_weight-one : (l : NumberedLiteral) (t : Term) → l ≡ t.literal → term_weight l t ≡ t.coefficient
-term_weight-one l t e = term_weight-same l t (rw e (same-refl t.literal))
+term_weight-one : (l : NumberedLiteral) (t : Term) → place l ≡ place t.literal → term_weight l t ≡ t.coefficient
+term_weight-one l t e = term_weight-same l t (rw (place-injective l t.literal e) (same-refl t.literal))
 
--- by how much both sides differ
-record Differs (a a' b b' : ℕ) : Type 0 where
-  by : ℕ
-  left : a' ≡ a + by
-  right : b' ≡ b + by
-
-pub cut-total : (base : List Shape) (s0 i : ℕ) → s0 < length base → i ≤ length (terms_at base s0) → sum_by (λ f. length f.terms) (cut base s0 i) + length (terms_at base s0) ≡ sum_by (λ f. length f.terms) base + i
-cut-total base s0 i inside within = grind (arith, sum_by-set, length-take-le)
+term-made : (o : Option Term) (r : Option ℕ) (t : Term) (q : ℕ) → o ≡ Some t → r ≡ Some q → term_cross o r ≡ to (place t.literal) q t.coefficient
+term-made o r t q h k = rw (h, k) refl
 
 module _ {base : List Shape} {s0 i : ℕ} {t : Term} (x : IsTerm base s0 i t) where
-  right_step : (s : ℕ) (d : Shape) (l : NumberedLiteral) → s ≡ s0 → weight_on l (get_or (cut base s0 (i + 1)) s d).terms ≡ weight_on l (get_or (cut base s0 i) s d).terms + term_weight l t
-  right_step s d l here =
-      let more : weight_on l (take (i + 1) (terms_at base s0)) ≡ weight_on l (take i (terms_at base s0)) + term_weight l (get_or (terms_at base s0) i t) = sum_by_more (term_weight l) (terms_at base s0) i t x.within in
-      let item : term_weight l (get_or (terms_at base s0) i t) ≡ term_weight l t = ap (term_weight l) (sym x.is) in
-      rw here (omega (arith, more, item, ap (weight_on l) (cut-here base s0 (i + 1) x.inside d), ap (weight_on l) (cut-here base s0 i x.inside d)))
+  -- by how much both sides differ
+  balance : {lists lists' : List (List Weighted)} → Gains lists lists' (place t.literal) (entry_for s0 i t) → (s : ℕ) (d : Shape) (l : NumberedLiteral) →
+      s < length base → weight_in s (get_or lists' (place l) []) + weight_on l (get_or (cut base s0 i) s d).terms ≡
+      weight_in s (get_or lists (place l) []) + weight_on l (get_or (cut base s0 (i + 1)) s d).terms
+  balance g s d l there =
+      let more = sum_by_more (term_weight l) (terms_at base s0) i t x.within in
+      grind (arith, cases_eq s s0, cases_eq (place l) (place t.literal), get_or-set_at, get_or-set_other, more, x.is, x.inside, g.here s, g.others (place l), entry_weight-same, entry_weight-other, term_weight-apart, term_weight-one)
 
-  module _ {lists lists' : List (List Weighted)} (g : Gains lists lists' (place t.literal) (entry_for s0 i t)) where
-    differs : (s : ℕ) (d : Shape) (l : NumberedLiteral) → s < length base →
-        Differs (weight_in s (get_or lists (place l) [])) (weight_in s (get_or lists' (place l) [])) (weight_on l (get_or (cut base s0 i) s d).terms) (weight_on l (get_or (cut base s0 (i + 1)) s d).terms)
-    differs s d l there =
-        elim (cases_eq s s0) [
-          | inr other ↦
-              let right : weight_on l (get_or (cut base s0 (i + 1)) s d).terms ≡ weight_on l (get_or (cut base s0 i) s d).terms + 0 = omega (arith, ap (λ (f : Shape). weight_on l f.terms) (cut-other base s0 (i + 1) s other d), ap (λ (f : Shape). weight_on l f.terms) (cut-other base s0 i s other d)) in
-              elim (cases_eq (place l) (place t.literal)) [
-                | inr apart ↦ record { by = 0; left = omega (arith, ap (weight_in s) (g.others (place l) apart)); right = right }
-                | inl one ↦ record { by = 0; left = rw one (omega (arith, g.here s, entry_weight-other s (entry_for s0 i t) other)); right = right }
-              ]
-          | inl here ↦
-              let step = right_step s d l here in
-              elim (cases_eq (place l) (place t.literal)) [
-                | inr apart ↦ record { by = 0; left = omega (arith, ap (weight_in s) (g.others (place l) apart)); right = omega (arith, step, term_weight-apart l t (λ h. apart (ap place (sym h)))) }
-                | inl one ↦ record { by = t.coefficient; left = rw one (omega (arith, g.here s, entry_weight-same s (entry_for s0 i t) (sym here))); right = omega (arith, step, term_weight-one l t (place-injective l t.literal one)) }
-              ]
-        ]
-
-    pub linked-more : AreLinked (cut base s0 i) lists → AreLinked (cut base s0 (i + 1)) lists'
-    linked-more old s d l there =
-        let by = differs s d l (omega (arith, there, cut-length base s0 (i + 1))) in
-        omega (arith, old s d l (omega (arith, there, cut-length base s0 i, cut-length base s0 (i + 1))), by.left, by.right)
-
-    pub linked-less : AreLinked (cut base s0 (i + 1)) lists' → AreLinked (cut base s0 i) lists
-    linked-less old s d l there =
-        let by = differs s d l (omega (arith, there, cut-length base s0 i)) in
-        omega (arith, old s d l (omega (arith, there, cut-length base s0 i, cut-length base s0 (i + 1))), by.left, by.right)
-
-  pub totals-next : sum_by (λ f. length f.terms) (cut base s0 (i + 1)) ≡ sum_by (λ f. length f.terms) (cut base s0 i) + 1
-  totals-next = omega (arith, cut-total base s0 i x.inside (omega (arith, x.within)), cut-total base s0 (i + 1) x.inside (omega (arith, x.within)))
+  totals-next : sum_by (λ f. length f.terms) (cut base s0 (i + 1)) ≡ sum_by (λ f. length f.terms) (cut base s0 i) + 1
+  totals-next = grind (arith, sum_by-set, length-take-le, x.inside, x.within)
 
   -- what the terms name
-  pub term-here : (spots : List (List ℕ)) (q : ℕ) → slice_get (get_or spots s0 []) i ≡ Some q → term_at (cut base s0 (i + 1)) spots s0 i ≡ to (place t.literal) q t.coefficient
-  term-here spots q spot =
-      let those = cut-here base s0 (i + 1) x.inside (record { terms = []; degree = 0 }) in
-      let got : slice_get (terms_at (cut base s0 (i + 1)) s0) i ≡ Some t = ap (λ xs. slice_get xs i) those ∙ get-take_less (terms_at base s0) (i + 1) i (omega arith) ∙ slice_get-get_or (terms_at base s0) i t x.within ∙ ap (λ y. Some y) (sym x.is) in
-      ap (λ o. term_cross o (slice_get (get_or spots s0 []) i)) got ∙ ap (term_cross (Some t)) spot
+  term-here : (spots : List (List ℕ)) (q : ℕ) → slice_get (get_or spots s0 []) i ≡ Some q →
+      term_at (cut base s0 (i + 1)) spots s0 i ≡ to (place t.literal) q t.coefficient
+  term-here spots q spot = grind (arith, get_or-set_at, get-take_less, slice_get-get_or, x.inside, x.within, x.is, spot, term-made)
 
-  pub term-none : (spots : List (List ℕ)) → term_at (cut base s0 i) spots s0 i ≡ None
-  term-none spots =
-      let those = cut-here base s0 i x.inside (record { terms = []; degree = 0 }) in
-      let got : slice_get (terms_at (cut base s0 i) s0) i ≡ None = ap (λ xs. slice_get xs i) those ∙ get-take_past (terms_at base s0) i i (omega arith) in
-      ap (λ o. term_cross o (slice_get (get_or spots s0 []) i)) got
+  term-none : (spots : List (List ℕ)) → term_at (cut base s0 i) spots s0 i ≡ None
+  term-none spots = grind (arith, get_or-set_at, get-take_past, x.inside)
 
-  pub terms-step : (s j : ℕ) → (Same s j s0 i → ⊥) → slice_get (terms_at (cut base s0 (i + 1)) s) j ≡ slice_get (terms_at (cut base s0 i) s) j
-  terms-step s j n = grind (arith, cases_eq s s0, cases_eq j i, get_or-set_at, get_or-set_other, get-take_step, x.inside, n)
-
-  pub term-other : (spots spots' : List (List ℕ)) (s j : ℕ) → (Same s j s0 i → ⊥) → slice_get (get_or spots' s []) j ≡ slice_get (get_or spots s []) j → term_at (cut base s0 (i + 1)) spots' s j ≡ term_at (cut base s0 i) spots s j
-  term-other spots spots' s j n same_spot =
-      ap (λ o. term_cross o (slice_get (get_or spots' s []) j)) (terms-step s j n) ∙ ap (term_cross (slice_get (terms_at (cut base s0 i) s) j)) same_spot
+  terms-step : (s j : ℕ) → Same s j s0 i ⊎ (slice_get (terms_at (cut base s0 (i + 1)) s) j ≡ slice_get (terms_at (cut base s0 i) s) j)
+  terms-step s j = grind (arith, cases_eq s s0, cases_eq j i, get_or-set_at, get_or-set_other, cases_lt j i, get-take_less, get-take_past, x.inside)
 
   -- a term is added
-  pub link-next : (spots spots' : List (List ℕ)) (lists lists' : List (List Weighted)) → place t.literal < length lists → lists' ≡ set lists (place t.literal) (get_or lists (place t.literal) [] ++ (entry_for s0 i t ∷ [])) →
-      slice_get (get_or spots' s0 []) i ≡ Some (length (get_or lists (place t.literal) [])) → ((s j : ℕ) → (Same s j s0 i → ⊥) → slice_get (get_or spots' s []) j ≡ slice_get (get_or spots s []) j) → length spots' ≡ length spots →
-      IsLinked (cut base s0 i) spots lists → IsLinked (cut base s0 (i + 1)) spots' lists'
-  link-next spots spots' lists lists' room longer spot agree sizes old =
+  pub link-by : (all : List (List ℕ)) (occ occ' : List (Vec Occurrence Global)) (spots spots' : List ℕ) → s0 < length all → place t.literal < length occ →
+      lists_of occ' ≡ set (lists_of occ) (place t.literal) (get_or (lists_of occ) (place t.literal) [] ++ (record { form = s0; index = i } ∷ [])) →
+      spots' ≡ spots ++ (length (get_or (lists_of occ) (place t.literal) []) ∷ []) → length spots ≡ i →
+      IsLinked (cut base s0 i) (set all s0 spots) (entries_of base occ) → IsLinked (cut base s0 (i + 1)) (set all s0 spots') (entries_of base occ')
+  link-by all occ occ' spots spots' wide room longer pushed size old =
       let p = place t.literal in
+      let lists = entries_of base occ in
+      let lists' = entries_of base occ' in
       let es = get_or lists p [] in
       let e = entry_for s0 i t in
-      let now : get_or lists' p [] ≡ es ++ (e ∷ []) = ap (λ (ls : List (List Weighted)). get_or ls p []) longer ∙ get_or-set_same lists p (es ++ (e ∷ [])) [] room in
-      let apart : (q : ℕ) → (q ≡ p → ⊥) → get_or lists' q [] ≡ get_or lists q [] = λ q n. ap (λ (ls : List (List Weighted)). get_or ls q []) longer ∙ get_or-set_other lists p q (es ++ (e ∷ [])) [] n in
-      let one_more : sum_by length lists' ≡ sum_by length lists + 1 = omega (arith, sum_by-set length lists p (es ++ (e ∷ [])) [] room, ap (sum_by length) longer, length-append es (e ∷ [])) in
-      let gains : Gains lists lists' p e = record { here = λ s. ap (weight_in s) now ∙ sum_by_push (entry_weight s) es e; others = apart; total = one_more } in
+      let before = set all s0 spots in
+      let after = set all s0 spots' in
+      let less = cut-length base s0 i in
+      let more = cut-length base s0 (i + 1) in
+      let blank : Term = record { literal = record { variable = 0; negated = false }; coefficient = 0 } in
+      let o : Occurrence = record { form = s0; index = i } in
+      let inside : p < length lists = omega (arith, room, entries-length base occ) in
+      let weight : weighted base o ≡ e = ap (entry_for s0 i) (get_or_default (terms_at base s0) i blank t x.within ∙ sym x.is) in
+      let grown : lists' ≡ set lists p (es ++ (e ∷ [])) = entries-pushed base occ occ' p o longer ∙ ap (λ (y : Weighted). set lists p (es ++ (y ∷ []))) weight in
+      let now : get_or lists' p [] ≡ es ++ (e ∷ []) = grind (arith, grown, get_or-set_at, inside) in
+      let apart : (q : ℕ) → (q ≡ p → ⊥) → get_or lists' q [] ≡ get_or lists q [] = λ q n. grind (arith, grown, get_or-set_other, n) in
+      let gains : Gains lists lists' p e = grind (arith, now, sum_by_push, apart, sum_by-set, inside, grown, length-append) in
+      let long = entries-size base occ p in
+      let spot : slice_get (get_or after s0 []) i ≡ Some (length es) = grind (arith, get_or-set_at, wide, pushed, get-push_same, size, long) in
       record {
-        linked = linked-more gains old.linked;
-        totals = omega (arith, one_more, old.totals, totals-next);
-        crossed = crossed-add (term_at (cut base s0 i) spots) (term_at (cut base s0 (i + 1)) spots') (entry_at lists) (entry_at lists') s0 i p (length es) t.coefficient
-            (record { was = term-none spots; now = term-here spots' (length es) spot; others = λ s j n. term-other spots spots' s j n (agree s j n) })
-            (record {
-              was = ap entry_cross (slice_get_past es (length es) (omega arith));
-              now = ap (λ (xs : List Weighted). entry_cross (slice_get xs (length es))) now ∙ ap entry_cross (get-push_same es (length es) e refl);
-              others = λ q k n. grind (arith, cases_eq q p, cases_eq k (length es), now, apart q, get-push_other, n);
-            })
+        linked = λ s d l h. omega (arith, balance gains s d l (omega (arith, h, more)), old.linked s d l (omega (arith, h, less, more)));
+        totals = omega (arith, gains.total, old.totals, totals-next);
+        crossed = crossed-add (term_at (cut base s0 i) before) (term_at (cut base s0 (i + 1)) after) (entry_at lists) (entry_at lists') s0 i p (length es) t.coefficient
+            (grind (arith, term-none before, term-here after (length es) spot, terms-step, cases_eq, get_or-set_at, get_or-set_other, get-push_other, pushed, size, wide))
+            (grind (arith, slice_get_past, now, get-push_same, cases_eq, apart, get-push_other))
             old.crossed;
-        sizes = sizes ∙ old.sizes ∙ cut-length base s0 i ∙ sym (cut-length base s0 (i + 1));
+        sizes = omega (arith, old.sizes, length-set all s0 spots, length-set all s0 spots', less, more);
       }
+
+-- the entry that a term names
+pub named-entry : {base : List Shape} {s0 i : ℕ} {t : Term} (spots : List (List ℕ)) (lists : List (List Weighted)) (q : ℕ) → IsTerm base s0 i t → slice_get (get_or spots s0 []) i ≡ Some q → IsLinked (cut base s0 (i + 1)) spots lists →
+    slice_get (get_or lists (place t.literal) []) q ≡ Some (entry_for s0 i t)
+named-entry {base} {s0} {i} {t} spots lists q x spot old =
+    entry-back (slice_get (get_or lists (place t.literal) []) q) s0 i t.coefficient ((old.crossed s0 i (place t.literal) q t.coefficient).0 (term-here x spots q spot))
+
+-- the entry that is removed is the last one, or the last one moves to its position
+moved-cases : {es : List Occurrence} {q : ℕ} {spots spots' : List (List ℕ)} → Moved es q spots spots' →
+    (length spots' ≡ length spots) × (((q + 1 ≡ length es) × (spots' ≡ spots)) ⊎
+    ((m : Occurrence) × (q + 1 < length es) × (slice_get es (length es - 1) ≡ Some m) × (spots' ≡ set spots m.form (set (get_or spots m.form []) m.index q))))
+moved-cases (none end) = (refl, inl (end, refl))
+moved-cases {es} {q} {spots} (last m more at) = (length-set spots m.form (set (get_or spots m.form []) m.index q), inr (m, more, at, refl))
+
+-- a term and its entry are removed
+pub unlink-next : {base : List Shape} {spots : List (List ℕ)} {s0 i q : ℕ} {t : Term} (occ occ' : List (Vec Occurrence Global)) (o : Occurrence) → IsTerm base s0 i t →
+    slice_get (get_or spots s0 []) i ≡ Some q → place t.literal < length occ → o ≡ get_or (get_or (lists_of occ) (place t.literal) []) q o →
+    lists_of occ' ≡ set (lists_of occ) (place t.literal) (swap_remove (get_or (lists_of occ) (place t.literal) []) q o) →
+    IsLinked (cut base s0 (i + 1)) spots (entries_of base occ) → (spots' : List (List ℕ)) → Moved (get_or (lists_of occ) (place t.literal) []) q spots spots' →
+    IsLinked (cut base s0 i) spots' (entries_of base occ')
+unlink-next {base} {spots} {s0} {i} {q} {t} occ occ' o x at inside read taken old spots' moved =
+    let p = place t.literal in
+    let lists = entries_of base occ in
+    let lists' = entries_of base occ' in
+    let es = get_or lists p [] in
+    let e = entry_for s0 i t in
+    let top = length es - 1 in
+    let f = term_at (cut base s0 (i + 1)) spots in
+    let size = entries-size base occ p in
+    let less = cut-length base s0 i in
+    let more = cut-length base s0 (i + 1) in
+    let item : slice_get es q ≡ Some e = named-entry spots lists q x at old in
+    let within : q < length es = slice_get_within es q e item in
+    let same : weighted base o ≡ e = taken-is es q e (weighted base o) item (item-taken base occ p q o read) in
+    let shorter : lists' ≡ set lists p (swap_remove es q e) = entries-taken base occ occ' p q o taken ∙ ap (λ (y : Weighted). set lists p (swap_remove es q y)) same in
+    let room : p < length lists = omega (arith, inside, entries-length base occ) in
+    let now : get_or lists' p [] ≡ swap_remove es q e = grind (arith, shorter, get_or-set_at, room) in
+    let others : (k : ℕ) → (k ≡ p → ⊥) → get_or lists k [] ≡ get_or lists' k [] = λ k n. grind (arith, shorter, get_or-set_other, n) in
+    let gains : Gains lists' lists p e = grind (arith, now, sum_by-swap_remove, within, get_or_from_slice_get, item, others, sum_by-set, room, shorter, swap-length) in
+    let entries : (r k : ℕ) → Same r k p q ⊎ Same r k p top ⊎ (entry_at lists' r k ≡ entry_at lists r k) =
+    λ r k. grind (arith, cases_eq r p, cases_eq k q, cases_eq k top, now, others r, swap-other) in
+    let gone : (k : ℕ) → top ≤ k → entry_at lists' p k ≡ None = λ k h. ap entry_cross (ap (λ (xs : List Weighted). slice_get xs k) now ∙ swap-past es q k e h) in
+    record {
+      linked = λ s d k h. omega (arith, balance x gains s d k (omega (arith, h, less)), old.linked s d k (omega (arith, h, less, more)));
+      totals = omega (arith, gains.total, old.totals, totals-next x);
+      crossed = elim (moved-cases moved).1 [
+        | inl end ↦
+            rw end.1 (crossed-drop f (term_at (cut base s0 i) spots) (entry_at lists) (entry_at lists') s0 i p q t.coefficient
+            (record { was = term-here x spots q at; now = term-none x spots; others = λ s j. grind (arith, terms-step x s j) })
+            (record { was = ap entry_cross item; now = gone q (omega (arith, end.0, size)); others = λ r k. grind (arith, entries r k, end.0, size) })
+            old.crossed)
+        | inr moves ↦
+            let m = moves.0 in
+            let w = weighted base m in
+            let next = set spots m.form (set (get_or spots m.form []) m.index q) in
+            let got : slice_get es top ≡ Some w = rw size (entry-weighted base occ p (length (get_or (lists_of occ) p []) - 1) m moves.2) in
+            let named = named-term (cut base s0 (i + 1)) spots lists p top w got old in
+            let places = named-spot (cut base s0 (i + 1)) spots lists p top w got old in
+            let spot : slice_get (get_or next m.form []) m.index ≡ Some q = grind (arith, get_or-set_at, get-set_at, places.0, places.1) in
+            let still : slice_get (terms_at (cut base s0 i) m.form) m.index ≡ Some named.term =
+            grind (arith, terms-step x m.form m.index, named.is, named.spot, at, moves.1, size) in
+            rw moves.3 (crossed-move f (term_at (cut base s0 i) next) (entry_at lists) (entry_at lists') (record { row = s0; column = i; weight = t.coefficient })
+            (record { row = m.form; column = m.index; weight = w.coefficient }) p q top
+            (grind (arith, term-here x spots q at, term-none x next, (old.crossed m.form m.index p top w.coefficient).1, got, term-made, still, spot, named.row, named.weight, terms-step x, cases_eq, get_or-set_at, get_or-set_other, get-set_other, places.0))
+            (grind (arith, got, gone, item, now, swap-here, moves.1, size, entries))
+            old.crossed)
+      ];
+      sizes = (moved-cases moved).0 ∙ old.sizes ∙ more ∙ sym less;
+    }

@@ -1,51 +1,24 @@
 -- Adding and removing terms, in terms of what the program reads.
-use Rattle.pb_propagate.proofs.Common.{AreLonger, length-append, IsSound, Store, stored_terms, ℕ, ◌++◌, ◌+◌, ◌-◌, ◌<◌, ◌∙◌, ◌∷◌, ◌≡◌, ◌≤◌}
-use Rattle.pb_propagate.proofs.Common.{[], ap, arith, false, get_or, get_or-set_other, get_or-set_same, Global, length, length-set}
-use Rattle.pb_propagate.proofs.Common.{List, map, refl, set, subst, sym, Vec, slice_get, Some, swap_remove, cases_eq, cases_lt, get_or-map}
-use Rattle.pb_propagate.proofs.Common.{get_or_default, length-map, map-set, set_past, get_or_from_slice_get, slice_get-get_or, slice_get_within}
-use Rattle.pb_propagate.proofs.Common.{Occurrence, StoredForm, Term, place, entries_of, Spots, spots_in, lists_of, shapes_of, spots_of, stored_shape}
-use Rattle.pb_propagate.proofs.Common.{cut, IsLinked, last, Moved, terms_at, weighted, Shape}
+use Rattle.pb_propagate.proofs.Common.{AreLonger, length-append, IsSound, Store, stored_terms, ℕ, ◌++◌, ◌+◌, ◌-◌, ◌<◌, ◌∙◌, ◌∷◌, ◌≡◌, ◌≤◌, [], ap, arith}
+use Rattle.pb_propagate.proofs.Common.{get_or, get_or-set_other, Global, length, length-set, List, refl, set, subst, sym, Vec, slice_get, Some, swap_remove}
+use Rattle.pb_propagate.proofs.Common.{cases_eq, cases_lt, get_or-map, length-map, map-set, set_past, get_or_from_slice_get, slice_get-get_or, slice_get_within}
+use Rattle.pb_propagate.proofs.Common.{Occurrence, StoredForm, Term, place, entries_of, Spots, spots_in, lists_of, shapes_of, spots_of, stored_shape, cut}
+use Rattle.pb_propagate.proofs.Common.{IsLinked, last, Moved, terms_at, weighted, Shape}
 use Rattle.pb_propagate.specs.engine.engine.Links.{none}
 use Rattle.std.proofs.lemmas.Grind.{get_or-set_at}
-use Rattle.pb_propagate.proofs.lemmas.store.Gets.{get-push_same, get-push_other, swap-here, swap-length}
-use Rattle.pb_propagate.proofs.lemmas.store.Links.{IsTerm, entry_for, link-next, cut-length}
-use Rattle.pb_propagate.proofs.lemmas.store.Unlinks.{unlink-next, named-spot, named-entry, Leaving}
-use Rattle.pb_propagate.proofs.lemmas.store.Positions.{taken-is}
+use Rattle.pb_propagate.proofs.lemmas.store.Weights.{named-spot, entries-size, entry-weighted}
+use Rattle.pb_propagate.proofs.lemmas.store.Gets.{swap-here, swap-length}
+use Rattle.pb_propagate.proofs.lemmas.store.Links.{IsTerm, entry_for, unlink-next, named-entry, cut-length}
 use Rattle.pb_propagate.proofs.lemmas.engine.VisitSteps.{shape-at, term-inside}
 use Rattle.pb_propagate.proofs.lemmas.engine.Puts.{lists-at, place-inside}
-use Rattle.pb_propagate.proofs.lemmas.store.Weights.{entries-size, entry-weighted, entries-pushed, entries-taken, item-taken, shifted}
-
-pub lists-length : (occ : List (Vec Occurrence Global)) → length (lists_of occ) ≡ length occ
-lists-length occ = length-map occ (λ (v : Vec Occurrence Global). v.items)
-
-pub entries-length : (forms : List Shape) (occ : List (Vec Occurrence Global)) → length (entries_of forms occ) ≡ length occ
-entries-length forms occ = length-map occ (λ (v : Vec Occurrence Global). map (weighted forms) v.items)
+pub use Rattle.pb_propagate.proofs.lemmas.store.Weights.{entries-length, lists-length}
 
 -- an entry is added at the end of a list
 pub pushed-lists : (occ : List (Vec Occurrence Global)) (p : ℕ) (v0 v1 : Vec Occurrence Global) (o : Occurrence) → p < length occ → v0 ≡ get_or occ p v0 → v1.items ≡ v0.items ++ (o ∷ []) → lists_of (set occ p v1) ≡ set (lists_of occ) p (get_or (lists_of occ) p [] ++ (o ∷ []))
-pushed-lists occ p v0 v1 o room value pushed =
-    map-set (λ (v : Vec Occurrence Global). v.items) occ p v1 ∙ ap (λ xs. set (lists_of occ) p xs) (pushed ∙ ap (λ xs. xs ++ (o ∷ [])) (sym (lists-at occ p p v0 room value refl)))
+pushed-lists occ p v0 v1 o room value pushed = grind (arith, map-set, lists-at, pushed, room, value)
 
 pub longer-push : (occ occ' : List (Vec Occurrence Global)) (p : ℕ) (o : Occurrence) → p < length occ → lists_of occ' ≡ set (lists_of occ) p (get_or (lists_of occ) p [] ++ (o ∷ [])) → AreLonger occ occ'
 longer-push occ occ' p o room pushed q = grind (arith, cases_eq q p, pushed, get_or-set_at, get_or-set_other, lists-length occ, length-append)
-
-pub link-by : {base : List Shape} {form i : ℕ} {t : Term} (all : List (List ℕ)) (occ occ' : List (Vec Occurrence Global)) (spots spots' : List ℕ) → IsTerm base form i t → form < length all → place t.literal < length occ →
-    lists_of occ' ≡ set (lists_of occ) (place t.literal) (get_or (lists_of occ) (place t.literal) [] ++ (record { form = form; index = i } ∷ [])) → spots' ≡ spots ++ (length (get_or (lists_of occ) (place t.literal) []) ∷ []) → length spots ≡ i →
-    IsLinked (cut base form i) (set all form spots) (entries_of base occ) → IsLinked (cut base form (i + 1)) (set all form spots') (entries_of base occ')
-link-by {base} {form} {i} {t} all occ occ' spots spots' x wide room longer pushed size old =
-    link-next x (set all form spots) (set all form spots') (entries_of base occ) (entries_of base occ') (omega (arith, room, entries-length base occ)) grown spot_now
-    (λ s j n. grind (arith, cases_eq s form, cases_eq j (length spots), get_or-set_at, get_or-set_other, get-push_other, pushed, size, n, wide)) (omega (arith, length-set all form spots, length-set all form spots')) old
-  where
-    weight : weighted base (record { form = form; index = i }) ≡ entry_for form i t
-    weight = ap (entry_for form i) (get_or_default (terms_at base form) i (record { literal = record { variable = 0; negated = false }; coefficient = 0 }) t x.within ∙ sym x.is)
-
-    grown : entries_of base occ' ≡ set (entries_of base occ) (place t.literal) (get_or (entries_of base occ) (place t.literal) [] ++ (entry_for form i t ∷ []))
-    grown = entries-pushed base occ occ' (place t.literal) (record { form = form; index = i }) longer ∙ ap (λ e. set (entries_of base occ) (place t.literal) (get_or (entries_of base occ) (place t.literal) [] ++ (e ∷ []))) weight
-
-    spot_now : slice_get (get_or (set all form spots') form []) i ≡ Some (length (get_or (entries_of base occ) (place t.literal) []))
-    spot_now =
-        ap (λ (xs : List ℕ). slice_get xs i) (get_or-set_same all form spots' [] wide ∙ pushed) ∙ get-push_same spots i (length (get_or (lists_of occ) (place t.literal) [])) (sym size)
-        ∙ ap (λ n. Some n) (sym (entries-size base occ (place t.literal)))
 
 -- an entry is removed
 pub taken-lists : (occ : List (Vec Occurrence Global)) (p q : ℕ) (v0 v1 : Vec Occurrence Global) (e : Occurrence) → p < length occ → v0 ≡ get_or occ p v0 → e ≡ get_or v0.items q e → v1.items ≡ swap_remove v0.items q e → (x : Occurrence) × (x ≡ get_or (get_or (lists_of occ) p []) q x) × (lists_of (set occ p v1) ≡ set (lists_of occ) p (swap_remove (get_or (lists_of occ) p []) q x))
@@ -69,12 +42,6 @@ spots-moved spots es q m w0 w1 room value put more at =
     let shape : spots_of (set spots m.form w1) ≡ set (spots_of spots) m.form (set (get_or (spots_of spots) m.form []) m.index q) =
     map-set spots_in spots m.form w1 ∙ ap (λ xs. set (spots_of spots) m.form xs) (put ∙ ap (λ (xs : List ℕ). set xs m.index q) (sym those)) in
     rw shape (last m more at)
-
-pub set-read : {X : Type 0} (xs : List X) (p : ℕ) (y z : X) → p < length xs → z ≡ get_or (set xs p y) p z → z ≡ y
-set-read xs p y z room is = is ∙ get_or-set_same xs p y z room
-
-pub spots-read : (spots : List Spots) (s i : ℕ) (w0 : Spots) → s < length spots → w0 ≡ get_or spots s w0 → i < length (get_or (spots_of spots) s []) → i < length (spots_in w0)
-spots-read spots s i w0 room value h = grind (arith, get_or-map)
 
 -- the terms of a form from `left` on are removed
 pub record IsUnlinking (store now : Store) (form left : ℕ) : Type 0 where
@@ -117,28 +84,13 @@ unlink-read {store} {now} {form} {left} k t w q p0 sound u some inside kept_is i
       room = room;
       spot_in = omega (arith, slice_get_within (get_or (entries_of base occ) p []) q (entry_for form j t) entry, entries-size base occ p);
       named = λ o h. named-spot (cut base form (j + 1)) (spots_of now.spots.items) (entries_of base occ) p (length (get_or (lists_of occ) p []) - 1) (weighted base o) (entry-weighted base occ p (length (get_or (lists_of occ) p []) - 1) o h) linked;
-      next = λ spots' occ' taken moved.
-          let same : weighted base taken.0 ≡ entry_for form j t = taken-is (get_or (entries_of base occ) p []) q (entry_for form j t) (weighted base taken.0) entry (item-taken base occ p q taken.0 taken.1) in
-          let l : Leaving base (spots_of now.spots.items) (entries_of base occ) (entries_of base occ') form j q p (get_or (entries_of base occ) p []) t = record {
-            term = x;
-            spot = spot;
-            at_place = refl;
-            those = refl;
-            room = omega (arith, room, entries-length base occ);
-            item = entry;
-            shorter = entries-taken base occ occ' p q taken.0 taken.2 ∙ ap (λ e. set (entries_of base occ) p (swap_remove (get_or (entries_of base occ) p []) q e)) same;
-            old = linked;
-          } in
-          unlink-next l spots' (shifted base occ p q (spots_of now.spots.items) spots' moved);
+      next = λ spots' occ' taken moved. unlink-next occ occ' taken.0 x spot room taken.1 taken.2 linked spots' moved;
     })
 
 -- a move does not change the sizes
-rooms-kept : (spots : List (List ℕ)) (f i q s : ℕ) → length (get_or (set spots f (set (get_or spots f []) i q)) s []) ≡ length (get_or spots s [])
-rooms-kept spots f i q s = grind (arith, cases_eq s f, cases_lt f (length spots), get_or-set_at, get_or-set_other, set_past, length-set)
-
 pub moved-rooms : (es : List Occurrence) (q : ℕ) (spots spots' : List (List ℕ)) → Moved es q spots spots' → (s : ℕ) → length (get_or spots' s []) ≡ length (get_or spots s [])
 moved-rooms es q spots _ (none end) s = refl
-moved-rooms es q spots _ (last m more at) s = rooms-kept spots m.form m.index q s
+moved-rooms es q spots _ (last m more at) s = grind (arith, cases_eq s m.form, cases_lt m.form (length spots), get_or-set_at, get_or-set_other, set_past, length-set)
 
 pub taken-length : (occ occ' : List (Vec Occurrence Global)) (p q : ℕ) → ((e : Occurrence) × (e ≡ get_or (get_or (lists_of occ) p []) q e) × (lists_of occ' ≡ set (lists_of occ) p (swap_remove (get_or (lists_of occ) p []) q e))) → length occ' ≡ length occ
 taken-length occ occ' p q taken =

@@ -1,7 +1,7 @@
 -- A list of numbers, each once, and the position of each in it.
-use Rattle.pb_propagate.proofs.Common.{ℕ, ◌++◌, ◌+◌, ◌-◌, ◌<◌, ◌∙◌, ◌∷◌, ◌≡◌, ◌≤◌, ◌⊎◌, [], ap, arith, Bool, false, get_or, if◌then◌else◌, inl, inr}
-use Rattle.pb_propagate.proofs.Common.{length, length-append, List, set, suc, sym, true, slice_get, Some, swap_remove, cases_eq}
-use Rattle.pb_propagate.proofs.Common.{get_or_from_slice_get, slice_get-get_or, slice_get_within, IsAbsent, IsWithout}
+use Rattle.pb_propagate.proofs.Common.{ℕ, ◌++◌, ◌+◌, ◌-◌, ◌<◌, ◌∙◌, ◌∷◌, ◌≡◌, ◌≤◌, [], ap, arith, Bool, get_or, if◌then◌else◌, inl, inr, length, length-append, List, set}
+use Rattle.pb_propagate.proofs.Common.{suc, sym, slice_get, Some, swap_remove, cases_Bool, cases_eq, get_or_from_slice_get, slice_get-get_or, slice_get_within, IsAbsent}
+use Rattle.pb_propagate.proofs.Common.{IsWithout}
 use Rattle.pb_propagate.proofs.lemmas.store.Options.{some-one}
 use Rattle.pb_propagate.proofs.lemmas.store.Gets.{get-set_at, get-set_other, get-push_less, get-push_other, get-push_same, swap-other, swap-past, swap-here, swap-length}
 
@@ -9,20 +9,11 @@ abbrev pub ArePositioned : List ℕ → List ℕ → Type 0
 ArePositioned list positions = (i s : ℕ) → slice_get list i ≡ Some s → slice_get positions s ≡ Some i
 
 -- a number that is not absent has a position
-pub stands : (xs : List ℕ) (x : ℕ) → ((i : ℕ) × (slice_get xs i ≡ Some x)) ⊎ IsAbsent xs 0 x
-stands [] x = inr (λ i from less at. omega (arith, less))
-stands (y ∷ ys) x = elim (cases_eq y x) [
-  | inl here ↦ inl (0, ap (λ z. Some z) here)
-  | inr other ↦ elim (stands ys x) [
-    | inl found ↦ inl (suc found.0, found.1)
-    | inr gone ↦ inr (λ i from less at. grind (arith, gone, other, at, less))
-  ]
-]
-
 pub found-at : (xs : List ℕ) (x : ℕ) → (IsAbsent xs 0 x → ⊥) → (i : ℕ) × (slice_get xs i ≡ Some x)
-found-at xs x there = elim (stands xs x) [
-  | inl found ↦ found
-  | inr gone ↦ absurd (there gone)
+found-at [] x there = absurd (there (λ i from less at. omega (arith, less)))
+found-at (y ∷ ys) x there = elim (cases_eq y x) [
+  | inl here ↦ (0, ap (λ z. Some z) here)
+  | inr other ↦ let found = found-at ys x (λ gone. there (λ i from less at. grind (arith, gone, other, at, less))) in (suc found.0, found.1)
 ]
 
 pub absent-get : (xs : List ℕ) (x i : ℕ) → IsAbsent xs 0 x → slice_get xs i ≡ Some x → ⊥
@@ -72,12 +63,10 @@ swap-to xs q d j t inside h other = elim (cases_eq j (length xs - 1)) [
 
 -- one more number may be on the list
 pub positioned-widened : (list positions positions' : List ℕ) (b : Bool) → positions' ≡ (if b then positions ++ (0 ∷ []) else positions) → ArePositioned list positions → ArePositioned list positions'
-positioned-widened list positions positions' true e old i s h = rw e (get-push_less positions s 0 (slice_get_within positions s i (old i s h)) ∙ old i s h)
-positioned-widened list positions positions' false e old i s h = rw e (old i s h)
+positioned-widened list positions positions' b e old i s h = grind (arith, cases_Bool b, get-push_less, slice_get_within, old i s h, e)
 
 pub room-widened : (positions positions' : List ℕ) (b : Bool) (room : ℕ) → positions' ≡ (if b then positions ++ (0 ∷ []) else positions) → length positions + 1 ≤ room → length positions' ≤ room
-room-widened positions positions' true room e less = omega (arith, ap length e, length-append positions (0 ∷ []), less)
-room-widened positions positions' false room e less = omega (arith, ap length e, less)
+room-widened positions positions' b room e less = grind (arith, cases_Bool b, length-append, e, less)
 
 -- what is on a list with one number more, and is another one, was there before
 pub push-older : (xs : List ℕ) (x i s : ℕ) → (s ≡ x → ⊥) → slice_get (xs ++ (x ∷ [])) i ≡ Some s → slice_get xs i ≡ Some s

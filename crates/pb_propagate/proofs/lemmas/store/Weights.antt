@@ -1,14 +1,81 @@
--- Entries and the coefficients of their terms.
-use Rattle.pb_propagate.proofs.Common.{cases_lt, get_or_append_left, get_or_past, length-append, map-append, ℕ, ◌++◌, ◌-◌, ◌<◌, ◌∙◌, ◌∷◌, ◌≡◌, [], ap, arith, get_or, get_or-set_other, Global, length}
-use Rattle.pb_propagate.proofs.Common.{List, map, refl, set, suc, sym, Vec, zero, All, option_map, slice_get, Some, swap_remove, get_or_default}
-use Rattle.pb_propagate.proofs.Common.{length-map, map-set, slice_get-get_or, slice_get-map, slice_get_within, Occurrence, NameForms}
-use Rattle.pb_propagate.proofs.Common.{entries_of, lists_of, cut, IsLinked, last, Moved, terms_at, weighted, Shape, Weighted}
+-- What terms and entries name, and the coefficients of entries.
+use Rattle.pb_propagate.proofs.Common.{ℕ, ◌<◌, ◌≡◌, ◌⊎◌, [], ap, arith, get_or, get_or_past, length, List, None, Option, refl, slice_get, slice_get_within, Some}
+use Rattle.pb_propagate.proofs.Common.{AreCrossed, Cross, entry_cross, IsLinked, place, Shape, Term, term_cross, terms_at, Weighted, map-append, ◌++◌, ◌∙◌, ◌∷◌, Global}
+use Rattle.pb_propagate.proofs.Common.{map, set, suc, sym, Vec, zero, All, swap_remove, length-map, map-set, slice_get-get_or, slice_get-map, Occurrence}
+use Rattle.pb_propagate.proofs.Common.{entries_of, lists_of, weighted}
 use Rattle.std.proofs.Math.ListN.{get_or-map}
 use Rattle.std.proofs.lemmas.Simd.{map-map}
 use Rattle.pb_propagate.proofs.lemmas.store.Gets.{swap-map}
-use Rattle.pb_propagate.specs.engine.engine.Links.{none}
-use Rattle.pb_propagate.proofs.lemmas.store.Links.{cut-here}
-use Rattle.pb_propagate.proofs.lemmas.store.Unlinks.{Shifted, stays, goes, named-term}
+
+abbrev pub Grid : Type 0
+Grid = ℕ → ℕ → Option Cross
+
+abbrev pub to : ℕ → ℕ → ℕ → Option Cross
+to p q w = Some record { row = p; column = q; weight = w }
+
+abbrev pub Same : ℕ → ℕ → ℕ → ℕ → Type 0
+Same a b c d = (a ≡ c) × (b ≡ d)
+
+-- a grid has another value at one position
+pub record Turns (f f' : Grid) (a b : ℕ) (x y : Option Cross) : Type 0 where
+  pub was : f a b ≡ x
+  pub now : f' a b ≡ y
+  pub others : (p q : ℕ) → Same p q a b ⊎ (f' p q ≡ f p q)
+
+-- one pair more
+pub crossed-add : (f f' g g' : Grid) (a b c d w : ℕ) → Turns f f' a b None (to c d w) → Turns g g' c d None (to a b w) → AreCrossed f g → AreCrossed f' g'
+crossed-add f f' g g' a b c d w m k old r s t u v = grind (arith, m.was, m.now, m.others r s, k.was, k.now, k.others t u, old r s t u v)
+
+-- one pair less
+pub crossed-drop : (f f' g g' : Grid) (a b c d w : ℕ) → Turns f f' a b (to c d w) None → Turns g g' c d (to a b w) None → AreCrossed f g → AreCrossed f' g'
+crossed-drop f f' g g' a b c d w m k old r s t u v = grind (arith, m.was, m.now, m.others r s, k.was, k.now, k.others t u, old r s t u v)
+
+-- a grid has nothing at one position any more, and another value at a second one
+pub record Moves (f f' : Grid) (a b p q : ℕ) (x y z : Option Cross) : Type 0 where
+  pub first : f a b ≡ x
+  pub none : f' a b ≡ None
+  pub second : f p q ≡ y
+  pub now : f' p q ≡ z
+  pub others : (r s : ℕ) → Same r s a b ⊎ Same r s p q ⊎ (f' r s ≡ f r s)
+
+-- one pair less, and the entry of another moves to its position
+pub crossed-move : (f f' g g' : Grid) (x y : Cross) (c d e : ℕ) → Moves f f' x.row x.column y.row y.column (to c d x.weight) (to c e y.weight) (to c d y.weight) →
+    Moves g g' c e c d (to y.row y.column y.weight) (to x.row x.column x.weight) (to y.row y.column y.weight) → AreCrossed f g → AreCrossed f' g'
+crossed-move f f' g g' x y c d e m k old r s t u v =
+    grind (arith, m.first, m.none, m.second, m.now, m.others r s, k.first, k.none, k.second, k.now, k.others t u, old r s t u v)
+
+-- the entry that a name refers to
+pub entry-back : (o : Option Weighted) (s i w : ℕ) → entry_cross o ≡ to s i w → o ≡ Some (record { form = s; index = i; coefficient = w })
+entry-back None s i w h = cc
+entry-back (Some e) s i w h = grind (arith, e.form, e.index, e.coefficient)
+
+-- the term that an entry names
+pub record TermNamed (o : Option Term) (r : Option ℕ) (p q w : ℕ) : Type 0 where
+  pub term : Term
+  pub is : o ≡ Some term
+  pub spot : r ≡ Some q
+  pub row : place term.literal ≡ p
+  pub weight : term.coefficient ≡ w
+
+term-back : (o : Option Term) (r : Option ℕ) (p q w : ℕ) → term_cross o r ≡ to p q w → TermNamed o r p q w
+term-back None r p q w h = absurd cc
+term-back (Some t) None p q w h = absurd cc
+term-back (Some t) (Some k) p q w h = record { term = t; is = refl; spot = grind (arith, h); row = grind (arith, h); weight = grind (arith, h) }
+
+pub named-term : (forms : List Shape) (spots : List (List ℕ)) (lists : List (List Weighted)) (p q : ℕ) (e : Weighted) → slice_get (get_or lists p []) q ≡ Some e → IsLinked forms spots lists → TermNamed (slice_get (terms_at forms e.form) e.index) (slice_get (get_or spots e.form []) e.index) p q e.coefficient
+named-term forms spots lists p q e is old = term-back _ _ p q e.coefficient ((old.crossed e.form e.index p q e.coefficient).1 (ap entry_cross is))
+
+pub named-spot : (forms : List Shape) (spots : List (List ℕ)) (lists : List (List Weighted)) (p q : ℕ) (e : Weighted) → slice_get (get_or lists p []) q ≡ Some e → IsLinked forms spots lists → (e.form < length spots) × (e.index < length (get_or spots e.form []))
+named-spot forms spots lists p q e is old =
+    let inner = slice_get_within (get_or spots e.form []) e.index q (named-term forms spots lists p q e is old).spot in
+    (grind (arith, get_or_past, inner), inner)
+
+-- how many lists there are
+pub lists-length : (occ : List (Vec Occurrence Global)) → length (lists_of occ) ≡ length occ
+lists-length occ = length-map occ (λ (v : Vec Occurrence Global). v.items)
+
+pub entries-length : (forms : List Shape) (occ : List (Vec Occurrence Global)) → length (entries_of forms occ) ≡ length occ
+entries-length forms occ = length-map occ (λ (v : Vec Occurrence Global). map (weighted forms) v.items)
 
 -- the lists with and without the coefficients
 entries-lists : (forms : List Shape) (occ : List (Vec Occurrence Global)) → entries_of forms occ ≡ map (map (weighted forms)) (lists_of occ)
@@ -18,8 +85,7 @@ pub entries-get : (forms : List Shape) (occ : List (Vec Occurrence Global)) (p :
 entries-get forms occ p = ap (λ es. get_or es p []) (entries-lists forms occ) ∙ get_or-map (map (weighted forms)) (lists_of occ) p []
 
 pub entry-weighted : (forms : List Shape) (occ : List (Vec Occurrence Global)) (p q : ℕ) (o : Occurrence) → slice_get (get_or (lists_of occ) p []) q ≡ Some o → slice_get (get_or (entries_of forms occ) p []) q ≡ Some (weighted forms o)
-entry-weighted forms occ p q o h =
-    ap (λ (xs : List Weighted). slice_get xs q) (entries-get forms occ p) ∙ slice_get-map (weighted forms) (get_or (lists_of occ) p []) q ∙ ap (option_map (weighted forms)) h
+entry-weighted forms occ p q o h = grind (arith, entries-get forms occ p, slice_get-map (weighted forms) (get_or (lists_of occ) p []) q, h)
 
 pub entries-size : (forms : List Shape) (occ : List (Vec Occurrence Global)) (p : ℕ) → length (get_or (entries_of forms occ) p []) ≡ length (get_or (lists_of occ) p [])
 entries-size forms occ p = ap length (entries-get forms occ p) ∙ length-map (get_or (lists_of occ) p []) (weighted forms)
@@ -29,77 +95,21 @@ entries-set : (forms : List Shape) (occ occ' : List (Vec Occurrence Global)) (p 
 entries-set forms occ occ' p os h = grind (arith, entries-lists, map-set)
 
 pub entries-taken : (forms : List Shape) (occ occ' : List (Vec Occurrence Global)) (p q : ℕ) (o : Occurrence) → lists_of occ' ≡ set (lists_of occ) p (swap_remove (get_or (lists_of occ) p []) q o) → entries_of forms occ' ≡ set (entries_of forms occ) p (swap_remove (get_or (entries_of forms occ) p []) q (weighted forms o))
-entries-taken forms occ occ' p q o h =
-    let w = weighted forms in
-    let os = get_or (lists_of occ) p [] in
-    entries-set forms occ occ' p (swap_remove os q o) h ∙ ap (set (entries_of forms occ) p) (swap-map w os q o ∙ ap (λ xs. swap_remove xs q (w o)) (sym (entries-get forms occ p)))
+entries-taken forms occ occ' p q o h = grind (arith, entries-set forms occ occ' p (swap_remove (get_or (lists_of occ) p []) q o) h, swap-map, entries-get)
 
 pub entries-pushed : (forms : List Shape) (occ occ' : List (Vec Occurrence Global)) (p : ℕ) (o : Occurrence) → lists_of occ' ≡ set (lists_of occ) p (get_or (lists_of occ) p [] ++ (o ∷ [])) → entries_of forms occ' ≡ set (entries_of forms occ) p (get_or (entries_of forms occ) p [] ++ (weighted forms o ∷ []))
-entries-pushed forms occ occ' p o h =
-    let w = weighted forms in
-    let os = get_or (lists_of occ) p [] in
-    entries-set forms occ occ' p (os ++ (o ∷ [])) h ∙ ap (set (entries_of forms occ) p) (map-append w os (o ∷ []) ∙ ap (λ xs. xs ++ (w o ∷ [])) (sym (entries-get forms occ p)))
+entries-pushed forms occ occ' p o h = grind (arith, entries-set forms occ occ' p (get_or (lists_of occ) p [] ++ (o ∷ [])) h, map-append, entries-get)
 
 pub item-taken : (forms : List Shape) (occ : List (Vec Occurrence Global)) (p q : ℕ) (o : Occurrence) → o ≡ get_or (get_or (lists_of occ) p []) q o → weighted forms o ≡ get_or (get_or (entries_of forms occ) p []) q (weighted forms o)
-item-taken forms occ p q o is =
-    let w = weighted forms in
-    ap w is ∙ sym (get_or-map w (get_or (lists_of occ) p []) q o) ∙ ap (λ (xs : List Weighted). get_or xs q (w o)) (sym (entries-get forms occ p))
-
-pub shifted : (forms : List Shape) (occ : List (Vec Occurrence Global)) (p q : ℕ) (spots spots' : List (List ℕ)) → Moved (get_or (lists_of occ) p []) q spots spots' → Shifted (get_or (entries_of forms occ) p []) q spots spots'
-shifted forms occ p q spots _ (none end) = stays (omega (arith, end, entries-size forms occ p))
-shifted forms occ p q spots _ (last o more at) =
-    let size = entries-size forms occ p in
-    let there : slice_get (get_or (entries_of forms occ) p []) (length (get_or (entries_of forms occ) p []) - 1) ≡ Some (weighted forms o) = rw size (entry-weighted forms occ p (length (get_or (lists_of occ) p []) - 1) o at) in
-    goes (weighted forms o) (omega (arith, more, size)) there
+item-taken forms occ p q o is = grind (arith, is, entries-get forms occ p, get_or-map (weighted forms) (get_or (lists_of occ) p []) q o)
 
 -- the term of an entry that is read
 pub index-within : (forms : List Shape) (spots : List (List ℕ)) (occ : List (Vec Occurrence Global)) (p j : ℕ) (items : List Occurrence) (o : Occurrence) → get_or (entries_of forms occ) p [] ≡ map (weighted forms) items → o ≡ get_or items j o → j < length items → IsLinked forms spots (entries_of forms occ) → o.index < length (terms_at forms o.form)
 index-within forms spots occ p j items o same item inside old =
-    let got : slice_get items j ≡ Some o = slice_get-get_or items j o inside ∙ ap (λ x. Some x) (sym item) in
-    let there : slice_get (get_or (entries_of forms occ) p []) j ≡ Some (weighted forms o) = ap (λ (xs : List Weighted). slice_get xs j) same ∙ slice_get-map (weighted forms) items j ∙ ap (option_map (weighted forms)) got in
-    let named = named-term forms spots (entries_of forms occ) p j (weighted forms o) there old in
-    slice_get_within (terms_at forms o.form) o.index named.term named.is
+    let at : slice_get (get_or (entries_of forms occ) p []) j ≡ Some (weighted forms o) = grind (arith, same, item, slice_get-map, slice_get-get_or items j o, inside) in
+    slice_get_within (terms_at forms o.form) o.index _ (named-term forms spots (entries_of forms occ) p j (weighted forms o) at old).is
 
--- each entry names another form
-abbrev pub NameOthers : ℕ → List (Vec Occurrence Global) → Type 0
-NameOthers s occ = (p : ℕ) → All (λ o. o.form ≡ s → ⊥) (get_or (lists_of occ) p [])
-
-weighted-same : (forms forms' : List Shape) (o : Occurrence) → terms_at forms' o.form ≡ terms_at forms o.form → weighted forms' o ≡ weighted forms o
-weighted-same forms forms' o h = grind (arith)
-
-map-agree : {X Y : Type 0} (f g : X → Y) (xs : List X) → All (λ x. f x ≡ g x) xs → map f xs ≡ map g xs
+-- functions that agree on a list
+pub map-agree : {X Y : Type 0} (f g : X → Y) (xs : List X) → All (λ x. f x ≡ g x) xs → map f xs ≡ map g xs
 map-agree f g [] all = refl
 map-agree f g (x ∷ xs) all = rw (all zero x (omega arith), map-agree f g xs (λ k d h. all (suc k) d (omega (arith, h)))) refl
-
--- if one form is replaced, the entries that do not name it stay as they were
-pub entries-apart : (forms forms' : List Shape) (occ : List (Vec Occurrence Global)) (s : ℕ) → ((k : ℕ) → (k ≡ s → ⊥) → terms_at forms' k ≡ terms_at forms k) → NameOthers s occ → entries_of forms' occ ≡ entries_of forms occ
-entries-apart forms forms' [] s same others = refl
-entries-apart forms forms' (v ∷ occ) s same others =
-    let here : map (weighted forms') v.items ≡ map (weighted forms) v.items = map-agree (weighted forms') (weighted forms) v.items (λ k d h. weighted-same forms forms' (get_or v.items k d) (same (get_or v.items k d).form (others zero k d h))) in
-    let rest : entries_of forms' occ ≡ entries_of forms occ = entries-apart forms forms' occ s same (λ p. others (suc p)) in
-    rw (here, rest) refl
-
-pub others-named : (base : List Shape) (spots : List (List ℕ)) (occ : List (Vec Occurrence Global)) (s : ℕ) → s < length base → IsLinked (cut base s 0) spots (entries_of base occ) → NameOthers s occ
-others-named base spots occ s inside old p k d h here =
-    let o = get_or (get_or (lists_of occ) p []) k d in
-    let got = entry-weighted base occ p k o (slice_get-get_or (get_or (lists_of occ) p []) k d h) in
-    let named = named-term (cut base s 0) spots (entries_of base occ) p k (weighted base o) got old in
-    let within = slice_get_within (terms_at (cut base s 0) o.form) o.index named.term named.is in
-    let bare : terms_at (cut base s 0) o.form ≡ [] = rw here (cut-here base s 0 inside (record { terms = []; degree = 0 })) in
-    absurd (omega (arith, within, ap length bare))
-
-pub others-past : (forms : List Shape) (occ : List (Vec Occurrence Global)) (s : ℕ) → NameForms s (entries_of forms occ) → NameOthers s occ
-others-past forms occ s named p k d h here =
-    let os = get_or (lists_of occ) p [] in
-    let o = get_or os k d in
-    let is = item-taken forms occ p k o (get_or_default os k d o h) in
-    let form : o.form ≡ (get_or (get_or (entries_of forms occ) p []) k (weighted forms o)).form = ap (λ (e : Weighted). e.form) is in
-    let less = named p k (weighted forms o) (omega (arith, h, entries-size forms occ p)) in
-    absurd (omega (arith, less, form, here))
-
--- the terms of the other forms
-pub terms-before : (forms : List Shape) (x : Shape) (k : ℕ) → (k ≡ length forms → ⊥) → terms_at (forms ++ (x ∷ [])) k ≡ terms_at forms k
-terms-before forms x k n = grind (arith, get_or_append_left, get_or_past, length-append, cases_lt k (length forms))
-
-pub terms-set : (forms : List Shape) (s : ℕ) (x : Shape) (k : ℕ) → (k ≡ s → ⊥) → terms_at (set forms s x) k ≡ terms_at forms k
-terms-set forms s x k n = ap (λ (f : Shape). f.terms) (get_or-set_other forms s k x (record { terms = []; degree = 0 }) n)

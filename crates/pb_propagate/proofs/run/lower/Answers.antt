@@ -1,10 +1,6 @@
-use Rattle.pb_propagate.proofs.Common.{ℕ, ◌-◌, ◌∙◌, ap, arith, get_or, get_or-set_same, refl, set, subst, sym, get_or_read, IsCalm}
-use Rattle.pb_propagate.proofs.Common.{shapes_of}
-use Rattle.pb_propagate.proofs.lemmas.engine.VisitSteps.{grown-by, idle-at, changed-at, shape-at, weight-read}
+use Rattle.pb_propagate.proofs.Common.{ℕ, ◌-◌, ◌∙◌, ◌≡◌, ap, arith, get_or, refl, subst, sym, get_or_read, IsCalm, shapes_of}
+use Rattle.pb_propagate.proofs.lemmas.engine.VisitSteps.{grown-by, idle-at, changed-at, weight-read}
 use Rattle.pb_propagate.proofs.run.lower.Goals as goal
-
-pub weight_of-requires : goal.weight_of-requires
-weight_of-requires c = grind (arith, shape-at, c.index-kept.ensures)
 
 pub returns-clause-lowers : goal.returns-clause-lowers
 returns-clause-lowers c =
@@ -14,14 +10,11 @@ returns-clause-lowers c =
     let e = c.args.entry in
     let k = c.index-kept.result.now in
     let weight = weight-read keep e.form e.index k c.weight_of.result c.requires.form c.index-kept.ensures c.weight_of.ensures in
-    record {
-      opens = ap (λ (o : ℕ). set opens e.form (o - c.weight_of.result)) (get_or_read opens e.form c.index-opened.result.now c.requires.inside c.index-opened.ensures 0) ∙ ap (λ (w : ℕ). set opens e.form (get_or opens e.form 0 - w)) weight;
-      work = grown-by e.form run.work.items _ (λ low d i. subst (λ (w : ℕ). IsCalm (get_or (shapes_of keep) e.form d) (get_or run.opens.items e.form 0 - w) i) weight (idle-at keep run.opens.items e.form k c.index-opened.result.now c.weight_of.result c.requires.form c.index-kept.ensures c.requires.inside c.index-opened.ensures (omega (arith, low, c.sums-sums.ensures.bound)) d i)) c.in_ok-queue.ensures;
-      trail = grown-by e.form run.trail.items _ (λ other. changed-at c.args.rests.now keep run.opens.items e.form k c.index-opened.result.now c.requires.form c.index-kept.ensures c.requires.inside c.index-opened.ensures (λ same. other (same ∙ sym (c.open-rest.ensures ∙ ap (get_or c.args.rests.now.opens.items e.form) c.sums-sums.ensures.total)))) c.in_ok-note.ensures;
-      candidates = refl;
-      list = refl;
-      next = refl;
-    }
-
-pub returns-clause-falsified : goal.returns-clause-falsified
-returns-clause-falsified c = grind (arith, shape-at, c.index-kept.ensures, c.is_below.ensures.below, c.sums-sums.ensures.degree, get_or-set_same, c.requires.inside)
+    let lower : get_or opens e.form 0 ≡ c.index-opened.result.now = sym (get_or_read opens e.form c.index-opened.result.now c.requires.inside c.index-opened.ensures 0) in
+    let work = grown-by e.form run.work.items _ (λ low d i. subst (λ (w : ℕ). IsCalm (get_or (shapes_of keep) e.form d) (get_or run.opens.items e.form 0 - w) i) weight
+    (idle-at keep run.opens.items e.form k c.index-opened.result.now c.weight_of.result c.requires.form c.index-kept.ensures c.requires.inside c.index-opened.ensures
+    (omega (arith, low, c.sums-sums.ensures.bound)) d i)) c.in_ok-queue.ensures in
+    let trail = grown-by e.form run.trail.items _ (λ other. changed-at c.args.rests.now keep run.opens.items e.form k c.index-opened.result.now c.requires.form
+    c.index-kept.ensures c.requires.inside c.index-opened.ensures
+    (λ same. other (same ∙ sym (c.open-rest.ensures ∙ ap (get_or c.args.rests.now.opens.items e.form) c.sums-sums.ensures.total)))) c.in_ok-note.ensures in
+    record { opens = rw (lower, ← weight) refl; work = work; trail = trail; candidates = refl; list = refl; next = refl }

@@ -1,10 +1,10 @@
-use Rattle.pb_propagate.proofs.Common.{stored_terms, ◌-◌, get_or, length, shapes_of, database, IsOpen, progress, RunReasons}
+use Rattle.pb_propagate.proofs.Common.{[], stored_terms, ◌-◌, get_or, length, shapes_of, database, IsCounted, progress, RunReasons}
 use Rattle.pb_propagate.proofs.lemmas.engine.VisitSteps.{IsVisiting}
 use Rattle.pb_propagate.proofs.run.visit_form.Given as goal
 
 abbrev pub invariant-terms : goal.invariant-terms
 invariant-terms l = record {
-  counted : IsOpen (database l.store l.rests) (progress l.run);
+  counted : IsCounted (shapes_of l.store.stored.items) l.run.opens.items l.run.assignment.list.items [];
   reasons : RunReasons (shapes_of l.store.stored.items) l.initial.run l.run;
   in_visit : IsVisiting (database l.store l.rests) l.waiting l.form (progress l.initial.run) (progress l.run);
 }

@@ -1,7 +1,6 @@
-use Rattle.pb_propagate.proofs.Common.{stored_form}
-use Rattle.pb_propagate.proofs.Common.{arith, None, length-map, forms_of}
+use Rattle.pb_propagate.proofs.Common.{stored_form, arith, None, length-map, forms_of}
 use Rattle.pb_propagate.proofs.lemmas.store.Gets.{get-push_same}
-use Rattle.pb_propagate.proofs.lemmas.store.Changes.{forms-more, forms-widened}
+use Rattle.pb_propagate.proofs.lemmas.store.Changes.{forms-widened}
 use Rattle.pb_propagate.proofs.lemmas.store.Slots.{rest-widened}
 use Rattle.pb_propagate.proofs.slots.empty_slot.Goals as goal
 
@@ -19,6 +18,3 @@ returns-clause-slot c =
     let k = c.in_ok-widen.ensures.kept in
     rw (forms-widened keep.items c.widen.new.store.stored.items k.0 k.2 k.1.form)
     (get-push_same (forms_of keep.items) c.len-slot.result None (omega (arith, c.len-slot.ensures, keep.ok.0, length-map keep.items stored_form)))
-
-pub returns-clause-forms : goal.returns-clause-forms
-returns-clause-forms c = grind (arith, forms-more)

@@ -108,8 +108,3 @@ pub record AreBlocks (words starts rooms : List ℕ) (run : ℕ) : Type 0 where
   pub inside : (s : ℕ) → s < length starts → number_at starts s + 8 + number_at rooms s ≤ length words
   pub within : (s : ℕ) → s < length starts → number_at words (number_at starts s + 6) ≤ number_at rooms s
   pub begun_by : (s : ℕ) → s < length starts → number_at words (number_at starts s + 7) ≤ run
-
--- words outside of a slot's block are as before
-pub record AreKept (starts rooms : List ℕ) (s : ℕ) (old new : List ℕ) : Type 0 where
-  pub size : length new ≡ length old
-  pub outside : (i : ℕ) → (i < number_at starts s) ⊎ (number_at starts s + 8 + number_at rooms s ≤ i) → number_at new i ≡ number_at old i

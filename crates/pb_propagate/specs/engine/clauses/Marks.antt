@@ -10,15 +10,12 @@ use Rattle.pb_propagate.specs.engine.clauses.Links.{list_at, watch_at}
 use Rattle.pb_propagate.specs.engine.clauses.Shapes.{literal_at}
 use Rattle.pb_propagate.specs.engine.clauses.Walked.{reached_codes}
 
--- a literal of the clause is on the list
-abbrev pub HasListed : List (List ℕ) → List NumberedLiteral → ℕ → Type 0
-HasListed clauses list s = (x : ℕ) × Contains (list_at clauses s) x × (has list (literal_at x) ≡ true)
-
 -- the heads are walked: if the negation of one of their literals is watched, its clause has a literal of the list
 pub record IsMark (clauses : List (List ℕ)) (watches : List Watch) (list : List NumberedLiteral) (heads : Heads) : Type 0 where
   pub short : heads.short ≤ length list
   pub long : heads.long ≤ length list
-  pub done : (e : ℕ) → (watch_at watches e).live ≡ true → Contains (reached_codes heads list) (watch_at watches e).literal → HasListed clauses list (e / 2)
+  pub done : (e : ℕ) → (watch_at watches e).live ≡ true → Contains (reached_codes heads list) (watch_at watches e).literal →
+      (x : ℕ) × Contains (list_at clauses (e / 2)) x × (has list (literal_at x) ≡ true)
 
 -- each mark is walked under the literals before its position
 abbrev pub AreMarks : List (List ℕ) → List Watch → List NumberedLiteral → List Heads → Type 0

@@ -1,5 +1,5 @@
 -- A run of propagation: what it knows of the clauses, and what a visit to a watch finds.
-use Rattle.std.specs.Prelude.{◌≡◌, ℕ, ◌+◌, ◌*◌, ◌/◌, ◌<◌, ◌≤◌, ◌⊎◌, ◌++◌, ◌∷◌, ◌-◌, ◌^◌, nat_lt, if◌then◌else◌, true, false, [], List, map, length, take, drop, All, Contains, Bool, Option, Some, slice_get, slice_index, slice_index_or}
+use Rattle.std.specs.Prelude.{◌≡◌, ℕ, ◌+◌, ◌*◌, ◌/◌, ◌<◌, ◌≤◌, ◌⊎◌, ◌++◌, ◌-◌, ◌^◌, nat_lt, if◌then◌else◌, true, false, List, map, length, take, drop, All, Contains, Bool, Option, Some, slice_get, slice_index, slice_index_or}
 use Rattle.pb_propagate.specs.declared.clauses.lists.Watch.{Watch}
 use Rattle.pb_propagate.specs.declared.clauses.Clauses.{Clauses}
 use Rattle.pb_propagate.specs.declared.clauses.search.Search.{Search}
@@ -39,12 +39,6 @@ passed_of c = map (λ s. s.passed) c.blocks.searches
 abbrev pub AreWithin : List ℕ → List (List ℕ) → Type 0
 AreWithin passed clauses = (s : ℕ) → slice_index_or passed s 0 ≤ length (list_at clauses s)
 
--- each clause in the order in which it is searched
-abbrev pub all_turned : List ℕ → List (List ℕ) → List (List ℕ)
-all_turned starts [] = []
-all_turned [] (xs ∷ clauses) = turned 0 xs ∷ all_turned [] clauses
-all_turned (start ∷ starts) (xs ∷ clauses) = turned start xs ∷ all_turned starts clauses
-
 -- each clause has two watches, on different literals of it
 pub record AreStored (clauses : List (List ℕ)) (watches : List Watch) (lists : List (List ℕ)) : Type 0 where
   pub linked : AreLinked watches lists
@@ -75,24 +69,22 @@ pub record AreSet (old new : List Watch) (s : ℕ) (literals : List ℕ) (p : Pa
 abbrev pub AreFree : List (Option Bool) → List Watch → ℕ → Type 0
 AreFree values watches s = (e : ℕ) → e / 2 ≡ s → (watch_at watches e).live ≡ true → false_at values (watch_at watches e).literal ≡ false
 
--- a watch of the slot is on the literal
-pub record IsWatched (watches : List Watch) (s x : ℕ) : Type 0 where
-  pub watch : ℕ
-  pub slot : watch / 2 ≡ s
-  pub literal : (watch_at watches watch).literal ≡ x
+-- what is known of a literal that the search of a slot has passed: it is falsified, or one of the two watched ones
+abbrev pub IsPassed : List (Option Bool) → List Watch → ℕ → ℕ → Type 0
+IsPassed values watches s x = (false_at values x ≡ true) ⊎ (((watch_at watches (2 * s)).literal ≡ x) ⊎ ((watch_at watches (2 * s + 1)).literal ≡ x))
 
--- the literals that a search has passed are falsified or watched
-pub record ArePassed (values : List (Option Bool)) (clauses : List (List ℕ)) (passed : List ℕ) (watches : List Watch) : Type 0 where
+-- the literals that searches have passed, if they began at `starts`, are falsified or watched
+pub record ArePassed (values : List (Option Bool)) (starts : List ℕ) (clauses : List (List ℕ)) (passed : List ℕ) (watches : List Watch) : Type 0 where
   pub sizes : length passed ≡ length clauses
-  pub bounded : (s : ℕ) → slice_index_or passed s 0 ≤ length (list_at clauses s)
-  pub each : (s k d : ℕ) → k < slice_index_or passed s 0 → (false_at values (slice_index_or (list_at clauses s) k d) ≡ true) ⊎ IsWatched watches s (slice_index_or (list_at clauses s) k d)
+  pub bounded : AreWithin passed clauses
+  pub each : (s k d : ℕ) → k < slice_index_or passed s 0 → IsPassed values watches s (slice_index_or (turned (slice_index_or starts s 0) (list_at clauses s)) k d)
 
 pub record IsRunning (values : List (Option Bool)) (c : Clauses) : Type 0 where
   -- where the searches of this run began
   pub starts : List ℕ
   pub stored : AreStored c.blocks.literals c.blocks.watches (watch_lists c.lists.items)
   pub blocked : AreBlocked c.blocks.literals c.lists.items
-  pub passed : ArePassed values (all_turned starts c.blocks.literals) (passed_of c) c.blocks.watches
+  pub passed : ArePassed values starts c.blocks.literals (passed_of c) c.blocks.watches
   pub round : AreRound starts c.blocks.literals c.blocks.searches
   pub sizes : length c.lists.items ≡ 4 * length values
 
@@ -138,9 +130,7 @@ HasFound values old new l index Falsified = IsBroken values new.blocks.literals
 -- the position of the next visit
 abbrev pub index_after : ℕ → Visit → ℕ
 index_after index Stays = index + 1
-index_after index Leaves = index
-index_after index (Forces x) = index
-index_after index Falsified = index
+index_after index r = index
 
 -- no search has begun
 pub record AreReady (c : Clauses) : Type 0 where

@@ -15,10 +15,6 @@ pub data IsChain (before : List ℕ) : ℕ → List ℕ → Type 0 where
 abbrev pub Holds : Free → ℕ → List ℕ → Type 0
 Holds free size slots = IsChain free.before.items (slice_index_or free.last size nobody) slots
 
--- the lists of all sizes but one have what they had
-abbrev pub HoldsOthers : ℕ → Free → Free → Type 0
-HoldsOthers size old new = (s : ℕ) (slots : List ℕ) → (s ≡ size → ⊥) → Holds old s slots → Holds new s slots
-
 -- a slot was added to the list of a size, if it was in no list
 pub record HasPut (slot size : ℕ) (old new : Free) : Type 0 where
   pub others : (s : ℕ) (slots : List ℕ) → (s ≡ size → ⊥) → (Contains slots slot → ⊥) → Holds old s slots → Holds new s slots
@@ -26,7 +22,7 @@ pub record HasPut (slot size : ℕ) (old new : Free) : Type 0 where
 
 -- the last slot of a size was taken
 pub record HasTaken (slot size : ℕ) (old new : Free) : Type 0 where
-  pub others : HoldsOthers size old new
+  pub others : (s : ℕ) (slots : List ℕ) → (s ≡ size → ⊥) → Holds old s slots → Holds new s slots
   pub here : (slots : List ℕ) → Holds old size slots → (rest : List ℕ) × (slots ≡ slot ∷ rest) × Holds new size rest
 
 -- the size of the list for a room

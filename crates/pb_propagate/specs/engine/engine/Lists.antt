@@ -65,10 +65,6 @@ pub data Conflicts (forms : List Shape) (list : List NumberedLiteral) : Type 0 w
   opposed : (l : NumberedLiteral) → has list l ≡ true → has list (negation l) ≡ true → Conflicts forms list
   broken : (form : Shape) → Contains forms form → open_sum list form.terms < form.degree → Conflicts forms list
 
--- no literal may be propagated
-abbrev pub IsClosed : List Shape → List NumberedLiteral → Type 0
-IsClosed forms list = (l : NumberedLiteral) → Puts forms list l → ⊥
-
 -- each literal of the first list is on the second
 abbrev pub IsWithin : List NumberedLiteral → List NumberedLiteral → Type 0
 IsWithin a b = (l : NumberedLiteral) → has a l ≡ true → has b l ≡ true
@@ -101,4 +97,4 @@ AreInside variables terms = All (λ t. t.literal.variable < variables) terms
 -- the form is not falsified, and none of its literals may be propagated
 pub record IsSettled (form : Shape) (list : List NumberedLiteral) : Type 0 where
   pub met : form.degree ≤ open_sum list form.terms
-  pub idle : IsClosed (form ∷ []) list
+  pub idle : (l : NumberedLiteral) → Puts (form ∷ []) list l → ⊥

@@ -41,23 +41,6 @@ progress r = record {
   visits = r.visits;
 }
 
--- a run with other values and literals, another count of visits, other candidates, another work list and trail, or another
--- next form
-abbrev pub assigned_to : List (Option Bool) → List NumberedLiteral → Progress → Progress
-assigned_to values list p = record p { values = values; list = list }
-
-abbrev pub visited_to : ℕ → Progress → Progress
-visited_to visits p = record p { visits = visits }
-
-abbrev pub passed_to : List ℕ → Progress → Progress
-passed_to candidates p = record p { candidates = candidates }
-
-abbrev pub queued_to : List ℕ → List ℕ → Progress → Progress
-queued_to work trail p = record p { work = work; trail = trail }
-
-abbrev pub taken_to : ℕ → Progress → Progress
-taken_to next p = record p { next = next }
-
 -- what a run reads: forms, the entries of each literal, and the state to which forms return
 pub record Database : Type 0 where
   pub forms : List Shape
@@ -74,10 +57,6 @@ database store rests = record {
 -- the entries that are subtracted when a literal is assigned
 abbrev pub entries_against : Database → NumberedLiteral → List Weighted
 entries_against d l = slice_index_or d.lists (place (negation l)) []
-
--- the open sums are those of the list
-abbrev pub IsOpen : Database → Progress → Type 0
-IsOpen d p = IsCounted d.forms p.opens p.list []
 
 -- forms are calm, except those set aside, the one that is visited, and those on the work list
 abbrev pub IsTidyAt : Database → List ℕ → ℕ → Progress → Type 0
@@ -96,10 +75,6 @@ pub record Lowers (d : Database) (e : Visited) (old new : Progress) : Type 0 whe
   pub candidates : new.candidates ≡ old.candidates
   pub list : new.list ≡ old.list
   pub next : new.next ≡ old.next
-
--- the form's open sum is below its degree
-abbrev pub IsShort : Database → ℕ → Progress → Type 0
-IsShort d form p = (f : Shape) → slice_index p.opens form < (slice_index_or d.forms form f).degree
 
 -- What a part of a run costs, also if an allocation ends it. Each visit is paid by an entry that was subtracted, by a term
 -- that was passed, or by the difference of `after` and `before`.
@@ -156,9 +131,6 @@ AreSettled forms list = (f : Shape) → Contains forms f → IsSettled f list
 abbrev pub RunIsTidy : Store → Rests → List ℕ → ℕ → Run → Type 0
 RunIsTidy store rests aside busy run = IsTidyAt (database store rests) aside busy (progress run)
 
-abbrev pub RunStaysTidy : Store → Rests → Run → Run → Type 0
-RunStaysTidy store rests old new = StaysTidy (database store rests) (progress old) (progress new)
-
 abbrev pub shapes_in : Store → List Shape
 shapes_in store = shapes_of store.stored.items
 
@@ -193,8 +165,9 @@ RunIsUndone store rests from run = IsUndone rests (shapes_of store.stored.items)
 abbrev pub RunVisitsEach : Run → Run → Type 0
 RunVisitsEach old new = VisitsEach (progress old) (progress new)
 
+-- the form's open sum is below its degree
 abbrev pub RunIsShort : Store → Rests → ℕ → Run → Type 0
-RunIsShort store rests form run = IsShort (database store rests) form (progress run)
+RunIsShort store rests form run = (f : Shape) → slice_index run.opens.items form < (slice_index_or (shapes_in store) form f).degree
 
 -- the entry's coefficient can be subtracted
 abbrev pub RunFits : Store → Visited → Run → Type 0
@@ -228,9 +201,6 @@ RunAdvances store rests before after old new = Advances (database store rests) b
 -- the same for a walk over the watches of a literal: two visits for each watch, and one for each literal that a search passed
 abbrev pub WalkCosts : Store → Rests → Clauses → Clauses → ℕ → Run → Run → Type 0
 WalkCosts store rests c c' literal old new = RunCosts store rests (sum (passed_of c)) (2 * length (list_at (watch_lists c.lists.items) literal) + sum (passed_of c')) old new
-
-abbrev pub WalkAdvances : Store → Rests → Clauses → Clauses → ℕ → Run → Run → Type 0
-WalkAdvances store rests c c' literal old new = RunAdvances store rests (sum (passed_of c)) (2 * length (list_at (watch_lists c.lists.items) literal) + sum (passed_of c')) old new
 
 -- two visits for each watch of the literals that the heads reach, and one for each literal that a search passed
 abbrev pub seen_to : Clauses → Heads → List NumberedLiteral → ℕ

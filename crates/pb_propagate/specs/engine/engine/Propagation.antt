@@ -1,5 +1,5 @@
 -- What the functions of a propagation need, and what they leave.
-use Rattle.std.specs.Prelude.{◌≡◌, ℕ, ◌≤◌, [], List, length, take}
+use Rattle.std.specs.Prelude.{◌≡◌, ℕ, ◌+◌, ◌*◌, ◌≤◌, [], List, length, sum, take}
 use Rattle.pb_propagate.specs.declared.store.Store.{Store}
 use Rattle.pb_propagate.specs.declared.rests.Rests.{Rests}
 use Rattle.pb_propagate.specs.declared.run.Run.{Run}
@@ -7,15 +7,16 @@ use Rattle.pb_propagate.specs.declared.clauses.Clauses.{Clauses}
 use Rattle.pb_propagate.specs.declared.heads.Heads.{Heads}
 use Rattle.pb_propagate.specs.engine.engine.Lists.{Extends}
 use Rattle.pb_propagate.specs.engine.engine.Counts.{AreSingle, IsUndone}
-use Rattle.pb_propagate.specs.engine.engine.Progress.{AreSettled, list_of, values_of, shapes_in, RunIsOpen, RunIsCounted, RunIsCalm, RunIsUndone, RunIsWalked, RunKeepsReasons, RunReasons, RunAdvances, RunStaysTidy, RunVisitsEach, RunPays, WalkAdvances}
-use Rattle.pb_propagate.specs.engine.clauses.Runs.{AreReady, Grows, IsRunning, KeepsWalked}
+use Rattle.pb_propagate.specs.engine.engine.Progress.{AreSettled, list_of, values_of, shapes_in, RunIsOpen, RunIsCounted, RunIsCalm, RunIsUndone, RunIsWalked, RunKeepsReasons, RunReasons, RunAdvances, StaysTidy, RunVisitsEach, RunPays, database, progress}
+use Rattle.pb_propagate.specs.engine.clauses.Runs.{AreReady, Grows, IsRunning, KeepsWalked, passed_of}
+use Rattle.pb_propagate.specs.engine.clauses.Links.{watch_lists, list_at}
 use Rattle.pb_propagate.specs.engine.clauses.Shapes.{AreJoined, clauses_of, all_of}
 use Rattle.pb_propagate.specs.engine.clauses.Walked.{heads_at}
 
 -- literals were assigned: forms that were calm still are, and the literals before keep their reasons
 pub record RunPuts (store : Store) (rests : Rests) (after : ℕ) (old new : Run) : Type 0 where
   pub advances : RunAdvances store rests 0 after old new
-  pub tidy : RunStaysTidy store rests old new
+  pub tidy : StaysTidy (database store rests) (progress old) (progress new)
   pub kept : RunKeepsReasons old new
 
 -- a form was visited
@@ -27,9 +28,9 @@ pub record RunVisits (store : Store) (rests : Rests) (old new : Run) : Type 0 wh
 
 -- watches of a literal were walked
 pub record RunWalks (store : Store) (rests : Rests) (before after : Clauses) (literal : ℕ) (old new : Run) : Type 0 where
-  pub advances : WalkAdvances store rests before after literal old new
+  pub advances : RunAdvances store rests (sum (passed_of before)) (2 * length (list_at (watch_lists before.lists.items) literal) + sum (passed_of after)) old new
   pub reasons : RunReasons (all_of store before) old new
-  pub tidy : RunStaysTidy store rests old new
+  pub tidy : StaysTidy (database store rests) (progress old) (progress new)
   pub running : IsRunning (values_of new) after
   pub kept : KeepsWalked (values_of old) before after
   pub grows : Grows (values_of old) (values_of new)

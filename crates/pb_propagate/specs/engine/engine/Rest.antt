@@ -1,5 +1,5 @@
 -- The engine between two calls.
-use Rattle.std.specs.Prelude.{◌≡◌, ◌*◌, List, [], ◌∷◌, length, Contains, Option, Some, None, true, false}
+use Rattle.std.specs.Prelude.{◌≡◌, ◌*◌, List, [], ◌∷◌, length, Contains, Option, Some, None, true}
 use Rattle.pb_normal.specs.declared.numbered.NumberedLiteral.{NumberedLiteral}
 use Rattle.pb_normal.specs.meaning.Form.{Form}
 use Rattle.pb_normal.specs.meaning.Rules.{negation}
@@ -16,11 +16,9 @@ abbrev pub IsSlot : Option Form → Shape → Type 0
 IsSlot None x = (x.terms ≡ []) × (x.degree ≡ 0)
 IsSlot (Some f) x = IsStoredAs f x
 
-abbrev pub AreSlots : List (Option Form) → List Shape → Type 0
-AreSlots [] [] = Unit {0}
-AreSlots [] (x ∷ xs) = true ≡ false
-AreSlots (o ∷ os) [] = true ≡ false
-AreSlots (o ∷ os) (x ∷ xs) = IsSlot o x × AreSlots os xs
+pub data AreSlots : List (Option Form) → List Shape → Type 0 where
+  no_slots : AreSlots [] []
+  add_slot : {os : List (Option Form)} {xs : List Shape} (o : Option Form) (x : Shape) → IsSlot o x → AreSlots os xs → AreSlots (o ∷ os) (x ∷ xs)
 
 -- the store and the clauses hold the forms, and no search has begun
 pub record IsAtRest (store : Store) (clauses : Clauses) (forms : List (Option Form)) : Type 0 where

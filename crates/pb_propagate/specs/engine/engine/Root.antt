@@ -157,17 +157,6 @@ pub record HasCleared (before : Store) (old : Clauses) (store : Store) (clauses 
   pub emptied : clauses_of clauses ≡ slice_set (clauses_of old) slot []
   pub watched : (e : ℕ) → (e / 2 ≡ slot → ⊥) → IsSameWatch (watch_at old.blocks.watches e) (watch_at clauses.blocks.watches e)
 
--- the lists have the entry of an empty form for the slot
-pub record HasLost (run run' : Run) (rests rests' : Rests) (slot : ℕ) : Type 0 where
-  pub assignment : run'.assignment ≡ run.assignment
-  pub work : run'.work ≡ run.work
-  pub trail : run'.trail ≡ run.trail
-  pub next : run'.next ≡ run.next
-  pub opens : run'.opens.items ≡ slice_set run.opens.items slot 0
-  pub candidates : run'.candidates.items ≡ slice_set run.candidates.items slot 0
-  pub rest_opens : rests'.opens.items ≡ slice_set rests.opens.items slot 0
-  pub rest_starts : rests'.starts.items ≡ slice_set rests.starts.items slot 0
-
 -- the lists have an entry for each form and each variable
 pub record IsSized (store : Store) (root : Root) : Type 0 where
   pub values : length root.run.assignment.values.items ≡ store.variables
@@ -183,7 +172,14 @@ pub record HasRemoved (store : Store) (clauses : Clauses) (slot : ℕ) (root : R
   pub mid : Root
   pub rooted : IsRootOf store clauses mid
   pub needless : IsNeedless (all_of store clauses) slot mid.run.assignment
-  pub lost : HasLost mid.run root.run mid.rests root.rests slot
+  pub assignment : root.run.assignment ≡ mid.run.assignment
+  pub work : root.run.work ≡ mid.run.work
+  pub trail : root.run.trail ≡ mid.run.trail
+  pub next : root.run.next ≡ mid.run.next
+  pub opens : root.run.opens.items ≡ slice_set mid.run.opens.items slot 0
+  pub candidates : root.run.candidates.items ≡ slice_set mid.run.candidates.items slot 0
+  pub rest_opens : root.rests.opens.items ≡ slice_set mid.rests.opens.items slot 0
+  pub rest_starts : root.rests.starts.items ≡ slice_set mid.rests.starts.items slot 0
   pub waiting : IsWithout slot mid.waiting.list.items root.waiting.list.items
   pub positions : length root.waiting.positions.items ≡ length mid.waiting.positions.items
   pub walked : root.walked ≡ mid.walked

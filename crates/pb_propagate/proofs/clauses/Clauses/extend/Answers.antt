@@ -1,12 +1,13 @@
-use Rattle.pb_propagate.proofs.Common.{◌++◌, ◌∙◌, ◌∷◌, [], ap, List, Watch, idle, watch_at}
-use Rattle.pb_propagate.proofs.lemmas.engine.Sources.{get_or-push_default}
-use Rattle.pb_propagate.proofs.lemmas.clauses.Stores.{rest-extend}
+use Rattle.pb_propagate.proofs.Common.{List, Watch, arith, length-append, refl, Search, ℕ}
+use Rattle.pb_propagate.proofs.lemmas.store.Gets.{push-default}
+use Rattle.pb_propagate.proofs.lemmas.clauses.Stores.{rest-same}
 use Rattle.pb_propagate.proofs.clauses.Clauses.extend.Goals as goal
 
 pub returns-clause-rest : goal.returns-clause-rest
 returns-clause-rest c =
-    rest-extend c.args.self.now c.extend.new.self c.requires.rest c.in_ok-extend.ensures.literals c.in_ok-extend.ensures.searches c.in_ok-extend.ensures.watches
-
-pub returns-clause-watches : goal.returns-clause-watches
-returns-clause-watches c = λ e.
-    ap (λ (ws : List Watch). watch_at ws e) c.in_ok-extend.ensures.watches ∙ get_or-push_default (c.args.self.now.blocks.watches ++ (idle ∷ [])) idle e ∙ get_or-push_default c.args.self.now.blocks.watches idle e
+    let e = c.in_ok-extend.ensures in
+    let r = c.requires.rest in
+    rest-same c.args.self.now (record { blocks = c.extend.new.self; lists = c.args.self.now.lists }) r (λ s. rw (e.literals, push-default) refl)
+    (λ k. rw (e.watches, push-default, push-default) refl) (λ l. refl) (λ s. rw (e.searches, push-default) refl)
+    (rw (e.watches, e.literals) (omega (arith, r.stored.pairs, length-append {A = Watch}, length-append {A = List ℕ})))
+    (omega arith) (rw (e.searches, e.literals) (omega (arith, r.sizes, length-append {A = Search}, length-append {A = List ℕ})))

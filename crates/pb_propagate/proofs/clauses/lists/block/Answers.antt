@@ -1,10 +1,6 @@
-use Rattle.pb_propagate.proofs.Common.{◌≡◌, refl}
-use Rattle.pb_propagate.proofs.lemmas.clauses.Listed.{watch-kept, list-older, set-older}
+use Rattle.pb_propagate.proofs.Common.{◌≡◌}
+use Rattle.pb_propagate.proofs.lemmas.clauses.Listed.{list-older, set-older}
 use Rattle.pb_propagate.proofs.clauses.lists.block.Goals as goal
-
-pub returns-clause-watches : goal.returns-clause-watches
-returns-clause-watches c =
-    watch-kept c.args.lists.now.items c.args.literal c.index_mut.result.now _ c.args.index c.args.entry c.requires.literal c.index_mut.ensures.value c.requires.item refl
 
 pub returns-clause-more : goal.returns-clause-more
 returns-clause-more c =

@@ -1,9 +1,6 @@
-use Rattle.pb_propagate.proofs.Common.{◌≡◌, List, subst, slice_get, Some, map-append, Listed, arith}
-use Rattle.pb_propagate.proofs.lemmas.clauses.Listed.{watch-here, watch-set, list-older, push-older}
+use Rattle.pb_propagate.proofs.Common.{◌≡◌, List, subst, slice_get, Some, Listed}
+use Rattle.pb_propagate.proofs.lemmas.clauses.Listed.{list-older, push-older}
 use Rattle.pb_propagate.proofs.clauses.lists.push_entry.Goals as goal
-
-pub returns-clause-lists : goal.returns-clause-lists
-returns-clause-lists c = grind (arith, watch-set, map-append, watch-here)
 
 pub returns-clause-more : goal.returns-clause-more
 returns-clause-more c =

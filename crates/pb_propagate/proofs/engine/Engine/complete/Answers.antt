@@ -1,8 +1,9 @@
-use Rattle.pb_propagate.proofs.Common.{◌∙◌, ap, refl, all_of, Standing}
-use Rattle.pb_propagate.proofs.lemmas.engine.Assumed.{refuted-meets, ended-free, ended-completion}
+use Rattle.pb_propagate.proofs.Common.{◌∙◌, ap, Standing}
+use Rattle.std.proofs.lemmas.Option.{IfSome_then}
+use Rattle.pb_propagate.proofs.lemmas.engine.Bridge.{refuted-meets, ended-completion}
 use Rattle.pb_propagate.proofs.lemmas.root.Kept.{kept-conflicts}
 use Rattle.pb_propagate.proofs.lemmas.root.Ready.{rest-kept}
-use Rattle.pb_propagate.proofs.lemmas.root.Transplants.{clash-refuted, root-clash, map-none, map-some}
+use Rattle.pb_propagate.proofs.lemmas.root.Transplants.{clash-refuted, root-clash, map-none}
 use Rattle.pb_propagate.proofs.lemmas.engine.Reasoned.{reasons-derive}
 use Rattle.pb_propagate.proofs.engine.Engine.complete.Goals as goal
 
@@ -14,20 +15,17 @@ returns-clause-conflict c =
 pub returns-clause-no_conflict : goal.returns-clause-no_conflict
 returns-clause-no_conflict c =
     let both = c.self.invariant (ap (λ (v : Standing). v.spent) c.self.view_is ∙ c.requires.ready) in
-    rw (← c.self.view_is) (map-some c.in_ok-values.values (λ values made. ended-free _ _ c.args.given.now made.list values.items (rest-kept both.0 both.1) made.agrees made.ended) c.in_ok-values.ensures.ended)
+    rw (← c.self.view_is) (IfSome_then c.in_ok-values.values c.in_ok-values.ensures.ended (λ values made. (ended-completion _ _ c.args.given.now made.list values.items (rest-kept both.0 both.1) made.agrees made.ended).1))
 
 pub returns-clause-completed : goal.returns-clause-completed
 returns-clause-completed c =
     let both = c.self.invariant (ap (λ (v : Standing). v.spent) c.self.view_is ∙ c.requires.ready) in
-    rw (← c.self.view_is) (map-some c.in_ok-values.values (λ values made. ended-completion _ _ c.args.given.now made.list values.items values.items (rest-kept both.0 both.1) made.agrees refl made.ended) c.in_ok-values.ensures.ended)
+    rw (← c.self.view_is) (IfSome_then c.in_ok-values.values c.in_ok-values.ensures.ended (λ values made. (ended-completion _ _ c.args.given.now made.list values.items (rest-kept both.0 both.1) made.agrees made.ended).0))
 
 -- a conflict of the root
 pub returns-then-self-clause-conflict : goal.returns-then-self-clause-conflict
 returns-then-self-clause-conflict c =
-    let e = c.self.inside in
     let both = c.self.invariant (ap (λ (v : Standing). v.spent) c.self.view_is ∙ c.requires.ready) in
-    let shapes = all_of e.store e.clauses in
     let h = both.3.holds c.if-self.true in
-    let list = e.conflict.assignment.list.items in
-    let clash = clash-refuted shapes list c.args.given.now (reasons-derive h.reasoned) (root-clash shapes list c.args.given.now (kept-conflicts shapes e.conflict.assignment h)) in
+    let clash = clash-refuted _ _ c.args.given.now (reasons-derive h.reasoned) (root-clash _ _ c.args.given.now (kept-conflicts _ _ h)) in
     rw (← c.self.view_is) (refuted-meets _ _ c.args.given.now clash.0 (rest-kept both.0 both.1) clash.1)

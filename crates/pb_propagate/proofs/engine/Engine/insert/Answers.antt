@@ -1,9 +1,8 @@
-use Rattle.pb_propagate.proofs.Common.{◌-◌, ◌<◌, ◌^◌, ◌∙◌, ◌≡◌, ap, arith, None, rules, set, Some, slice_get_within}
-use Rattle.pb_propagate.proofs.Common.{ArePlaced, forms_of, Standing, numbered}
+use Rattle.pb_propagate.proofs.Common.{◌-◌, ◌<◌, ◌^◌, ◌∙◌, ◌≡◌, ap, arith, None, rules, slice_get_within, ArePlaced, forms_of, Standing, numbered}
 use Rattle.pb_propagate.proofs.lemmas.store.Changes.{forms-length}
 use Rattle.pb_propagate.proofs.lemmas.store.Placed.{numbered-same, numbered-filled, numbered-grown, placed-agree, placed-filled}
 use Rattle.pb_propagate.proofs.lemmas.root.Kept.{gained-kept}
-use Rattle.pb_propagate.proofs.lemmas.root.Gained.{gained-both}
+use Rattle.pb_propagate.proofs.lemmas.root.Added.{gained-both}
 use Rattle.pb_propagate.proofs.engine.Engine.insert.Goals.{After-empty_slot, In_ok-slot}
 use Rattle.pb_propagate.proofs.engine.Engine.insert.Goals as goal
 
@@ -35,15 +34,11 @@ returns-in_err-slot-clause-unchanged c = let same = same-forms (goal.at.returns-
 pub returns-in_err-add_form-clause-unchanged : goal.returns-in_err-add_form-clause-unchanged
 returns-in_err-add_form-clause-unchanged c = grind (arith, c.in_err-add_form.ensures.refused, same-forms)
 
--- the forms were the same before the number was pushed
-filled-forms : (c : In_ok-slot) → numbered (forms_of c.empty_slot.new.store.stored.items) c.self.inside.places.items ≡ c.args.self.now.forms → numbered (set (forms_of c.empty_slot.new.store.stored.items) c.in_ok-slot.slot (Some c.args.form)) c.self.inside.places.items ≡ c.args.self.now.forms
-filled-forms c same = grind (arith, open-places, numbered-filled, c.in_ok-slot.ensures.slot)
-
 pub returns-in_err-push-clause-unchanged : goal.returns-in_err-push-clause-unchanged
-returns-in_err-push-clause-unchanged c = let same = filled-forms (goal.at.returns-in_err-push-clause-unchanged c).In_ok-slot (same-forms (goal.at.returns-in_err-push-clause-unchanged c).After-empty_slot) in search (rules, same)
+returns-in_err-push-clause-unchanged c = grind (arith, open-places, same-forms, numbered-filled, c.in_ok-slot.ensures.slot, c.in_ok-add_form.ensures.forms)
 
 pub returns-in_err-add-clause-unchanged : goal.returns-in_err-add-clause-unchanged
-returns-in_err-add-clause-unchanged c = let same = filled-forms (goal.at.returns-in_err-add-clause-unchanged c).In_ok-slot (same-forms (goal.at.returns-in_err-add-clause-unchanged c).After-empty_slot) in search (rules, same)
+returns-in_err-add-clause-unchanged c = grind (arith, open-places, same-forms, numbered-filled, c.in_ok-slot.ensures.slot, c.in_ok-add_form.ensures.forms)
 
 pub returns-clause-forms : goal.returns-clause-forms
 returns-clause-forms c = grind (arith, open-places, same-forms, c.in_ok-add_form.ensures.forms, numbered-grown, c.in_ok-slot.ensures.slot)

@@ -1,8 +1,8 @@
 use Rattle.pb_propagate.proofs.Common.{◌<◌, ap, arith, length, forms_of, Standing}
 use Rattle.pb_propagate.proofs.lemmas.store.Changes.{forms-length}
-use Rattle.pb_propagate.proofs.lemmas.store.Placed.{numbered-length, numbered-none, numbered-left, placed-left, taken-by}
+use Rattle.pb_propagate.proofs.lemmas.store.Placed.{numbered-length, placed-left, taken-by}
 use Rattle.pb_propagate.proofs.lemmas.root.Kept.{lost-kept}
-use Rattle.pb_propagate.proofs.lemmas.root.Lost.{lost-rooted}
+use Rattle.pb_propagate.proofs.lemmas.root.Added.{lost-rooted}
 use Rattle.pb_propagate.proofs.engine.Engine.remove.Goals as goal
 
 pub invariant_of-self : goal.invariant_of-self
@@ -17,9 +17,3 @@ invariant_of-self c = λ ready.
       lost-rooted e.store c.remove_form.new.store e.clauses c.remove_form.new.clauses c.index-slot.result.now c.remove.new.self room (omega (arith, room, r.0.known)) c.remove_form.ensures.rest.ready c.remove_form.ensures.vacated c.remove.ensures,
       lost-kept e.store c.remove_form.new.store e.clauses c.remove_form.new.clauses c.index-slot.result.now c.remove-2.new.self c.remove_form.ensures.vacated c.remove-2.ensures.spare c.remove-2.ensures.unbroken c.remove-2.ensures.kept,
     )
-
-pub returns-then-slot-len-clause-forms : goal.returns-then-slot-len-clause-forms
-returns-then-slot-len-clause-forms c = grind (arith, c.requires.number, c.self.view_is, numbered-length, numbered-none, c.index-slot.ensures, c.if-slot-len.true, c.len.ensures, forms-length)
-
-pub returns-clause-forms : goal.returns-clause-forms
-returns-clause-forms c = grind (arith, c.self.view_is, c.requires.ready, c.requires.number, numbered-length, taken-by, c.index-slot.ensures, c.if-slot-len.false, c.len.ensures, forms-length, c.remove_form.ensures.forms, numbered-left)

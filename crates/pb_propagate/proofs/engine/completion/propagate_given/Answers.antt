@@ -1,32 +1,27 @@
-use Rattle.pb_propagate.proofs.Common.{◌++◌, ◌∙◌, ◌≡◌, ap, arith, length, all_of, clauses_of, shapes_of, rules}
-use Rattle.pb_propagate.proofs.lemmas.clauses.Heads.{heads-is}
-use Rattle.pb_propagate.proofs.lemmas.engine.Derivations.{derivation-keeps}
+use Rattle.pb_propagate.proofs.Common.{◌≡◌, arith, length, rules, list_of}
+use Rattle.pb_propagate.proofs.lemmas.engine.Literals.{derivation-keeps}
 use Rattle.pb_propagate.proofs.lemmas.root.Extends.{extends-within}
-use Rattle.pb_propagate.proofs.lemmas.root.Ready.{left-then, puts-left, puts-ready}
-use Rattle.pb_propagate.proofs.lemmas.root.Transplants.{clash-joined}
+use Rattle.pb_propagate.proofs.lemmas.root.Ready.{left-then, puts-left, puts-ready, heads-now}
 use Rattle.pb_propagate.proofs.lemmas.engine.Reasoned.{reasons-derive}
 use Rattle.pb_propagate.proofs.engine.completion.propagate_given.Goals as goal
-
-pub returns-then-branch-clause-clash : goal.returns-then-branch-clause-clash
-returns-then-branch-clause-clash c =
-    clash-joined (shapes_of c.args.store.now.stored.items) (clauses_of c.args.clauses.now) c.args.run.now.assignment.list.items c.args.given.now c.requires.ready.joined (c.in_ok-assume.ensures.clash c.if-branch.true)
 
 pub returns-then-branch-2-clause-clash : goal.returns-then-branch-2-clause-clash
 returns-then-branch-2-clause-clash c = search (rules, c.in_ok-assume.ensures.within, c.if-branch.false, reasons-derive, c.in_ok-propagate.ensures.reasons.added, c.in_ok-propagate.ensures.conflict, c.if-branch-2.true)
 
 pub returns-clause-ended : goal.returns-clause-ended
 returns-clause-ended c =
-    let mid = c.assume.new.run.assignment.list.items in
     let done = c.propagate.new.run.assignment in
-    let later = derivation-keeps (all_of c.args.store.now c.args.clauses.now) mid done.list.items (reasons-derive c.in_ok-propagate.ensures.reasons.added) in
-    let first = extends-within c.args.run.now.assignment.list.items mid c.in_ok-assume.ensures.puts.advances.costs.extends in
-    let copy : c.extend_from_slice.new.self.items ≡ done.values.items = c.in_ok-extend_from_slice.ensures.items ∙ ap (λ xs. xs ++ c.as_slice-2.result.now) c.new-values.ensures.items ∙ c.as_slice-2.ensures.value in
+    let derived = reasons-derive c.in_ok-propagate.ensures.reasons.added in
+    let later = derivation-keeps _ _ _ derived in
+    let first = extends-within _ _ c.in_ok-assume.ensures.puts.advances.costs.extends in
+    let covers = c.in_ok-assume.ensures.covers c.if-branch.false in
+    let copy : c.extend_from_slice.new.self.items ≡ done.values.items = grind (arith, c.in_ok-extend_from_slice.ensures.items, c.new-values.ensures.items, c.as_slice-2.ensures.value) in
     record {
       list = done.list.items;
       covered = record {
-        reached = record { first = mid; within = c.in_ok-assume.ensures.within c.if-branch.false; derived = (reasons-derive c.in_ok-propagate.ensures.reasons.added) };
+        reached = record { first = c.assume.new.run.assignment.list.items; within = c.in_ok-assume.ensures.within c.if-branch.false; derived = derived };
         keeps = λ l on. later l (first l on);
-        covers = λ l on. later l (c.in_ok-assume.ensures.covers c.if-branch.false l on);
+        covers = λ l on. later l (covers l on);
         settled = (c.in_ok-propagate.ensures.settled c.if-branch-2.false).settled;
       };
       agrees = rw copy done.agrees;
@@ -34,9 +29,7 @@ returns-clause-ended c =
 
 pub propagate-requires-clause-ready : goal.propagate-requires-clause-ready
 propagate-requires-clause-ready c =
-    let old = c.args.run.now.assignment.list in
-    let count_is : c.len-count.result ≡ length old.items = omega (arith, c.len-count.ensures, old.ok.0) in
-    let heads = heads-is c.at.result (length old.items) (c.at.ensures.0 ∙ count_is) (c.at.ensures.1 ∙ count_is) in
+    let heads = heads-now c.at.result _ (length (list_of c.args.run.now)) c.at.ensures (omega (arith, c.len-count.ensures, c.args.run.now.assignment.list.ok.0)) in
     rw (c.as_slice.ensures.value, c.new-none.ensures.items, heads) (puts-ready c.requires.ready c.in_ok-assume.ensures.puts (c.in_ok-assume.ensures.sums c.if-branch.false))
 
 pub returns-then-branch-clause-left : goal.returns-then-branch-clause-left

@@ -1,6 +1,6 @@
-use Rattle.pb_propagate.proofs.Common.{rules, ◌∙◌, ap, arith, false, subst, Entry, NumberedLiteral, negation, Term, Adopted, as_term, IsHit, shapes_of, begin}
+use Rattle.pb_propagate.proofs.Common.{length, ◌<◌, negation, get_or, get_or_default, rules, ◌∙◌, ap, arith, false, Entry, Term, as_term, begin}
 use Rattle.pb_propagate.proofs.lemmas.engine.Advances.{costs-then, costs-as, on-err}
-use Rattle.pb_propagate.proofs.lemmas.root.Denials.{denied-next, denied-more, hit-conflicts}
+use Rattle.pb_propagate.proofs.lemmas.root.Denials.{adopted-keeps, denied-next, hit-conflicts}
 use Rattle.pb_propagate.proofs.lemmas.root.Ready.{puts-as, puts-none, puts-then}
 use Rattle.pb_propagate.proofs.engine.denial.deny_all.Goals as goal
 
@@ -15,32 +15,26 @@ literals-preserved c =
     let i = c.literals.invariant in
     let reported = c.in_ok-deny.ensures in
     let is = ap (λ (t : Term). t.literal) c.term_of-term.ensures ∙ ap (λ (e : Entry). (as_term e).literal) (c.get-entry.ensures.read bare) in
-    let adopted = subst (λ (l : NumberedLiteral). Adopted (negation l) c.literals.run.assignment.list.items c.deny.new.run.assignment.list.items) is reported.adopted in
+    let inside : c.literals.i < length c.args.goal.now = omega (arith, c.literals-test.true, c.len-i-end.ensures.length) in
     record {
-      within = omega (arith, c.literals-test.true, c.len-i-end.ensures.length);
+      within = omega (arith, inside);
       puts = puts-then i.puts reported.puts;
       candidates = c.deny.ensures.candidates ∙ i.candidates;
       sums = reported.sums c.if-branch.false;
-      derived = denied-next c.args.goal.now c.args.run.now.assignment.list.items c.literals.run.assignment.list.items c.deny.new.run.assignment.list.items c.literals.i bare (omega (arith, c.literals-test.true, c.len-i-end.ensures.length)) c.requires.light adopted i.derived;
-      denied = denied-more c.args.goal.now c.term_of-term.result.literal c.literals.run.assignment.list.items c.deny.new.run.assignment.list.items c.literals.i bare (omega (arith, c.literals-test.true, c.len-i-end.ensures.length)) is reported.adopted (reported.denied c.if-branch.false) i.denied;
-      found = λ few. let two = reported.found few in let one = i.found (omega (arith, few, reported.puts.advances.rising)) in omega (arith, one, two);
+      derived = denied-next c.args.goal.now _ _ _ c.literals.i bare inside c.requires.light (rw is at reported.adopted) i.derived;
+      denied = λ k e less. grind (arith, less, i.denied k e, reported.denied c.if-branch.false, is, get_or_default c.args.goal.now c.literals.i e bare inside, adopted-keeps _ _ _ reported.adopted (negation (as_term (get_or c.args.goal.now k e)).literal));
+      found = λ few. omega (arith, reported.found few, i.found (omega (arith, few, reported.puts.advances.rising)));
     }
 
 pub returns-in_err-deny-clause-costs : goal.returns-in_err-deny-clause-costs
-returns-in_err-deny-clause-costs c =
-    on-err _ (costs-as 0 _ (omega (arith, c.literals-test.true, c.len-i-end.ensures.length)) (costs-then c.literals.invariant.puts.advances.costs c.in_err-deny.ensures.costs))
-
-pub returns-then-branch-clause-derived : goal.returns-then-branch-clause-derived
-returns-then-branch-clause-derived c = grind (arith, c.term_of-term.ensures, c.get-entry.ensures.read, c.in_ok-deny.ensures.adopted, denied-next, c.literals-test.true, c.len-i-end.ensures.length, c.requires.light, c.literals.invariant.derived)
+returns-in_err-deny-clause-costs c = on-err _ (costs-as 0 _ (omega (arith, c.literals-test.true, c.len-i-end.ensures.length))
+    (costs-then c.literals.invariant.puts.advances.costs c.in_err-deny.ensures.costs))
 
 pub returns-then-branch-clause-conflict : goal.returns-then-branch-clause-conflict
 returns-then-branch-clause-conflict c = λ found.
     let is = ap (λ (t : Term). t.literal) c.term_of-term.ensures ∙ ap (λ (e : Entry). (as_term e).literal) (c.get-entry.ensures.read bare) in
-    let hit = subst (λ (l : NumberedLiteral). IsHit (shapes_of c.args.store.now.stored.items) c.deny.new.run.assignment.list.items l) is (c.in_ok-deny.ensures.conflict c.if-branch.true) in
-    hit-conflicts (shapes_of c.args.store.now.stored.items) c.args.goal.now c.deny.new.run.assignment.list.items c.literals.i bare (omega (arith, c.literals-test.true, c.len-i-end.ensures.length)) c.requires.light hit
+    hit-conflicts _ _ _ c.literals.i bare (omega (arith, c.literals-test.true, c.len-i-end.ensures.length)) c.requires.light
+    (rw is at (c.in_ok-deny.ensures.conflict c.if-branch.true))
 
 pub returns-then-branch-clause-puts : goal.returns-then-branch-clause-puts
 returns-then-branch-clause-puts c = puts-as _ (omega (arith, c.literals-test.true, c.len-i-end.ensures.length)) (puts-then c.literals.invariant.puts c.in_ok-deny.ensures.puts)
-
-pub returns-clause-puts : goal.returns-clause-puts
-returns-clause-puts c = puts-as _ (omega (arith, c.literals.invariant.within)) c.literals.invariant.puts

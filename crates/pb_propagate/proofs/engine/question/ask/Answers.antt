@@ -1,5 +1,5 @@
 use Rattle.pb_propagate.proofs.Common.{arith, slice_get, forms_of}
-use Rattle.pb_propagate.proofs.lemmas.engine.Bounds.{listed-few}
+use Rattle.pb_propagate.proofs.lemmas.engine.Rests.{listed-few}
 use Rattle.pb_propagate.proofs.lemmas.store.Options.{some-one}
 use Rattle.pb_propagate.proofs.engine.question.ask.Goals as goal
 

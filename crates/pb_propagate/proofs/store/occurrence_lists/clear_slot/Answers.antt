@@ -1,11 +1,19 @@
-use Rattle.pb_propagate.proofs.Common.{ap, Global, refl, Vec, StoredForm}
+use Rattle.pb_propagate.proofs.Common.{◌≡◌, ap, arith, length, set, Global, length-map, refl, shapes_of, spots_in, Vec, StoredForm, stored_shape}
+use Rattle.pb_propagate.proofs.lemmas.store.Links.{cut-length}
+use Rattle.pb_propagate.proofs.lemmas.store.Changes.{IsEmptied, emptied-set, emptied-stored}
 use Rattle.pb_propagate.specs.declared.store.spots.Spots.TheVariants.{Empty}
-use Rattle.pb_propagate.proofs.lemmas.store.Changes.{vacated-stored}
 use Rattle.pb_propagate.proofs.store.occurrence_lists.clear_slot.Goals as goal
 
 pub returns-clause-sound : goal.returns-clause-sound
 returns-clause-sound c =
     let store = c.args.store.now in
+    let less = c.unlink.new.store in
+    let keep = store.stored.items in
     let same = ap (λ (v : Vec StoredForm Global). v.items) c.unlink.ensures.kept in
-    rw c.unlink.ensures.variables (rw same (vacated-stored store.stored.items c.empty_stored.result c.unlink.new.store.spots.items store.spots.items Empty c.unlink.new.store.occurrences.items store.occurrences.items store.variables c.args.form
-    c.requires.form c.empty_stored.ensures.terms refl c.unlink.ensures.lists c.unlink.ensures.rooms (rw same at c.unlink.ensures.linked) c.requires.sound))
+    let linked = rw same at c.unlink.ensures.linked in
+    let sizes : length less.spots.items ≡ length keep =
+    omega (arith, linked.sizes, cut-length (shapes_of keep) c.args.form 0, length-map keep stored_shape, length-map less.spots.items spots_in) in
+    let emptied : IsEmptied keep (set keep c.args.form c.empty_stored.result) less.spots.items (set less.spots.items c.args.form Empty) c.args.form =
+    emptied-set c.empty_stored.result refl refl c.empty_stored.ensures.terms sizes c.requires.form in
+    rw (c.unlink.ensures.variables, same)
+    (emptied-stored store.spots.items less.occurrences.items store.occurrences.items emptied c.unlink.ensures.lists c.unlink.ensures.rooms linked c.requires.sound)

@@ -1,8 +1,7 @@
-use Rattle.pb_propagate.proofs.Common.{◌∙◌, ap, arith, get_or, length, refl, shapes_of, stored_terms}
+use Rattle.pb_propagate.proofs.Common.{◌∙◌, ap, arith, get_or, length, shapes_of, stored_terms}
 use Rattle.pb_propagate.proofs.lemmas.store.Places.{entries-length}
 use Rattle.pb_propagate.proofs.lemmas.engine.Puts.{place-inside}
-use Rattle.pb_propagate.proofs.lemmas.store.Storages.{kept-inside}
-use Rattle.pb_propagate.proofs.lemmas.store.Changes.{filled-stored}
+use Rattle.pb_propagate.proofs.lemmas.store.Changes.{filled-stored, kept-inside}
 use Rattle.pb_propagate.proofs.store.occurrence_lists.fill.Goals as goal
 
 pub link-requires-clause-inside : goal.link-requires-clause-inside
@@ -16,10 +15,7 @@ pub returns-clause-sound : goal.returns-clause-sound
 returns-clause-sound c =
     let store = c.args.store.now in
     let k = c.in_ok-kept.kept in
-    let ts = stored_terms k in
-    filled-stored store.stored.items k store.spots.items c.in_ok-positions.positions store.occurrences.items c.link.new.lists.items store.variables c.args.slot ts
-    c.requires.slot c.requires.empty refl c.in_ok-link.ensures.sizes (ap length c.in_ok-positions.ensures ∙ c.in_ok-link.ensures.count)
-    (kept-inside ts c.args.form.terms store.variables c.in_ok-kept.ensures.is.terms c.requires.inside) (rw (← c.in_ok-positions.ensures) at c.in_ok-link.ensures.linked) c.requires.sound
-
-pub returns-clause-filled : goal.returns-clause-filled
-returns-clause-filled c = grind arith
+    let inside = kept-inside (stored_terms k) c.args.form.terms store.variables c.in_ok-kept.ensures.is.terms c.requires.inside in
+    filled-stored store.stored.items k store.spots.items c.in_ok-positions.positions store.occurrences.items c.link.new.lists.items store.variables c.args.slot
+    c.requires.slot c.requires.empty c.in_ok-link.ensures.sizes
+    (ap length c.in_ok-positions.ensures ∙ c.in_ok-link.ensures.count) inside (rw (← c.in_ok-positions.ensures) at c.in_ok-link.ensures.linked) c.requires.sound

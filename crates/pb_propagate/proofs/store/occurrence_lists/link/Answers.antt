@@ -1,7 +1,7 @@
-use Rattle.pb_propagate.proofs.Common.{set, ◌++◌, lists_of, ◌<◌, ◌∙◌, ◌∷◌, ◌≡◌, [], ap, arith, get_or, length, length-append, length-set, Term, place}
-use Rattle.pb_propagate.proofs.Common.{stored_terms, Occurrence}
-use Rattle.pb_propagate.proofs.lemmas.store.Places.{link-by, longer-push, pushed-lists}
-use Rattle.pb_propagate.proofs.lemmas.store.Links.{IsTerm}
+use Rattle.pb_propagate.proofs.Common.{set, ◌++◌, lists_of, ◌<◌, ◌∙◌, ◌∷◌, ◌≡◌, [], ap, arith, get_or, length, length-append, length-set, Term, place, stored_terms}
+use Rattle.pb_propagate.proofs.Common.{Occurrence}
+use Rattle.pb_propagate.proofs.lemmas.store.Places.{longer-push, pushed-lists}
+use Rattle.pb_propagate.proofs.lemmas.store.Links.{IsTerm, link-by}
 use Rattle.pb_propagate.proofs.lemmas.engine.Puts.{lists-at}
 use Rattle.pb_propagate.proofs.store.occurrence_lists.link.Goals as goal
 
@@ -35,7 +35,7 @@ terms-preserved c =
       count = omega (arith, ap length c.in_ok-push.ensures.items, length-append c.terms.spots.items (c.len-spot.result ∷ []), c.terms.invariant.count);
       linked = λ base rows inside same wide old.
           let x : IsTerm base c.args.form c.terms.i t = record { inside = inside; within = omega (arith, within, ap length same); is = rw same (c.term-term.ensures t) } in
-          link-by rows occ _ c.terms.spots.items c.push.new.self.items x wide (omega (arith, room, at)) (rw (← at) pushed)
+          link-by x rows occ _ c.terms.spots.items c.push.new.self.items wide (omega (arith, room, at)) (rw (← at) pushed)
           (c.in_ok-push.ensures.items ∙ ap (λ n. c.terms.spots.items ++ (n ∷ [])) spot) c.terms.invariant.count (c.terms.invariant.linked base rows inside same wide old);
     }
 

@@ -1,5 +1,5 @@
-use Rattle.pb_propagate.proofs.Common.{Some, slice_get, ◌+◌, ◌≡◌, ◌-◌, ◌<◌, [], arith, get_or, length, lists_of}
-use Rattle.pb_propagate.proofs.lemmas.store.Places.{taken-lists, taken-last, taken-moved, spots-moved, set-read, spots-read}
+use Rattle.pb_propagate.proofs.Common.{Some, slice_get, ◌+◌, ◌≡◌, ◌-◌, ◌<◌, [], arith, get_or, get_or-map, get_or-set_same, length, lists_of}
+use Rattle.pb_propagate.proofs.lemmas.store.Places.{taken-lists, taken-moved, spots-moved}
 use Rattle.pb_propagate.proofs.store.occurrence_lists.take_out.Goals.{After-index-moved}
 use Rattle.pb_propagate.proofs.store.occurrence_lists.take_out.Goals as goal
 
@@ -7,19 +7,16 @@ pub returns-then-spot-len-clause-lists : goal.returns-then-spot-len-clause-lists
 returns-then-spot-len-clause-lists c =
     taken-lists c.args.lists.now.items c.args.place c.args.spot c.index_mut.result.now c.swap_remove.new.self c.swap_remove.result c.requires.place c.index_mut.ensures.value c.swap_remove.ensures.value c.swap_remove.ensures.items
 
-pub returns-then-spot-len-clause-spots : goal.returns-then-spot-len-clause-spots
-returns-then-spot-len-clause-spots c = grind (arith, set-read, taken-last)
-
 -- the entry that moves
 moved : (c : After-index-moved) → (c.args.spot + 1 < length (get_or (lists_of c.args.lists.now.items) c.args.place [])) ×
     (slice_get (get_or (lists_of c.args.lists.now.items) c.args.place []) (length (get_or (lists_of c.args.lists.now.items) c.args.place []) - 1) ≡ Some c.index-moved.result.now)
-moved c = grind (arith, set-read, taken-moved)
+moved c = grind (arith, get_or-set_same, taken-moved)
 
 pub index_mut-requires-2 : goal.index_mut-requires-2
 index_mut-requires-2 c = grind (arith, moved)
 
 pub set-requires : goal.set-requires
-set-requires c = grind (arith, moved, spots-read)
+set-requires c = grind (arith, moved, get_or-map)
 
 pub returns-clause-lists : goal.returns-clause-lists
 returns-clause-lists c =

@@ -12,16 +12,10 @@ place_of-place-requires c =
 read : (c : After-place_of-place) → UnlinkRead (shapes_of c.args.store.now.stored.items) (spots_of c.terms.store.spots.items) c.terms.store.occurrences.items c.args.form (c.terms.left - 1) c.get-spot.result c.place_of-place.result
 read c = unlink-read c.index-in-terms.result.now c.term-term.result c.index-in-terms-2.result.now c.get-spot.result c.place_of-place.result c.requires.sound c.terms.invariant (omega (arith, c.terms-test.true)) c.requires.form c.index-in-terms.ensures (c.term-term.ensures c.term-term.result) c.index-in-terms-2.ensures c.get-spot.ensures c.place_of-place.ensures.place
 
-pub take_out-requires-clause-place : goal.take_out-requires-clause-place
-take_out-requires-clause-place c = (read (goal.at.take_out-requires-clause-place c).After-place_of-place).room
-
-pub take_out-requires-clause-spot : goal.take_out-requires-clause-spot
-take_out-requires-clause-spot c = (read (goal.at.take_out-requires-clause-spot c).After-place_of-place).spot_in
-
-pub take_out-requires-clause-named : goal.take_out-requires-clause-named
-take_out-requires-clause-named c = λ e h.
-    let both = (read (goal.at.take_out-requires-clause-named c).After-place_of-place).named e h in
-    (omega (arith, both.0, length-map c.terms.store.spots.items spots_in), both.1)
+pub take_out-requires : goal.take_out-requires
+take_out-requires c =
+    let r = read (goal.at.take_out-requires c).After-place_of-place in
+    record { place = r.room; spot = r.spot_in; named = λ e h. (omega (arith, (r.named e h).0, length-map c.terms.store.spots.items spots_in), (r.named e h).1) }
 
 pub terms-preserved : goal.terms-preserved
 terms-preserved c =

@@ -1,5 +1,5 @@
 use Rattle.pb_propagate.proofs.Common.{ℕ, ◌<◌, length, List, subst, sym, All, group_by}
-use Rattle.pb_propagate.proofs.lemmas.clauses.Slots.{codes-inside}
+use Rattle.pb_propagate.proofs.lemmas.clauses.Shapes.{codes-inside}
 use Rattle.pb_propagate.proofs.store.occurrence_lists.watch.Goals as goal
 
 pub fill-requires-clause-inside : goal.fill-requires-clause-inside

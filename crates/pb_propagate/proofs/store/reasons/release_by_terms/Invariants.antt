@@ -1,5 +1,4 @@
-use Rattle.pb_propagate.proofs.Common.{stored_terms}
-use Rattle.pb_propagate.proofs.Common.{ℕ, ◌<◌, get_or, Term, IsDue}
+use Rattle.pb_propagate.proofs.Common.{stored_terms, ℕ, ◌<◌, get_or, Term, IsDue}
 use Rattle.pb_propagate.specs.engine.engine.Refreshed.{IsReleased}
 use Rattle.pb_propagate.proofs.store.reasons.release_by_terms.Given as goal
 

@@ -1,5 +1,4 @@
-use Rattle.pb_propagate.proofs.Common.{stored_terms}
-use Rattle.pb_propagate.proofs.Common.{ℕ, ◌<◌, get_or, Term, shapes_of, IsDue, HasOtherReasons}
+use Rattle.pb_propagate.proofs.Common.{stored_terms, ℕ, ◌<◌, get_or, Term, shapes_of, IsDue, HasOtherReasons}
 use Rattle.pb_propagate.proofs.store.reasons.replace_by_terms.Given as goal
 
 abbrev pub invariant-terms : goal.invariant-terms

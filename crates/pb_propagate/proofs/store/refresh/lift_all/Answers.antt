@@ -1,5 +1,6 @@
 use Rattle.pb_propagate.proofs.lemmas.store.Stored.{stored-small}
-use Rattle.pb_propagate.proofs.Common.{ℕ, ◌+◌, ◌∙◌, drop, drop_all, get_or, get_or_read, map, set, size, stored_shape, subst, Shape, Term, ap, arith, length, length-map, shapes_of, weighted, slice_get_within}
+use Rattle.pb_propagate.proofs.Common.{ℕ, ◌+◌, ◌∙◌, drop, get_or, get_or_read, map, set, size, stored_shape, subst, Shape, Term, ap, arith, length, length-map, shapes_of}
+use Rattle.pb_propagate.proofs.Common.{weighted, slice_get_within}
 use Rattle.pb_propagate.proofs.lemmas.root.Retracted.{ahead-entry, all-next, lacks-fits, lacks-next, listed-entries, IsOccurrence, occurrence-read, refreshed-then}
 use Rattle.pb_propagate.proofs.lemmas.engine.VisitSteps.{shape-at, weight-read}
 use Rattle.pb_propagate.specs.engine.engine.Refreshed.{Lacks}
@@ -36,7 +37,7 @@ returns-clause-all c = λ j e at.
     c.entries.invariant.all j e (omega (arith, inside, ap length same, length-map v.items (weighted (shapes_of c.args.store.now.stored.items)), c.entries-test.false, c.len-j-end.ensures, v.ok.0)) at
 
 pub index-before-requires : goal.index-before-requires
-index-before-requires c = omega (arith, (read (goal.at.index-before-requires c).After-index-entry).form, c.entries.invariant.each.sized.opens, c.entries.root.run.opens.ok.0)
+index-before-requires c = grind (arith, read, c.entries.invariant.each.sized.opens, c.entries.root.run.opens.ok.0)
 
 pub term-requires : goal.term-requires
 term-requires c = grind (arith, read, shape-at)
@@ -56,8 +57,5 @@ overflow_add-opened c =
     let shape = shape-at store.stored.items form k o.form c.index-kept.ensures (stored_shape k) in
     omega (arith, fits, read, weight, ap (λ (f : Shape). size f.terms) shape, stored-small k)
 
-pub returns-clause-lacks : goal.returns-clause-lacks
-returns-clause-lacks c = grind (arith, drop_all, length-map)
-
 pub index-kept-requires : goal.index-kept-requires
-index-kept-requires c = omega (arith, (read (goal.at.index-kept-requires c).After-index-entry).form, c.args.store.now.stored.ok.0)
+index-kept-requires c = grind (arith, read, c.args.store.now.stored.ok.0)

@@ -1,10 +1,6 @@
 use Rattle.pb_propagate.proofs.Common.{◌-◌, ◌^◌, arith, rules, All-permutation, IsNonDecreasingBy-from_sort_by_key, Rank, IsPlaced}
-use Rattle.pb_propagate.proofs.lemmas.store.Sorted.{ranked-same, ranked-falling}
+use Rattle.pb_propagate.proofs.lemmas.store.Stored.{ranked-falling}
 use Rattle.pb_propagate.proofs.store.sorted_form.ranked.Goals as goal
-
-pub returns-clause-same : goal.returns-clause-same
-returns-clause-same c =
-    ranked-same c.args.entries.now c.in_ok-ranks.ranks.items c.sort_unstable_by_key.new.self.items c.in_ok-ranks.ensures.1 c.sort_unstable_by_key.ensures.permutation
 
 pub returns-clause-falling : goal.returns-clause-falling
 returns-clause-falling c =

@@ -1,5 +1,4 @@
-use Rattle.pb_propagate.proofs.Common.{stored_terms}
-use Rattle.pb_propagate.proofs.Common.{◌∷◌, ◌≡◌, [], ap, arith, get_or, length, List, sym}
+use Rattle.pb_propagate.proofs.Common.{stored_terms, ◌∷◌, ◌≡◌, [], ap, arith, get_or, length, List, sym}
 use Rattle.pb_propagate.proofs.store.units.only_literal.Goals as goal
 
 single : {X : Type 0} (xs : List X) (x : X) → length xs ≡ 1 → x ≡ get_or xs 0 x → xs ≡ x ∷ []

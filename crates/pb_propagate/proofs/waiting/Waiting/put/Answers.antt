@@ -1,6 +1,5 @@
-use Rattle.pb_propagate.proofs.Common.{arith, length-set}
-use Rattle.pb_propagate.proofs.lemmas.engine.Bounds.{positioned-room}
-use Rattle.pb_propagate.proofs.lemmas.store.Positions.{positioned-put}
+use Rattle.pb_propagate.proofs.Common.{arith}
+use Rattle.pb_propagate.proofs.lemmas.engine.Rests.{positioned-room}
 use Rattle.pb_propagate.proofs.waiting.Waiting.put.Goals as goal
 
 pub push_reserved-requires : goal.push_reserved-requires
@@ -8,6 +7,3 @@ push_reserved-requires c =
     let me = c.args.self.now in
     let short = positioned-room me.list.items me.positions.items c.args.form c.requires.inside c.requires.absent me.positioned in
     omega (arith, short, me.room, me.list.ok.0)
-
-pub invariant_of-self : goal.invariant_of-self
-invariant_of-self c = grind (arith, positioned-put, length-set)

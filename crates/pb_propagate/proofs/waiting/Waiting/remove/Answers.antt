@@ -1,5 +1,4 @@
-use Rattle.pb_propagate.proofs.Common.{refl}
-use Rattle.pb_propagate.proofs.lemmas.store.Positions.{swap-without, same-without}
+use Rattle.pb_propagate.proofs.lemmas.store.Positions.{swap-without}
 use Rattle.pb_propagate.proofs.waiting.Waiting.remove.Goals as goal
 
 pub returns-then-contains-clause-left : goal.returns-then-contains-clause-left
@@ -7,6 +6,3 @@ returns-then-contains-clause-left c =
     let me = c.args.self.now in
     let t = c.take.ensures.list in
     swap-without me.list.items c.take.new.self.list.items me.positions.items t.0 c.args.form me.positioned t.1 t.2
-
-pub returns-else-contains-clause-left : goal.returns-else-contains-clause-left
-returns-else-contains-clause-left c = same-without c.args.self.now.list.items c.args.self.now.list.items c.args.form (c.contains.ensures.no c.if-contains.false) refl

@@ -1,28 +1,22 @@
-use Rattle.pb_propagate.proofs.Common.{ap, arith, sym, Watch}
-use Rattle.pb_propagate.proofs.lemmas.clauses.Blocks.{live-stored, place-at}
+use Rattle.pb_propagate.proofs.Common.{arith}
+use Rattle.pb_propagate.proofs.lemmas.clauses.Blocks.{live-slot, live-at}
 use Rattle.pb_propagate.proofs.lemmas.clauses.BlocksWritten.{place-written}
 use Rattle.pb_propagate.proofs.clauses.blocks.Blocks.place.Goals as goal
 
 pub index-requires : goal.index-requires
-index-requires c = omega (
-  arith,
-  (live-stored c.self.invariant c.self.view_is c.args.watch c.requires.live).slot,
-  c.self.inside.starts.ok.0,
-)
+index-requires c = grind (arith, live-slot)
 
 pub index_mut-requires : goal.index_mut-requires
-index_mut-requires c = grind (arith, live-stored, place-at)
+index_mut-requires c = omega (arith, (live-at c.self.invariant c.self.view_is c.args.watch c.index.result.now c.requires.live c.index.ensures).at.end)
 
 pub invariant_of-self : goal.invariant_of-self
 invariant_of-self c =
-    let l = live-stored c.self.invariant c.self.view_is c.args.watch c.requires.live in
-    let at = place-at c.self.inside.starts.items c.args.watch c.index.result.now _ l.slot c.index.ensures c.place_in-place.ensures in
-    let literal = ap (λ (x : Watch). x.literal) (sym l.shown) in
-    (place-written c.args.watch _ c.self.invariant c.self.view_is l.room at _ c.args.spot literal c.requires.small).blocks
+    (place-written c.args.watch c.index.result.now _ c.self.invariant c.self.view_is
+    (live-at c.self.invariant c.self.view_is c.args.watch c.index.result.now c.requires.live c.index.ensures) c.place_in-place.ensures
+    c.args.spot c.requires.live c.requires.small).blocks
 
 pub returns : goal.returns
 returns c =
-    let l = live-stored c.self.invariant c.self.view_is c.args.watch c.requires.live in
-    let at = place-at c.self.inside.starts.items c.args.watch c.index.result.now _ l.slot c.index.ensures c.place_in-place.ensures in
-    let literal = ap (λ (x : Watch). x.literal) (sym l.shown) in
-    (place-written c.args.watch _ c.self.invariant c.self.view_is l.room at _ c.args.spot literal c.requires.small).is
+    (place-written c.args.watch c.index.result.now _ c.self.invariant c.self.view_is
+    (live-at c.self.invariant c.self.view_is c.args.watch c.index.result.now c.requires.live c.index.ensures) c.place_in-place.ensures
+    c.args.spot c.requires.live c.requires.small).is

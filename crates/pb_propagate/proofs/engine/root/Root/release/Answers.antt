@@ -1,9 +1,6 @@
 use Rattle.pb_propagate.proofs.Common.{arith}
-use Rattle.pb_propagate.proofs.lemmas.root.Replaced.{needless-codes, needless-terms}
+use Rattle.pb_propagate.proofs.lemmas.root.Replaced.{needless-codes}
 use Rattle.pb_propagate.proofs.engine.root.Root.release.Goals as goal
 
 pub returns-then-is_filled-clause-needless : goal.returns-then-is_filled-clause-needless
 returns-then-is_filled-clause-needless c = grind (arith, c.release_by_literals.ensures.released.rooted, c.requires.joined, c.requires.slots, c.requires.rooted, needless-codes, c.requires.slot, c.is_filled.ensures.yes, c.if-is_filled.true, c.release_by_literals.ensures.needless)
-
-pub returns-clause-needless : goal.returns-clause-needless
-returns-clause-needless c = grind (arith, c.release_by_terms.ensures.released.rooted, c.requires.joined, c.requires.slots, c.requires.rooted, needless-terms, c.requires.slot, c.is_filled.ensures.no, c.if-is_filled.false, c.release_by_terms.ensures.needless)

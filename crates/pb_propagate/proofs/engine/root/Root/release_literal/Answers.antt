@@ -1,14 +1,6 @@
-use Rattle.pb_propagate.proofs.Common.{arith, refl}
-use Rattle.pb_propagate.proofs.lemmas.engine.Puts.{place-inside}
-use Rattle.pb_propagate.proofs.lemmas.root.Released.{released-then, replaced-released, shortened-released, some-released, some-sized}
-use Rattle.pb_propagate.proofs.lemmas.store.Places.{entries-length}
+use Rattle.pb_propagate.proofs.Common.{refl}
+use Rattle.pb_propagate.proofs.lemmas.root.Replaced.{released-then, replaced-released, shortened-released, some-released, some-sized}
 use Rattle.pb_propagate.proofs.engine.root.Root.release_literal.Goals as goal
-
-pub replace_reason-requires-clause-fits : goal.replace_reason-requires-clause-fits
-replace_reason-requires-clause-fits c = grind (arith, place-inside, c.requires.inside, c.requires.sound.places, entries-length)
-
-pub returns-then-replace_reason-clause-released : goal.returns-then-replace_reason-clause-released
-returns-then-replace_reason-clause-released c = replaced-released c.args.store.now c.args.slot c.args.self.now _ c.replace_reason.new.assignment refl (some-sized c.args.store.now c.args.self.now c.requires.rooted) c.replace_reason.ensures.reasons
 
 pub withdraw-requires : goal.withdraw-requires
 withdraw-requires c =

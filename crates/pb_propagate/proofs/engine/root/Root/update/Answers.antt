@@ -1,19 +1,13 @@
-use Rattle.pb_propagate.proofs.Common.{ℕ, ◌∙◌, ◌≡◌, [], ap, arith, Global, length, refl, take, Vec, slice_get-get_or, slice_get_within, all_of}
-use Rattle.pb_propagate.proofs.Common.{◌++◌, ◌-◌, Assignment, heads_at}
+use Rattle.pb_propagate.proofs.Common.{ℕ, ◌∙◌, ◌≡◌, [], ap, arith, Global, length, refl, take, Vec, slice_get_within, all_of}
+use Rattle.pb_propagate.proofs.Common.{◌++◌, ◌-◌, Assignment, heads_at, rules}
 use Rattle.std.proofs.Math.ListN.{replicate}
 use Rattle.pb_propagate.proofs.lemmas.clauses.Heads.{heads-is, visits-back, walks-back, walks-ended}
 use Rattle.pb_propagate.proofs.lemmas.clauses.Watching.{ready-running}
-use Rattle.pb_propagate.proofs.lemmas.engine.Bounds.{form-inside}
 use Rattle.pb_propagate.proofs.lemmas.engine.Reasoned.{run-reasons-rooted}
-use Rattle.pb_propagate.proofs.lemmas.root.Kept.{conflicts-kept, conflict-same, met-kept, vacant-kept}
-use Rattle.pb_propagate.proofs.lemmas.root.Returns.{back-rooted, rooted-waiting}
-use Rattle.pb_propagate.proofs.lemmas.root.Ready.{root-ready}
+use Rattle.pb_propagate.proofs.lemmas.root.Kept.{conflicts-kept, conflict-same}
+use Rattle.pb_propagate.proofs.lemmas.root.Ready.{back-rooted, rooted-waiting, root-ready}
 use Rattle.pb_propagate.proofs.lemmas.root.Roots.{kept-rooted}
-use Rattle.pb_propagate.proofs.lemmas.store.Changes.{forms-length}
 use Rattle.pb_propagate.proofs.engine.root.Root.update.Goals as goal
-
-pub propagate-requires-clause-waiting : goal.propagate-requires-clause-waiting
-propagate-requires-clause-waiting c = grind (arith, c.as_slice.ensures.value, c.requires.standing.rooted.live, slice_get-get_or, form-inside, forms-length)
 
 -- an allocation ends it
 pub returns-in_err-found-clause-costs : goal.returns-in_err-found-clause-costs
@@ -21,9 +15,6 @@ returns-in_err-found-clause-costs c = record { ended = c.propagate.new.run; spen
 
 pub returns-in_err-note-clause-costs : goal.returns-in_err-note-clause-costs
 returns-in_err-note-clause-costs c = record { ended = c.propagate.new.run; spends = rw c.as_slice.ensures.value at c.propagate.ensures.costs; visits = refl }
-
-pub note-requires-clause-reasoned : goal.note-requires-clause-reasoned
-note-requires-clause-reasoned c = (all_of c.args.store.now c.args.clauses.now, run-reasons-rooted c.requires.standing.rooted.reasoned c.in_ok-found.ensures.reasons)
 
 pub returns-then-found-clause-costs : goal.returns-then-found-clause-costs
 returns-then-found-clause-costs c = record { ended = c.propagate.new.run; spends = rw c.as_slice.ensures.value at c.propagate.ensures.costs; visits = c.back.ensures.visits }
@@ -47,7 +38,7 @@ returns-then-found-clause-kept c =
     let noted = c.in_ok-note.ensures in
     let reasoned = run-reasons-rooted c.requires.standing.rooted.reasoned reported.reasons in
     let holds = conflict-same forms done c.note.new.self.assignment noted.list noted.reasons (conflicts-kept forms done reasoned (reported.conflict c.if-found.true)) in
-    met-kept forms c.args.store.now.variables c.note.new.self (noted.values ∙ c.requires.vacant.values) noted.met holds
+    search (rules, noted.values ∙ c.requires.vacant.values, noted.met, holds)
 
 -- none is met
 pub returns-clause-costs : goal.returns-clause-costs
@@ -61,30 +52,18 @@ returns-clause-rooted c =
     let done = c.propagate.new.run in
     let reported = c.in_ok-found.ensures in
     let settled = reported.settled c.if-found.false in
-    let reasoned = run-reasons-rooted r.reasoned reported.reasons in
-    let lit = c.propagate.ensures.literals in
     let whole_is : c.len-whole.result ≡ length done.assignment.list.items = omega (arith, c.len-whole.ensures, done.assignment.list.ok.0, ap (λ (a : Assignment). length a.list.items) c.save.ensures.assignment, c.save.new.run.assignment.list.ok.0) in
     let heads = heads-is c.finish.new.self.heads (length done.assignment.list.items) (c.in_ok-finish.ensures.heads.0 ∙ whole_is) (c.in_ok-finish.ensures.heads.1 ∙ whole_is) in
+    let walks = walks-ended c.args.clauses.now c.propagate.new.clauses me.run.assignment.list.items done.assignment.list.items me.walked c.finish.new.self
+    c.propagate.new.marks.items r.walks reported.marks settled.walked heads
+    (c.in_ok-finish.ensures.marks ∙ ap (λ n. c.propagate.new.marks.items ++ replicate (n - length c.propagate.new.marks.items) (heads_at 0)) whole_is) in
     kept-rooted store c.propagate.new.clauses done c.save.new.run me.rests c.save.new.rests [] c.clear.new.self c.finish.new.self
-    (record {
-      values = reported.left.values ∙ r.values;
-      opens = reported.left.opens;
-      candidates = reported.left.candidates;
-      counted = settled.counted;
-      reasoned = rw lit reasoned;
-      walks = walks-ended c.args.clauses.now c.propagate.new.clauses me.run.assignment.list.items done.assignment.list.items me.walked c.finish.new.self c.propagate.new.marks.items r.walks reported.marks settled.walked heads (c.in_ok-finish.ensures.marks ∙ ap (λ n. c.propagate.new.marks.items ++ replicate (n - length c.propagate.new.marks.items) (heads_at 0)) whole_is);
-    })
+    (grind (arith, reported.left, r.values, settled.counted, run-reasons-rooted r.reasoned reported.reasons, c.propagate.ensures.literals, walks))
     settled.tidy
     (λ s off. (λ i from less at. absurd (omega (arith, less)), λ i from less at. let end_is = settled.done in absurd (omega (arith, from, less, end_is))))
     c.save.ensures
     (ap (λ (v : Vec ℕ Global). length v.items) c.clear.ensures.positions ∙ r.positions)
     (λ i s at. absurd (omega (arith, slice_get_within c.clear.new.self.list.items i s at, ap length c.clear.ensures.list)))
-
-pub returns-clause-kept : goal.returns-clause-kept
-returns-clause-kept c = vacant-kept (all_of c.args.store.now c.args.clauses.now) c.args.store.now.variables c.args.conflict.now c.requires.vacant
-
-pub returns-clause-updated : goal.returns-clause-updated
-returns-clause-updated c = grind (arith, c.in_ok-found.ensures, c.as_slice.ensures.value, c.if-found.false, c.len-whole.ensures, c.save.ensures.assignment, c.save.new.run.assignment.list.ok.0, heads-is, c.in_ok-finish.ensures.heads.0, c.in_ok-finish.ensures.heads.1, c.save.ensures.candidates, c.save.ensures.visits, c.clear.ensures.list)
 
 pub returns-in_err-finish-clause-costs : goal.returns-in_err-finish-clause-costs
 returns-in_err-finish-clause-costs c = record { ended = c.propagate.new.run; spends = rw c.as_slice.ensures.value at c.propagate.ensures.costs; visits = c.save.ensures.visits }

@@ -1,0 +1,41 @@
+-- Lemmas that the goals of functions need, by the file or the function.
+use Rattle.pb_propagate.proofs.lemmas.clauses.Heads.{heads-is}
+use Rattle.pb_propagate.proofs.lemmas.clauses.Watching.{listed-small}
+use Rattle.pb_propagate.proofs.lemmas.engine.Advances.{advances-then, advances-visit, costs-then, on-err}
+use Rattle.pb_propagate.proofs.lemmas.engine.Bridge.{opposed-clash}
+use Rattle.pb_propagate.proofs.lemmas.engine.Literals.{has-none, sum-bounded}
+use Rattle.pb_propagate.proofs.lemmas.engine.Puts.{place-inside}
+use Rattle.pb_propagate.proofs.lemmas.engine.Reasoned.{reasons-derive, run-reasons-rooted}
+use Rattle.pb_propagate.proofs.lemmas.engine.Rests.{half, slots-terms}
+use Rattle.pb_propagate.proofs.lemmas.engine.Runs.{Counted-put}
+use Rattle.pb_propagate.proofs.lemmas.engine.VisitSteps.{shape-at}
+use Rattle.pb_propagate.proofs.lemmas.root.Denials.{adopted-denied, denied-derives, denied-next}
+use Rattle.pb_propagate.proofs.lemmas.root.Kept.{conflict-few, listed-inside}
+use Rattle.pb_propagate.proofs.lemmas.root.Questions.{root-few, updated-most}
+use Rattle.pb_propagate.proofs.lemmas.root.Ready.{puts-as, updated-ready}
+use Rattle.pb_propagate.proofs.lemmas.root.Replaced.{due-some, needless-terms, replaced-released, shortened-same, some-sized, terms-inside}
+use Rattle.pb_propagate.proofs.lemmas.root.Transplants.{clash-joined}
+use Rattle.pb_propagate.proofs.lemmas.store.Changes.{forms-length}
+use Rattle.pb_propagate.proofs.lemmas.store.Placed.{at-inside, numbered-left, numbered-length, numbered-none, taken-by}
+use Rattle.pb_propagate.proofs.lemmas.store.Places.{entries-length}
+use Rattle.pb_propagate.proofs.lemmas.store.Stored.{stored-small}
+use Rattle.std.proofs.Common.{get_or-set_same, length-append}
+use Rattle.std.proofs.lemmas.Bool.{both_ways}
+use Rattle.std.proofs.lemmas.List.{length-map, length-take-le}
+use Rattle.std.proofs.lemmas.Option.{slice_get-get_or}
+
+pub ruleset completion = (clash-joined, opposed-clash, updated-ready)
+
+pub ruleset conflict = (both_ways, has-none, listed-inside, stored-small, terms-inside)
+
+pub ruleset denial = (adopted-denied, advances-then, advances-visit, costs-then, denied-derives, denied-next, on-err, puts-as, reasons-derive)
+
+pub ruleset engine = (conflict-few, entries-length, forms-length, half, length-append, numbered-left, numbered-length, numbered-none, slots-terms, taken-by)
+
+pub ruleset losing = (due-some, entries-length, length-take-le, listed-small, needless-terms, place-inside, replaced-released, shortened-same, some-sized)
+
+pub ruleset question = (length-map, root-few, updated-most, updated-ready)
+
+pub ruleset root = (at-inside, forms-length, heads-is, run-reasons-rooted, shape-at, slice_get-get_or, stored-small, terms-inside)
+
+pub ruleset run = (Counted-put, entries-length, get_or-set_same, length-map, listed-small, place-inside, shape-at, sum-bounded)

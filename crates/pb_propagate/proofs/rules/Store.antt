@@ -1,0 +1,59 @@
+-- Lemmas that the goals of functions need, by the file or the function.
+use Rattle.pb_propagate.proofs.lemmas.clauses.Shapes.{slots-vacant}
+use Rattle.pb_propagate.proofs.lemmas.clauses.Truths.{marked-start, marked-wider}
+use Rattle.pb_propagate.proofs.lemmas.engine.Chains.{chain-push, free-put}
+use Rattle.pb_propagate.proofs.lemmas.engine.Completing.{completions-exist}
+use Rattle.pb_propagate.proofs.lemmas.engine.Literals.{open_part-falsified, open_part-open}
+use Rattle.pb_propagate.proofs.lemmas.engine.Puts.{place-inside}
+use Rattle.pb_propagate.proofs.lemmas.engine.Values.{Agree-cleared, Agree-push, Agree-widen, says-none, vacancy-none, vacancy-push}
+use Rattle.pb_propagate.proofs.lemmas.root.Added.{no-watch, pair-free}
+use Rattle.pb_propagate.proofs.lemmas.root.Replaced.{needless-terms, other-then, released-same, released-then, same-reasons, some-sized, terms-inside}
+use Rattle.pb_propagate.proofs.lemmas.store.Changes.{forms-filled, forms-more}
+use Rattle.pb_propagate.proofs.lemmas.store.Gets.{get-map, get-set_same}
+use Rattle.pb_propagate.proofs.lemmas.store.Places.{entries-length, taken-last}
+use Rattle.pb_propagate.proofs.lemmas.store.Positions.{moved-last, position-got, positioned-moved, positioned-put, positioned-widened, room-widened}
+use Rattle.pb_propagate.proofs.lemmas.store.Positions.{same-without}
+use Rattle.pb_propagate.proofs.lemmas.store.Slots.{slots-bare}
+use Rattle.pb_propagate.proofs.lemmas.store.Stored.{degree-read, equal-even, even-falls, form-order, kept-size, order-none, order-some, picked-even}
+use Rattle.pb_propagate.proofs.lemmas.store.Stored.{picked-order, placed-inside, ranked-same, standing-all, total-each, unit-size}
+use Rattle.std.proofs.Common.{get_or-set_same, length-append, length-set}
+use Rattle.std.proofs.lemmas.Bool.{cases_eq}
+use Rattle.std.proofs.lemmas.List.{get_or-map, get_or_default, length-map}
+use Rattle.std.proofs.lemmas.List.Sums.{get_or-le-sum_by, sum_by_more, sum_by_more_le, sum_by_push}
+use Rattle.std.proofs.lemmas.Option.{slice_get_within}
+
+pub ruleset clear = (Agree-cleared, vacancy-none)
+
+pub ruleset free = (chain-push, free-put, get_or_default)
+
+pub ruleset laws = (completions-exist)
+
+pub ruleset len = (length-map, order-none, order-some)
+
+pub ruleset new = (Agree-cleared, marked-start, vacancy-none)
+
+pub ruleset occurrence_lists = (degree-read, get_or-le-sum_by, get_or-set_same, kept-size, taken-last)
+
+pub ruleset opened = (open_part-falsified, open_part-open, says-none, sum_by_more, sum_by_more_le)
+
+pub ruleset order_of = (equal-even, even-falls, form-order, picked-even, picked-order, placed-inside)
+
+pub ruleset place_at = (get_or-map, length-map, order-none, order-some)
+
+pub ruleset put = (Agree-push, length-append, length-set, vacancy-push)
+
+pub ruleset ranked = (ranked-same)
+
+pub ruleset reasons = (cases_eq, entries-length, get-set_same, needless-terms, other-then, place-inside, released-same, released-then, same-reasons, some-sized, terms-inside)
+
+pub ruleset slots = (forms-filled, forms-more, get-map, no-watch, pair-free, slots-bare, slots-vacant)
+
+pub ruleset sortedform_new = (total-each)
+
+pub ruleset standing = (standing-all)
+
+pub ruleset unit_form = (degree-read, unit-size)
+
+pub ruleset waiting = (length-set, moved-last, position-got, positioned-moved, positioned-put, positioned-widened, room-widened, same-without, slice_get_within)
+
+pub ruleset widen = (Agree-widen, length-append, marked-wider, sum_by_push)
