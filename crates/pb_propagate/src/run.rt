@@ -234,8 +234,8 @@ pub fn propagate(
     ensures reasons { OnOk result (RunReasons (all_of store.now clauses.old) run.old run.new) }
     ensures gains { OnOk result (RunGains run.old run.new) }
     ensures conflict { IfFound result (Conflicts (all_of store.now clauses.old) (list_of run.new)) }
-    ensures settled { IfNotFound result (
-        HasPropagated store.now rests.now clauses.old clauses.new waiting.now from run.old run.new) }
+    ensures settled { IfNotFound result (HasPropagated store.now rests.now clauses.old clauses.new
+        waiting.now from run.old run.new) }
 {
     let mut taken = 0;
     let mut heads = from;

@@ -1,23 +1,20 @@
 -- Lemmas that the goals of functions need, by the file or the function.
-use Rattle.pb_propagate.proofs.lemmas.clauses.Heads.{heads-is}
-use Rattle.pb_propagate.proofs.lemmas.clauses.Watching.{listed-small}
+use Rattle.pb_propagate.proofs.lemmas.clauses.Heads.{heads-is, listed-small}
 use Rattle.pb_propagate.proofs.lemmas.engine.Advances.{advances-then, advances-visit, costs-then, on-err}
 use Rattle.pb_propagate.proofs.lemmas.engine.Bridge.{opposed-clash}
 use Rattle.pb_propagate.proofs.lemmas.engine.Literals.{has-none, sum-bounded}
-use Rattle.pb_propagate.proofs.lemmas.engine.Puts.{place-inside}
+use Rattle.pb_propagate.proofs.lemmas.engine.Runs.{place-inside, Counted-put}
 use Rattle.pb_propagate.proofs.lemmas.engine.Reasoned.{reasons-derive, run-reasons-rooted}
 use Rattle.pb_propagate.proofs.lemmas.engine.Rests.{half, slots-terms}
-use Rattle.pb_propagate.proofs.lemmas.engine.Runs.{Counted-put}
-use Rattle.pb_propagate.proofs.lemmas.engine.VisitSteps.{shape-at}
-use Rattle.pb_propagate.proofs.lemmas.root.Denials.{adopted-denied, denied-derives, denied-next}
+use Rattle.pb_propagate.proofs.lemmas.engine.Propagated.{shape-at}
+use Rattle.pb_propagate.proofs.lemmas.root.Questions.{adopted-denied, denied-derives, denied-next, root-few, updated-most}
 use Rattle.pb_propagate.proofs.lemmas.root.Kept.{conflict-few, listed-inside}
-use Rattle.pb_propagate.proofs.lemmas.root.Questions.{root-few, updated-most}
 use Rattle.pb_propagate.proofs.lemmas.root.Ready.{puts-as, updated-ready}
-use Rattle.pb_propagate.proofs.lemmas.root.Replaced.{due-some, needless-terms, replaced-released, shortened-same, some-sized, terms-inside}
-use Rattle.pb_propagate.proofs.lemmas.root.Transplants.{clash-joined}
+use Rattle.pb_propagate.proofs.lemmas.root.Retracted.{due-some, needless-terms, replaced-released, shortened-same, some-sized, terms-inside}
+use Rattle.pb_propagate.proofs.lemmas.root.Rooted.{clash-joined}
 use Rattle.pb_propagate.proofs.lemmas.store.Changes.{forms-length}
 use Rattle.pb_propagate.proofs.lemmas.store.Placed.{at-inside, numbered-left, numbered-length, numbered-none, taken-by}
-use Rattle.pb_propagate.proofs.lemmas.store.Places.{entries-length}
+use Rattle.pb_propagate.proofs.lemmas.store.Links.{entries-length}
 use Rattle.pb_propagate.proofs.lemmas.store.Stored.{stored-small}
 use Rattle.std.proofs.Common.{get_or-set_same, length-append}
 use Rattle.std.proofs.lemmas.Bool.{both_ways}

@@ -1,19 +1,18 @@
 -- Lemmas that the goals of functions need, by the file or the function.
 use Rattle.pb_propagate.proofs.lemmas.clauses.Shapes.{slots-vacant}
-use Rattle.pb_propagate.proofs.lemmas.clauses.Truths.{marked-start, marked-wider}
-use Rattle.pb_propagate.proofs.lemmas.engine.Chains.{chain-push, free-put}
+use Rattle.pb_propagate.proofs.lemmas.clauses.Literals.{marked-start, marked-wider}
+use Rattle.pb_propagate.proofs.lemmas.store.Positions.{chain-push, free-put, moved-last, position-got, positioned-moved, positioned-put}
+use Rattle.pb_propagate.proofs.lemmas.store.Positions.{positioned-widened, room-widened, same-without}
 use Rattle.pb_propagate.proofs.lemmas.engine.Completing.{completions-exist}
-use Rattle.pb_propagate.proofs.lemmas.engine.Literals.{open_part-falsified, open_part-open}
-use Rattle.pb_propagate.proofs.lemmas.engine.Puts.{place-inside}
-use Rattle.pb_propagate.proofs.lemmas.engine.Values.{Agree-cleared, Agree-push, Agree-widen, says-none, vacancy-none, vacancy-push}
+use Rattle.pb_propagate.proofs.lemmas.engine.Literals.{open_part-falsified, open_part-open, Agree-cleared, Agree-push, Agree-widen, says-none}
+use Rattle.pb_propagate.proofs.lemmas.engine.Literals.{vacancy-none, vacancy-push}
+use Rattle.pb_propagate.proofs.lemmas.engine.Runs.{place-inside}
 use Rattle.pb_propagate.proofs.lemmas.root.Added.{no-watch, pair-free}
-use Rattle.pb_propagate.proofs.lemmas.root.Replaced.{needless-terms, other-then, released-same, released-then, same-reasons, some-sized, terms-inside}
-use Rattle.pb_propagate.proofs.lemmas.store.Changes.{forms-filled, forms-more}
+use Rattle.pb_propagate.proofs.lemmas.root.Retracted.{needless-terms, other-then, released-same, released-then, same-reasons, some-sized}
+use Rattle.pb_propagate.proofs.lemmas.root.Retracted.{terms-inside}
+use Rattle.pb_propagate.proofs.lemmas.store.Changes.{forms-filled, forms-more, slots-bare}
 use Rattle.pb_propagate.proofs.lemmas.store.Gets.{get-map, get-set_same}
-use Rattle.pb_propagate.proofs.lemmas.store.Places.{entries-length, taken-last}
-use Rattle.pb_propagate.proofs.lemmas.store.Positions.{moved-last, position-got, positioned-moved, positioned-put, positioned-widened, room-widened}
-use Rattle.pb_propagate.proofs.lemmas.store.Positions.{same-without}
-use Rattle.pb_propagate.proofs.lemmas.store.Slots.{slots-bare}
+use Rattle.pb_propagate.proofs.lemmas.store.Links.{entries-length, taken-last}
 use Rattle.pb_propagate.proofs.lemmas.store.Stored.{degree-read, equal-even, even-falls, form-order, kept-size, order-none, order-some, picked-even}
 use Rattle.pb_propagate.proofs.lemmas.store.Stored.{picked-order, placed-inside, ranked-same, standing-all, total-each, unit-size}
 use Rattle.std.proofs.Common.{get_or-set_same, length-append, length-set}
@@ -48,7 +47,7 @@ pub ruleset reasons = (cases_eq, entries-length, get-set_same, needless-terms, o
 
 pub ruleset slots = (forms-filled, forms-more, get-map, no-watch, pair-free, slots-bare, slots-vacant)
 
-pub ruleset sortedform_new = (total-each)
+pub ruleset totals = (total-each)
 
 pub ruleset standing = (standing-all)
 

@@ -74,8 +74,7 @@ impl Search {
         ensures round { (start : ℕ) → IsRound start self (length literals.now) →
             IsRound start result (length literals.now) }
         ensures passed { (start k d : ℕ) → IsRound start self (length literals.now) →
-            self.passed ≤ k → k < result.passed →
-            (false_at assignment.now.values.items
+            self.passed ≤ k → k < result.passed → (false_at assignment.now.values.items
             (slice_index_or (turned start literals.now) k d) ≡ true) ⊎
             (slice_index_or (turned start literals.now) k d ≡ other) }
         ensures found { result.passed < length literals.now → (d : ℕ) →

@@ -122,7 +122,7 @@ impl SortedForm {
     ghost use Rattle.pb_propagate.specs.engine.engine.Terms.{terms_of};
 
     /// A form.
-    #[tactic(auto, using(crate::proofs::rules::Store::sortedform_new))]
+    #[tactic(auto, using(crate::proofs::rules::Store::totals))]
     pub fn new(alloc: Global, form: Shared) -> Result<SortedForm, AllocError>
         ensures form { IfOk result (λ f. f.form ≡ form) }
         ensures same { IfOk result (λ f. IsPermutation (map entry_of (terms_of f)) form.terms) }

@@ -1,5 +1,5 @@
 use Rattle.pb_propagate.proofs.Common.{◌+◌, ◌-◌, ◌<◌, ◌≡◌, arith, length}
-use Rattle.pb_propagate.proofs.lemmas.root.Cuts.{cut-inside, cut-next}
+use Rattle.pb_propagate.proofs.lemmas.root.Rooted.{cut-inside, cut-next}
 use Rattle.pb_propagate.proofs.assignment.shorten.Goals as goal
 
 pub unassign-requires-clause-inside : goal.unassign-requires-clause-inside

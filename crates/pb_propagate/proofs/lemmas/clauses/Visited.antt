@@ -1,19 +1,78 @@
--- What a search in a clause has found, and what it leaves.
-use Rattle.pb_propagate.proofs.Common.{AreWithin, map, map-set, set, sum, rules, ℕ, ◌*◌, ◌+◌, ◌/◌, ◌<◌, ◌∙◌, ◌≡◌, ◌≤◌, ◌⊎◌, sum_by-set, ap, arith, Bool}
-use Rattle.pb_propagate.proofs.Common.{both_ways, cases_eq, cases_lt, false, get_or, get_or_default, Global, inl, inr, get_or-set_other, get_or-set_same}
-use Rattle.pb_propagate.proofs.Common.{length, length-map, length-set, min, List, refl, subst, sym, true, Vec, Contains, Contains-get_or, Option, slice_get}
-use Rattle.pb_propagate.proofs.Common.{Some, Clauses, Listed, Search, Watch, Falsified, Forces, Leaves, Stays, rewatched, searched, AreLinked, AreMore, list_at}
-use Rattle.pb_propagate.proofs.Common.{Remains, Sits, watch_at, watch_lists, AreBlocked, AreStored, HasVisited, IsBroken, IsRound, IsRunning, IsUnit, passed_of}
-use Rattle.pb_propagate.proofs.Common.{search_at, turned, false_at, true_at, nat_tests}
+-- Searches go round their clauses: where one stands, what it has found, and what it leaves.
+use Rattle.pb_propagate.proofs.Common.{ℕ, ◌*◌, ◌+◌, ◌/◌, ◌<◌, ◌≡◌, ◌≤◌, ap, arith, Bool, drop, get_or, inl, inr, length, List, length-append}
+use Rattle.pb_propagate.proofs.Common.{length-drop, map, subst, sym, take, take-append-drop, true, Option, nat_tests, All, All-contains, Contains}
+use Rattle.pb_propagate.proofs.Common.{Contains-append_cases, Contains-append_left, Contains-append_right, get_or-append_right, get_or-drop}
+use Rattle.pb_propagate.proofs.Common.{get_or-take, get_or_append_left, Clauses, Search, Watch, AreStored, around, flip, IsRound, IsRunning, list_at}
+use Rattle.pb_propagate.proofs.Common.{passed_of, search_at, turned, watch_at, watch_lists, AreWithin, map-set, set, sum, rules, ◌∙◌, ◌⊎◌, sum_by-set}
+use Rattle.pb_propagate.proofs.Common.{both_ways, cases_eq, cases_lt, false, get_or_default, Global, get_or-set_other, get_or-set_same, length-map}
+use Rattle.pb_propagate.proofs.Common.{length-set, min, refl, Vec, Contains-get_or, slice_get, Some, Listed, Falsified, Forces, Leaves, Stays}
+use Rattle.pb_propagate.proofs.Common.{rewatched, searched, AreLinked, AreMore, Remains, Sits, AreBlocked, HasVisited, IsBroken, IsUnit, false_at}
+use Rattle.pb_propagate.proofs.Common.{true_at}
+use Rattle.std.proofs.Math.ListN.{get_or-map}
+use Rattle.pb_propagate.proofs.lemmas.clauses.Listed.{sits-within, lists-length, blocked-more}
+use Rattle.pb_propagate.proofs.lemmas.clauses.Literals.{flip-half, flip-apart, flip-flip}
 use Rattle.std.proofs.lemmas.Grind.{get_or-set_at}
 use Rattle.pb_propagate.specs.engine.clauses.Truths.{flip}
 use Rattle.pb_propagate.specs.engine.clauses.Runs.{IsPassed, ArePassed, AreRound}
-use Rattle.pb_propagate.proofs.lemmas.clauses.Searches.{entry-round, entry-slot, other-watched, passed-at, round-inside, turned-contains, turned-length}
-use Rattle.pb_propagate.proofs.lemmas.clauses.Searches.{turned-round}
-use Rattle.pb_propagate.proofs.lemmas.clauses.Truths.{flip-apart, flip-flip}
 use Rattle.pb_propagate.proofs.lemmas.clauses.Walks.{served-true}
-use Rattle.pb_propagate.proofs.lemmas.clauses.Listed.{lists-length, blocked-more}
 
+pub turned-length : (start : ℕ) (xs : List ℕ) → length (turned start xs) ≡ length xs
+turned-length start xs = omega (arith, length-append (drop start xs) (take start xs), length-append (take start xs) (drop start xs), ap length (take-append-drop start xs))
+
+-- they are the same literals
+pub turned-contains : (start : ℕ) (xs : List ℕ) (x : ℕ) → Contains xs x → Contains (turned start xs) x
+turned-contains start xs x h =
+    elim (Contains-append_cases (take start xs) (drop start xs) x (subst (λ ys. Contains ys x) (sym (take-append-drop start xs)) h)) [
+      | inl t ↦ Contains-append_right (drop start xs) (take start xs) x t
+      | inr d ↦ Contains-append_left (drop start xs) (take start xs) x d
+    ]
+
+pub round-inside : (start : ℕ) (s : Search) (count : ℕ) → IsRound start s count → s.passed ≤ count → s.position < count
+round-inside start s count r most = grind (arith, nat_tests, r.is, r.inside)
+
+-- one literal further
+pub round-next : (start : ℕ) (s next : Search) (count : ℕ) → IsRound start s count → s.passed < count → next.position ≡ around (s.position + 1) count → next.passed ≡ s.passed + 1 → IsRound start next count
+round-next start s next count r less at passed = record { inside = r.inside; is = grind (arith, nat_tests, r.is, r.inside) }
+
+-- the literal at the position of a search is the next in its order
+pub turned-round : (start : ℕ) (s : Search) (xs : List ℕ) (d : ℕ) → IsRound start s (length xs) → s.passed < length xs → get_or (turned start xs) s.passed d ≡ get_or xs s.position d
+turned-round start s xs d r less = grind (arith, nat_tests, r.is, r.inside, get_or_append_left, get_or-append_right, get_or-drop, get_or-take, length-drop)
+
+-- the searches of all slots
+pub passed-at : (ss : List Search) (s : ℕ) → get_or (map (λ (x : Search). x.passed) ss) s 0 ≡ (search_at ss s).passed
+passed-at ss s = get_or-map (λ (x : Search). x.passed) ss s (record { position = 0; passed = 0 })
+
+-- a search that has passed nothing began where it stands
+pub ready-round : (ss : List Search) (s count : ℕ) → (search_at ss s).passed ≡ 0 → (search_at ss s).position < count → IsRound (get_or (map (λ (x : Search). x.position) ss) s 0) (search_at ss s) count
+ready-round ss s count none inside =
+    let start : get_or (map (λ (x : Search). x.position) ss) s 0 ≡ (search_at ss s).position = get_or-map (λ (x : Search). x.position) ss s (record { position = 0; passed = 0 }) in
+    record { inside = omega (arith, inside, start); is = grind (arith, nat_tests, start) }
+
+pub slot-within : (clauses : List (List ℕ)) (ws : List Watch) (ls : List (List ℕ)) (e : ℕ) → AreStored clauses ws ls → (watch_at ws e).live ≡ true → e / 2 < length clauses
+slot-within clauses ws ls e stored live = grind (arith, sits-within, stored.pairs)
+
+-- a literal of a clause is one of those that have lists
+pub running-inside : {c : Clauses} {values : List (Option Bool)} → IsRunning values c → (s : ℕ) → All (λ x. x < 4 * length values) (list_at c.blocks.literals s)
+running-inside {c} run s = λ k d h. omega (arith, run.stored.inside s k d h, lists-length c.lists.items, run.sizes)
+
+pub running-small : {c : Clauses} {values : List (Option Bool)} (s x : ℕ) → IsRunning values c → Contains (list_at c.blocks.literals s) x → x < 4 * length values
+running-small {c} {values} s x run there = All-contains (λ y. y < 4 * length values) (list_at c.blocks.literals s) x (running-inside run s) there
+
+-- the watch that is read
+module _ {c : Clauses} {values : List (Option Bool)} (run : IsRunning values c) (e : ℕ) (live : (watch_at c.blocks.watches e).live ≡ true) where
+  pub entry-slot : (e / 2 < length c.blocks.literals) × (e / 2 < length (passed_of c))
+  entry-slot =
+      let inside = slot-within c.blocks.literals c.blocks.watches (watch_lists c.lists.items) e run.stored live in
+      (inside, omega (arith, inside, run.passed.sizes))
+
+  pub entry-round : IsRound (get_or run.starts (e / 2) 0) (search_at c.blocks.searches (e / 2)) (length (list_at c.blocks.literals (e / 2)))
+  entry-round = run.round (e / 2) (omega (arith, (run.stored.watched e live).1))
+
+  -- the other watched literal is one of the clause
+  pub other-watched : Contains (list_at c.blocks.literals (e / 2)) (watch_at c.blocks.watches (flip e)).literal
+  other-watched = rw (flip-half e) at (run.stored.watched (flip e) (run.stored.paired e live))
+
+-- ---- What a search in a clause has found, and what it leaves.
 -- the clause of a watch, its search, where that began, and the literals in its order
 abbrev pub clause_of : Clauses → ℕ → List ℕ
 clause_of c e = list_at c.blocks.literals (e / 2)

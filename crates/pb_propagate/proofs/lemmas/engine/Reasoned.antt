@@ -1,10 +1,13 @@
--- Lists of literals with their reasons.
-use Rattle.pb_propagate.proofs.Common.{ℕ, ◌<◌, ◌∙◌, ◌∷◌, ◌≡◌, [], ap, arith, false, inl, inr, length, List, set, subst, true, rules, Contains, slice_get, Some}
-use Rattle.pb_propagate.proofs.Common.{both_ways, get_or_from_slice_get, slice_get_within, NumberedLiteral, negation, Run, begin, by_reason, Derives, from_given, has}
-use Rattle.pb_propagate.proofs.Common.{HaveReasons, IsDue, IsWithin, KeepsReasons, put, Puts, Shape, list_of, reasons_of, RunReasons, RunRecords}
-use Rattle.pb_propagate.proofs.lemmas.engine.Literals.{only-itself, puts-other, derivation-keeps, has-none, has-push_old, has-push_new, has-push_cases}
-use Rattle.pb_propagate.proofs.lemmas.engine.Values.{has-neither}
+-- Lists of literals with their reasons, among the stored forms and among all constraints.
+use Rattle.pb_propagate.proofs.Common.{ℕ, ◌<◌, ◌∙◌, ◌∷◌, ◌≡◌, [], ap, arith, false, inl, inr, length, List, set, subst, true, rules, Contains}
+use Rattle.pb_propagate.proofs.Common.{slice_get, Some, both_ways, get_or_from_slice_get, slice_get_within, NumberedLiteral, negation, Run, begin}
+use Rattle.pb_propagate.proofs.Common.{by_reason, Derives, from_given, has, HaveReasons, IsDue, IsWithin, KeepsReasons, put, Puts, Shape, list_of}
+use Rattle.pb_propagate.proofs.Common.{reasons_of, RunReasons, RunRecords, values_of, ◌++◌, sym, slice_get-get_or, list_at, IsUnit, AreJoined}
+use Rattle.pb_propagate.proofs.Common.{clause_shape, joined, literal_at, RunKeepsReasons}
+use Rattle.pb_propagate.proofs.lemmas.engine.Literals.{only-itself, puts-other, derivation-keeps, has-none, has-push_old, has-push_new}
+use Rattle.pb_propagate.proofs.lemmas.engine.Literals.{has-push_cases, has-neither}
 use Rattle.pb_propagate.proofs.lemmas.store.Gets.{get-set_same, get-set_other}
+use Rattle.pb_propagate.proofs.lemmas.clauses.Shapes.{clause-stored, joined-at, joined-length, unit-puts}
 
 puts-among : (forms : List Shape) (s : ℕ) (x : Shape) (list : List NumberedLiteral) (l : NumberedLiteral) → slice_get forms s ≡ Some x → Puts (x ∷ []) list l → Puts forms list l
 puts-among forms s x list l at m = puts-other (x ∷ []) forms list l m (subst (Contains forms) (only-itself x m.form m.among) (s, slice_get_within forms s x at, get_or_from_slice_get forms s x x at))
@@ -83,3 +86,25 @@ due-term forms reasons _ slot l (by_reason {list} k s x h at stored puts) due = 
       let same : s ≡ slot = cc in
       record { form = x; stored = rw (← same) stored; coefficient = puts.coefficient; term = rw (← is) (puts-term x list k puts) }
 ]
+
+-- ---- The reasons of literals among all constraints.
+-- a constraint with terms in the occurrence lists is that of its slot
+pub stored-joined : (xs : List Shape) (clauses : List (List ℕ)) (s : ℕ) (x : Shape) → AreJoined xs clauses → slice_get xs s ≡ Some x → 0 < length x.terms → slice_get (joined xs clauses) s ≡ Some x
+stored-joined xs clauses s x j at some =
+    let inside = slice_get_within xs s x at in
+    let is = get_or_from_slice_get xs s x x at in
+    grind (arith, slice_get-get_or (joined xs clauses) s x, joined-length xs clauses, joined-at xs clauses s x inside, is, j.apart s x inside)
+
+pub run-reasons-joined : (xs : List Shape) (clauses : List (List ℕ)) (old new : Run) → AreJoined xs clauses → RunKeepsReasons old new → HaveReasons xs (reasons_of new) (list_of old) (list_of new) → RunReasons (joined xs clauses) old new
+run-reasons-joined xs clauses old new j kept h = record { kept = kept; added = reasons-moved xs (joined xs clauses) (reasons_of new) (reasons_of new) (list_of old) (list_of new) (λ l s x on at stored some. moved-same (joined xs clauses) (reasons_of new) l s x at (stored-joined xs clauses s x j stored some)) h }
+
+-- a literal that a clause forces has the clause as its reason
+pub unit-reasons : (xs : List Shape) (clauses : List (List ℕ)) (start old new : Run) (slot x : ℕ) (l : NumberedLiteral) → AreJoined xs clauses → IsUnit (values_of old) clauses slot x → l ≡ literal_at x → list_of new ≡ list_of old ++ (l ∷ []) → RunRecords slot l old new → RunKeepsReasons old new →
+    RunReasons (joined xs clauses) start old → RunReasons (joined xs clauses) start new
+unit-reasons xs clauses start old new slot x l j unit is listed reason keeps r =
+    let shape = clause_shape (list_at clauses slot) in
+    let puts : Puts (shape ∷ []) (list_of old) l = subst (Puts (shape ∷ []) (list_of old)) (sym is) (unit-puts xs clauses (values_of old) (list_of old) slot x j old.assignment.agrees unit) in
+    record {
+      kept = keeps-then (list_of start) (list_of old) (reasons_of start) (reasons_of old) (reasons_of new) (reasons-within (list_of start) (list_of old) r.added) r.kept keeps;
+      added = subst (HaveReasons (joined xs clauses) (reasons_of new) (list_of start)) (sym listed) (by_reason l slot shape (reasons-keep (reasons_of old) (reasons_of new) keeps r.added) (reason puts.absent puts.not_falsified) (clause-stored xs clauses slot j (omega (arith, unit.stands.1))) puts);
+    }

@@ -1,15 +1,15 @@
 -- A conflict of the root is kept.
-use Rattle.pb_propagate.proofs.Common.{ℕ, ◌+◌, ◌<◌, ◌∙◌, ◌≡◌, ◌≤◌, [], ap, arith, Bool, false, get_or, length, List, map, set, subst, sym, take, true, Option, Some}
-use Rattle.pb_propagate.proofs.Common.{sum_by, both_ways, get_or_from_slice_get, take_more, slice_get-get_or, slice_get_within, NumberedLiteral, Form, negation}
-use Rattle.pb_propagate.proofs.Common.{Assignment, Clauses, Store, all_of, AreJoined, clause_shape, clauses_of, one_term, forms_of, IsSound, shapes_of, broken}
-use Rattle.pb_propagate.proofs.Common.{Conflicts, has, HaveReasons, KeepsReasons, open_part, open_sum, opposed, Shape, AreSlots, HasGained, HasCleared, IsAnswered}
-use Rattle.pb_propagate.proofs.Common.{IsConflict, IsFree, IsKeptConflict, IsMet, IsNeedless, HasMet, IsAsked, list_of, HasForm, get_or-le-sum_by, get_or-map}
-use Rattle.pb_propagate.proofs.Common.{length-map, cases_eq, slice_get, IsSettled, rules, Contains}
+use Rattle.pb_propagate.proofs.Common.{ℕ, ◌+◌, ◌<◌, ◌∙◌, ◌≡◌, ◌≤◌, [], ap, arith, Bool, false, get_or, length, List, map, set, subst, sym, take, true}
+use Rattle.pb_propagate.proofs.Common.{Option, Some, sum_by, both_ways, get_or_from_slice_get, take_more, slice_get-get_or, slice_get_within}
+use Rattle.pb_propagate.proofs.Common.{NumberedLiteral, Form, negation, Assignment, Clauses, Store, all_of, AreJoined, clause_shape, clauses_of}
+use Rattle.pb_propagate.proofs.Common.{one_term, forms_of, IsSound, shapes_of, broken, Conflicts, has, HaveReasons, KeepsReasons, open_part, open_sum}
+use Rattle.pb_propagate.proofs.Common.{opposed, Shape, AreSlots, HasGained, HasCleared, IsAnswered, IsConflict, IsFree, IsKeptConflict, IsMet}
+use Rattle.pb_propagate.proofs.Common.{IsNeedless, HasMet, IsAsked, list_of, HasForm, get_or-le-sum_by, get_or-map, length-map, cases_eq, slice_get}
+use Rattle.pb_propagate.proofs.Common.{IsSettled, rules, Contains}
 use Rattle.pb_propagate.specs.declared.engine.conflict.Conflict.{Conflict}
 use Rattle.pb_propagate.specs.declared.engine.root.Root.{Root}
 use Rattle.pb_propagate.proofs.lemmas.clauses.Literals.{Agree, false-listed}
-use Rattle.pb_propagate.proofs.lemmas.engine.Literals.{open_part-open, has-get, has-push_cases}
-use Rattle.pb_propagate.proofs.lemmas.engine.Values.{opposite, says-inside}
+use Rattle.pb_propagate.proofs.lemmas.engine.Literals.{open_part-open, has-get, has-push_cases, opposite, says-inside}
 use Rattle.pb_propagate.proofs.lemmas.engine.Reasoned.{reasons-derive, reasons-keep, recorded}
 use Rattle.pb_propagate.proofs.lemmas.root.Added.{gained-at, gained-reasons, vacated-all, lost-reasons}
 use Rattle.pb_propagate.proofs.lemmas.root.Questions.{found-after, root-few}
@@ -19,8 +19,7 @@ use Rattle.pb_propagate.proofs.lemmas.root.Retracted.{live-slot, reasons-fresh}
 -- a conflict falsifies a constraint, since no two literals of the list are opposite
 pub conflicts-kept : (forms : List Shape) (a : Assignment) → HaveReasons forms a.reasons.items [] a.list.items → Conflicts forms a.list.items → IsConflict forms a
 conflicts-kept forms a reasoned (opposed l here there) = absurd (both_ways _ (opposite a.values.items a.list.items l a.agrees here) there)
-conflicts-kept forms a reasoned (broken f (s, inside, is) low) =
-    search (rules, reasoned, slice_get-get_or forms s f inside ∙ ap (λ x. Some x) is, low)
+conflicts-kept forms a reasoned (broken f (s, inside, is) low) = grind (arith, slice_get-get_or)
 
 pub kept-conflicts : (forms : List Shape) (a : Assignment) → IsConflict forms a → Conflicts forms a.list.items
 kept-conflicts forms a h = broken h.form (h.slot, slice_get_within forms h.slot h.form h.stored, get_or_from_slice_get forms h.slot h.form h.form h.stored) h.low

@@ -1,28 +1,32 @@
--- The last literal of the root's list is taken off.
+-- Literals are taken off the root's list, the last one first, and reasons are replaced by others.
 use Rattle.pb_propagate.specs.engine.engine.Rest.{no_slots, add_slot}
 use Rattle.pb_propagate.proofs.Common.{rules, ℕ, ◌++◌, ◌+◌, ◌<◌, ◌∙◌, ◌∷◌, ◌≡◌, ◌≤◌, [], ap, arith, false, get_or, inl, inr, Global, length, Vec}
-use Rattle.pb_propagate.proofs.Common.{coefficient_at, drop, drop_more, get_or-set_other, set, sum_by-le-sum_by, List, None, refl, subst, sym, take, Option}
-use Rattle.pb_propagate.proofs.Common.{slice_get, Some, cases_lt, get_or_default, get_or_past, length-map, length-append, slice_get-get_or, sum_by-cons}
-use Rattle.pb_propagate.proofs.Common.{take_all, take-append-le, get_or-map, map, Occurrence, weighted, NumberedLiteral, negation, Form, Assignment, Clauses}
-use Rattle.pb_propagate.proofs.Common.{Store, Term, all_of, clauses_of, place, entries_of, forms_of, IsSound, shapes_of, spots_of, stored_shape, terms_at}
-use Rattle.pb_propagate.proofs.Common.{HaveReasons, open_sum, Shape, size, Weighted, AreSlots, HasForm, IsWalkedTo, from_given, by_reason, Walked, same_Some}
-use Rattle.pb_propagate.proofs.Common.{form_at, slot_shape, list_at, cases_Bool, ◌⊎◌, get_or_append_left, get_or_push, take-append_seam, suc, zero}
+use Rattle.pb_propagate.proofs.Common.{coefficient_at, drop, drop_more, get_or-set_other, set, sum_by-le-sum_by, List, None, refl, subst, sym, take}
+use Rattle.pb_propagate.proofs.Common.{Option, slice_get, Some, cases_lt, get_or_default, get_or_past, length-map, length-append, slice_get-get_or}
+use Rattle.pb_propagate.proofs.Common.{sum_by-cons, take_all, take-append-le, get_or-map, map, Occurrence, weighted, NumberedLiteral, negation, Form}
+use Rattle.pb_propagate.proofs.Common.{Assignment, Clauses, Store, Term, all_of, clauses_of, place, entries_of, forms_of, IsSound, shapes_of}
+use Rattle.pb_propagate.proofs.Common.{spots_of, stored_shape, terms_at, HaveReasons, open_sum, Shape, size, Weighted, AreSlots, HasForm, IsWalkedTo}
+use Rattle.pb_propagate.proofs.Common.{from_given, by_reason, Walked, same_Some, form_at, slot_shape, list_at, cases_Bool, ◌⊎◌, get_or_append_left}
+use Rattle.pb_propagate.proofs.Common.{get_or_push, take-append_seam, suc, zero, stored_terms, true, Contains, cases_eq, StoredForm, AreInside}
+use Rattle.pb_propagate.proofs.Common.{AreJoined, joined, literal_at, one_term, has, IsDue, HasOtherReasons, IsNeedless, IsOtherUnit}
+use Rattle.pb_propagate.proofs.Common.{get_or_from_slice_get, both_ways, list_of, Puts}
 use Rattle.std.proofs.lemmas.Grind.{get_or-set_at}
 use Rattle.pb_propagate.specs.declared.engine.root.Root.{Root}
 use Rattle.pb_propagate.specs.engine.engine.Counts.{IsDone}
 use Rattle.pb_propagate.specs.engine.engine.Lists.{has, open_part}
-use Rattle.pb_propagate.specs.engine.engine.Refreshed.{AreRefreshed, IsRefreshed, Lacks, IsUntouched}
+use Rattle.pb_propagate.specs.engine.engine.Refreshed.{AreRefreshed, IsRefreshed, Lacks, IsUntouched, IsReleased, IsShortened, IsSomeRoot}
 use Rattle.pb_propagate.specs.engine.engine.Root.{IsRootOf, IsSized}
-use Rattle.pb_propagate.proofs.lemmas.clauses.Shapes.{joined-at, joined-length}
-use Rattle.pb_propagate.proofs.lemmas.engine.Literals.{literal_ext}
-use Rattle.pb_propagate.proofs.lemmas.engine.Runs.{Tidy-rest, entry_weight-other, entry_weight-same, open_sum-push}
-use Rattle.pb_propagate.proofs.lemmas.engine.Puts.{entries-at, form-within, place-inside}
-use Rattle.pb_propagate.proofs.lemmas.root.Rooted.{term-entry}
-use Rattle.pb_propagate.proofs.lemmas.root.Roots.{IsTidyRoot}
-use Rattle.pb_propagate.proofs.lemmas.store.Weights.{index-within}
-use Rattle.pb_propagate.proofs.lemmas.engine.Values.{has-elsewhere}
-use Rattle.pb_propagate.proofs.lemmas.root.Cuts.{last-split}
-use Rattle.pb_propagate.proofs.lemmas.store.Gets.{get-map}
+use Rattle.pb_propagate.proofs.lemmas.clauses.Shapes.{joined-at, joined-length, shape-some}
+use Rattle.pb_propagate.proofs.lemmas.engine.Literals.{literal_ext, has-elsewhere, one-literal, open_part-open, has-none, one_itself}
+use Rattle.pb_propagate.proofs.lemmas.engine.Runs.{Tidy-rest, entry_weight-other, entry_weight-same, open_sum-push, entries-at, form-within}
+use Rattle.pb_propagate.proofs.lemmas.engine.Runs.{place-inside}
+use Rattle.pb_propagate.proofs.lemmas.root.Rooted.{term-entry, last-split}
+use Rattle.pb_propagate.proofs.lemmas.root.Ready.{IsTidyRoot, reasoned-rooted}
+use Rattle.pb_propagate.proofs.lemmas.store.Stored.{index-within}
+use Rattle.pb_propagate.proofs.lemmas.store.Gets.{get-map, get-set_same, get-set_other}
+use Rattle.pb_propagate.proofs.lemmas.engine.Reasoned.{IsMoved, moved-same, reasons-moved, due-term, stored-joined}
+use Rattle.pb_propagate.proofs.lemmas.engine.Propagated.{shape-at}
+use Rattle.pb_propagate.proofs.lemmas.engine.Advances.{extends-none, extends-then, extends-within}
 
 pub refreshed-stays : (store : Store) (b c : Root) (s : ℕ) → AreRefreshed store b c → IsRefreshed store b s → IsRefreshed store c s
 refreshed-stays store b c s next r = elim (next.each s) [
@@ -98,14 +102,6 @@ cut-lacks store clauses old a walked last l sound r cut s d less =
     let listed = last-split old.run.assignment.list.items last l cut.size cut.is in
     let absent = ap (has (take last old.run.assignment.list.items)) cut.is ∙ (reasons-fresh last l r.reasoned (omega (arith, cut.size))).0 in
     grind (arith, r.counted, open_sum-push, sound.whole.linked, length-map, cut.list)
-
--- literals of one variable
-one-of : (a b : NumberedLiteral) → a.variable ≡ b.variable → (a ≡ b) ⊎ (a ≡ negation b)
-one-of a b same = grind (arith, cases_Bool a.negated, cases_Bool b.negated, literal_ext a b, literal_ext a (negation b))
-
--- a literal of another variable
-done-first : (first : List NumberedLiteral) (l k : NumberedLiteral) → (k.variable ≡ l.variable → ⊥) → IsDone (first ++ (l ∷ [])) k → IsDone first k
-done-first first l k apart done = grind (arith, has-elsewhere first l k apart, has-elsewhere first l (negation k) apart)
 
 pub retracted-rooted : (store : Store) (clauses : Clauses) (old new : Root) (a : Assignment) (walked : Walked) (last : ℕ) (l : NumberedLiteral) → IsSound store → AreSlots
     (forms_of store.stored.items) (all_of store clauses) → IsRootOf store clauses old → AreRefreshed store (shorter old a walked) new →
@@ -183,3 +179,100 @@ pub lacks-next : (store : Store) (l : NumberedLiteral) (items : List Occurrence)
 lacks-next store l items a b j o there sized opens same lacks s d less =
     let ahead = subst (Lacks store a) (ahead-entry store items j o there.read there.inside) lacks in
     grind (arith, ahead s d less, sum_by-cons, entry_weight-same, entry_weight-other, get_or-set_at, get_or-set_other, there.form, sized.opens)
+
+-- ---- Reasons that are replaced by others, and literals that are taken off the root's list.
+-- the constraint of a slot
+pub slot-is : (store : Store) (clauses : Clauses) (slot : ℕ) (x : Shape) → slot < length store.stored.items → slice_get (all_of store clauses) slot ≡ Some x → x ≡ slot_shape (get_or (shapes_of store.stored.items) slot x) (list_at (clauses_of clauses) slot)
+slot-is store clauses slot x less at =
+    sym (get_or_from_slice_get (all_of store clauses) slot x x at) ∙ joined-at (shapes_of store.stored.items) (clauses_of clauses) slot x (omega (arith, less, length-map store.stored.items stored_shape))
+
+-- a unit puts its literal
+pub unit-moved : (shapes : List Shape) (clauses : List (List ℕ)) (slot unit : ℕ) (l : NumberedLiteral) (reasons : List ℕ) (x : Shape) → AreJoined shapes clauses → IsOtherUnit shapes slot l unit → slice_get reasons l.variable ≡ Some unit → IsMoved (joined shapes clauses) reasons l x
+unit-moved shapes clauses slot unit l reasons x j u at =
+    let y = get_or shapes unit x in
+    let only = u.only x in
+    let t : Term = record { literal = l; coefficient = only.0 } in
+    let stored = stored-joined shapes clauses unit y j (slice_get-get_or shapes unit x u.inside) (omega (arith, ap length only.1)) in
+    let term : Contains y.terms t = subst (λ ts. Contains ts t) (sym only.1) (0, omega arith, refl) in
+    let puts = λ (earlier : List NumberedLiteral) (p : Puts (x ∷ []) earlier l). open_part-open earlier t p.not_falsified in
+    grind (arith, at, stored, puts, term, one_itself y, only.1, sum_by-cons, u.positive x)
+
+-- nothing is replaced
+pub same-reasons : (shapes : List Shape) (slot : ℕ) (a : Assignment) → HasOtherReasons shapes slot a a
+same-reasons shapes slot a = record { list = refl; values = refl; reasoned = λ clauses j h. h; fewer = λ l due. due }
+
+pub other-then : {shapes : List Shape} {slot : ℕ} {a b c : Assignment} → HasOtherReasons shapes slot a b → HasOtherReasons shapes slot b c → HasOtherReasons shapes slot a c
+other-then f g = search (rules, g.list ∙ f.list, g.values ∙ f.values, f.reasoned, g.reasoned, f.fewer, g.fewer)
+
+-- a literal is given a unit as its reason
+pub explained-reasons : (shapes : List Shape) (slot unit : ℕ) (l : NumberedLiteral) (old new : Assignment) → IsOtherUnit shapes slot l unit →
+    has old.list.items l ≡ true → l.variable < length old.reasons.items → new.list ≡ old.list → new.values ≡ old.values →
+    new.reasons.items ≡ set old.reasons.items l.variable unit → HasOtherReasons shapes slot old new
+explained-reasons shapes slot unit l old new u on inside list values reasons =
+    let moved = λ (clauses : List (List ℕ)) (j : AreJoined shapes clauses).
+    reasons-moved (joined shapes clauses) (joined shapes clauses) old.reasons.items new.reasons.items [] old.list.items (λ k s x there at stored some.
+    let one = one-literal old.values.items old.list.items k l old.agrees there on in
+    grind (arith, cases_eq k.variable l.variable, one, unit-moved shapes clauses slot unit l new.reasons.items x j u, reasons, get-set_same, inside, moved-same, get-set_other)) in
+    grind (arith, moved, list, values, cases_eq, u.apart, reasons, get-set_same, get-set_other)
+
+-- no literal of the slot's terms is due to it
+needless-at : (forms : List Shape) (slot : ℕ) (a : Assignment) (terms : List Term) → ((x : Shape) → slice_get forms slot ≡ Some x → x.terms ≡ terms) →
+    HaveReasons forms a.reasons.items [] a.list.items → ((k : ℕ) (d : Term) → k < length terms → IsDue slot a.list.items a.reasons.items (get_or terms k d).literal → ⊥) →
+    IsNeedless forms slot a
+needless-at forms slot a terms is reasoned free =
+    let none : (l : NumberedLiteral) → IsDue slot a.list.items a.reasons.items l → ⊥ = λ l due. let t = due-term forms a.reasons.items a.list.items slot l reasoned due in
+    grind (arith, is t.form t.stored, t.term, free, due) in
+    search (rules, reasoned, none)
+
+-- the same of a clause
+pub needless-codes : (store : Store) (clauses : Clauses) (slot : ℕ) (a : Assignment) → slot < length store.stored.items → 0 < length (list_at (clauses_of clauses) slot) → HaveReasons (all_of store clauses) a.reasons.items [] a.list.items → ((k d : ℕ) → k < length (list_at (clauses_of clauses) slot) → IsDue slot a.list.items a.reasons.items (literal_at (get_or (list_at (clauses_of clauses) slot) k d)) → ⊥) → IsNeedless (all_of store clauses) slot a
+needless-codes store clauses slot a inside some reasoned free =
+    let codes = list_at (clauses_of clauses) slot in
+    needless-at (all_of store clauses) slot a (map one_term codes)
+    (λ x at. grind (arith, slot-is store clauses slot x inside at, shape-some (get_or (shapes_of store.stored.items) slot x) codes some)) reasoned
+    (λ k d less due. grind (arith, free k 0, length-map codes one_term, get_or-map one_term codes k 0 d, less, due))
+
+-- and of a form in the occurrence lists
+pub needless-terms : (store : Store) (clauses : Clauses) (slot : ℕ) (a : Assignment) → slot < length store.stored.items → list_at (clauses_of clauses) slot ≡ [] → HaveReasons (all_of store clauses) a.reasons.items [] a.list.items → ((k : ℕ) (d : Term) → k < length (terms_at (shapes_of store.stored.items) slot) → IsDue slot a.list.items a.reasons.items (get_or (terms_at (shapes_of store.stored.items) slot) k d).literal → ⊥) → IsNeedless (all_of store clauses) slot a
+needless-terms store clauses slot a inside bare reasoned free =
+    needless-at (all_of store clauses) slot a (terms_at (shapes_of store.stored.items) slot)
+    (λ x at. grind (arith, slot-is store clauses slot x inside at, get_or_default (shapes_of store.stored.items) slot x (record { terms = []; degree = 0 }), length-map)) reasoned free
+
+-- the variables of a stored form are those of the store
+pub terms-inside : (store : Store) (slot : ℕ) (k : StoredForm) → IsSound store → slot < length store.stored.items → k ≡ get_or store.stored.items slot k → AreInside store.variables (stored_terms k)
+terms-inside store slot k sound inside is =
+    grind (arith, shape-at store.stored.items slot k inside is (stored_shape k), sound.inside slot (stored_shape k), inside, length-map store.stored.items stored_shape)
+
+-- none is taken off
+pub shortened-same : (store : Store) (root : Root) → IsSized store root → IsShortened store root root
+shortened-same store root sized = record { sized = sized; first = extends-none (list_of root.run); reasons = refl; rooted = λ clauses slots r. r }
+
+pub shortened-then : {store : Store} {a b c : Root} → IsShortened store a b → IsShortened store b c → IsShortened store a c
+shortened-then {store} {a} {b} {c} p q =
+    search (rules, extends-then (list_of c.run) (list_of b.run) (list_of a.run) q.first p.first, p.rooted, q.rooted)
+
+-- no literal is due that was not due before
+pub shortened-released : (store : Store) (slot : ℕ) (old new : Root) → IsShortened store old new → IsReleased store slot old new
+shortened-released store slot old new s = grind (arith, s.sized, extends-within, new.run, old.run, s.first, s.reasons, s.rooted)
+
+pub released-same : (store : Store) (slot : ℕ) (root : Root) → IsSized store root → IsReleased store slot root root
+released-same store slot root sized = record { sized = sized; fewer = λ l due. due; rooted = λ clauses j slots r. r }
+
+pub released-then : {store : Store} {slot : ℕ} {a b c : Root} → IsReleased store slot a b → IsReleased store slot b c → IsReleased store slot a c
+released-then {store} {slot} {a} {b} {c} p q = search (rules, p.fewer, q.fewer, p.rooted, q.rooted)
+
+-- the lists of a root have their sizes
+pub some-sized : (store : Store) (root : Root) → IsSomeRoot store root → IsSized store root
+some-sized store root (clauses, joined, slots, r) = search rules
+
+pub some-released : {store : Store} {slot : ℕ} {old new : Root} → IsSomeRoot store old → IsReleased store slot old new → IsSomeRoot store new
+some-released r s = (r.0, r.1, r.2, s.rooted r.0 r.1 r.2 r.3)
+
+-- a reason is replaced
+pub replaced-released : (store : Store) (slot : ℕ) (old new : Root) (a : Assignment) → new ≡ record old { run = record old.run { assignment = a } } → IsSized store old → HasOtherReasons (shapes_of store.stored.items) slot old.run.assignment a → IsReleased store slot old new
+replaced-released store slot old new a is sized o = grind (arith, o.fewer, reasoned-rooted, o.list, o.values, o.reasoned)
+
+-- a list with a literal has one
+pub due-some : (list : List NumberedLiteral) (l : NumberedLiteral) → has list l ≡ true → 0 < length list
+due-some [] l on = absurd (both_ways _ (has-none l) on)
+due-some (x ∷ xs) l on = omega arith

@@ -1,17 +1,72 @@
--- Literals that forms force with nothing assumed.
-use Rattle.pb_propagate.proofs.Common.{ℕ, ◌++◌, ◌+◌, ◌<◌, ◌∙◌, ◌∷◌, ◌≡◌, ◌≤◌, [], ap, arith, false, get_or, get_or-set_other, inl, inr, length, length-append}
-use Rattle.pb_propagate.proofs.Common.{List, map, refl, set, sym, true, Contains, slice_get, slice_index_or, Some, sum_by, get_or-map, get_or_default}
-use Rattle.pb_propagate.proofs.Common.{length-map, sum_by_push, slice_get-get_or, slice_get_within, NumberedLiteral, negation, Long, Short, Term, list_at}
-use Rattle.pb_propagate.proofs.Common.{code_in, joined, one_term, AreSingle, more, none, place, spent, IsStored, terms_at, begin, Derives, put, Puts, Shape}
-use Rattle.pb_propagate.proofs.Common.{Weighted}
+-- Literals that forms force with nothing assumed: the last one is removed, or they are derived again from given literals.
+use Rattle.pb_propagate.proofs.Common.{ℕ, ◌++◌, ◌+◌, ◌<◌, ◌∷◌, ◌≡◌, ◌≤◌, [], arith, Bool, false, get_or, length, length-append, length-set, List, min}
+use Rattle.pb_propagate.proofs.Common.{None, set, subst, take, Option, sum_by, cases_Bool, length-take-le, set_past, take_all, take_more, sum_by-set}
+use Rattle.pb_propagate.proofs.Common.{NumberedLiteral, has, vacancy, sym, negation, says, true, ◌∙◌, ap, get_or-set_other, inl, inr, map, refl}
+use Rattle.pb_propagate.proofs.Common.{Contains, slice_get, slice_index_or, Some, get_or-map, get_or_default, length-map, sum_by_push}
+use Rattle.pb_propagate.proofs.Common.{slice_get-get_or, slice_get_within, Long, Short, Term, list_at, code_in, joined, one_term, AreSingle, more}
+use Rattle.pb_propagate.proofs.Common.{none, place, spent, IsStored, terms_at, begin, Derives, put, Puts, Shape, Weighted, rules, IfNone, both_ways}
+use Rattle.pb_propagate.proofs.Common.{AreJoined, broken, Conflicts, IsSettled, IsWithin, opposed, HasClash, HasEnded, IsMade, derived, IsRefuted}
+use Rattle.std.proofs.lemmas.List.{take-take}
+use Rattle.std.proofs.lemmas.Grind.{get_or-set_at}
+use Rattle.pb_propagate.proofs.lemmas.engine.Literals.{has-push_old, has-push_new, has-push_cases, Agree, Forgotten, has-elsewhere, has-neither}
+use Rattle.pb_propagate.proofs.lemmas.engine.Literals.{says-apart, says-none, says-inside, opposite, forget-next, forget-none, vacancy-none, has-get}
+use Rattle.pb_propagate.proofs.lemmas.engine.Literals.{lists-clear, place-injective, negation-negation, puts-other, sum_by-agree, derivation-then}
+use Rattle.pb_propagate.proofs.lemmas.engine.Literals.{derivation-keeps, has-none, push-within, open_sum-within, open_sum-lower}
 use Rattle.pb_propagate.specs.engine.engine.Lists.{has}
-use Rattle.pb_propagate.proofs.lemmas.engine.Literals.{lists-clear, place-injective, negation-negation, has-push_old, has-push_new, puts-other, sum_by-agree}
-use Rattle.pb_propagate.proofs.lemmas.store.Weights.{entry-back}
-use Rattle.pb_propagate.proofs.lemmas.root.Cuts.{absent-before}
+use Rattle.pb_propagate.proofs.lemmas.store.Stored.{entry-back}
 use Rattle.pb_propagate.proofs.lemmas.clauses.Literals.{code-of}
-use Rattle.pb_propagate.proofs.lemmas.clauses.Shapes.{joined-source}
+use Rattle.pb_propagate.proofs.lemmas.clauses.Shapes.{joined-source, derives-joined, conflicts-joined}
 use Rattle.pb_propagate.proofs.lemmas.clauses.Counts.{IsOneSided, occurs, risen, risen-push, occurs-some}
+use Rattle.std.specs.Cmp.{both_ways as same_answers}
+use Rattle.pb_propagate.specs.engine.engine.Reached.{IsReached}
 
+-- a list has a literal for each variable with a value, so it is at least as long
+pub long-enough : (values : List (Option Bool)) (list : List NumberedLiteral) → Forgotten values list → length values ≤ length list + sum_by vacancy values
+long-enough values [] f = omega (arith, vacancy-none values (forget-none values [] 0 (omega arith) f))
+long-enough values (l ∷ list) f =
+    let rest = long-enough (set values l.variable None) list (forget-next values (l ∷ list) 0 l (omega arith) f) in
+    grind (arith, rest, length-set values l.variable None, sum_by-set vacancy values l.variable None None, set_past values l.variable None)
+
+-- each literal of a list with room for all is on it once
+pub last-fresh : (values : List (Option Bool)) (xs : List NumberedLiteral) (l : NumberedLiteral) → Agree values (xs ++ (l ∷ [])) → length (xs ++ (l ∷ [])) + sum_by vacancy values ≡ length values → has xs l ≡ false
+last-fresh values xs l a room = grind (arith, long-enough, has-push_cases, length-append, cases_Bool (has xs l))
+
+pub absent-before : (xs : List NumberedLiteral) (l k : NumberedLiteral) → has (xs ++ (l ∷ [])) k ≡ false → has xs k ≡ false
+absent-before xs l k h = grind (arith, has-push_old xs l k)
+
+pub Agree-pop : (values : List (Option Bool)) (xs : List NumberedLiteral) (l : NumberedLiteral) → Agree values (xs ++ (l ∷ [])) → has xs l ≡ false → Agree (set values l.variable None) xs
+Agree-pop values xs l a fresh k =
+    let on : says values l ≡ true = sym (a l) ∙ has-push_new xs l in
+    let opposed : has xs (negation l) ≡ false = absent-before xs l (negation l) (opposite values (xs ++ (l ∷ [])) l a (has-push_new xs l)) in
+    grind (arith, has-elsewhere xs l k, a k, says-apart values l.variable None k, has-neither xs l k fresh opposed, says-none (set values l.variable None) k, get_or-set_at values l.variable k.variable None None, says-inside values l on)
+
+pub vacancy-pop : (values : List (Option Bool)) (xs : List NumberedLiteral) (l : NumberedLiteral) → Agree values (xs ++ (l ∷ [])) → sum_by vacancy (set values l.variable None) ≡ sum_by vacancy values + 1
+vacancy-pop values xs l a = grind (arith, a l, has-push_new, says-none values l, sum_by-set vacancy values l.variable None None, says-inside values l)
+
+-- a list cut to its first literals, and its values
+pub record IsCut (values0 : List (Option Bool)) (list0 : List NumberedLiteral) (count : ℕ) (values : List (Option Bool)) (list : List NumberedLiteral) : Type 0 where
+  pub agrees : Agree values list
+  pub room : length list + sum_by vacancy values ≡ length values
+  pub sizes : length values ≡ length values0
+  pub first : list ≡ take (length list) list0
+  pub within : length list ≤ length list0
+  pub enough : min count (length list0) ≤ length list
+
+pub last-split : (list : List NumberedLiteral) (n : ℕ) (l : NumberedLiteral) → length list ≡ n + 1 → l ≡ get_or list n l → list ≡ take n list ++ (l ∷ [])
+last-split list n l e is = grind (arith, take_all, take_more)
+
+pub cut-inside : (values0 : List (Option Bool)) (list0 : List NumberedLiteral) (count : ℕ) (values : List (Option Bool)) (list : List NumberedLiteral) (n : ℕ) (l : NumberedLiteral) → length list ≡ n + 1 → l ≡ get_or list n l → IsCut values0 list0 count values list → l.variable < length values
+cut-inside values0 list0 count values list n l e is c = grind (arith, c.agrees l, has-get list n l, says-inside values l)
+
+pub cut-next : (values0 : List (Option Bool)) (list0 : List NumberedLiteral) (count : ℕ) (values : List (Option Bool)) (list : List NumberedLiteral) (n : ℕ) (l : NumberedLiteral) → count < length list → length list ≡ n + 1 → l ≡ get_or list n l → IsCut values0 list0 count values list → IsCut values0 list0 count (set values l.variable None) (take n list)
+cut-next values0 list0 count values list n l longer e is c =
+    let split = last-split list n l e is in
+    let agree = subst (Agree values) split c.agrees in
+    let fresh = last-fresh values (take n list) l agree (subst (λ xs. length xs + sum_by vacancy values ≡ length values) split c.room) in
+    let agrees = Agree-pop values (take n list) l agree fresh in
+    grind (arith, agrees, vacancy-pop values (take n list) l agree, length-set values l.variable None, length-take-le n list, c.first, take-take n (length list) list0)
+
+-- ---- Literals that forms force with nothing assumed.
 -- a derivation holds among more constraints
 pub derives-within : (a b : List Shape) (given list : List NumberedLiteral) → ((x : Shape) → Contains a x → Contains b x) → Derives a given list → Derives b given list
 derives-within a b given _ h begin = begin
@@ -82,3 +137,97 @@ both-le lists _ (more {list} l d absent) one =
     let a : spent lists list ≡ spent (without lists l) list = sum_by-agree _ _ list (λ k h. (other k h).1) in
     let b : owned lists list ≡ owned (without lists l) list = sum_by-agree _ _ list (λ k h. (other k h).0) in
     grind (arith, both-le (without lists l) list d (one_sided-before list l one), a, b, sum_by_push, without-total lists l)
+
+-- ---- What the root forces is derived again from given literals, which may be opposite to some of it.
+-- A derivation to a list, made again from other literals: it comes to all of the list, or to a conflict before that.
+-- Under `One` all literals are on a list without opposite ones, and there is no conflict.
+pub data Planted (forms : List Shape) (given list all : List NumberedLiteral) (One : Type 0) : Type 0 where
+  grown : (whole : List NumberedLiteral) → Derives forms given whole → IsWithin list whole → (One → IsWithin whole all) → Planted forms given list all One
+  clashed : (whole : List NumberedLiteral) → Derives forms given whole → Conflicts forms whole → (One → ⊥) → Planted forms given list all One
+
+-- what may be put still may on a longer list, unless its variable has a value
+puts-longer : (forms : List Shape) (a b : List NumberedLiteral) (l : NumberedLiteral) → IsWithin a b → has b l ≡ false → has b (negation l) ≡ false → Puts forms a l → Puts forms b l
+puts-longer forms a b l within absent free m = grind (arith, m.among, m.term, open_sum-within, m.form.terms, m.forced)
+
+planted : (forms : List Shape) (a b given all : List NumberedLiteral) (One : Type 0) → (One → IsOneSided all × IsWithin given all × IsWithin b all) → IsWithin a given →
+    Derives forms a b → Planted forms given b all One
+planted forms a _ given all One bound within begin = grown given begin within (λ o. (bound o).1)
+planted forms a _ given all One bound within (put {list} l d m) =
+    by (planted forms a list given all One (λ o. ((bound o).0, (bound o).1, λ k on. (bound o).2 k (has-push_old list l k on))) within d)
+  where
+    by : Planted forms given list all One → Planted forms given (list ++ (l ∷ [])) all One
+    by (clashed whole dv c never) = clashed whole dv c never
+    by (grown whole dv longer from) = elim (cases_Bool (has whole l)) [
+      | inl there ↦ grown whole dv (push-within list whole l longer there) from
+      | inr absent ↦ elim (cases_Bool (has whole (negation l))) [
+        | inl against ↦
+            let low = open_sum-lower list whole longer m.form.terms (record { literal = l; coefficient = m.coefficient }) m.term m.not_falsified against in
+            clashed whole dv (broken m.form m.among (omega (arith, low, m.forced)))
+            (λ o. both_ways _ ((bound o).0 l ((bound o).2 l (has-push_new list l))) (from o (negation l) against))
+        | inr free ↦
+            grown (whole ++ (l ∷ [])) (put l dv (puts-longer forms list whole l longer absent free m))
+            (push-within list (whole ++ (l ∷ [])) l (λ k h. has-push_old whole l k (longer k h)) (has-push_new whole l))
+            (λ o. push-within whole all l (from o) ((bound o).2 l (has-push_new list l)))
+      ]
+    ]
+
+-- what was derived after the root is derived from the given literals alone
+replanted : (forms : List Shape) (root given list all : List NumberedLiteral) (One : Type 0) → (One → IsOneSided all × IsWithin given all × IsWithin root all) →
+    (One → IsWithin list all) → Derives forms [] root → IsReached forms root given list → Planted forms given list all One
+replanted forms root given list all One bound mine d r = by (planted forms [] root given all One bound (λ l on. absurd (both_ways _ (has-none l) on)) d)
+  where
+    by : Planted forms given root all One → Planted forms given list all One
+    by (clashed whole dv c never) = clashed whole dv c never
+    by (grown whole dv longer from) =
+        let first : IsWithin r.first whole = λ l on. elim (r.within l on) [ inl a ↦ longer l a | inr b ↦ derivation-keeps forms given whole dv l b ] in
+        more (planted forms r.first list whole all One (λ o. ((bound o).0, from o, mine o)) first r.derived)
+      where
+        more : Planted forms whole list all One → Planted forms given list all One
+        more (clashed last dl c never) = clashed last (derivation-then forms given whole last dv dl) c never
+        more (grown last dl over since) = grown last (derivation-then forms given whole last dv dl) over since
+
+conflicts-longer : (forms : List Shape) (a b : List NumberedLiteral) → IsWithin a b → Conflicts forms a → Conflicts forms b
+conflicts-longer forms a b within (opposed l here there) = opposed l (within l here) (within (negation l) there)
+conflicts-longer forms a b within (broken f among low) = broken f among (omega (arith, low, open_sum-within a b within f.terms))
+
+-- a conflict after literals that are forced, or given
+pub clash-refuted : (forms : List Shape) (root given : List NumberedLiteral) → Derives forms [] root → HasClash forms root given → (list : List NumberedLiteral) × IsRefuted forms given list
+clash-refuted forms root given d clash = by (replanted forms root given clash.list [] ⊥ (λ n. absurd n) (λ n. absurd n) d clash.reached)
+  where
+    by : Planted forms given clash.list [] ⊥ → (list : List NumberedLiteral) × IsRefuted forms given list
+    by (clashed whole dv c never) = (whole, derived (record { first = given; within = λ l h. h; covers = λ l h. h; derived = dv }) c)
+    by (grown w dv longer from) = (w, derived (record { first = given; within = λ l h. h; covers = λ l h. h; derived = dv }) (conflicts-longer forms clash.list w longer clash.conflict))
+
+-- lists with the same literals settle the same forms
+settled-same : (f : Shape) (a b : List NumberedLiteral) → IsWithin a b → IsWithin b a → IsSettled f a → IsSettled f b
+settled-same f a b ab ba s = grind (arith, s.met, s.idle, open_sum-within b a ba f.terms, puts-longer (f ∷ []) b a, ab, ba)
+
+-- without a conflict, and with all of these literals
+pub ended-made : (forms : List Shape) (root given : List NumberedLiteral) (values : List (Option Bool)) → Derives forms [] root → HasEnded forms root given values → IsMade forms given values
+ended-made forms root given values d h =
+    let e = h.covered in
+    by (replanted forms root given h.list h.list (Unit {0}) (λ u. (λ l. opposite values h.list l h.agrees, e.covers, e.keeps)) (λ u l on. on) d e.reached)
+  where
+    by : Planted forms given h.list h.list (Unit {0}) → IsMade forms given values
+    by (clashed whole dv c never) = absurd (never tt)
+    by (grown whole dv longer from) =
+        let settled = λ (f : Shape) (among : Contains forms f). settled-same f h.list whole longer (from tt) (h.covered.settled f among) in
+        let agrees = λ (l : NumberedLiteral). same_answers (has whole l) (has h.list l) (from tt l) (longer l) ∙ h.agrees l in
+        search (rules, dv, settled, agrees)
+
+-- the same over all constraints
+pub clash-joined : (xs : List Shape) (clauses : List (List ℕ)) (root given : List NumberedLiteral) → AreJoined xs clauses → HasClash xs root given → HasClash (joined xs clauses) root given
+clash-joined xs clauses root given j c =
+    let derives = derives-joined xs clauses c.reached.first c.list j c.reached.derived in
+    search (rules, derives, c.reached.within, conflicts-joined xs clauses c.list j c.conflict)
+
+-- a conflict of the root alone
+pub root-clash : (forms : List Shape) (root given : List NumberedLiteral) → Conflicts forms root → HasClash forms root given
+root-clash forms root given c =
+    let reached : IsReached forms root given root = record { first = root; within = λ l h. inl h; derived = begin } in
+    search (rules, reached, c)
+
+-- what holds if a test has no result
+pub map-none : {A : Type 0} {P Q : Type 0} (o : Option A) → (P → Q) → IfNone o P → IfNone o Q
+map-none None f h = f h
+map-none (Some x) f h = tt

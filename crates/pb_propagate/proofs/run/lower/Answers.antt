@@ -1,5 +1,5 @@
 use Rattle.pb_propagate.proofs.Common.{ℕ, ◌-◌, ◌∙◌, ◌≡◌, ap, arith, get_or, refl, subst, sym, get_or_read, IsCalm, shapes_of}
-use Rattle.pb_propagate.proofs.lemmas.engine.VisitSteps.{grown-by, idle-at, changed-at, weight-read}
+use Rattle.pb_propagate.proofs.lemmas.engine.Propagated.{grown-by, idle-at, changed-at, weight-read}
 use Rattle.pb_propagate.proofs.run.lower.Goals as goal
 
 pub returns-clause-lowers : goal.returns-clause-lowers

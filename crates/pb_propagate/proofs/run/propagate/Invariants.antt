@@ -1,8 +1,7 @@
-use Rattle.pb_propagate.proofs.Common.{◌*◌, ◌+◌, ◌-◌, ◌≤◌, length, sum_by, Grows, KeepsWalked, all_of, entries_of, shapes_of}
-use Rattle.pb_propagate.proofs.Common.{database, progress, RunReasons, seen_to}
+use Rattle.pb_propagate.proofs.Common.{◌*◌, ◌+◌, ◌-◌, ◌≤◌, length, sum_by, Grows, KeepsWalked, all_of, entries_of, shapes_of, database, progress}
+use Rattle.pb_propagate.proofs.Common.{RunReasons, seen_to}
 use Rattle.pb_propagate.proofs.lemmas.engine.Propagated.{IsPropagating}
-use Rattle.pb_propagate.proofs.lemmas.clauses.Heads.{IsMarking}
-use Rattle.pb_propagate.proofs.lemmas.clauses.Watching.{IsWatching, cost}
+use Rattle.pb_propagate.proofs.lemmas.clauses.Heads.{IsMarking, IsWatching, cost}
 use Rattle.pb_propagate.proofs.run.propagate.Given as goal
 
 abbrev pub invariant-work : goal.invariant-work

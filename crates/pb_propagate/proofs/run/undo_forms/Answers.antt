@@ -1,5 +1,5 @@
 use Rattle.pb_propagate.proofs.Common.{ℕ, ◌<◌, ◌∙◌, ◌≡◌, ap, arith, get_or, Global, length, length-set, Vec, rules}
-use Rattle.pb_propagate.proofs.lemmas.engine.VisitSteps.{undo-next}
+use Rattle.pb_propagate.proofs.lemmas.engine.Propagated.{undo-next}
 use Rattle.pb_propagate.proofs.run.undo_forms.Goals as goal
 
 pub forms-preserved : goal.forms-preserved

@@ -1,5 +1,5 @@
 use Rattle.pb_propagate.proofs.Common.{[], stored_terms, ◌-◌, get_or, length, shapes_of, database, IsCounted, progress, RunReasons}
-use Rattle.pb_propagate.proofs.lemmas.engine.VisitSteps.{IsVisiting}
+use Rattle.pb_propagate.proofs.lemmas.engine.Propagated.{IsVisiting}
 use Rattle.pb_propagate.proofs.run.visit_form.Given as goal
 
 abbrev pub invariant-terms : goal.invariant-terms

@@ -1,7 +1,6 @@
 use Rattle.pb_propagate.proofs.Common.{stored_form, arith, None, length-map, forms_of}
 use Rattle.pb_propagate.proofs.lemmas.store.Gets.{get-push_same}
-use Rattle.pb_propagate.proofs.lemmas.store.Changes.{forms-widened}
-use Rattle.pb_propagate.proofs.lemmas.store.Slots.{rest-widened}
+use Rattle.pb_propagate.proofs.lemmas.store.Changes.{forms-widened, rest-widened}
 use Rattle.pb_propagate.proofs.slots.empty_slot.Goals as goal
 
 pub returns-clause-rest : goal.returns-clause-rest

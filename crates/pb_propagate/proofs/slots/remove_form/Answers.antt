@@ -1,6 +1,5 @@
 use Rattle.pb_propagate.proofs.Common.{stored_form, arith, None, length-map, forms_of}
-use Rattle.pb_propagate.proofs.lemmas.store.Changes.{forms-filled}
-use Rattle.pb_propagate.proofs.lemmas.store.Slots.{rest-removed}
+use Rattle.pb_propagate.proofs.lemmas.store.Changes.{forms-filled, rest-removed}
 use Rattle.pb_propagate.proofs.slots.remove_form.Goals as goal
 
 pub returns-clause-rest : goal.returns-clause-rest

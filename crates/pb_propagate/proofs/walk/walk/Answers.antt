@@ -1,11 +1,10 @@
-use Rattle.pb_propagate.proofs.Common.{rules, ◌++◌, ◌+◌, ◌<◌, ◌∙◌, ◌∷◌, [], ap, arith, length, Leaves, Stays, list_at, watch_lists, IsUnit, all_of, clauses_of}
-use Rattle.pb_propagate.proofs.Common.{database, progress, RunReasons, shapes_in, list_of, values_of}
+use Rattle.pb_propagate.proofs.Common.{rules, ◌++◌, ◌+◌, ◌<◌, ◌∙◌, ◌∷◌, [], ap, arith, length, Leaves, Stays, list_at, watch_lists, IsUnit, all_of}
+use Rattle.pb_propagate.proofs.Common.{clauses_of, database, progress, RunReasons, shapes_in, list_of, values_of}
 use Rattle.pb_propagate.proofs.lemmas.clauses.Shapes.{broken-conflicts, conflicts-joined}
 use Rattle.pb_propagate.proofs.lemmas.clauses.Walks.{IsWalking, kept-then, walking-start, walking-next, walking-pass, walking-forces, walked-end}
 use Rattle.pb_propagate.proofs.lemmas.engine.Advances.{on-err, WalkIsDone, walk-ends, walk-then, walk-costs}
-use Rattle.pb_propagate.proofs.lemmas.engine.Reasoned.{run-reasons-none}
+use Rattle.pb_propagate.proofs.lemmas.engine.Reasoned.{run-reasons-none, unit-reasons}
 use Rattle.pb_propagate.proofs.lemmas.root.Ready.{open-later}
-use Rattle.pb_propagate.proofs.lemmas.clauses.Reasons.{unit-reasons}
 use Rattle.pb_propagate.proofs.walk.walk.Goals.{After-visit_clause, In_ok-put-in-Forces}
 use Rattle.pb_propagate.proofs.walk.walk.Goals as goal
 

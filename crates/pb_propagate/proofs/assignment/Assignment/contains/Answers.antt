@@ -1,6 +1,5 @@
 use Rattle.pb_propagate.proofs.Common.{◌∙◌, None, sym, get_or_read, arith}
-use Rattle.pb_propagate.proofs.lemmas.engine.Literals.{beq-not}
-use Rattle.pb_propagate.proofs.lemmas.engine.Values.{says-some, says-none}
+use Rattle.pb_propagate.proofs.lemmas.engine.Literals.{beq-not, says-some, says-none}
 use Rattle.pb_propagate.proofs.assignment.Assignment.contains.Goals as goal
 
 pub returns-in-Some : goal.returns-in-Some

@@ -1,5 +1,5 @@
 use Rattle.pb_propagate.proofs.Common.{◌∙◌, ap, arith, false, sym, get_or_read, false_at}
-use Rattle.pb_propagate.proofs.lemmas.clauses.Truths.{true-flipped, flip-inside}
+use Rattle.pb_propagate.proofs.lemmas.clauses.Literals.{true-flipped, flip-inside}
 use Rattle.pb_propagate.proofs.assignment.Assignment.satisfies.Goals as goal
 
 pub index-requires : goal.index-requires

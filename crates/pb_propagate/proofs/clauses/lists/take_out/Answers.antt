@@ -1,5 +1,5 @@
 use Rattle.pb_propagate.proofs.Common.{◌+◌, ◌-◌, ◌≡◌, arith, get_or-set_other, length, list_at, refl, watch_lists}
-use Rattle.pb_propagate.proofs.lemmas.clauses.Linked.{IsTakenOut, moved-apart, taken-last, taken-moved}
+use Rattle.pb_propagate.proofs.lemmas.clauses.Listed.{IsTakenOut, moved-apart, taken-last, taken-moved}
 use Rattle.pb_propagate.proofs.clauses.lists.take_out.Goals.{After-idle, After-place}
 use Rattle.pb_propagate.proofs.clauses.lists.take_out.Goals as goal
 

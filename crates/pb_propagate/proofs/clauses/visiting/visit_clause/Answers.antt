@@ -1,6 +1,5 @@
 use Rattle.pb_propagate.proofs.Common.{◌∙◌, refl, sym}
-use Rattle.pb_propagate.proofs.lemmas.clauses.Searches.{other-watched, running-small}
-use Rattle.pb_propagate.proofs.lemmas.clauses.Visited.{running-blocked, visited-stays}
+use Rattle.pb_propagate.proofs.lemmas.clauses.Visited.{other-watched, running-small, running-blocked, visited-stays}
 use Rattle.pb_propagate.proofs.clauses.visiting.visit_clause.Goals as goal
 
 pub satisfies-requires : goal.satisfies-requires

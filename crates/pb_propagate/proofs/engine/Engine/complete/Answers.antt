@@ -3,7 +3,7 @@ use Rattle.std.proofs.lemmas.Option.{IfSome_then}
 use Rattle.pb_propagate.proofs.lemmas.engine.Bridge.{refuted-meets, ended-completion}
 use Rattle.pb_propagate.proofs.lemmas.root.Kept.{kept-conflicts}
 use Rattle.pb_propagate.proofs.lemmas.root.Ready.{rest-kept}
-use Rattle.pb_propagate.proofs.lemmas.root.Transplants.{clash-refuted, root-clash, map-none}
+use Rattle.pb_propagate.proofs.lemmas.root.Rooted.{clash-refuted, root-clash, map-none}
 use Rattle.pb_propagate.proofs.lemmas.engine.Reasoned.{reasons-derive}
 use Rattle.pb_propagate.proofs.engine.Engine.complete.Goals as goal
 

@@ -1,6 +1,6 @@
 use Rattle.pb_propagate.proofs.Common.{◌≡◌, arith, length, rules, list_of}
 use Rattle.pb_propagate.proofs.lemmas.engine.Literals.{derivation-keeps}
-use Rattle.pb_propagate.proofs.lemmas.root.Extends.{extends-within}
+use Rattle.pb_propagate.proofs.lemmas.engine.Advances.{extends-within}
 use Rattle.pb_propagate.proofs.lemmas.root.Ready.{left-then, puts-left, puts-ready, heads-now}
 use Rattle.pb_propagate.proofs.lemmas.engine.Reasoned.{reasons-derive}
 use Rattle.pb_propagate.proofs.engine.completion.propagate_given.Goals as goal

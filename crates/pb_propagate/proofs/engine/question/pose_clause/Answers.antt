@@ -1,7 +1,6 @@
 use Rattle.pb_propagate.proofs.Common.{◌+◌, ◌≡◌, ap, arith, length, List, refl, Entry, denial_of, posed, ◌*◌, ◌≤◌, list_of, sym}
-use Rattle.pb_propagate.proofs.lemmas.root.Denials.{denial-stored}
+use Rattle.pb_propagate.proofs.lemmas.root.Questions.{denial-stored, both-answered, posed-most}
 use Rattle.pb_propagate.proofs.lemmas.root.Kept.{met-asked}
-use Rattle.pb_propagate.proofs.lemmas.root.Questions.{both-answered, posed-most}
 use Rattle.pb_propagate.proofs.lemmas.root.Ready.{undone-left}
 use Rattle.pb_propagate.proofs.lemmas.engine.Reasoned.{reasons-derive}
 use Rattle.pb_propagate.specs.engine.engine.Root.{terms_of_all}

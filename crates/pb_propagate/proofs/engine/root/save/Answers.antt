@@ -1,5 +1,5 @@
 use Rattle.pb_propagate.proofs.Common.{rules, ◌<◌, arith, length, length-set, Rests}
-use Rattle.pb_propagate.proofs.lemmas.root.Roots.{keep-next, keep-all}
+use Rattle.pb_propagate.proofs.lemmas.root.Ready.{keep-next, keep-all}
 use Rattle.pb_propagate.proofs.engine.root.save.Goals as goal
 
 pub forms-preserved : goal.forms-preserved

@@ -1,6 +1,6 @@
 use Rattle.pb_propagate.proofs.Common.{◌∙◌, ap, arith, get_or, length, shapes_of, stored_terms}
-use Rattle.pb_propagate.proofs.lemmas.store.Places.{entries-length}
-use Rattle.pb_propagate.proofs.lemmas.engine.Puts.{place-inside}
+use Rattle.pb_propagate.proofs.lemmas.store.Links.{entries-length}
+use Rattle.pb_propagate.proofs.lemmas.engine.Runs.{place-inside}
 use Rattle.pb_propagate.proofs.lemmas.store.Changes.{filled-stored, kept-inside}
 use Rattle.pb_propagate.proofs.store.occurrence_lists.fill.Goals as goal
 

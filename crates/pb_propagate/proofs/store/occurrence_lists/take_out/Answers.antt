@@ -1,5 +1,5 @@
 use Rattle.pb_propagate.proofs.Common.{Some, slice_get, ◌+◌, ◌≡◌, ◌-◌, ◌<◌, [], arith, get_or, get_or-map, get_or-set_same, length, lists_of}
-use Rattle.pb_propagate.proofs.lemmas.store.Places.{taken-lists, taken-moved, spots-moved}
+use Rattle.pb_propagate.proofs.lemmas.store.Links.{taken-lists, taken-moved, spots-moved}
 use Rattle.pb_propagate.proofs.store.occurrence_lists.take_out.Goals.{After-index-moved}
 use Rattle.pb_propagate.proofs.store.occurrence_lists.take_out.Goals as goal
 

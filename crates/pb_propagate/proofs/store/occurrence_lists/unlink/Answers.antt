@@ -1,5 +1,5 @@
 use Rattle.pb_propagate.proofs.Common.{◌-◌, ◌∙◌, [], arith, get_or, refl, length-map, place, lists_of, shapes_of, spots_in, spots_of}
-use Rattle.pb_propagate.proofs.lemmas.store.Places.{UnlinkRead, unlink-read, moved-rooms, taken-length}
+use Rattle.pb_propagate.proofs.lemmas.store.Links.{UnlinkRead, unlink-read, moved-rooms, taken-length}
 use Rattle.pb_propagate.proofs.store.occurrence_lists.unlink.Goals.{After-place_of-place}
 use Rattle.pb_propagate.proofs.store.occurrence_lists.unlink.Goals as goal
 

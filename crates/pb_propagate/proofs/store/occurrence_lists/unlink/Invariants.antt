@@ -1,4 +1,4 @@
-use Rattle.pb_propagate.proofs.lemmas.store.Places.{IsUnlinking}
+use Rattle.pb_propagate.proofs.lemmas.store.Links.{IsUnlinking}
 use Rattle.pb_propagate.proofs.store.occurrence_lists.unlink.Given as goal
 
 abbrev pub invariant-terms : goal.invariant-terms

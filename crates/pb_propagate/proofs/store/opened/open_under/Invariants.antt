@@ -1,5 +1,5 @@
 use Rattle.pb_propagate.proofs.Common.{◌≡◌, ◌≤◌, List, take, NumberedLiteral, open_sum, size, stored_terms}
-use Rattle.pb_propagate.proofs.lemmas.engine.Values.{Agree}
+use Rattle.pb_propagate.proofs.lemmas.engine.Literals.{Agree}
 use Rattle.pb_propagate.proofs.store.opened.open_under.Given as goal
 
 abbrev pub invariant-terms : goal.invariant-terms

@@ -1,4 +1,4 @@
-use Rattle.pb_propagate.proofs.lemmas.root.Replaced.{some-released}
+use Rattle.pb_propagate.proofs.lemmas.root.Retracted.{some-released}
 use Rattle.pb_propagate.proofs.store.reasons.release_by_terms.Goals as goal
 
 pub release_literal-requires-clause-rooted : goal.release_literal-requires-clause-rooted

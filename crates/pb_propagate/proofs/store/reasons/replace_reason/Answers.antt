@@ -1,5 +1,5 @@
 use Rattle.pb_propagate.proofs.Common.{arith, shapes_of}
-use Rattle.pb_propagate.proofs.lemmas.root.Replaced.{explained-reasons}
+use Rattle.pb_propagate.proofs.lemmas.root.Retracted.{explained-reasons}
 use Rattle.pb_propagate.proofs.store.reasons.replace_reason.Goals as goal
 
 pub returns-clause-reasons : goal.returns-clause-reasons

@@ -1,5 +1,5 @@
 use Rattle.pb_propagate.proofs.Common.{arith, length-map}
-use Rattle.pb_propagate.proofs.lemmas.engine.VisitSteps.{shape-at}
+use Rattle.pb_propagate.proofs.lemmas.engine.Propagated.{shape-at}
 use Rattle.pb_propagate.proofs.store.units.other_unit.Goals as goal
 
 pub returns : goal.returns

@@ -1,6 +1,5 @@
 use Rattle.pb_propagate.proofs.Common.{arith}
-use Rattle.pb_propagate.proofs.lemmas.clauses.Blocks.{slot-stored, slot-at, start-own, shared-begun}
-use Rattle.pb_propagate.proofs.lemmas.clauses.BlocksWritten.{begin-written}
+use Rattle.pb_propagate.proofs.lemmas.clauses.Blocks.{slot-stored, slot-at, start-own, shared-begun, begin-written}
 use Rattle.pb_propagate.proofs.clauses.blocks.Blocks.begin.Goals as goal
 
 pub index-requires : goal.index-requires

@@ -1,6 +1,5 @@
 use Rattle.pb_propagate.proofs.Common.{arith, inl, rules}
-use Rattle.pb_propagate.proofs.lemmas.clauses.Blocks.{own-slot, own-at}
-use Rattle.pb_propagate.proofs.lemmas.clauses.BlocksWritten.{clear-written}
+use Rattle.pb_propagate.proofs.lemmas.clauses.Blocks.{own-slot, own-at, clear-written}
 use Rattle.pb_propagate.proofs.clauses.blocks.Blocks.clear.Goals as goal
 
 pub index-requires : goal.index-requires

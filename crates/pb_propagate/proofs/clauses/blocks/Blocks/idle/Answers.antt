@@ -1,6 +1,5 @@
 use Rattle.pb_propagate.proofs.Common.{arith}
-use Rattle.pb_propagate.proofs.lemmas.clauses.Blocks.{live-slot, live-at}
-use Rattle.pb_propagate.proofs.lemmas.clauses.BlocksWritten.{idle-written}
+use Rattle.pb_propagate.proofs.lemmas.clauses.Blocks.{live-slot, live-at, idle-written}
 use Rattle.pb_propagate.proofs.clauses.blocks.Blocks.idle.Goals as goal
 
 pub index-requires : goal.index-requires

@@ -1,6 +1,5 @@
 use Rattle.pb_propagate.proofs.Common.{arith}
-use Rattle.pb_propagate.proofs.lemmas.clauses.Blocks.{live-slot, live-at}
-use Rattle.pb_propagate.proofs.lemmas.clauses.BlocksWritten.{place-written}
+use Rattle.pb_propagate.proofs.lemmas.clauses.Blocks.{live-slot, live-at, place-written}
 use Rattle.pb_propagate.proofs.clauses.blocks.Blocks.place.Goals as goal
 
 pub index-requires : goal.index-requires

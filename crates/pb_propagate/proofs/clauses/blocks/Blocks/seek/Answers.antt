@@ -1,6 +1,5 @@
 use Rattle.pb_propagate.proofs.Common.{arith, rules}
-use Rattle.pb_propagate.proofs.lemmas.clauses.Blocks.{own-slot, own-at}
-use Rattle.pb_propagate.proofs.lemmas.clauses.BlocksWritten.{seek-written}
+use Rattle.pb_propagate.proofs.lemmas.clauses.Blocks.{own-slot, own-at, seek-written}
 use Rattle.pb_propagate.proofs.clauses.blocks.Blocks.seek.Goals as goal
 
 pub index-requires : goal.index-requires

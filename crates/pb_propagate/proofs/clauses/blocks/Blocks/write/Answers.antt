@@ -1,6 +1,5 @@
 use Rattle.pb_propagate.proofs.Common.{ℕ, arith, length-set, inr}
-use Rattle.pb_propagate.proofs.lemmas.clauses.Blocks.{own-slot, own-at, IsOwn}
-use Rattle.pb_propagate.proofs.lemmas.clauses.BlocksWritten.{whole-written}
+use Rattle.pb_propagate.proofs.lemmas.clauses.Blocks.{own-slot, own-at, IsOwn, whole-written}
 use Rattle.pb_propagate.proofs.clauses.blocks.Blocks.write.Goals.{After-index}
 use Rattle.pb_propagate.proofs.clauses.blocks.Blocks.write.Goals as goal
 

@@ -1,8 +1,8 @@
 use Rattle.pb_propagate.proofs.Common.{◌∙◌, ap, arith, sym, slot_shape, open_sum, says, Shape}
 use Rattle.pb_propagate.proofs.lemmas.clauses.Shapes.{shape-some}
-use Rattle.pb_propagate.proofs.lemmas.engine.VisitSteps.{shape-at}
+use Rattle.pb_propagate.proofs.lemmas.engine.Propagated.{shape-at}
 use Rattle.pb_propagate.proofs.lemmas.root.Kept.{free-met}
-use Rattle.pb_propagate.proofs.lemmas.root.Replaced.{slot-is}
+use Rattle.pb_propagate.proofs.lemmas.root.Retracted.{slot-is}
 use Rattle.pb_propagate.proofs.engine.conflict.Conflict.is_falsified.Goals as goal
 
 pub returns-then-not-is_filled : goal.returns-then-not-is_filled

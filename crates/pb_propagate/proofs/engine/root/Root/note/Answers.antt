@@ -1,7 +1,7 @@
 use Rattle.pb_propagate.proofs.Common.{ap, arith, length, Term}
-use Rattle.pb_propagate.proofs.lemmas.engine.Puts.{place-inside}
-use Rattle.pb_propagate.proofs.lemmas.root.Replaced.{terms-inside}
-use Rattle.pb_propagate.proofs.lemmas.store.Places.{entries-length}
+use Rattle.pb_propagate.proofs.lemmas.engine.Runs.{place-inside}
+use Rattle.pb_propagate.proofs.lemmas.root.Retracted.{terms-inside}
+use Rattle.pb_propagate.proofs.lemmas.store.Links.{entries-length}
 use Rattle.pb_propagate.proofs.engine.root.Root.note.Goals as goal
 
 pub place_of-requires : goal.place_of-requires

@@ -1,5 +1,5 @@
 use Rattle.pb_propagate.proofs.Common.{refl}
-use Rattle.pb_propagate.proofs.lemmas.root.Replaced.{released-then, replaced-released, shortened-released, some-released, some-sized}
+use Rattle.pb_propagate.proofs.lemmas.root.Retracted.{released-then, replaced-released, shortened-released, some-released, some-sized}
 use Rattle.pb_propagate.proofs.engine.root.Root.release_literal.Goals as goal
 
 pub withdraw-requires : goal.withdraw-requires

@@ -1,5 +1,5 @@
 use Rattle.pb_propagate.proofs.Common.{rules}
-use Rattle.pb_propagate.proofs.lemmas.root.Replaced.{due-some, some-released, shortened-released, shortened-then}
+use Rattle.pb_propagate.proofs.lemmas.root.Retracted.{due-some, some-released, shortened-released, shortened-then}
 use Rattle.pb_propagate.proofs.engine.root.Root.withdraw.Goals as goal
 
 pub retract-requires : goal.retract-requires
