@@ -4,9 +4,6 @@ use Rattle.pb_text.proofs.lemmas.source.Drawn.{draws_poured, draws_join}
 use Rattle.pb_text.proofs.lemmas.source.Pulled.{seen_after}
 use Rattle.pb_text.proofs.next_event.draw.Goals as goal
 
-pub returns-in-Ok-Some-clause-draws : goal.returns-in-Ok-Some-clause-draws
-returns-in-Ok-Some-clause-draws g c = grind (arith, c.in-Ok-Some.is, c.pour.ensures, draws_poured)
-
 pub returns-in-Ok-None-clause-draws : goal.returns-in-Ok-None-clause-draws
 returns-in-Ok-None-clause-draws g c =
     let p = rw (c.in-Ok-None.is, c.in-Ok-None.field-0-is) at c.pour.ensures in

@@ -3,18 +3,9 @@ use Rattle.pb_text.proofs.lemmas.source.Drawn.{draws_none, draws_join, pulls_not
 use Rattle.pb_text.proofs.lemmas.source.PullsInARow.{row}
 use Rattle.pb_text.proofs.next_event.pull.Goals as goal
 
-pub returns-in-Some-clause-pulls : goal.returns-in-Some-clause-pulls
-returns-in-Some-clause-pulls g c longest start input spans counts s = grind (arith, c.in-Some.ensures, pulls_nothing, g.S.Source.left, g.S.Source.history)
-
 pub returns-then-is_done-clause-pulls : goal.returns-then-is_done-clause-pulls
 returns-then-is_done-clause-pulls g c longest start input spans counts s =
     pulls_nothing (g.S.Source.left c.args.source.now) (g.S.Source.history c.args.source.now) s (Ok None) (λ seen. refl) refl counts (λ e. sym c.if-is_done.ensures.done)
-
-pub loop-event-init : goal.loop-event-init
-loop-event-init g c = grind (arith, c.in_default.ensures, c.if-is_done.ensures.done, c.is_done.ensures.state, draws_none, g.S.Source.left, g.S.Source.history)
-
-pub loop-event-preserved : goal.loop-event-preserved
-loop-event-preserved g c = grind (arith, c.loop-event.invariant, c.in-Ok-None.is, c.draw.ensures, draws_join)
 
 pub returns-in-Ok-Some-clause-pulls : goal.returns-in-Ok-Some-clause-pulls
 returns-in-Ok-Some-clause-pulls g c longest start input spans counts s =
