@@ -16,7 +16,7 @@ use crate::machine::Machine;
 
 /// However the input is cut: after any sequence of feeds to a new feeder, the results are a read of
 /// all bytes fed.
-#[tactic(auto, using(crate::proofs::lemmas::feeder::Cutting::none_read))]
+#[tactic(auto, using(crate::proofs::lemmas::feeder::Reported::none_read))]
 pub fn any_cutting<M: Machine>()
     // If none stopped, the number of bytes used is what the feeds report.
     ensures reads { (longest : ℕ) (start : M) (before after : Feeder M M.Event M.Machine)

@@ -1,4 +1,4 @@
-use Rattle.pb_text.proofs.lemmas.feeder.Cutting.{any_cutting, none_read}
+use Rattle.pb_text.proofs.lemmas.feeder.Reported.{any_cutting}
 use Rattle.pb_text.proofs.laws.any_cutting.Goals as goal
 
 pub returns-clause-reads : goal.returns-clause-reads

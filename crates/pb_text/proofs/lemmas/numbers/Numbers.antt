@@ -1,7 +1,7 @@
 -- Digits that grow at their end, and those that are written. Offered to other crates.
-use Rattle.pb_text.proofs.Common.{ℕ, ◌%◌, ◌*◌, ◌++◌, ◌+◌, ◌/◌, ◌<◌, ◌^◌, ◌∙◌, ◌∷◌, ◌≡◌, ◌≤◌, [], ap, arith, length, length-append, List, map, refl}
-use Rattle.pb_text.proofs.Common.{subst, suc, sym, true, ℤ, decimal, pow-succ', pow_mono, decimal_by_steps_wide, digit, Digits, Number, value}
-use Rattle.pb_text.proofs.Common.{digits_of, Letter}
+use Rattle.pb_text.proofs.Common.{ℕ, ◌%◌, ◌*◌, ◌++◌, ◌+◌, ◌/◌, ◌<◌, ◌^◌, ◌∙◌, ◌∷◌, ◌≡◌, ◌≤◌, [], ap, arith, length, length-append, List, map, refl, subst, suc}
+use Rattle.pb_text.proofs.Common.{sym, true, ℤ, decimal, pow-succ', pow_mono, decimal_by_steps_wide, digit, Digits, Number, value, digits_of, Letter, ◌-◌}
+use Rattle.pb_text.proofs.Common.{mod-eq_of_lt}
 use Rattle.pb_text.specs.meaning.Limits.{largest}
 use Rattle.pb_text.specs.declared.limits.Limits.{Limits}
 use Rattle.pb_text.proofs.lemmas.text.Languages.{map-append, each-append}
@@ -52,3 +52,15 @@ number-within small large z h t (negative, n, i, e, k) = (negative, n, omega ari
 -- the largest number that limits allow fits an i128
 pub largest_small : (l : Limits) → largest l < 2 ^ 127
 largest_small l = let more : 2 ^ l.bits ≤ 2 ^ 127 = pow_mono l.most_bits in omega (arith, more)
+
+low : (n : ℕ) → n ≤ 2 ^ 127 → n % 2 ^ 128 ≡ n
+low n h = mod-eq_of_lt (omega arith)
+
+shifted : (k : ℕ) → k ≤ 127 → 1 * 2 ^ k % 2 ^ 128 ≡ 2 ^ k
+shifted k h = let one : 1 * 2 ^ k ≡ 2 ^ k = omega arith in ap (λ (n : ℕ). n % 2 ^ 128) one ∙ low (2 ^ k) (pow_mono h)
+
+pub largest_below : (k : ℕ) → k ≤ 127 → 1 * 2 ^ k % 2 ^ 128 - 1 < 2 ^ 127
+largest_below k h = omega (arith, shifted k h, pow_mono h)
+
+pub largest_above : (k : ℕ) → 31 ≤ k → k ≤ 127 → 2 ^ 31 ≤ 1 * 2 ^ k % 2 ^ 128 - 1 + 1
+largest_above k low high = omega (arith, shifted k high, pow_mono low)

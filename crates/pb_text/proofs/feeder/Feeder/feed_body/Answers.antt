@@ -1,7 +1,6 @@
-use Rattle.pb_text.proofs.Common.{ℕ, ◌-◌, ◌≡◌, ◌≤◌, arith, length, length-take, length-take-le, List, min}
-use Rattle.pb_text.proofs.Common.{take, take-take}
-use Rattle.pb_text.proofs.lemmas.machine.Running.{stands_run, runs_unfinished, place_fits}
-use Rattle.pb_text.proofs.lemmas.feeder.Begin.{running, end_at}
+use Rattle.pb_text.proofs.Common.{ℕ, ◌-◌, ◌≡◌, ◌≤◌, arith, length, length-take, length-take-le, List, min, take, take-take}
+use Rattle.pb_text.proofs.lemmas.machine.Running.{stands_run, place_fits}
+use Rattle.pb_text.proofs.lemmas.feeder.Steps.{running, end_at}
 use Rattle.pb_text.proofs.feeder.Feeder.feed_body.Goals as goal
 
 -- the number of bytes that were taken, and that they are those of the piece

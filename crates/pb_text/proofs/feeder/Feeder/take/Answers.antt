@@ -1,6 +1,5 @@
-use Rattle.pb_text.proofs.Common.{◌∙◌, arith}
-use Rattle.pb_text.proofs.lemmas.feeder.Begin.{running, end_at, room}
-use Rattle.pb_text.proofs.lemmas.feeder.Steps.{stands_go, stands_event, stands_no, stands_large, stands_lacks, stands_long}
+use Rattle.pb_text.proofs.Common.{arith}
+use Rattle.pb_text.proofs.lemmas.feeder.Steps.{running, room, stands_lacks}
 use Rattle.pb_text.proofs.feeder.Feeder.take.Goals as goal
 
 pub returns-in-Memory-clause-stands : goal.returns-in-Memory-clause-stands

@@ -1,6 +1,5 @@
-use Rattle.pb_text.proofs.Common.{ℕ, ◌∙◌, ◌≡◌, ap, arith, get_or, length, length-take-le, List, refl, sym, take, take-length, take_more, Place}
-use Rattle.pb_text.proofs.Common.{place_next, place_past}
-use Rattle.pb_text.proofs.lemmas.machine.Running.{past_bounds, past_more, past_on_line}
+use Rattle.pb_text.proofs.Common.{ℕ, ◌∙◌, ap, arith, get_or, length-take-le, List, sym, take, take_more, Place, place_next, place_past}
+use Rattle.pb_text.proofs.lemmas.machine.Running.{past_bounds, past_more}
 use Rattle.pb_text.proofs.place.Place.past.Goals as goal
 
 pub after-place-requires : goal.after-place-requires
