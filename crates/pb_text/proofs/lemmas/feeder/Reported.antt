@@ -261,7 +261,7 @@ module _ {S E : Type 0} {m : Automaton S E} {longest : ℕ} {start : S} {input :
   pub kept_within : m.kept state ≤ begun_bytes (length s.letters) first
   kept_within = omega (arith, s.is_state.bounds, spent_bytes first (length s.letters) (m.spent state) s.spent)
 
-nothing_fed : (a b : List ℕ) → a ++ b ≡ [] → a ≡ []
+pub nothing_fed : (a b : List ℕ) → a ++ b ≡ [] → a ≡ []
 nothing_fed [] b e = refl
 nothing_fed (x ∷ a) b e = absurd (cc e)
 

@@ -11,7 +11,7 @@ use Rattle.pb_text.proofs.lemmas.text.Spans.{one_further, prefix_parts}
 use Rattle.pb_text.proofs.lemmas.machine.Residual.{residual, takes_go, takes_last}
 use Rattle.pb_text.proofs.lemmas.text.Languages.{bytes-append}
 use Rattle.pb_text.proofs.lemmas.text.Lists.{length-bytes, put_advances, last_advances}
-use Rattle.pb_text.proofs.lemmas.feeder.Reported.{step}
+use Rattle.pb_text.proofs.lemmas.feeder.Reported.{nothing_fed, step}
 use Rattle.pb_text.proofs.lemmas.text.Short.{place_after-snoc, end_limit, place_after-offset, AreShort-append, AreShort-grown}
 
 module _ {S E : Type 0} (m : Automaton S E) (longest : ℕ) (start : S) where
@@ -40,14 +40,10 @@ module _ {S E : Type 0} (m : Automaton S E) (longest : ℕ) (start : S) where
     waits = inr refl;
   }
 
-not_empty : (left more : List ℕ) → (left ≡ [] → ⊥) → left ++ more ≡ [] → ⊥
-not_empty [] more h e = h refl
-not_empty (b ∷ left) more h e = cc
-
 halts_more : {S E : Type 0} (m : Automaton S E) (state : S) (end : ℕ) (letters : List Letter) (left more : List ℕ) (why : Why) → Counts why → Halts m state end letters left why → Halts m state end letters (left ++ more) why
 halts_more m state end letters left more (Byte b) c h = (h.0 ++ more, ap (λ (x : List ℕ). x ++ more) h.1, h.2, h.3, h.4)
 halts_more m state end letters left more TooLarge c h = (h.0, h.1 ++ more, ap (λ (x : List ℕ). x ++ more) h.2, h.3, h.4, h.5)
-halts_more m state end letters left more TooLong c h = (not_empty left more h.0, h.1)
+halts_more m state end letters left more TooLong c h = ((λ e. h.0 (nothing_fed left more e)), h.1)
 halts_more m state end letters left more Ended c h = absurd c
 halts_more m state end letters left more Read c h = tt
 halts_more m state end letters left more Memory c h = (h.0, h.1 ++ more, ap (λ (x : List ℕ). x ++ more) h.2, h.3, h.4, h.5)
@@ -107,8 +103,9 @@ module _ {M E : Type 0} {g : Ghosts M E} where
   passes old new xs r longest start input spans s = rw append-nil at (r longest start input spans s)
 
   -- it took a prefix of a piece, and ended no statement
-  pub prefix_taken : (old new : Feeder M E g) (piece : List ℕ) (n : ℕ) → n ≤ length piece → Passes old (take n piece) new → new.place.offset ≡ old.place.offset + n
-      → new.stop ≡ None → g.automaton.done new.machine ≡ false → IsState g.automaton new.machine → TakesPrefix old piece (record { used = n; event = None }) new
+  pub prefix_taken : (old new : Feeder M E g) (piece : List ℕ) (n : ℕ) → n ≤ length piece → Passes old (take n piece) new
+      → new.place.offset ≡ old.place.offset + n → new.stop ≡ None → g.automaton.done new.machine ≡ false → IsState g.automaton new.machine
+      → TakesPrefix old piece (record { used = n; event = None }) new
   prefix_taken old new piece n bound p offset running unfinished state = record {
     bound = bound;
     stands = λ longest start input spans s. rw append-nil (p longest start input spans s);

@@ -53,7 +53,8 @@ module _ {S E : Type 0} (m : Automaton S E) where
   After Refuse b items more = ⊥
 
   moved_first : (s at after : S) (b : ℕ) (gap : List ℕ) (text : List Letter) (x : E) (rest : List (Item E)) (more : List ℕ) → SkipsGap m s gap at → ReadsStatement m at text x after → AcceptsItems m after rest
-      → bytes_of (record { gap = gap; text = text; event = x } ∷ rest) ≡ b ∷ more → After (m.step s b) b (record { gap = gap; text = text; event = x } ∷ rest) more
+      → bytes_of (record { gap = gap; text = text; event = x } ∷ rest) ≡ b ∷ more
+      → After (m.step s b) b (record { gap = gap; text = text; event = x } ∷ rest) more
   moved_first s at after b [] [] x rest more g r a e = absurd r
   moved_first s at after b [] (l ∷ []) x rest more same (h, n) a e =
       let byte : l.byte ≡ b = head l.byte b _ more e in

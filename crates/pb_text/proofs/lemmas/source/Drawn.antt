@@ -3,7 +3,7 @@ use Rattle.pb_text.proofs.Common.{ℕ, ◌++◌, ◌∙◌, ◌∷◌, ◌≡◌
 use Rattle.pb_text.proofs.Common.{StartWith, Took, append-nil, arith, Err, length-append, Ok, Result, subst, true, spans_taken, StandsAt, Feeder, Ghosts}
 use Rattle.pb_text.proofs.Common.{Spanned, Stop, IsOpen, Draws, input_drawn, Pulls, Bool, not, is_some, Peeks, Item, ReadsWhole}
 use Rattle.pb_text.specs.contract.Pouring.{Pours}
-use Rattle.pb_text.proofs.lemmas.feeder.Steps.{stands_more}
+use Rattle.pb_text.proofs.lemmas.feeder.Steps.{Reaches, stands_more}
 use Rattle.pb_text.specs.meaning.Pulling.{input_pulled}
 use Rattle.pb_text.proofs.lemmas.source.PullsInARow.{took_join}
 use Rattle.pb_text.specs.declared.over.Over.{Over}
@@ -62,9 +62,8 @@ module _ {M E : Type 0} {g : Ghosts M E} where
   draws_none f left given = draws_poured (pours_none f given (lost_nothing left))
 
   -- nothing was taken before a stop
-  pub draws_stop : {old new : Feeder M E g} {before after : Option (List ℕ)} {given given' : List ℕ} {stop : Stop} (seen : (seen : List ℕ) × Took before [] seen after)
-      → given' ≡ given → new.place.offset ≡ old.place.offset
-      → ((longest : ℕ) (start : M) (input : List ℕ) (spans : List (Spanned E)) → StandsAt longest start input spans old → StandsAt longest start (input ++ seen.0) (spans ++ []) new)
+  pub draws_stop : {old new : Feeder M E g} {before after : Option (List ℕ)} {given given' : List ℕ} {stop : Stop}
+      → (seen : (seen : List ℕ) × Took before [] seen after) → given' ≡ given → new.place.offset ≡ old.place.offset → Reaches old seen.0 [] new
       → Draws old before given (Err stop) new after given'
   draws_stop {given} seen same still stands = grind (arith, append-nil)
 
@@ -104,18 +103,10 @@ module _ {M E : Type 0} {g : Ghosts M E} where
     pub pulls_stop : (stop : Stop) → Draws old before given (Err stop) new after given' → Pulls longest start input spans old before (Err stop) new after given given'
     pulls_stop stop d = record { taken = d.taken; seen = d.seen; took = d.took; given_are = d.given_are; offset_is = d.offset_is; stands = d.stands longest start input spans s }
 
-shows_begins : (rest now : Option (List ℕ)) (limit limit' shown : Option ℕ) (b : ℕ) → Shows rest (Ok (Some b)) now limit'
-    → StartWith (reported rest limit shown) b × Keeps (reported rest limit shown) (reported now limit' (Some b))
-shows_begins rest now limit limit' shown b h = grind arith
-
-shows_end : (rest now : Option (List ℕ)) (limit limit' shown : Option ℕ) → Shows rest (Ok None) now limit'
-    → HaveEnded (reported rest limit shown) × Keeps (reported rest limit shown) now
-shows_end rest now limit limit' shown h = grind arith
-
 -- what the reader has shown is a peek at the source
 pub peeks : {T : Type 0} (remaining : T → Option (List ℕ)) (limit : T → Option ℕ) (old : Over T) (inner : T) (shown : Option ℕ) (none : Bool) → is_some shown ≡ not none → Shows (remaining old.inner) (Ok shown) (remaining inner) (limit inner)
     → Peeks (λ o. reported (remaining o.inner) (limit o.inner) o.shown) (λ o. o.shown) (λ o. o.ended) (λ o. o.history.bytes) (λ o. o.failures) old (Ok shown) (record { inner = inner; shown = shown; ended = none; failures = old.failures; history = old.history })
-peeks remaining limit old inner shown none is h = grind (arith, shows_end, shows_begins)
+peeks remaining limit old inner shown none is h = grind arith
 
 -- what is left in a reader is what is left in the source over it
 took_reported : (before left : Option (List ℕ)) (limit shown : Option ℕ) (used seen : List ℕ) → Took before used seen (reported left limit shown) → Took before used seen left

@@ -22,7 +22,8 @@ module _ {E : Type 0} (one other : List (Item E) → Type 0) (to : (items : List
   explains used left TooLong (e, f) = (e, is_full one other to from longest used f)
   explains used left Ended h = h
   explains used left Read h = tt
-  explains used left Memory (b, more, e, v, room) = (b, more, e, viable one other to from longest (used ++ b ∷ []) v, λ f. room (is_full other one from to longest used f))
+  explains used left Memory (b, more, e, v, room) =
+      (b, more, e, viable one other to from longest (used ++ b ∷ []) v, λ f. room (is_full other one from to longest used f))
 
   abbrev pub is_spelled : (used : List ℕ) (spans : List (Spanned E)) → IsSpelled one longest used spans → IsSpelled other longest used spans
   is_spelled used spans s = record { items = s.items; spelled = to s.items s.spelled; used_are = s.used_are; spans_are = s.spans_are; within = s.within; short = s.short }

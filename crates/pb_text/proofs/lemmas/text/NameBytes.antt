@@ -1,7 +1,5 @@
--- The table of name bytes, compared with the definition at each byte by computing, and hexadecimal digits. Offered to other crates.
-use Rattle.pb_text.proofs.Common.{ℕ, ◌&&◌, ◌<◌, ◌≡◌, arith, Bool, false, get_or, inl, inr, List, nat_eq, not, refl, suc, true, zero, cases_eq, nat_tests}
-use Rattle.pb_text.proofs.Common.{is_name_byte, ◌==◌, eqb-true, ◌%◌, ◌-◌, ◌/◌, ◌^◌, ◌∙◌, ◌∷◌, [], ap₂, hex_byte, digit_glyph, digits, format_spec}
-use Rattle.pb_text.proofs.Common.{padded_integral, hex_digit, hex_of}
+-- The table of name bytes, compared with the definition at each byte by computing. Offered to other crates.
+use Rattle.pb_text.proofs.Common.{ℕ, ◌&&◌, ◌<◌, ◌≡◌, arith, Bool, get_or, inl, inr, List, nat_eq, not, refl, suc, true, zero, cases_eq, nat_tests, is_name_byte}
 use Rattle.std.specs.Bool.{beq}
 use Rattle.pb_text.proofs.lemmas.text.Booleans.{of_both}
 use Rattle.pb_text.specs.declared.bytes.TheConstants.{NAME_BYTES}
@@ -31,12 +29,3 @@ in_table b lt = from_table NAME_BYTES b lt refl
 
 pub name_ascii : (b : ℕ) → is_name_byte b ≡ true → b < 128
 name_ascii b h = grind (arith, nat_tests)
-
-digit_glyph-is_hex_digit : (n : ℕ) → n < 16 → digit_glyph false n ≡ hex_digit n
-unfolding all_below
-digit_glyph-is_hex_digit n small = eqb-true (digit_glyph false n) (hex_digit n) (true_at (λ k. digit_glyph false k == hex_digit k) 16 refl n small)
-
-pub hex_is_hex_of : (n : ℕ) → n < 256 → padded_integral (format_spec 32 0 4 2 (2 ^ 64 - 1)) false [] (digits 16 false n) ≡ hex_of n
-hex_is_hex_of n small =
-    hex_byte false n small
-    ∙ ap₂ (λ (high low : ℕ). high ∷ low ∷ []) (digit_glyph-is_hex_digit (n / 16) (omega arith)) (digit_glyph-is_hex_digit (n % 16) (omega arith))

@@ -33,7 +33,8 @@ returns-in-Ok-clause-draws g c =
     let t = rw c.in-Ok.is at c.take.ensures in
     let p = rw (c.in-Ok-Some.is, c.in-Ok-Some.field-0-is) at c.peek.ensures in
     let b : ℕ = c.in-Ok-Some.byte in
-    let lost = lost_byte (g.S.Source.left c.args.source.now) [] _ (g.S.Source.left c.peek.new.self) (g.S.Source.left c.skip.new.self) b (lost_nothing _) p.0 p.1 c.skip.ensures.0 in
+    let last = g.S.Source.left c.skip.new.self in
+    let lost = lost_byte (g.S.Source.left c.args.source.now) [] _ (g.S.Source.left c.peek.new.self) last b (lost_nothing _) p.0 p.1 c.skip.ensures.0 in
     let seen = seen_after _ _ _ lost in
     record {
       taken = b ∷ [];

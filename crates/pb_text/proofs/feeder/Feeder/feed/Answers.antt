@@ -29,9 +29,10 @@ pub returns-in-Some-clause-feeds : goal.returns-in-Some-clause-feeds
 returns-in-Some-clause-feeds g c = grind (arith, append-nil, stands_more)
 
 -- a feed that does not stop
-feeds_once : {M E : Type 0} {g : Ghosts M E} (old new : Feeder M E g) (piece : List ℕ) (fed : Fed E) → Reaches old (bytes_with fed.event fed.used piece) (spans_in fed.event) new
-    → new.stop ≡ None → new.place.offset ≡ old.place.offset + fed.used → FeedsOnce old piece (Ok fed) new
-feeds_once old new piece fed r running further = ((λ longest start input spans k. r longest start input spans), (λ k. rw running tt), (λ k. rw running tt), further)
+feeds_once : {M E : Type 0} {g : Ghosts M E} (old new : Feeder M E g) (piece : List ℕ) (fed : Fed E)
+    → Reaches old (bytes_with fed.event fed.used piece) (spans_in fed.event) new → new.stop ≡ None → new.place.offset ≡ old.place.offset + fed.used → FeedsOnce old piece (Ok fed) new
+feeds_once old new piece fed r running further =
+    ((λ longest start input spans k. r longest start input spans), (λ k. rw running tt), (λ k. rw running tt), further)
 
 pub returns-in-Some-event-clause-feeds : goal.returns-in-Some-event-clause-feeds
 returns-in-Some-event-clause-feeds g c =
@@ -84,7 +85,8 @@ returns-in-Ok-Some-clause-feeds g c =
     let so_far = passes c.args.self.now fed.new.self _ (with_more c.args.self.now c.loop-used.self fed.new.self piece c.loop-used.used [] c.loop-used.invariant.stands fed.result.used (rw c.in_default-event.is at fed.ensures.stands)) in
     let t = rw (c.in-Ok-Some.is, c.in-Ok-Some.field-0-is) at c.take.ensures in
     rw c.with_event-in-Ok-Some.ensures (feeds_once c.args.self.now c.take.new.self piece (record { used = i + 1; event = Some c.in-Ok-Some.event })
-    (with_byte c.args.self.now fed.new.self c.take.new.self piece i (c.in-Ok-Some.event ∷ []) so_far there t.stands) t.stop (omega (arith, t.offset, fed.ensures.offset, c.loop-used.invariant.offset)))
+    (with_byte c.args.self.now fed.new.self c.take.new.self piece i (c.in-Ok-Some.event ∷ []) so_far there t.stands)
+    t.stop (omega (arith, t.offset, fed.ensures.offset, c.loop-used.invariant.offset)))
 
 pub loop-used-preserved : goal.loop-used-preserved
 loop-used-preserved g c =

@@ -24,5 +24,6 @@ pub returns-in-None : goal.returns-in-None
 returns-in-None g c =
     let fast = c.feed_fast-used.ensures in
     let t = c.in-None.ensures in
-    prefix_taken _ _ _ _ fast.bound (λ longest start input spans s. rw (append-nil, append-nil) at (t.stands longest start _ spans (fast.stands longest start input spans s)))
+    prefix_taken _ _ _ _ fast.bound
+    (λ longest start input spans s. rw (append-nil, append-nil) at (t.stands longest start _ spans (fast.stands longest start input spans s)))
     (omega (arith, t.offset, fast.offset)) t.running (t.unfinished refl) t.state

@@ -15,7 +15,8 @@ returns-then-try_continue g c =
     let t = c.if-try_continue.ensures in
     let some : 0 < length piece = has_first piece (sym c.is_empty.ensures ∙ c.if-is_empty.false) in
     prefix_taken c.args.self.now c.try_continue.new.self piece 1 (omega (arith, some))
-    (λ longest start input spans s. rw (first_taken piece some c.if-piece-ne10.false) (t.stands longest start input spans s)) t.offset t.running t.unfinished t.state
+    (λ longest start input spans s. rw (first_taken piece some c.if-piece-ne10.false) (t.stands longest start input spans s))
+    t.offset t.running t.unfinished t.state
 
 pub returns-else-try_continue : goal.returns-else-try_continue
 returns-else-try_continue g c =
