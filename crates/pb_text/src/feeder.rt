@@ -223,7 +223,7 @@ impl<M: Machine> Feeder<M> {
     }
 
     /// Takes one byte.
-    #[tactic(auto, using(crate::proofs::lemmas::feeder::Steps::running, crate::proofs::lemmas::feeder::Steps::end_at, crate::proofs::lemmas::feeder::Steps::room, crate::proofs::lemmas::feeder::Steps::stands_go, crate::proofs::lemmas::feeder::Steps::stands_event, crate::proofs::lemmas::feeder::Steps::stands_no, crate::proofs::lemmas::feeder::Steps::stands_large, crate::proofs::lemmas::feeder::Steps::stands_lacks, crate::proofs::lemmas::feeder::Steps::stands_long))]
+    #[tactic(auto, using(crate::proofs::rules::feeder_take))]
     pub(crate) fn take(&mut self, byte: u8) -> Result<Option<Spanned<M::Event>>, Stop>
         requires unfinished { is_complete self.old ≡ false }
         requires running { halt_of self.old ≡ None }

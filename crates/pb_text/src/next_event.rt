@@ -16,7 +16,7 @@ use crate::source::{Failed, Source};
 /// The next event of the source, or `None` after the last one. It takes exactly the bytes used. If
 /// the source has no more bytes, it returns what `finish` would. Once done or stopped, it does not
 /// call the source.
-#[tactic(auto, using(crate::proofs::lemmas::source::Drawn::draws_none, crate::proofs::lemmas::source::Drawn::draws_join, crate::proofs::lemmas::source::Drawn::pulls_nothing))]
+#[tactic(auto, using(crate::proofs::rules::pull))]
 pub fn pull<S: Source, M: Machine>(
     source: &mut S,
     feeder: &mut Feeder<M>,

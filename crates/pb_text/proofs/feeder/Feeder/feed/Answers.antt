@@ -30,7 +30,8 @@ returns-in-Some-clause-feeds g c = grind (arith, append-nil, stands_more)
 
 -- a feed that does not stop
 feeds_once : {M E : Type 0} {g : Ghosts M E} (old new : Feeder M E g) (piece : List ℕ) (fed : Fed E)
-    → Reaches old (bytes_with fed.event fed.used piece) (spans_in fed.event) new → new.stop ≡ None → new.place.offset ≡ old.place.offset + fed.used → FeedsOnce old piece (Ok fed) new
+    → Reaches old (bytes_with fed.event fed.used piece) (spans_in fed.event) new
+    → new.stop ≡ None → new.place.offset ≡ old.place.offset + fed.used → FeedsOnce old piece (Ok fed) new
 feeds_once old new piece fed r running further =
     ((λ longest start input spans k. r longest start input spans), (λ k. rw running tt), (λ k. rw running tt), further)
 
