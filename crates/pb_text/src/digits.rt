@@ -47,6 +47,7 @@ fn long_number_prefix(text: &[u8]) -> (usize, u64)
 
 /// The same, with a test for the end of the text before each byte.
 #[inline(always)]
+#[tactic(auto, using(crate::proofs::lemmas::numbers::DigitValues::value_on, crate::proofs::lemmas::text::Languages::each_on))]
 fn count_digits(text: &[u8]) -> (usize, u64)
     ensures bound { result.0 ≤ length text.now }
     ensures digits { Each (λ b. IsTrue (is_digit b)) (take result.0 text.now) }

@@ -16,6 +16,7 @@ use crate::machine::Machine;
 
 /// However the input is cut: after any sequence of feeds to a new feeder, the results are a read of
 /// all bytes fed.
+#[tactic(auto, using(crate::proofs::lemmas::feeder::Reported::none_read))]
 pub fn any_cutting<M: Machine>()
     // If none stopped, the number of bytes used is what the feeds report.
     ensures reads { (longest : ℕ) (start : M) (before after : Feeder M M.Event M.Machine)
@@ -47,6 +48,7 @@ pub fn standing_is_reading<M: Machine>()
 
 /// All texts of a machine that begin with the same prefix have the same statements that end within
 /// it, at the same positions.
+#[tactic(auto, using(crate::proofs::lemmas::text::FixedSpans::fixed_spans))]
 pub fn fixed_spans<M: Machine>()
     ensures { (start : M) → HasFixedSpans (AcceptsItems M.automaton start) }
 {}

@@ -62,6 +62,7 @@ impl Limits {
     }
 
     /// The largest magnitude: `2^bits - 1`.
+    #[tactic(auto, using(crate::proofs::lemmas::numbers::Numbers::largest_below, crate::proofs::lemmas::numbers::Numbers::largest_above))]
     pub fn largest(self) -> u128
         ensures value { result ≡ largest self }
         ensures room { result < 2 ^ 127 }

@@ -58,6 +58,7 @@ pub trait Machine {
     /// Takes the first byte of a piece as `try_continue` does, or a longer prefix that is faster to
     /// take at once. Such a prefix may be a whole name or number. It returns the number of bytes
     /// taken.
+    #[tactic(auto, using(crate::proofs::lemmas::machine::Running::runs_on))]
     fn take_prefix(&mut self, piece: &[u8]) -> usize
         requires { 0 < length piece.now }
         ensures bound { result ≤ length piece.now }

@@ -11,7 +11,6 @@ pub mod Letters
 pub mod Lists
 pub mod NameBytes
 pub mod Parts
-pub mod Places
 pub mod Results
 pub mod Short
 pub mod Spans

@@ -1,8 +1,5 @@
-use Rattle.pb_text.proofs.lemmas.feeder.Cutting.{any_cutting, none_read}
+use Rattle.pb_text.proofs.lemmas.feeder.Reported.{any_cutting}
 use Rattle.pb_text.proofs.laws.any_cutting.Goals as goal
 
 pub returns-clause-reads : goal.returns-clause-reads
 returns-clause-reads g c longest start before after feeds s counts h = any_cutting longest start after feeds before s counts h
-
-pub returns-clause-unread : goal.returns-clause-unread
-returns-clause-unread g c before after feeds unread h = none_read after feeds before h unread

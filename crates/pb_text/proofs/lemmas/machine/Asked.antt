@@ -1,8 +1,7 @@
 -- If an automaton may allocate, the next byte of any text is in a statement, at a position that may allocate. Offered to
 -- other crates.
-use Rattle.pb_text.proofs.Common.{ℕ, ◌++◌, ◌∙◌, ◌∷◌, ◌≡◌, ◌⊎◌, [], ap, append-nil, append_assoc, false, inl, inr, IsTrue, List, refl, arith}
-use Rattle.pb_text.proofs.Common.{subst, sym, true, false≢true, AcceptsItems, Automaton, Go, Leads, ReadsStatement, SkipsGap, state_after}
-use Rattle.pb_text.proofs.Common.{bytes, bytes_of, Item, Letter}
+use Rattle.pb_text.proofs.Common.{ℕ, ◌++◌, ◌∙◌, ◌∷◌, ◌≡◌, ◌⊎◌, [], ap, append-nil, append_assoc, false, inl, inr, IsTrue, List, refl, arith, subst, sym, true}
+use Rattle.pb_text.proofs.Common.{false≢true, AcceptsItems, Automaton, Go, Leads, ReadsStatement, SkipsGap, state_after, bytes, bytes_of, Item, Letter}
 use Rattle.std.proofs.lemmas.Option.{same_Some}
 use Rattle.pb_text.specs.meaning.Asking.{AsksWithin}
 use Rattle.pb_text.proofs.lemmas.text.FirstBytes.{head, tail}
@@ -50,17 +49,11 @@ module _ {S E : Type 0} (m : Automaton S E) where
 
       here : (at cur after : S) (prefix rest : List Letter) (l : Letter) (e : E) → Idle at → Walks m at prefix cur → ReadsStatement m cur (l ∷ rest) e after → state ≡ cur → l.byte ≡ b
           → Asks e (bytes prefix ++ []) b
-      here at cur after prefix rest l e i w r same byte =
-          let a : IsTrue (m.asks cur l.byte) = subst (λ (x : ℕ). m.asks cur x ≡ true) (sym byte) (subst (λ (x : S). m.asks x b ≡ true) same asks) in
-          subst (λ (x : List ℕ). Asks e x b) (sym (append-nil (bytes prefix))) (subst (λ (x : ℕ). Asks e (bytes prefix) x) byte (known.texts at cur after prefix rest l e i w r a))
+      here at cur after prefix rest l e i w r same byte = grind (arith, append-nil)
 
       moved : (t prefix : List Letter) (l : Letter) (d : ℕ) (used : List ℕ) (e : E) (after : S) (after_it : List ℕ) → d ≡ l.byte → InText t (bytes (prefix ++ l ∷ [])) used e after after_it
           → InText (l ∷ t) (bytes prefix) (d ∷ used) e after after_it
-      moved t prefix l d used e after after_it same (inl (later, h, a)) =
-          let prefix_is : bytes (prefix ++ l ∷ []) ++ used ≡ bytes prefix ++ d ∷ used =
-          ap (λ (x : List ℕ). x ++ used) (bytes-append prefix (l ∷ [])) ∙ (append_assoc (bytes prefix) (l.byte ∷ []) used ∙ ap (λ (x : ℕ). bytes prefix ++ x ∷ used) (sym same)) in
-          inl (later, put l.byte d (bytes t) (used ++ b ∷ later) (sym same) h, subst (λ (x : List ℕ). Asks e x b) prefix_is a)
-      moved t prefix l d used e after after_it same (inr (left, h, k, j)) = inr (left, put d l.byte used (bytes t ++ left) same h, k, j)
+      moved t prefix l d used e after after_it same h = grind (arith, bytes-append, append_assoc, put)
 
       in_text : (t prefix : List Letter) (at cur after : S) (e : E) (after_it used : List ℕ) → Idle at → Walks m at prefix cur → ReadsStatement m cur t e after → Leads m cur used state
           → bytes t ++ after_it ≡ used ++ b ∷ more → InText t (bytes prefix) used e after after_it
@@ -68,10 +61,7 @@ module _ {S E : Type 0} (m : Automaton S E) where
       in_text (l ∷ []) prefix at cur after e after_it [] i w r lead q =
           let byte : l.byte ≡ b = head l.byte b after_it more q in
           inl ([], ap (λ (x : ℕ). x ∷ []) byte, here at cur after prefix [] l e i w r lead byte)
-      in_text (l ∷ []) prefix at cur after e after_it (d ∷ used) i w (g, n) (next, f, lead) q =
-          let same : d ≡ l.byte = sym (head l.byte d after_it (used ++ b ∷ more) q) in
-          let one : next ≡ after = same_Some next after (sym f ∙ ap (state_after m) (ap (m.step cur) same ∙ g)) in
-          inr (used, put d l.byte used used same refl, subst (λ (x : S). Leads m x used state) one lead, tail l.byte d after_it (used ++ b ∷ more) q)
+      in_text (l ∷ []) prefix at cur after e after_it (d ∷ used) i w (g, n) (next, f, lead) q = grind (arith, head, same_Some, put, tail)
       in_text (l ∷ k ∷ t) prefix at cur after e after_it [] i w r lead q =
           let byte : l.byte ≡ b = head l.byte b (bytes (k ∷ t) ++ after_it) more q in
           inl (bytes (k ∷ t), put l.byte b (bytes (k ∷ t)) (bytes (k ∷ t)) byte refl, here at cur after prefix (k ∷ t) l e i w r lead byte)

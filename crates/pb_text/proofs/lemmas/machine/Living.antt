@@ -1,7 +1,7 @@
 -- States from which a text can be completed. Offered to other crates.
-use Rattle.pb_text.proofs.Common.{ℕ, ◌∷◌, ◌≡◌, [], false, List, refl, subst, true, AcceptsItems, Admits, Automaton, End, Go, IsState}
-use Rattle.pb_text.proofs.Common.{ReadsStatement, SkipsGap, Item, Letter}
-use Rattle.pb_text.proofs.lemmas.machine.Residual.{Put, letter, after_go}
+use Rattle.pb_text.proofs.Common.{arith, ℕ, ◌∷◌, ◌≡◌, [], false, List, refl, subst, true, AcceptsItems, Admits, Automaton, End, Go, IsState, ReadsStatement}
+use Rattle.pb_text.proofs.Common.{SkipsGap, Item, Letter}
+use Rattle.pb_text.proofs.lemmas.machine.Residual.{after_go}
 use Rattle.pb_text.proofs.lemmas.machine.Walking.{longer}
 use Rattle.pb_text.proofs.lemmas.text.Booleans.{never}
 
@@ -81,9 +81,4 @@ module _ {S E : Type 0} (m : Automaton S E) where
 
   -- What is admitted can be continued to an event.
   pub admitted_on : BeginsAtOnce → (s next : S) (b : ℕ) → m.step s b ≡ Go next → Admits m s b → ReadsOn next
-  admitted_on begins s next b g (items, a, more, e) = let (later, p, k, f) = after_go m s next b items more a e g in by_items later p k
-    where
-      by_items : (later : List (Item E)) → Put (m.begun next) (letter m b next) later items → AcceptsItems m next later → ReadsOn next
-      by_items [] p k = absurd p
-      by_items (i ∷ rest) p (at, after, h, r, z) =
-          (i.text, i.event, after, subst (λ x. ReadsStatement m x i.text i.event after) (gapless begins next at i.gap h) r)
+  admitted_on begins s next b g (items, a, more, e) = grind (arith, after_go, gapless)

@@ -1,7 +1,7 @@
 -- Machines of one text, which begin with its first byte and end with its last one: what holds of their states. Offered to
 -- other crates.
-use Rattle.pb_text.proofs.Common.{ℕ, ◌+◌, ◌∙◌, ◌∷◌, ◌≡◌, ◌≤◌, [], ap, Bool, false, List, refl, true, AcceptsItems, Admits, Automaton, End, Go}
-use Rattle.pb_text.proofs.Common.{IsState, Next, ReadsStatement, Refuse, Item, Letter}
+use Rattle.pb_text.proofs.Common.{arith, ℕ, ◌+◌, ◌∙◌, ◌∷◌, ◌≡◌, ◌≤◌, [], ap, Bool, false, List, refl, true, AcceptsItems, Admits, Automaton, End, Go, IsState}
+use Rattle.pb_text.proofs.Common.{Next, ReadsStatement, Refuse, Item, Letter}
 use Rattle.pb_text.proofs.lemmas.text.Booleans.{never}
 use Rattle.pb_text.proofs.lemmas.machine.Living.{ReadsOn, IsAlive, accepted, admits_before, admits_final}
 
@@ -31,17 +31,13 @@ module _ {S E : Type 0} (m : Automaton S E) (Good : S → Type 0) (last : S → 
     reads_done s text e after r = ap m.done (reads_last text s e after r) ∙ h.done s
 
     alive : (s : S) → Good s → m.done s ≡ false → IsAlive m s
-    alive s g d =
-        let (text, e, after, r) = h.goes_on s g d in
-        record { text = text; event = e; after = after; reads = r; rest = []; accepts = reads_done s text e after r }
+    alive s g d = grind (arith, reads_done)
 
     live : (s : S) (d : Bool) → m.done s ≡ d → Good s → (items : List (Item E)) × AcceptsItems m s items
-    live s true d g = ([], d)
-    live s false d g = accepted m s (alive s g d)
+    live s d e g = grind (arith, accepted, alive)
 
     not_begun : (s : S) (b : Bool) → m.begun s ≡ b → m.done s ≡ true → m.begun s ≡ false
-    not_begun s true i d = never (m.done s) d (h.owes s i)
-    not_begun s false i d = i
+    not_begun s b i d = grind (arith, never)
 
     pub is_state : (s : S) → Good s → (m.begun s ≡ false → m.spent s ≡ 0) → IsState m s
     is_state s g z = record {

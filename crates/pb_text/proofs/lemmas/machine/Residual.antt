@@ -1,8 +1,7 @@
 -- A state accepts, after a byte, exactly what it accepted before with that byte prepended. Offered to other crates.
-use Rattle.pb_text.proofs.Common.{ℕ, ◌∙◌, ◌∷◌, ◌≡◌, ◌≢◌, [], Bool, false, List, refl, subst, sym, true, AcceptsItems, Automaton, End}
-use Rattle.pb_text.proofs.Common.{Go, IsState, ReadsStatement, Refuse, SkipsGap, bytes_of, Item, Letter}
+use Rattle.pb_text.proofs.Common.{arith, ℕ, ◌∷◌, ◌≡◌, ◌≢◌, [], Bool, false, List, refl, subst, sym, true, AcceptsItems, Automaton, End, Go, IsState, Next}
+use Rattle.pb_text.proofs.Common.{ReadsStatement, Refuse, SkipsGap, bytes_of, Item, Letter}
 use Rattle.pb_text.proofs.lemmas.text.FirstBytes.{head, tail}
-use Rattle.pb_text.proofs.lemmas.machine.Outcomes.{one_state, one_end, go_or_end, go_or_refuse, end_or_refuse}
 use Rattle.pb_text.proofs.lemmas.machine.Walking.{longer}
 use Rattle.pb_text.proofs.lemmas.text.Booleans.{never}
 
@@ -46,25 +45,29 @@ module _ {S E : Type 0} (m : Automaton S E) where
   abbrev last : ℕ → Letter
   last b = record { byte = b; numeral = false }
 
-  -- What is accepted after a first byte: the byte continues, or it ends a statement.
-  pub data Moved (s : S) (b : ℕ) (items : List (Item E)) (more : List ℕ) : Type 0 where
-    Goes : (next : S) (later : List (Item E)) → m.step s b ≡ Go next → Put (m.begun next) (letter b next) later items → AcceptsItems m next later → bytes_of later ≡ more → Moved s b items more
-    Ends : (next : S) (later : List (Item E)) (e : E) → m.step s b ≡ End e next → PutLast (last b) e later items → AcceptsItems m next later → bytes_of later ≡ more → Moved s b items more
+  -- what is accepted after a first byte with this outcome: the byte continues, or it ends a statement
+  abbrev pub After : Next S E → ℕ → List (Item E) → List ℕ → Type 0
+  After (Go next) b items more =
+      (later : List (Item E)) × Put (m.begun next) (letter b next) later items × AcceptsItems m next later × (bytes_of later ≡ more)
+  After (End e next) b items more = (later : List (Item E)) × PutLast (last b) e later items × AcceptsItems m next later × (bytes_of later ≡ more)
+  After Refuse b items more = ⊥
 
   moved_first : (s at after : S) (b : ℕ) (gap : List ℕ) (text : List Letter) (x : E) (rest : List (Item E)) (more : List ℕ) → SkipsGap m s gap at → ReadsStatement m at text x after → AcceptsItems m after rest
-      → bytes_of (record { gap = gap; text = text; event = x } ∷ rest) ≡ b ∷ more → Moved s b (record { gap = gap; text = text; event = x } ∷ rest) more
+      → bytes_of (record { gap = gap; text = text; event = x } ∷ rest) ≡ b ∷ more
+      → After (m.step s b) b (record { gap = gap; text = text; event = x } ∷ rest) more
   moved_first s at after b [] [] x rest more g r a e = absurd r
   moved_first s at after b [] (l ∷ []) x rest more same (h, n) a e =
       let byte : l.byte ≡ b = head l.byte b _ more e in
-      Ends after rest x (rw (same, byte) at h) (rw (← byte, ← n) refl) a (tail l.byte b _ more e)
+      rw (rw (same, byte) at h) (rest, rw (← byte, ← n) refl, a, tail l.byte b _ more e)
   moved_first s at after b [] (l ∷ k ∷ text) x rest more same (mid, h, o, n, r) a e =
       let byte : l.byte ≡ b = head l.byte b _ more e in
-      Goes mid (record { gap = []; text = k ∷ text; event = x } ∷ rest) (rw (same, byte) at h) (rw (o, ← byte, ← n) (refl, refl)) (mid, after, refl, r, a) (tail l.byte b _ more e)
+      rw (rw (same, byte) at h)
+      (record { gap = []; text = k ∷ text; event = x } ∷ rest, rw (o, ← byte, ← n) (refl, refl), (mid, after, refl, r, a), tail l.byte b _ more e)
   moved_first s at after b (c ∷ gap) text x rest more (mid, h, o, g) r a e =
       let byte : c ≡ b = head c b _ more e in
-      Goes mid (record { gap = gap; text = text; event = x } ∷ rest) (rw byte at h) (rw (o, byte) refl) (at, after, g, r, a) (tail c b _ more e)
+      rw (rw byte at h) (record { gap = gap; text = text; event = x } ∷ rest, rw (o, byte) refl, (at, after, g, r, a), tail c b _ more e)
 
-  pub moved : (s : S) (b : ℕ) (items : List (Item E)) (more : List ℕ) → AcceptsItems m s items → bytes_of items ≡ b ∷ more → Moved s b items more
+  pub moved : (s : S) (b : ℕ) (items : List (Item E)) (more : List ℕ) → AcceptsItems m s items → bytes_of items ≡ b ∷ more → After (m.step s b) b items more
   moved s b [] more h e = cc
   moved s b (i ∷ rest) more (at, after, g, r, a) e = moved_first s at after b i.gap i.text i.event rest more g r a e
 
@@ -72,31 +75,10 @@ module _ {S E : Type 0} (m : Automaton S E) where
     -- a byte that is taken, and what is accepted after it
     pub after_go : (items : List (Item E)) (more : List ℕ) → AcceptsItems m old items → bytes_of items ≡ b ∷ more → m.step old b ≡ Go new
         → (later : List (Item E)) × Put (m.begun new) (letter b new) later items × AcceptsItems m new later × (bytes_of later ≡ more)
-    after_go items more a e continues = by_move (moved old b items more a e)
-      where
-        by_move : Moved old b items more → (later : List (Item E)) × Put (m.begun new) (letter b new) later items × AcceptsItems m new later × (bytes_of later ≡ more)
-        by_move (Goes next later h p k f) =
-            let same : next ≡ new = one_state next new (sym h ∙ continues) in
-            (later, subst (λ (y : S). Put (m.begun y) (letter b y) later items) same p, subst (λ (y : S). AcceptsItems m y later) same k, f)
-        by_move (Ends next later x h p k f) = go_or_end new x next (sym continues ∙ h)
-
-    -- a byte that ends a statement
-    pub after_end : (d : E) (items : List (Item E)) (more : List ℕ) → AcceptsItems m old items → bytes_of items ≡ b ∷ more → m.step old b ≡ End d new
-        → (later : List (Item E)) × PutLast (last b) d later items × AcceptsItems m new later × (bytes_of later ≡ more)
-    after_end d items more a e ends = by_move (moved old b items more a e)
-      where
-        by_move : Moved old b items more → (later : List (Item E)) × PutLast (last b) d later items × AcceptsItems m new later × (bytes_of later ≡ more)
-        by_move (Goes next later h p k f) = go_or_end next d new (sym h ∙ ends)
-        by_move (Ends next later x h p k f) =
-            let same = one_end x d next new (sym h ∙ ends) in
-            (later, subst (λ (y : E). PutLast (last b) y later items) same.0 p, subst (λ (y : S). AcceptsItems m y later) same.1 k, f)
+    after_go items more a e continues = subst (λ n. After n b items more) continues (moved old b items more a e)
 
     pub refuses : m.step old b ≡ Refuse → Refuses (AcceptsItems m old) b
-    refuses stops items a (more, e) = by_move (moved old b items more a e)
-      where
-        by_move : Moved old b items more → ⊥
-        by_move (Goes next later h p k f) = go_or_refuse next (sym h ∙ stops)
-        by_move (Ends next later x h p k f) = end_or_refuse x next (sym h ∙ stops)
+    refuses stops items a (more, e) = subst (λ n. After n b items more) stops (moved old b items more a e)
 
     -- what is accepted after the byte, with the byte
     with_byte : IsState m new → m.step old b ≡ Go new → m.done new ≡ false → (here : Bool) → m.begun new ≡ here → (later : List (Item E)) → AcceptsItems m new later
@@ -123,12 +105,12 @@ module _ {S E : Type 0} (m : Automaton S E) where
     pub takes_last : (d : E) → m.step old b ≡ End d new → m.begun new ≡ false → IsState m new → Takes (AcceptsItems m old) (PutLast (letter b new) d) b (AcceptsItems m new)
     takes_last d ends out state = record {
       into = λ later h. (record { gap = []; text = letter b new ∷ []; event = d } ∷ later, refl, (old, new, refl, (ends, state.plain out), h));
-      onto = λ items h begins. let k = after_end d items begins.0 h begins.1 ends in (k.0, rw (state.plain out) k.1, k.2);
+      onto = λ items h begins.
+          let k = subst (λ n. After n b items begins.0) ends (moved old b items begins.0 h begins.1) in (k.0, rw (state.plain out) k.1, k.2);
     }
 
   pub has_text : (at after : S) (text : List Letter) (e : E) → ReadsStatement m at text e after → text ≢ []
-  has_text at after [] e r = absurd r
-  has_text at after (l ∷ text) e r = λ h. cc
+  has_text at after text e r = grind arith
 
   -- the first byte of items
   pub has_first : (s : S) (i : Item E) (rest : List (Item E)) → AcceptsItems m s (i ∷ rest) → (b : ℕ) × BeginsWith b (i ∷ rest)
@@ -145,8 +127,4 @@ module _ {S E : Type 0} (m : Automaton S E) where
   accepts_none s stops (i ∷ rest) a = let (b, begins) = has_first s i rest a in absurd (refuses s s b (stops b) (i ∷ rest) a begins)
 
   pub residual : (s : S) → IsState m s → IsResidual (AcceptsItems m s)
-  residual s state = record {
-    live = state.live;
-    texts = λ i rest h. has_text h.0 h.1 i.text i.event h.3;
-    ends = λ d items h. accepts_none s (state.ends d) items h;
-  }
+  residual s state = grind (arith, has_text, accepts_none)

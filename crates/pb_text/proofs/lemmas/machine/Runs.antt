@@ -1,6 +1,5 @@
 -- What a machine over letters does with a text. Offered to other crates.
-use Rattle.pb_text.proofs.Common.{◌++◌, ◌∷◌, ◌≡◌, [], append-nil, append_assoc, Bool, cond, false, List, refl, subst, sym, true, End, Go, Next}
-use Rattle.pb_text.proofs.Common.{Refuse, ◌⋅◌, Language, Letter}
+use Rattle.pb_text.proofs.Common.{arith, ◌++◌, ◌∷◌, ◌≡◌, [], append-nil, append_assoc, List, refl, sym, End, Go, Next, Refuse, ◌⋅◌, Language, Letter}
 
 module _ {S E : Type 0} (step : S → Letter → Next S E) where
   -- the outcome of a text: nothing may follow an end
@@ -26,8 +25,7 @@ module _ {S E : Type 0} (step : S → Letter → Next S E) where
   Takes A P B = (n : Next S E) (t : List Letter) → A n → P t → B (run step n t)
 
   pub takes_then : (A B C : Next S E → Type 0) (P Q : Language) → Takes A P B → Takes B Q C → Takes A (P ⋅ Q) C
-  takes_then A B C P Q f g n t h (a, b, e, p, q) =
-      rw (e, run-append n a b) (g (run step n a) b (f n a h p) q)
+  takes_then A B C P Q f g n t h (a, b, e, p, q) = grind (arith, run-append)
 
 module _ {S E : Type 0} (Prefix : S → Language) (Spec : E → Language) where
   -- what is known of the text before an outcome
@@ -36,16 +34,11 @@ module _ {S E : Type 0} (Prefix : S → Language) (Spec : E → Language) where
   OnPrefix (End v s) = Spec v
   OnPrefix Refuse = λ t. Unit {0}
 
-  pub on_cond : (b : Bool) (n : Next S E) (p : List Letter) → (b ≡ true → OnPrefix n p) → OnPrefix (cond b n Refuse) p
-  on_cond true n p h = h refl
-  on_cond false n p h = tt
-
   abbrev pub Keeps : (S → Letter → Next S E) → Type 0
   Keeps step = (s : S) (c : Letter) (p : List Letter) → Prefix s p → OnPrefix (step s c) (p ++ c ∷ [])
 
   pub kept : (step : S → Letter → Next S E) → Keeps step → (n : Next S E) (t p : List Letter) → OnPrefix n p → OnPrefix (run step n t) (p ++ t)
   kept step k n [] p h = rw append-nil h
-  kept step k (Go s) (c ∷ t) p h =
-      subst (λ x. OnPrefix (run step (step s c) t) x) (append_assoc p (c ∷ []) t) (kept step k (step s c) t (p ++ c ∷ []) (k s c p h))
+  kept step k (Go s) (c ∷ t) p h = grind (arith, append_assoc, kept step k (step s c) t (p ++ c ∷ []) (k s c p h))
   kept step k (End v s) (c ∷ t) p h = tt
   kept step k Refuse (c ∷ t) p h = tt

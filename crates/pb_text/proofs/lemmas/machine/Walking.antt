@@ -1,5 +1,5 @@
 -- A machine on the way through a statement, and what it reads after that. Offered to other crates.
-use Rattle.pb_text.proofs.Common.{◌++◌, ◌∙◌, ◌∷◌, ◌≡◌, [], append-nil, append_assoc, false, List, refl, subst, sym, true, Automaton, End, Go, Next}
+use Rattle.pb_text.proofs.Common.{arith, ◌++◌, ◌∷◌, ◌≡◌, [], append-nil, append_assoc, false, List, refl, subst, sym, true, Automaton, End, Go, Next}
 use Rattle.pb_text.proofs.Common.{ReadsStatement, Refuse, ◌⋅◌, Language, Letter}
 
 module _ {S E : Type 0} (m : Automaton S E) where
@@ -20,8 +20,7 @@ module _ {S E : Type 0} (m : Automaton S E) where
   -- one letter prepended
   pub longer : (l : Letter) (t : List Letter) (s mid after : S) (e : E) → m.step s l.byte ≡ Go mid → m.begun mid ≡ true → l.numeral ≡ m.in_number mid
       → ReadsStatement m mid t e after → ReadsStatement m s (l ∷ t) e after
-  longer l [] s mid after e g i n r = absurd r
-  longer l (k ∷ t) s mid after e g i n r = (mid, g, i, n, r)
+  longer l t s mid after e g i n r = grind arith
 
   pub reads_after : (a b : List Letter) (s mid after : S) (e : E) → Walks s a mid → ReadsStatement m mid b e after → ReadsStatement m s (a ++ b) e after
   reads_after [] b s mid after e h r = subst (λ x. ReadsStatement m x b e after) h r
@@ -33,8 +32,7 @@ module _ {S E : Type 0} (m : Automaton S E) where
 
   -- the first letter leads to the same outcome from two states
   pub same_first : (l : Letter) (t : List Letter) (s s' after : S) (e : E) → m.step s l.byte ≡ m.step s' l.byte → ReadsStatement m s' (l ∷ t) e after → ReadsStatement m s (l ∷ t) e after
-  same_first l [] s s' after e h (r, n) = (h ∙ r, n)
-  same_first l (k ∷ t) s s' after e h (mid, g, i, n, r) = (mid, h ∙ g, i, n, r)
+  same_first l t s s' after e h r = grind arith
 
   -- Each text of a language leads from old to new.
   abbrev pub Leads : S → Language → S → Type 0

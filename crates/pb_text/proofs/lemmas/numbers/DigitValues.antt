@@ -1,7 +1,6 @@
 -- The values of digits that are read one by one. Offered to other crates.
-use Rattle.pb_text.proofs.Common.{ℕ, ◌*◌, ◌++◌, ◌+◌, ◌-◌, ◌<◌, ◌∙◌, ◌∷◌, ◌≡◌, ◌≤◌, [], ap, arith, get_or, IsTrue, length, List, refl, subst, sym}
-use Rattle.pb_text.proofs.Common.{take, take_more, value_from, is_digit, Each}
-use Rattle.pb_text.proofs.lemmas.text.Languages.{each-append}
+use Rattle.pb_text.proofs.Common.{ℕ, ◌*◌, ◌++◌, ◌+◌, ◌-◌, ◌<◌, ◌∙◌, ◌∷◌, ◌≡◌, ◌≤◌, [], ap, arith, get_or, IsTrue, length, List, refl, sym, take, take_more}
+use Rattle.pb_text.proofs.Common.{value_from, is_digit, Each}
 
 abbrev pub AreDigits : List ℕ → Type 0
 AreDigits text = Each (λ d. IsTrue (is_digit d)) text
@@ -18,6 +17,3 @@ value-grows n (b ∷ text) = omega (arith, value-grows (10 * n + (b - 48)) text)
 pub value_on : (text : List ℕ) (i : ℕ) (n : ℕ) → i < length text → n ≡ value_from 0 (take i text) → 10 * n + (get_or text i 0 - 48) ≡ value_from 0 (take (i + 1) text)
 value_on text i n h e =
     ap (λ m. 10 * m + (get_or text i 0 - 48)) e ∙ (sym (value-more 0 (take i text) (get_or text i 0)) ∙ ap (value_from 0) (sym (take_more text i 0 h)))
-
-pub digits_on : (text : List ℕ) (i : ℕ) → i < length text → AreDigits (take i text) → IsTrue (is_digit (get_or text i 0)) → AreDigits (take (i + 1) text)
-digits_on text i h all e = subst AreDigits (sym (take_more text i 0 h)) (each-append (λ d. IsTrue (is_digit d)) (take i text) (get_or text i 0) all e)

@@ -1,6 +1,6 @@
 -- A machine on its way through the digits of a number. Offered to other crates.
-use Rattle.pb_text.proofs.Common.{ℕ, ◌*◌, ◌+◌, ◌<◌, ◌^◌, ◌∙◌, ◌∷◌, ◌≡◌, ◌≤◌, [], ap, arith, length, List, map, subst, suc, sym, true, zero}
-use Rattle.pb_text.proofs.Common.{le-mul_of_pos_right, pow-succ', Automaton, Go, digit, Each, Digits, value}
+use Rattle.pb_text.proofs.Common.{ℕ, ◌*◌, ◌+◌, ◌<◌, ◌^◌, ◌∙◌, ◌∷◌, ◌≡◌, ◌≤◌, [], ap, arith, length, List, map, subst, suc, sym, true, zero, le-mul_of_pos_right}
+use Rattle.pb_text.proofs.Common.{pow-succ', Automaton, Go, digit, Each, Digits, value}
 use Rattle.pb_text.proofs.lemmas.machine.Walking.{Walks, Leads}
 
 pub ten_pos : (k : ℕ) → 0 < 10 ^ k

@@ -1,10 +1,11 @@
 -- Digits that grow at their end, and those that are written. Offered to other crates.
-use Rattle.pb_text.proofs.Common.{ℕ, ◌%◌, ◌*◌, ◌++◌, ◌+◌, ◌/◌, ◌<◌, ◌^◌, ◌∙◌, ◌∷◌, ◌≡◌, ◌≤◌, [], ap, arith, length, length-append, List, map, refl}
-use Rattle.pb_text.proofs.Common.{subst, suc, sym, true, ℤ, decimal, pow-succ', pow_mono, decimal_by_steps_wide, digit, Digits, Number, value}
-use Rattle.pb_text.proofs.Common.{digits_of, Letter}
+use Rattle.pb_text.proofs.Common.{ℕ, ◌%◌, ◌*◌, ◌++◌, ◌+◌, ◌/◌, ◌<◌, ◌^◌, ◌∙◌, ◌∷◌, ◌≡◌, ◌≤◌, [], ap, arith, length, length-append, List, map, refl, subst, suc}
+use Rattle.pb_text.proofs.Common.{sym, true, ℤ, decimal, pow-succ', pow_mono, decimal_by_steps_wide, digit, Digits, Number, value, digits_of, Letter, ◌-◌}
+use Rattle.pb_text.proofs.Common.{mod-eq_of_lt, false, ◌==◌, eqb-true, ap₂, hex_byte, digit_glyph, digits, format_spec, padded_integral, hex_digit, hex_of}
 use Rattle.pb_text.specs.meaning.Limits.{largest}
 use Rattle.pb_text.specs.declared.limits.Limits.{Limits}
 use Rattle.pb_text.proofs.lemmas.text.Languages.{map-append, each-append}
+use Rattle.pb_text.proofs.lemmas.text.NameBytes.{all_below, true_at}
 
 value-append : (ds : List ℕ) (d : ℕ) → value (ds ++ d ∷ []) ≡ 10 * value ds + d
 value-append [] d = omega arith
@@ -52,3 +53,25 @@ number-within small large z h t (negative, n, i, e, k) = (negative, n, omega ari
 -- the largest number that limits allow fits an i128
 pub largest_small : (l : Limits) → largest l < 2 ^ 127
 largest_small l = let more : 2 ^ l.bits ≤ 2 ^ 127 = pow_mono l.most_bits in omega (arith, more)
+
+low : (n : ℕ) → n ≤ 2 ^ 127 → n % 2 ^ 128 ≡ n
+low n h = mod-eq_of_lt (omega arith)
+
+shifted : (k : ℕ) → k ≤ 127 → 1 * 2 ^ k % 2 ^ 128 ≡ 2 ^ k
+shifted k h = let one : 1 * 2 ^ k ≡ 2 ^ k = omega arith in ap (λ (n : ℕ). n % 2 ^ 128) one ∙ low (2 ^ k) (pow_mono h)
+
+pub largest_below : (k : ℕ) → k ≤ 127 → 1 * 2 ^ k % 2 ^ 128 - 1 < 2 ^ 127
+largest_below k h = omega (arith, shifted k h, pow_mono h)
+
+pub largest_above : (k : ℕ) → 31 ≤ k → k ≤ 127 → 2 ^ 31 ≤ 1 * 2 ^ k % 2 ^ 128 - 1 + 1
+largest_above k low high = omega (arith, shifted k high, pow_mono low)
+
+-- the hexadecimal digits of a byte
+digit_glyph-is_hex_digit : (n : ℕ) → n < 16 → digit_glyph false n ≡ hex_digit n
+unfolding all_below
+digit_glyph-is_hex_digit n small = eqb-true (digit_glyph false n) (hex_digit n) (true_at (λ k. digit_glyph false k == hex_digit k) 16 refl n small)
+
+pub hex_is_hex_of : (n : ℕ) → n < 256 → padded_integral (format_spec 32 0 4 2 (2 ^ 64 - 1)) false [] (digits 16 false n) ≡ hex_of n
+hex_is_hex_of n small =
+    hex_byte false n small
+    ∙ ap₂ (λ (high low : ℕ). high ∷ low ∷ []) (digit_glyph-is_hex_digit (n / 16) (omega arith)) (digit_glyph-is_hex_digit (n % 16) (omega arith))

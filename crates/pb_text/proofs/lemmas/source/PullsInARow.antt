@@ -1,38 +1,26 @@
 -- Consecutive pulls are a read. Offered to other crates.
-use Rattle.pb_text.proofs.Common.{ℕ, ◌++◌, ◌∙◌, ◌∷◌, ◌≡◌, [], ap, append-nil, append_assoc, ap₂, arith, Bool, Err, false, IsTrue, length}
-use Rattle.pb_text.proofs.Common.{length-append, List, None, Ok, Option, refl, Result, Some, subst, subst₂, sym, take, true, take-append_seam}
-use Rattle.pb_text.proofs.Common.{append_cancel_left, AcceptsItems, Automaton, Leads, MayAsk, is_complete, stop_of, Halts, Stands, Waits}
-use Rattle.pb_text.proofs.Common.{Feeder, Ghosts, Place, Spanned, Stop, Why, Byte, Ended, Memory, Read, TooLarge, TooLong, end_of, Pulls, Took}
-use Rattle.pb_text.proofs.Common.{HasPulled, PullsOn, Reads, bytes, Letter, IsAsking}
+use Rattle.pb_text.proofs.Common.{ℕ, ◌++◌, ◌∙◌, ◌∷◌, ◌≡◌, [], ap, append-nil, append_assoc, ap₂, arith, Bool, Err, false, IsTrue, length, length-append, List}
+use Rattle.pb_text.proofs.Common.{None, Ok, Option, refl, Result, Some, subst, subst₂, sym, take, true, take-append_seam, append_cancel_left, AcceptsItems}
+use Rattle.pb_text.proofs.Common.{Automaton, Leads, MayAsk, is_complete, stop_of, Halts, Stands, Waits, Feeder, Ghosts, Place, Spanned, Stop, Why, end_of}
+use Rattle.pb_text.proofs.Common.{Pulls, Took, HasPulled, PullsOn, Reads, bytes, Letter, IsAsking}
 use Rattle.pb_text.proofs.lemmas.text.Short.{place_after-offset}
 use Rattle.pb_text.proofs.lemmas.feeder.Reported.{stands_reads}
 
 -- what was taken before, and what was taken now
 pub took_join : (a b c : Option (List ℕ)) (x y s t : List ℕ) → Took a x s b → Took b y t c → Took a (x ++ y) t c
-took_join None b c x y s t h k = tt
-took_join (Some all) b c x y s t h k =
-    let now : Took (Some s) y t c = subst (λ (z : Option (List ℕ)). Took z y t c) h.1 k in
-    (h.0 ∙ ap (λ (z : List ℕ). x ++ z) now.0 ∙ sym (append_assoc x y t), now.1)
+took_join a b c x y s t h k = grind (arith, append_assoc)
 
 pub same_prefix : (a b x y : List ℕ) → a ++ x ≡ b ++ y → length a ≡ length b → a ≡ b
 same_prefix a b x y e n = sym (take-append_seam a x) ∙ (ap₂ (λ (k : ℕ) (z : List ℕ). take k z) n e ∙ take-append_seam b y)
 
 -- a machine that stopped is not done
 pub halted : {S E : Type 0} (m : Automaton S E) (state : S) (end : ℕ) (letters : List Letter) (left : List ℕ) (place : Place) (stop : Option Stop) (halt : Stop) → stop ≡ Some halt → Waits m state end letters left place stop → (m.done state ≡ false) × (halt.place ≡ place) × Halts m state end letters left halt.why
-halted m state end letters left place None halt e w = cc
-halted m state end letters left place (Some s) halt e w =
-    let same : s ≡ halt = cc in
-    (w.0, ap (λ (x : Stop). x.place) (sym same) ∙ w.1, subst (λ (x : Stop). Halts m state end letters left x.why) same w.2)
+halted m state end letters left place stop halt e w = grind arith
 
 -- a machine that stopped out of memory was at a byte that may allocate
 pub asking : {S E : Type 0} (m : Automaton S E) (may_ask : List ℕ → ℕ → Type 0) (state : S) (end : ℕ) (letters : List Letter) (used seen left : List ℕ) (why : Why) → left ≡ seen → ((b : ℕ) → IsTrue (m.asks state b) → may_ask used b)
     → Halts m state end letters left why → IsAsking may_ask used seen why
-asking m may_ask state end letters used seen left (Byte b) e may h = tt
-asking m may_ask state end letters used seen left TooLarge e may h = tt
-asking m may_ask state end letters used seen left Ended e may h = tt
-asking m may_ask state end letters used seen left TooLong e may h = tt
-asking m may_ask state end letters used seen left Read e may h = tt
-asking m may_ask state end letters used seen left Memory e may h = (h.0, h.1, sym e ∙ h.2, may h.0 h.4)
+asking m may_ask state end letters used seen left why e may h = grind arith
 
 module _ {M E : Type 0} {g : Ghosts M E} {longest : ℕ} {start : M} {before now after : Option (List ℕ)} {spans : List (Spanned E)} {old new : Feeder M E g} {given given' : List ℕ} (h : HasPulled longest start before spans old now) where
   module _ {result : Result (Option (Spanned E)) Stop} (p : Pulls longest start h.used spans old now result new after given given') where
@@ -47,9 +35,7 @@ module _ {M E : Type 0} {g : Ghosts M E} {longest : ℕ} {start : M} {before now
 
     -- what the machine has taken is what was taken from the source
     letters_are : (input left : List ℕ) (after_spans : List (Spanned E)) (s : Stands g.automaton longest start input after_spans new.machine new.place new.first new.stop) → input ≡ all ++ left → bytes s.letters ≡ all
-    letters_are input left after_spans s e =
-        same_prefix (bytes s.letters) all s.left left (sym s.input_is ∙ e)
-        (sym (place_after-offset (bytes s.letters)) ∙ (sym (ap (λ (q : Place). q.offset) s.place_is) ∙ offset_is))
+    letters_are input left after_spans s e = grind (arith, same_prefix, place_after-offset, offset_is)
 
     reads_now : (input left : List ℕ) (after_spans : List (Spanned E)) → Stands g.automaton longest start input after_spans new.machine new.place new.first new.stop → input ≡ all ++ left → (done : Bool) → done ≡ is_complete new
         → Reads (AcceptsItems g.automaton start) longest input all after_spans new.place done new.stop

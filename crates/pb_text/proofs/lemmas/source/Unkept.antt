@@ -1,16 +1,10 @@
 -- The stop of a whole read, under a format with the same texts. Offered to other crates.
-use Rattle.pb_text.proofs.Common.{ℕ, ◌++◌, ◌∷◌, [], List, None, Stop, Why, Byte, Ended, Memory, Read, TooLarge, TooLong, Item, IsAsking, events_at}
-use Rattle.pb_text.proofs.Common.{Keeping, Reading, StopsIn}
+use Rattle.pb_text.proofs.Common.{arith, ℕ, ◌++◌, ◌∷◌, [], List, None, Stop, Why, Item, IsAsking, events_at, Keeping, Reading, StopsIn}
 use Rattle.pb_text.proofs.lemmas.text.Formats as formats
 
 -- what may allocate under one condition may allocate under another
 pub asking_to : (may_ask MayAsk : List ℕ → ℕ → Type 0) (used seen : List ℕ) → ((b : ℕ) → may_ask used b → MayAsk used b) → (why : Why) → IsAsking may_ask used seen why → IsAsking MayAsk used seen why
-asking_to may_ask MayAsk used seen to (Byte b) h = tt
-asking_to may_ask MayAsk used seen to TooLarge h = tt
-asking_to may_ask MayAsk used seen to Ended h = tt
-asking_to may_ask MayAsk used seen to TooLong h = tt
-asking_to may_ask MayAsk used seen to Read h = tt
-asking_to may_ask MayAsk used seen to Memory (b, more, e, h) = (b, more, e, to b h)
+asking_to may_ask MayAsk used seen to why h = grind arith
 
 module _ {E : Type 0} (accepted format : List (Item E) → Type 0) (only : (items : List (Item E)) → accepted items → format items) (each : (items : List (Item E)) → format items → accepted items) (longest : ℕ)
     (may_ask MayAsk : List ℕ → ℕ → Type 0) (to : (used : List ℕ) (b : ℕ) → may_ask used b → MayAsk used b) (may_keep MayKeep : List E → E → Type 0) (keep : (events : List E) (e : E) → may_keep events e → MayKeep events e) where

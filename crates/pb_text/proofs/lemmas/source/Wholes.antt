@@ -1,6 +1,6 @@
 -- Consecutive pulls are a whole read. Offered to other crates.
-use Rattle.pb_text.proofs.Common.{ℕ, ◌++◌, ◌∙◌, ◌∷◌, ◌≡◌, [], ap, append_assoc, Bool, Err, IsTrue, List, map, None, Ok, Option, refl, Some, subst, sym}
-use Rattle.pb_text.proofs.Common.{true, AcceptsItems, Automaton, MayAsk, is_complete, Feeder, Ghosts, Place, Spanned, Stop, Memory, OfGiven, Took, HasPulled}
+use Rattle.pb_text.proofs.Common.{ℕ, ◌++◌, ◌∙◌, ◌∷◌, ◌≡◌, [], ap, append_assoc, Bool, Err, IsTrue, List, map, None, Ok, Option, refl, Some, subst, sym, true}
+use Rattle.pb_text.proofs.Common.{AcceptsItems, Automaton, MayAsk, is_complete, Feeder, Ghosts, Place, Spanned, Stop, Memory, OfGiven, Took, HasPulled}
 use Rattle.pb_text.proofs.Common.{IsSpelled, bytes, Item, spans_since, events_at, events_of, gathered, IsWhole, Keeping, MayHold, Reading, StopsIn}
 use Rattle.pb_text.specs.contract.Pulled.{PullsOnce}
 use Rattle.pb_text.specs.meaning.Spelling.{place_after}

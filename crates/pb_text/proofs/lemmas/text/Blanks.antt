@@ -1,12 +1,13 @@
 -- White space and comments, byte by byte. Offered to other crates.
-use Rattle.pb_text.proofs.Common.{ℕ, ◌&&◌, ◌++◌, ◌+◌, ◌<◌, ◌^◌, ◌||◌, ◌∙◌, ◌∷◌, ◌≡◌, ◌≢◌, ◌≤◌, ◌⊎◌, [], ap, append-nil, append_assoc, ap₂}
-use Rattle.pb_text.proofs.Common.{arith, below_more, Bool, eqb-true, false, get_or, inl, inr, IsTrue, length, length-append, List, nat_eq, not}
-use Rattle.pb_text.proofs.Common.{refl, subst, sym, take, true, slice_index, get_or-append_seam, take-append_seam, get_or_append_left, reverse-append}
-use Rattle.pb_text.proofs.Common.{take-append-le, Place, Comment, has_star, in_comment, IsBlank, IsInLine, Nothing, OpenComment, passes, White}
-use Rattle.pb_text.proofs.Common.{is_white, place_next}
+use Rattle.pb_text.proofs.Common.{ℕ, ◌&&◌, ◌++◌, ◌+◌, ◌<◌, ◌^◌, ◌||◌, ◌∙◌, ◌∷◌, ◌≡◌, ◌≢◌, ◌≤◌, [], ap, append-nil, append_assoc, ap₂, arith, below_more, Bool}
+use Rattle.pb_text.proofs.Common.{eqb-true, false, get_or, IsTrue, length, length-append, List, nat_eq, not, refl, subst, sym, take, true, slice_index}
+use Rattle.pb_text.proofs.Common.{get_or-append_seam, take-append_seam, get_or_append_left, reverse-append, take-append-le, Place, Comment, has_star}
+use Rattle.pb_text.proofs.Common.{in_comment, IsBlank, IsInLine, Nothing, OpenComment, passes, White, is_white, place_next}
 use Rattle.std.proofs.Math.Bool.{or-true}
 use Rattle.pb_text.proofs.lemmas.machine.Running.{next_bounds}
-use Rattle.pb_text.proofs.lemmas.text.Booleans.{never}
+use Rattle.std.proofs.Common.{reverse}
+use Rattle.pb_text.proofs.lemmas.text.Booleans.{by_or}
+use Rattle.pb_text.proofs.lemmas.text.Languages.{each-append}
 use Rattle.pb_text.proofs.lemmas.text.ByteTests.{white_each}
 
 -- whether a text ends in a comment, with one more byte
@@ -36,11 +37,6 @@ PassesAll-snoc text b blank h i lt = below_more (λ (k : ℕ). IsTrue (passes (t
 abbrev PassesFrom : List ℕ → List ℕ → Type 0
 PassesFrom before [] = Unit {0}
 PassesFrom before (b ∷ rest) = IsTrue (passes before b) × PassesFrom (before ++ b ∷ []) rest
-
-each_from : (text before : List ℕ) → PassesAll (before ++ text) → PassesFrom before text
-each_from [] before h = tt
-each_from (b ∷ rest) before h =
-    (passes_at before rest b h, each_from rest (before ++ b ∷ []) (subst PassesAll (sym (append_assoc before (b ∷ []) rest)) h))
 
 all_from : (text before : List ℕ) → PassesAll before → PassesFrom before text → PassesAll (before ++ text)
 all_from [] before h p = subst PassesAll (sym (append-nil before)) h
@@ -74,67 +70,36 @@ blank_from _ (OpenComment line l) before = (refl, open_from line l (before ++ 42
 pub blank_passes : (text : List ℕ) → IsBlank text → PassesAll text
 blank_passes text h = all_from text [] (λ i lt. absurd (omega arith)) (blank_from text h [])
 
--- ---- and back
--- the rest of a comment: it has no line feed, or a blank text after the first one
-abbrev EndsComment : List ℕ → Type 0
-EndsComment text = IsInLine text ⊎ ((line : List ℕ) × (rest : List ℕ) × (text ≡ line ++ 10 ∷ rest) × IsInLine line × IsBlank rest)
+-- ---- a blank text with one more byte that passes
+star_append : (xs ys : List ℕ) → has_star ys ≡ false → has_star (xs ++ ys) ≡ has_star xs
+star_append [] ys h = h
+star_append (x ∷ xs) ys h = ap (λ s. not (nat_eq x 10) && (nat_eq x 42 || s)) (star_append xs ys h)
 
-abbrev IsEither : List ℕ → Type 0
-IsEither text =
-    ((before : List ℕ) → in_comment before ≡ false → PassesFrom before text → IsBlank text)
-    × ((before : List ℕ) → in_comment before ≡ true → PassesFrom before text → EndsComment text)
+-- white space, or a whole comment, before a text does not change whether it ends in a comment
+after_white : (b : ℕ) (rest : List ℕ) → IsTrue (is_white b) → in_comment (b ∷ rest) ≡ in_comment rest
+after_white b rest w =
+    ap has_star (reverse-append (b ∷ []) rest)
+    ∙ star_append (reverse rest) (b ∷ []) (white_each (λ x. (not (nat_eq x 10) && (nat_eq x 42 || false)) ≡ false) refl refl refl refl b w)
 
-module _ (b : ℕ) (rest : List ℕ) (following : IsEither rest) (before : List ℕ) where
-  commented : EndsComment rest → b ≡ 42 → IsBlank (b ∷ rest)
-  commented (inl l) e = subst (λ (x : ℕ). IsBlank (x ∷ rest)) (sym e) (OpenComment rest l)
-  commented (inr (line, more, is, l, h)) e =
-      subst (λ (x : ℕ). IsBlank (x ∷ rest)) (sym e) (subst (λ (x : List ℕ). IsBlank (42 ∷ x)) (sym is) (Comment line more l h))
+after_line : (line rest : List ℕ) → in_comment (42 ∷ (line ++ 10 ∷ rest)) ≡ in_comment rest
+after_line line rest =
+    ap in_comment (sym (append_assoc (42 ∷ line) (10 ∷ []) rest)) ∙ (ap has_star (reverse-append ((42 ∷ line) ++ 10 ∷ []) rest)
+    ∙ star_append (reverse rest) (reverse ((42 ∷ line) ++ 10 ∷ [])) (ap has_star (reverse-append (42 ∷ line) (10 ∷ []))))
 
-  outside : in_comment before ≡ false → IsTrue (passes before b) → PassesFrom (before ++ b ∷ []) rest → IsBlank (b ∷ rest)
-  outside c p h = by_white (is_white b) refl
-    where
-      after_white : is_white b ≡ true → in_comment (before ++ b ∷ []) ≡ false
-      after_white w =
-          in_comment-snoc before b ∙ (ap (λ x. not (nat_eq b 10) && (nat_eq b 42 || x)) c ∙ white_each (λ x. (not (nat_eq x 10) && (nat_eq x 42 || false)) ≡ false) refl refl refl refl b w)
-
-      by_star : is_white b ≡ false → (x : Bool) → nat_eq b 42 ≡ x → IsBlank (b ∷ rest)
-      by_star w true e =
-          let is : b ≡ 42 = eqb-true b 42 e in
-          let starred : in_comment (before ++ b ∷ []) ≡ true = subst (λ (x : ℕ). in_comment (before ++ x ∷ []) ≡ true) (sym is) (in_comment-snoc before 42) in
-          commented (following.1 (before ++ b ∷ []) starred h) is
-      by_star w false e = never (passes before b) p (ap₂ (λ (x y : Bool). (x || y) || in_comment before) w e ∙ c)
-
-      by_white : (x : Bool) → is_white b ≡ x → IsBlank (b ∷ rest)
-      by_white true w = White b rest w (following.0 (before ++ b ∷ []) (after_white w) h)
-      by_white false w = by_star w (nat_eq b 42) refl
-
-  inside : in_comment before ≡ true → PassesFrom (before ++ b ∷ []) rest → EndsComment (b ∷ rest)
-  inside c h = by_feed (nat_eq b 10) refl
-    where
-      with_byte : IsTrue (not (nat_eq b 10)) → EndsComment rest → EndsComment (b ∷ rest)
-      with_byte n (inl l) = inl (n, l)
-      with_byte n (inr (line, more, is, l, k)) = inr (b ∷ line, more, ap (λ (x : List ℕ). b ∷ x) is, (n, l), k)
-
-      by_feed : (x : Bool) → nat_eq b 10 ≡ x → EndsComment (b ∷ rest)
-      by_feed true e =
-          let fed : in_comment (before ++ b ∷ []) ≡ false = in_comment-snoc before b ∙ ap (λ x. not x && (nat_eq b 42 || in_comment before)) e in
-          inr ([], rest, ap (λ (x : ℕ). x ∷ rest) (eqb-true b 10 e), tt, following.0 (before ++ b ∷ []) fed h)
-      by_feed false e =
-          let n : IsTrue (not (nat_eq b 10)) = ap not e in
-          with_byte n (following.1 (before ++ b ∷ []) (stays before b n c) h)
-
-either_way : (text : List ℕ) → IsEither text
-either_way [] = ((λ before c h. Nothing), (λ before c h. inl tt))
-either_way (b ∷ rest) =
-    let following = either_way rest in
-    ((λ before c h. outside b rest following before c h.0 h.1), (λ before c h. inside b rest following before c h.1))
-
-pub passes_blank : (text : List ℕ) → PassesAll text → IsBlank text
-passes_blank text h = (either_way text).0 [] refl (each_from text [] h)
-
--- a blank text with one more byte that passes
 pub IsBlank-snoc : (text : List ℕ) (b : ℕ) → IsBlank text → IsTrue (passes text b) → IsBlank (text ++ b ∷ [])
-IsBlank-snoc text b blank h = passes_blank (text ++ b ∷ []) (PassesAll-snoc text b (blank_passes text blank) h)
+IsBlank-snoc _ b Nothing p =
+    by_or (is_white b) (nat_eq b 42) (by_or (is_white b || nat_eq b 42) false p (λ h. h) (λ h. cc h)) (λ w. White b [] w Nothing)
+    (λ e. subst (λ x. IsBlank (x ∷ [])) (sym (eqb-true b 42 e)) (OpenComment [] tt))
+IsBlank-snoc _ b (White c rest w h) p =
+    White c (rest ++ b ∷ []) w (IsBlank-snoc rest b h (subst (λ x. IsTrue ((is_white b || nat_eq b 42) || x)) (after_white c rest w) p))
+IsBlank-snoc _ b (Comment line rest l h) p =
+    subst (λ x. IsBlank (42 ∷ x)) (sym (append_assoc line (10 ∷ rest) (b ∷ [])))
+    (Comment line (rest ++ b ∷ []) l (IsBlank-snoc rest b h (subst (λ x. IsTrue ((is_white b || nat_eq b 42) || x)) (after_line line rest) p)))
+IsBlank-snoc _ b (OpenComment line l) p = by_feed (nat_eq b 10) refl
+  where
+    by_feed : (x : Bool) → nat_eq b 10 ≡ x → IsBlank (42 ∷ (line ++ b ∷ []))
+    by_feed true e = subst (λ x. IsBlank (42 ∷ (line ++ x ∷ []))) (sym (eqb-true b 10 e)) (Comment line [] l Nothing)
+    by_feed false e = OpenComment (line ++ b ∷ []) (each-append (λ x. IsTrue (not (nat_eq x 10))) line b l (ap not e))
 
 -- the next position stays within the bounds
 pub next_within : (p : Place) (b : ℕ) (q : Place) → q ≡ place_next p b → p.offset ≤ 2 ^ 40 → p.offset ≢ 2 ^ 40 → p.line ≤ p.offset + (2 ^ 40 + 1) → p.column ≤ p.offset + (2 ^ 40 + 1)

@@ -1,6 +1,6 @@
 -- Tests of bytes: blanks and white space byte by byte, and the bytes of digits and names. Offered to other crates.
-use Rattle.pb_text.proofs.Common.{ℕ, ◌+◌, ◌-◌, ◌<◌, ◌≡◌, ◌≤◌, arith, eqb-true, false, IsTrue, nat_eq, refl, subst, sym, true, nat_tests}
-use Rattle.pb_text.proofs.Common.{is_blank, is_digit, is_letter, is_name_byte, is_white}
+use Rattle.pb_text.proofs.Common.{ℕ, ◌+◌, ◌-◌, ◌<◌, ◌≡◌, ◌≤◌, arith, eqb-true, false, IsTrue, refl, true, nat_tests, is_blank, is_digit, is_letter}
+use Rattle.pb_text.proofs.Common.{is_name_byte, is_white}
 use Rattle.pb_text.proofs.lemmas.text.Booleans.{by_or}
 
 -- one of three bytes
@@ -9,8 +9,7 @@ blank_each P space tab return b h = grind (arith, by_or, eqb-true)
 
 -- one of four bytes
 pub white_each : (P : ℕ → Type 0) → P 32 → P 9 → P 13 → P 10 → (b : ℕ) → is_white b ≡ true → P b
-white_each P space tab return feed b h =
-    by_or (is_blank b) (nat_eq b 10) h (blank_each P space tab return b) (λ e. subst P (sym (eqb-true b 10 e)) feed)
+white_each P space tab return feed b h = grind (arith, by_or, blank_each, eqb-true)
 
 -- digits
 pub digit_byte : (d : ℕ) → d < 10 → is_digit (48 + d) ≡ true

@@ -1,10 +1,10 @@
 -- In all texts that begin with the same prefix, the spans that end within it are the same. Offered to other crates.
-use Rattle.pb_text.proofs.Common.{ℕ, ◌++◌, ◌+◌, ◌∙◌, ◌∷◌, ◌≡◌, [], ap, arith, cond, false, length, length-append, List, nat_le, None, Option}
-use Rattle.pb_text.proofs.Common.{sym, AcceptsItems, Automaton, opened, Place, Spanned, ended_within, HasFixedSpans, bytes_of}
-use Rattle.pb_text.proofs.Common.{Item, Letter, place_after, spans_since}
-use Rattle.pb_text.proofs.lemmas.feeder.Answer.{not_ended}
+use Rattle.pb_text.proofs.Common.{Next, Go, End, Refuse, ℕ, ◌++◌, ◌+◌, ◌∙◌, ◌∷◌, ◌≡◌, [], ap, arith, cond, false, length, length-append, List, nat_le, None}
+use Rattle.pb_text.proofs.Common.{Option, sym, AcceptsItems, Automaton, opened, Place, Spanned, ended_within, HasFixedSpans, bytes_of, Item, place_after}
+use Rattle.pb_text.proofs.Common.{spans_since}
+use Rattle.pb_text.proofs.lemmas.feeder.Reported.{not_ended}
 use Rattle.pb_text.proofs.lemmas.text.Lists.{span, put_spans, last_advances}
-use Rattle.pb_text.proofs.lemmas.machine.Residual.{Moved, Goes, Ends, letter, moved, after_go, after_end, has_text}
+use Rattle.pb_text.proofs.lemmas.machine.Residual.{After, letter, moved, has_text}
 
 module _ {S E : Type 0} (m : Automaton S E) where
   -- one more span prepended
@@ -16,23 +16,21 @@ module _ {S E : Type 0} (m : Automaton S E) where
   Known prefix = (s : S) (first : Option Place) (before : List ℕ) (items items' : List (Item E)) (rest rest' : List ℕ) (n : ℕ) → AcceptsItems m s items → AcceptsItems m s items' → bytes_of items ≡ prefix ++ rest → bytes_of items' ≡ prefix ++ rest' → n ≡ length before + length prefix
       → ended_within n (spans_since first before items) ≡ ended_within n (spans_since first before items')
 
-  module _ (s : S) (b : ℕ) (prefix : List ℕ) (known : Known prefix) (first : Option Place) (before : List ℕ) (items items' : List (Item E)) (rest rest' : List ℕ) (n : ℕ) (is : n ≡ length before + length (b ∷ prefix)) where
+  module _ (b : ℕ) (prefix : List ℕ) (known : Known prefix) (first : Option Place) (before : List ℕ) (items items' : List (Item E)) (rest rest' : List ℕ) (n : ℕ) (is : n ≡ length before + length (b ∷ prefix)) where
     longer : n ≡ length (before ++ b ∷ []) + length prefix
     longer = omega (arith, is, length-append before (b ∷ []))
 
-    both : Moved m s b items (prefix ++ rest) → AcceptsItems m s items' → bytes_of items' ≡ b ∷ (prefix ++ rest') → ended_within n (spans_since first before items) ≡ ended_within n (spans_since first before items')
-    both (Goes next later h p a e) k g =
-        let (later', q, k', g') = after_go m s next b items' (prefix ++ rest') k g h in
-        let l : Letter = letter m b next in
-        ap (ended_within n) (put_spans (m.begun next) l before first later items p)
-        ∙ (known next (opened first (m.begun next) (place_after before)) (before ++ b ∷ []) later later' rest rest' n a k' e g' longer
-        ∙ ap (ended_within n) (sym (put_spans (m.begun next) l before first later' items' q)))
-    both (Ends next later x h p a e) k g =
-        let (later', q, k', g') = after_end m s next b x items' (prefix ++ rest') k g h in
+    both : (o : Next S E) → After m o b items (prefix ++ rest) → After m o b items' (prefix ++ rest') → ended_within n (spans_since first before items) ≡ ended_within n (spans_since first before items')
+    both (Go next) (later, p, a, e) (later', q, k, g) =
+        ap (ended_within n) (put_spans (m.begun next) (letter m b next) before first later items p)
+        ∙ (known next (opened first (m.begun next) (place_after before)) (before ++ b ∷ []) later later' rest rest' n a k e g longer
+        ∙ ap (ended_within n) (sym (put_spans (m.begun next) (letter m b next) before first later' items' q)))
+    both (End x next) (later, p, a, e) (later', q, k, g) =
         let v = last_advances (record { byte = b; numeral = false }) x before first in
         ap (ended_within n) (v.spans_are later items p)
-        ∙ (with_span n (span first before b x) _ _ (known next None (before ++ b ∷ []) later later' rest rest' n a k' e g' longer)
+        ∙ (with_span n (span first before b x) _ _ (known next None (before ++ b ∷ []) later later' rest rest' n a k e g longer)
         ∙ ap (ended_within n) (sym (v.spans_are later' items' q)))
+    both Refuse h k = absurd h
 
   -- no statement has ended before its first byte
   none_yet : (s : S) (first : Option Place) (before : List ℕ) (items : List (Item E)) (n : ℕ) → AcceptsItems m s items → n ≡ length before + length {A = ℕ} [] → ended_within n (spans_since first before items) ≡ []
@@ -42,10 +40,9 @@ module _ {S E : Type 0} (m : Automaton S E) where
       ∙ not_ended (AcceptsItems m s) (λ i later h. has_text m h.0 h.1 i.text i.event h.3) first before items a
 
   seen : (prefix : List ℕ) → Known prefix
-  seen [] s first before items items' rest rest' n a a' e e' is =
-      none_yet s first before items n a is ∙ sym (none_yet s first before items' n a' is)
+  seen [] s first before items items' rest rest' n a a' e e' is = grind (arith, none_yet)
   seen (b ∷ prefix) s first before items items' rest rest' n a a' e e' is =
-      both s b prefix (seen prefix) first before items items' rest rest' n is (moved m s b items (prefix ++ rest) a e) a' e'
+      both b prefix (seen prefix) first before items items' rest rest' n is (m.step s b) (moved m s b items (prefix ++ rest) a e) (moved m s b items' (prefix ++ rest') a' e')
 
   pub fixed_spans : (start : S) → HasFixedSpans (AcceptsItems m start)
   fixed_spans start prefix items items' a a' f f' = seen prefix start None [] items items' f.0 f'.0 (length prefix) a a' f.1 f'.1 (omega arith)

@@ -1,6 +1,6 @@
 -- Texts that grow at their end, within languages. Offered to other crates.
-use Rattle.pb_text.proofs.Common.{ℕ, ◌++◌, ◌∙◌, ◌∷◌, ◌≡◌, [], ap, append-nil, append_assoc, List, map, refl, subst, sym, ◌⋅◌, Each, Empty, Language}
-use Rattle.pb_text.proofs.Common.{Many, unmarked, bytes, digits_of, Letter, plain}
+use Rattle.pb_text.proofs.Common.{arith, rules, ◌+◌, ◌<◌, get_or, length, take, take_more, ℕ, ◌++◌, ◌∙◌, ◌∷◌, ◌≡◌, [], ap, append-nil, append_assoc, List, map}
+use Rattle.pb_text.proofs.Common.{refl, subst, sym, ◌⋅◌, Each, Empty, Language, Many, unmarked, bytes, digits_of, Letter, plain}
 use Rattle.pb_text.specs.meaning.Languages.{Some as OneOrMore}
 
 -- Languages: the last part grows, or a new part begins.
@@ -14,8 +14,7 @@ pub none_yet : (P Q : Language) (p : List Letter) → Q [] → P p → (P ⋅ Q)
 none_yet P Q p k h = (p, [], sym (append-nil p), h, k)
 
 pub regroup : (P Q R : Language) (p : List Letter) → (P ⋅ Q ⋅ R) p → (P ⋅ (Q ⋅ R)) p
-regroup P Q R p (ab, c, e, (a, b, f, h, i), k) =
-    (a, b ++ c, e ∙ (ap (λ x. x ++ c) f ∙ append_assoc a b c), h, (b, c, refl, i, k))
+regroup P Q R p (ab, c, e, (a, b, f, h, i), k) = grind (arith, append_assoc)
 
 pub regroup⁻¹ : (P Q R : Language) (p : List Letter) → (P ⋅ (Q ⋅ R)) p → (P ⋅ Q ⋅ R) p
 regroup⁻¹ P Q R p (a, bc, e, h, (b, c, f, i, k)) =
@@ -35,6 +34,10 @@ pub each-append : (P : ℕ → Type 0) (bs : List ℕ) (b : ℕ) → Each P bs �
 each-append P [] b h k = (k, tt)
 each-append P (x ∷ bs) b h k = (h.0, each-append P bs b h.1 k)
 
+-- the next of the bytes of a text
+pub each_on : (P : ℕ → Type 0) (text : List ℕ) (i : ℕ) → i < length text → Each P (take i text) → P (get_or text i 0) → Each P (take (i + 1) text)
+each_on P text i h all e = rw (take_more text i 0 h) (each-append P (take i text) (get_or text i 0) all e)
+
 -- spaces
 pub many-grown : (P : ℕ → Type 0) (b : ℕ) (c : Letter) → c ≡ unmarked b → P b → (q : List Letter) → Many P q → Many P (q ++ c ∷ [])
 many-grown P b c e k q (bs, h, f) =
@@ -51,8 +54,7 @@ pub some-many : (P : ℕ → Type 0) (q : List Letter) → OneOrMore P q → Man
 some-many P q (b, bs, i, h, f) = (b ∷ bs, (i, h), f)
 
 pub regroup3 : (A B C D : Language) (p : List Letter) → (A ⋅ B ⋅ C ⋅ D) p → (A ⋅ (B ⋅ C ⋅ D)) p
-regroup3 A B C D p h =
-    regroup A (B ⋅ C) D p (inside (A ⋅ B ⋅ C) (A ⋅ (B ⋅ C)) D p (regroup A B C) h)
+regroup3 A B C D p h = search (rules, regroup, inside)
 
 pub nil_first : (P : Language) (p : List Letter) → (Empty ⋅ P) p → P p
 nil_first P p (a, b, e, h, k) = let f : p ≡ b = e ∙ ap (λ x. x ++ b) h in subst P (sym f) k

@@ -1,6 +1,6 @@
 -- The letters of bytes, and words that grow letter by letter. Offered to other crates.
-use Rattle.pb_text.proofs.Common.{ℕ, ◌++◌, ◌+◌, ◌-◌, ◌<◌, ◌∙◌, ◌∷◌, ◌≡◌, [], add-one, ap, arith, false, length, List, nat_eq, refl, subst, sym, take}
-use Rattle.pb_text.proofs.Common.{true, slice_index, take-suc, nat_tests, take_all, is_digit, Bytes, digit, unmarked, Letter, plain}
+use Rattle.pb_text.proofs.Common.{ℕ, ◌++◌, ◌+◌, ◌-◌, ◌<◌, ◌∙◌, ◌∷◌, ◌≡◌, [], add-one, ap, arith, false, length, List, nat_eq, refl, subst, sym, take, true}
+use Rattle.pb_text.proofs.Common.{slice_index, take-suc, nat_tests, take_all, is_digit, Bytes, digit, unmarked, Letter, plain}
 use Rattle.pb_text.proofs.lemmas.text.ByteTests.{digit_of}
 use Rattle.pb_text.proofs.lemmas.text.Languages.{map-append}
 

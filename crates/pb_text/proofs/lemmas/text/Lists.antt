@@ -1,7 +1,7 @@
 -- Lists, letters and spans. Offered to other crates.
 use Rattle.pb_text.proofs.Common.{ℕ, ◌++◌, ◌+◌, ◌<◌, ◌∙◌, ◌∷◌, ◌≡◌, [], ap, append-nil, append_assoc, Bool, drop, false, get_or, length, List, None, arith}
-use Rattle.pb_text.proofs.Common.{Option, refl, Some, sym, take, true, drop_more, length-map, take_more, opened, Place, Spanned, bytes, Item, Letter}
-use Rattle.pb_text.proofs.Common.{letters_of, place_after, place_or, plain, spans_since}
+use Rattle.pb_text.proofs.Common.{Option, sym, take, drop_more, length-map, take_more, opened, Place, Spanned, bytes, Item, Letter, letters_of, place_after}
+use Rattle.pb_text.proofs.Common.{place_or, spans_since}
 use Rattle.pb_text.proofs.lemmas.machine.Residual.{Put, PutLast}
 
 pub length-bytes : (ls : List Letter) → length (bytes ls) ≡ length ls
@@ -21,19 +21,11 @@ pub record Advances {E : Type 0} (put : List (Item E) → List (Item E) → Type
   pub spans_are : (later items : List (Item E)) → put later items → spans_since first before items ≡ new ++ spans_since first' (before ++ l.byte ∷ []) later
 
 put_letters : {E : Type 0} (inside : Bool) (l : Letter) → (inside ≡ false → l.numeral ≡ false) → (later items : List (Item E)) → Put inside l later items → letters_of items ≡ l ∷ letters_of later
-put_letters inside l out [] items h = absurd h
-put_letters true l out (i ∷ rest) items h =
-    ap letters_of h.1 ∙ ap (λ (g : List ℕ). l ∷ (plain g ++ (i.text ++ letters_of rest))) (sym h.0)
-put_letters false l out (i ∷ rest) items h =
-    ap letters_of h ∙ ap (λ (n : Bool). (let m : Letter = record { byte = l.byte; numeral = n } in m) ∷ letters_of (i ∷ rest)) (sym (out refl))
+put_letters inside l out later items h = grind arith
 
 pub put_spans : {E : Type 0} (inside : Bool) (l : Letter) (before : List ℕ) (first : Option Place) (later items : List (Item E)) → Put inside l later items
     → spans_since first before items ≡ spans_since (opened first inside (place_after before)) (before ++ l.byte ∷ []) later
-put_spans inside l before first [] items h = absurd h
-put_spans true l before (Some p) (i ∷ rest) items h = ap (spans_since (Some p) before) h.1 ∙ simp (h.0, append_assoc) refl
-put_spans true l before None (i ∷ rest) items h = ap (spans_since None before) h.1 ∙ simp (h.0, append_assoc, append-nil) refl
-put_spans false l before (Some p) (i ∷ rest) items h = ap (spans_since (Some p) before) h ∙ simp append_assoc refl
-put_spans false l before None (i ∷ rest) items h = ap (spans_since None before) h ∙ simp append_assoc refl
+put_spans inside l before first later items h = grind (arith, append_assoc, append-nil)
 
 pub put_advances : {E : Type 0} (inside : Bool) (l : Letter) (before : List ℕ) (first : Option Place) → (inside ≡ false → l.numeral ≡ false) → Advances {E = E} (Put inside l) l before first [] (opened first inside (place_after before))
 put_advances inside l before first out = grind (arith, put_letters, put_spans)

@@ -1,6 +1,5 @@
 -- The table of name bytes, compared with the definition at each byte by computing. Offered to other crates.
-use Rattle.pb_text.proofs.Common.{ℕ, ◌&&◌, ◌<◌, ◌≡◌, arith, Bool, false, get_or, inl, inr, List, nat_eq, not, refl, suc, true, zero, cases_eq}
-use Rattle.pb_text.proofs.Common.{nat_tests, is_name_byte}
+use Rattle.pb_text.proofs.Common.{ℕ, ◌&&◌, ◌<◌, ◌≡◌, arith, Bool, get_or, inl, inr, List, nat_eq, not, refl, suc, true, zero, cases_eq, nat_tests, is_name_byte}
 use Rattle.std.specs.Bool.{beq}
 use Rattle.pb_text.proofs.lemmas.text.Booleans.{of_both}
 use Rattle.pb_text.specs.declared.bytes.TheConstants.{NAME_BYTES}
@@ -18,10 +17,7 @@ true_at t (suc n) h b lt =
     elim (cases_eq b n) [ inl same ↦ rw same both.0 | inr other ↦ true_at t n both.1 b (omega arith) ]
 
 same_tests : (x y : Bool) → beq x y ≡ true → x ≡ y
-same_tests true true h = refl
-same_tests true false h = cc h
-same_tests false true h = cc h
-same_tests false false h = refl
+same_tests x y h = grind arith
 
 from_table : (table : List ℕ) (b : ℕ) → b < 256 → all_below (λ k. beq (not (nat_eq (get_or table k 0) 44)) (is_name_byte k)) 256 ≡ true
     → not (nat_eq (get_or table b 0) 44) ≡ is_name_byte b

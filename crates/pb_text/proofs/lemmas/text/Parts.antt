@@ -1,5 +1,5 @@
 -- Texts that are written in parts. Offered to other crates.
-use Rattle.pb_text.proofs.Common.{ℕ, ◌++◌, ◌≡◌, Err, List, Ok, Option, Result, subst, sym, IsErr, Failed, Broke, Writes, Wrote}
+use Rattle.pb_text.proofs.Common.{arith, ℕ, ◌++◌, ◌≡◌, List, Ok, Option, Result, subst, sym, IsErr, Failed, Broke, Writes, Wrote}
 use Rattle.pb_text.proofs.lemmas.text.Writing.{writes_then, broke_more}
 
 module _ {S : Type 0} (contents : S → Option (List ℕ)) (faults : S → ℕ) where
@@ -9,8 +9,7 @@ module _ {S : Type 0} (contents : S → Option (List ℕ)) (faults : S → ℕ) 
 
   -- a fault in the first part
   pub part_broke : (a b : S) (x y t : List ℕ) (r : Result Unit Failed) → t ≡ x ++ y → IsErr r → Broke contents faults a x b → Writes contents faults a t r b
-  part_broke a b x y t (Ok u) e i h = cc
-  part_broke a b x y t (Err f) e i h = subst (λ (z : List ℕ). Broke contents faults a z b) (sym e) (broke_more contents faults a b x y h)
+  part_broke a b x y t r e i h = grind (arith, broke_more)
 
   -- a first part, and then a second one
   pub part_wrote : (a b c : S) (x y t : List ℕ) → t ≡ x ++ y → Wrote contents faults a x b → Wrote contents faults b y c → Wrote contents faults a t c

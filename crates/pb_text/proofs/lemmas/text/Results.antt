@@ -1,21 +1,17 @@
 -- What is known of a result, given whether it is an error. Offered to other crates.
-use Rattle.pb_text.proofs.Common.{◌≡◌, Err, false, Ok, Result, true, if◌then◌else◌, is_err, is_ok, OnErr, OnOk}
+use Rattle.pb_text.proofs.Common.{arith, ◌≡◌, Err, false, Ok, Result, true, if◌then◌else◌, is_err, is_ok, OnErr, OnOk}
 
 pub when_ok : {T E : Type 0} (r : Result T E) (P : Type 0) → OnOk r P → is_err r ≡ false → P
-when_ok (Ok x) P h e = h
-when_ok (Err x) P h e = cc
+when_ok r P h e = grind arith
 
 pub when_err : {T E : Type 0} (r : Result T E) (P : Type 0) → OnErr r P → is_err r ≡ true → P
-when_err (Ok x) P h e = cc
-when_err (Err x) P h e = h
+when_err r P h e = grind arith
 
 pub unchanged : {T E A : Type 0} (r : Result T E) (new more old : A) → new ≡ (if is_ok r then more else old) → is_err r ≡ true → new ≡ old
-unchanged (Ok x) new more old h e = cc
-unchanged (Err x) new more old h e = h
+unchanged r new more old h e = grind arith
 
 pub grown : {T E A : Type 0} (r : Result T E) (new more old : A) → new ≡ (if is_ok r then more else old) → is_err r ≡ false → new ≡ more
-grown (Ok x) new more old h e = h
-grown (Err x) new more old h e = cc
+grown r new more old h e = grind arith
 
 pub ok_or_err : {T E A : Type 0} {x : T} {y : E} → ◌≡◌ {A = Result T E} (Ok x) (Err y) → A
 ok_or_err e = cc

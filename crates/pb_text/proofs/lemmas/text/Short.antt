@@ -1,16 +1,17 @@
 -- The bytes of a text that belong to statements. Offered to other crates.
-use Rattle.pb_text.proofs.Common.{ℕ, ◌++◌, ◌-◌, ◌<◌, ◌∙◌, ◌∷◌, ◌≡◌, ◌≤◌, [], ap, arith, Bool, cond, inl, inr, le-leb, length, length-append, List}
-use Rattle.pb_text.proofs.Common.{None, Option, refl, Some, EndBy, Place, Spanned, end_of, AreShort, byte_limit, open_bytes, Overruns, bytes, Item}
-use Rattle.pb_text.proofs.Common.{spans_since}
+use Rattle.pb_text.proofs.Common.{ℕ, ◌++◌, ◌-◌, ◌<◌, ◌∙◌, ◌∷◌, ◌≡◌, ◌≤◌, [], ap, arith, Bool, cond, inl, inr, le-leb, length, length-append, List, None, Option}
+use Rattle.pb_text.proofs.Common.{refl, Some, EndBy, Place, Spanned, end_of, AreShort, byte_limit, open_bytes, Overruns, bytes, Item, spans_since, ◌+◌, ◌==◌}
+use Rattle.pb_text.proofs.Common.{count_by, not, zero-add, reverse-append, place_next}
 use Rattle.pb_text.specs.meaning.Spelling.{place_after}
+use Rattle.std.proofs.lemmas.List.Sums.{sum_by-append}
+use Rattle.std.specs.List.{suffix_len, prefix_len}
 
 pub place_after-offset : (text : List ℕ) → (place_after text).offset ≡ length text
 unfolding place_after
 place_after-offset text = refl
 
 pub end_limit : (longest : ℕ) (q : Option Place) → end_of longest q ≤ byte_limit
-end_limit longest None = omega arith
-end_limit longest (Some p) = omega arith
+end_limit longest q = grind arith
 
 pub gap_longer : (before gap : List ℕ) → length before ≤ (place_after (before ++ gap)).offset
 gap_longer before gap = omega (arith, place_after-offset (before ++ gap), length-append before gap)
@@ -62,3 +63,21 @@ begun_bytes n (Some first) = n - first.offset
 pub open-ended : {E : Type 0} (n : ℕ) (a b : List (Spanned E)) → EndBy n a → open_bytes n (a ++ b) ≡ open_bytes n b
 open-ended n [] b e = refl
 open-ended n (m ∷ a) b e = ap (λ (t : Bool). cond t (open_bytes n (a ++ b)) (n - m.first.offset)) (le-leb m.past.offset n e.0) ∙ open-ended n a b e.1
+
+abbrev is_feed : ℕ → Bool
+is_feed b = b == 10
+
+lines_snoc : (text : List ℕ) (b : ℕ) → count_by is_feed (text ++ b ∷ []) ≡ count_by is_feed text + cond (is_feed b) 1 0
+lines_snoc text b = sum_by-append (λ x. cond (is_feed x) 1 0) text (b ∷ []) ∙ ap (λ (k : ℕ). count_by is_feed text + k) (zero-add (cond (is_feed b) 1 0))
+
+suffix_snoc : (text : List ℕ) (b : ℕ) → suffix_len (λ x. not (is_feed x)) (text ++ b ∷ []) ≡ cond (not (is_feed b)) (1 + suffix_len (λ x. not (is_feed x)) text) 0
+suffix_snoc text b = ap (prefix_len (λ x. not (is_feed x))) (reverse-append text (b ∷ []))
+
+by_feed : (feed : Bool) (lines column offset : ℕ) → (let p : Place = record { line = 1 + (lines + cond feed 1 0); column = 1 + cond (not feed) (1 + column) 0; offset = offset + 1 } in p)
+    ≡ cond feed (record { line = 1 + lines + 1; column = 1; offset = offset + 1 }) (record { line = 1 + lines; column = 1 + column + 1; offset = offset + 1 })
+by_feed feed lines column offset = grind arith
+
+pub place_after-snoc : (text : List ℕ) (b : ℕ) → place_after (text ++ b ∷ []) ≡ place_next (place_after text) b
+unfolding place_after
+place_after-snoc text b =
+    rw (lines_snoc text b, suffix_snoc text b, length-append text (b ∷ [])) (by_feed (is_feed b) (count_by is_feed text) (suffix_len (λ x. not (is_feed x)) text) (length text))

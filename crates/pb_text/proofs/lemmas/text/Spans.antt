@@ -1,6 +1,6 @@
 -- Consecutive runs. Offered to other crates.
-use Rattle.pb_text.proofs.Common.{ℕ, ◌++◌, ◌+◌, ◌-◌, ◌<◌, ◌∙◌, ◌∷◌, ◌≡◌, [], ap, append_assoc, drop, get_or, length, length-drop, List, subst, sym}
-use Rattle.pb_text.proofs.Common.{take, take-add, take-length, take_more, Automaton, Runs}
+use Rattle.pb_text.proofs.Common.{arith, ℕ, ◌++◌, ◌+◌, ◌-◌, ◌<◌, ◌∙◌, ◌∷◌, ◌≡◌, [], ap, append_assoc, drop, get_or, length, length-drop, List, subst, sym, take}
+use Rattle.pb_text.proofs.Common.{take-add, take-length, take_more, Automaton, Runs}
 
 -- the whole rest after a position
 pub all_rest : (piece : List ℕ) (i : ℕ) → take (length piece - i) (drop i piece) ≡ drop i piece
@@ -23,5 +23,4 @@ module _ {S E : Type 0} (m : Automaton S E) where
   -- a run over a prefix of a piece, followed by one over a prefix of the rest
   pub runs_further : (old : S) (piece : List ℕ) (i j : ℕ) (mid new : S) → Runs m old (take i piece) mid → Runs m mid (take j (take (length piece - i) (drop i piece))) new
       → Runs m old (take (i + j) piece) new
-  runs_further old piece i j mid new first rest =
-      subst (λ (xs : List ℕ). Runs m old xs new) (sym (prefix_parts piece i j)) (runs_join old (take i piece) mid (take j (take (length piece - i) (drop i piece))) new first rest)
+  runs_further old piece i j mid new first rest = grind (arith, prefix_parts, runs_join)

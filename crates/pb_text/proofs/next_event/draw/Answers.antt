@@ -1,11 +1,7 @@
-use Rattle.pb_text.proofs.Common.{◌∙◌, ap, append-nil, append_assoc, refl, Place, arith}
-use Rattle.pb_text.proofs.lemmas.feeder.Begin.{running, stands_failed}
-use Rattle.pb_text.proofs.lemmas.source.Drawn.{draws_poured, draws_join}
-use Rattle.pb_text.proofs.lemmas.source.Pulled.{seen_after}
+use Rattle.pb_text.proofs.Common.{◌∙◌, ap, append-nil, append_assoc, refl, Place}
+use Rattle.pb_text.proofs.lemmas.feeder.Steps.{running, stands_failed}
+use Rattle.pb_text.proofs.lemmas.source.Drawn.{draws_poured, draws_join, seen_after}
 use Rattle.pb_text.proofs.next_event.draw.Goals as goal
-
-pub returns-in-Ok-Some-clause-draws : goal.returns-in-Ok-Some-clause-draws
-returns-in-Ok-Some-clause-draws g c = grind (arith, c.in-Ok-Some.is, c.pour.ensures, draws_poured)
 
 pub returns-in-Ok-None-clause-draws : goal.returns-in-Ok-None-clause-draws
 returns-in-Ok-None-clause-draws g c =

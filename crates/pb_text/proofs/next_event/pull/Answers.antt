@@ -1,20 +1,11 @@
-use Rattle.pb_text.proofs.Common.{arith, Err, None, Ok, refl, Some, sym}
-use Rattle.pb_text.proofs.lemmas.source.Drawn.{draws_none, draws_join, pulls_nothing, pulls_event, pulls_stop}
+use Rattle.pb_text.proofs.Common.{Err, None, Ok, refl, Some, sym}
+use Rattle.pb_text.proofs.lemmas.source.Drawn.{draws_join, pulls_nothing, pulls_event, pulls_stop}
 use Rattle.pb_text.proofs.lemmas.source.PullsInARow.{row}
 use Rattle.pb_text.proofs.next_event.pull.Goals as goal
-
-pub returns-in-Some-clause-pulls : goal.returns-in-Some-clause-pulls
-returns-in-Some-clause-pulls g c longest start input spans counts s = grind (arith, c.in-Some.ensures, pulls_nothing, g.S.Source.left, g.S.Source.history)
 
 pub returns-then-is_done-clause-pulls : goal.returns-then-is_done-clause-pulls
 returns-then-is_done-clause-pulls g c longest start input spans counts s =
     pulls_nothing (g.S.Source.left c.args.source.now) (g.S.Source.history c.args.source.now) s (Ok None) (λ seen. refl) refl counts (λ e. sym c.if-is_done.ensures.done)
-
-pub loop-event-init : goal.loop-event-init
-loop-event-init g c = grind (arith, c.in_default.ensures, c.if-is_done.ensures.done, c.is_done.ensures.state, draws_none, g.S.Source.left, g.S.Source.history)
-
-pub loop-event-preserved : goal.loop-event-preserved
-loop-event-preserved g c = grind (arith, c.loop-event.invariant, c.in-Ok-None.is, c.draw.ensures, draws_join)
 
 pub returns-in-Ok-Some-clause-pulls : goal.returns-in-Ok-Some-clause-pulls
 returns-in-Ok-Some-clause-pulls g c longest start input spans counts s =
@@ -27,18 +18,14 @@ returns-in-Err-clause-pulls g c longest start input spans counts s =
 
 pub returns-then-is_done-clause-row : goal.returns-then-is_done-clause-row
 returns-then-is_done-clause-row g c longest start before spans h =
-    let f = c.args.feeder.now in
-    let now = g.S.Source.left c.args.source.now in
-    row {g = g.M.Machine} longest start before now now spans f f h (Ok None) (returns-then-is_done-clause-pulls g c longest start h.used spans (rw h.running tt) h.stands) h.running (λ e. sym c.if-is_done.ensures.done) (λ m e. cc e)
+    row {g = g.M.Machine} longest start before _ _ spans _ _ h (Ok None) (returns-then-is_done-clause-pulls g c longest start h.used spans (rw h.running tt) h.stands) h.running (λ e. sym c.if-is_done.ensures.done) (λ m e. cc e)
 
 pub returns-in-Ok-Some-clause-row : goal.returns-in-Ok-Some-clause-row
 returns-in-Ok-Some-clause-row g c longest start before spans h =
-    let f = c.args.feeder.now in
     let d = rw (c.in-Ok-Some.is, c.in-Ok-Some.field-0-is) at c.draw.ensures in
-    row {g = g.M.Machine} longest start before (g.S.Source.left c.args.source.now) (g.S.Source.left c.draw.new.source) spans f c.draw.new.feeder h (Ok (Some c.in-Ok-Some.event)) (returns-in-Ok-Some-clause-pulls g c longest start h.used spans (rw h.running tt) h.stands) d.stop (λ e. cc e) d.past
+    row {g = g.M.Machine} longest start before _ _ spans _ _ h (Ok (Some c.in-Ok-Some.event)) (returns-in-Ok-Some-clause-pulls g c longest start h.used spans (rw h.running tt) h.stands) d.stop (λ e. cc e) d.past
 
 pub returns-in-Err-clause-row : goal.returns-in-Err-clause-row
 returns-in-Err-clause-row g c longest start before spans h =
-    let f = c.args.feeder.now in
     let d = rw c.in-Err.is at c.draw.ensures in
-    row {g = g.M.Machine} longest start before (g.S.Source.left c.args.source.now) (g.S.Source.left c.draw.new.source) spans f c.draw.new.feeder h (Err c.in-Err.stop) (returns-in-Err-clause-pulls g c longest start h.used spans (rw h.running tt) h.stands) d.stop (λ e. cc e) (λ m e. cc e)
+    row {g = g.M.Machine} longest start before _ _ spans _ _ h (Err c.in-Err.stop) (returns-in-Err-clause-pulls g c longest start h.used spans (rw h.running tt) h.stands) d.stop (λ e. cc e) (λ m e. cc e)

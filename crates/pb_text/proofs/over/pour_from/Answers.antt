@@ -1,7 +1,7 @@
-use Rattle.pb_text.proofs.Common.{[], append-nil, arith, length-take-le, subst, sym, take}
+use Rattle.pb_text.proofs.Common.{arith, length-take-le, subst, take}
 use Rattle.std.specs.Io.BufRead.{FillKeeps}
 use Rattle.std.proofs.BufReadLemmas.{Consumes_shown}
-use Rattle.pb_text.proofs.lemmas.source.Pulled.{lost_kept, lost_consumed}
+use Rattle.pb_text.proofs.lemmas.source.Drawn.{lost_kept, lost_consumed, pours_none}
 use Rattle.pb_text.proofs.over.pour_from.Goals as goal
 
 pub returns-in-Ok-clause-pours : goal.returns-in-Ok-clause-pours
@@ -24,14 +24,4 @@ returns-in-Ok-clause-pours g c =
     }
 
 pub returns-in-Err-clause-pours : goal.returns-in-Err-clause-pours
-returns-in-Err-clause-pours g c =
-    let rested = c.fill_buf.follows.lender-at-none in
-    record {
-      taken = [];
-      given_are = sym (append-nil c.args.history.now.bytes);
-      lost = lost_kept (g.T.Read.remaining c.args.reader.now) (g.T.Read.remaining rested) c.fill_buf.follows.holds-at-none.0;
-      offset_is = omega arith;
-      stands = λ longest start input spans s. rw (append-nil, append-nil) s;
-      some = λ e h. cc h;
-      past = λ e h. cc h;
-    }
+returns-in-Err-clause-pours g c = pours_none _ _ (lost_kept _ _ c.fill_buf.follows.holds-at-none.0)

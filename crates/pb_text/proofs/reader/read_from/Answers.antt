@@ -1,5 +1,5 @@
 use Rattle.pb_text.proofs.Common.{ℕ, ◌∙◌, ap, None, AcceptsItems, MayAsk, faults_after}
-use Rattle.pb_text.proofs.lemmas.source.Overs.{reads_reported}
+use Rattle.pb_text.proofs.lemmas.source.Drawn.{reads_reported}
 use Rattle.pb_text.proofs.reader.read_from.Goals as goal
 
 pub returns-clause-reads : goal.returns-clause-reads

@@ -1,6 +1,6 @@
-use Rattle.pb_text.proofs.Common.{ℕ, ◌+◌, ◌-◌, ◌<◌, ◌^◌, ◌∙◌, ◌≡◌, ◌≤◌, [], ap, append-nil, arith, Option, refl, sym, Place, end_of}
+use Rattle.pb_text.proofs.Common.{◌∙◌, [], ap, append-nil, arith, refl, sym, Place}
 use Rattle.pb_text.proofs.lemmas.text.Short.{end_limit}
-use Rattle.pb_text.proofs.lemmas.source.Pulled.{lost_nothing, seen_after}
+use Rattle.pb_text.proofs.lemmas.source.Drawn.{lost_nothing, seen_after}
 use Rattle.pb_text.proofs.lemmas.source.Wholes.{so_far, whole_done, whole_stopped, whole_unkept}
 use Rattle.pb_text.proofs.whole.read_whole.Goals as goal
 
@@ -28,14 +28,11 @@ returns-in-Err-add-clause-given g c =
     let t = rw (c.in-Ok-Some.is, c.in-Ok-Some.field-0-is) at c.pull.ensures in
     rw c.place.ensures.place (whole_unkept c.loop-spanned.invariant.so_far g.G.Gather.asks c.in-Ok-Some.spanned t.pulls t.stop (t.past c.in-Ok-Some.spanned refl).past c.in-Err-add.ensures.asking).1
 
-less : (a b end longest : ℕ) (q : Option Place) → a < b → b ≤ end → end ≡ end_of longest q → 2 ^ 40 + 1 - b < 2 ^ 40 + 1 - a
-less a b end longest q h k e = omega (arith, end_limit longest q)
-
 pub loop-spanned-smaller : goal.loop-spanned-smaller
 loop-spanned-smaller g c =
     let t = rw (c.in-Ok-Some.is, c.in-Ok-Some.field-0-is) at c.pull.ensures in
     let f = c.pull.new.feeder in
-    less _ f.place.offset f.end f.longest f.first (t.past c.in-Ok-Some.spanned refl).onward f.offset_in_range f.end_is
+    omega (arith, (t.past c.in-Ok-Some.spanned refl).onward, f.offset_in_range, f.end_is, end_limit f.longest f.first)
 
 pub loop-spanned-preserved : goal.loop-spanned-preserved
 loop-spanned-preserved g c =

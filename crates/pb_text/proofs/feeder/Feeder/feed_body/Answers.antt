@@ -1,7 +1,6 @@
-use Rattle.pb_text.proofs.Common.{ℕ, ◌-◌, ◌≡◌, ◌≤◌, arith, length, length-take, length-take-le, List, min}
-use Rattle.pb_text.proofs.Common.{take, take-take}
-use Rattle.pb_text.proofs.lemmas.machine.Running.{stands_run, runs_unfinished, place_fits}
-use Rattle.pb_text.proofs.lemmas.feeder.Begin.{running, end_at}
+use Rattle.pb_text.proofs.Common.{ℕ, ◌-◌, ◌≡◌, ◌≤◌, arith, length, length-take, length-take-le, List, min, take, take-take}
+use Rattle.pb_text.proofs.lemmas.machine.Running.{stands_run, place_fits}
+use Rattle.pb_text.proofs.lemmas.feeder.Steps.{running, end_at}
 use Rattle.pb_text.proofs.feeder.Feeder.feed_body.Goals as goal
 
 -- the number of bytes that were taken, and that they are those of the piece
@@ -27,7 +26,3 @@ returns-clause-offset g c =
     let t = taken_are used (f.end - f.place.offset) c.args.piece.now (rw c.min.ensures at c.take_run-used.ensures.bound) in
     let q = place_fits f.place c.past-self.result (take used c.args.piece.now) used f.end (rw (c.min.ensures, t.0) at c.past-self.ensures) t.1 t.3 f.offset_in_range f.line_in_range f.column_in_range in
     q.3
-
-pub returns-clause-unfinished : goal.returns-clause-unfinished
-returns-clause-unfinished g c =
-    runs_unfinished g.M.Machine.automaton c.args.self.now.machine _ c.take_run-used.new.self c.requires.state c.requires.unfinished c.take_run-used.ensures.runs

@@ -1,18 +1,10 @@
-use Rattle.pb_text.proofs.Common.{◌∷◌, [], append-nil, arith}
-use Rattle.pb_text.proofs.lemmas.feeder.Passing.{with_byte}
+use Rattle.pb_text.proofs.Common.{◌∷◌, [], append-nil, arith, refl}
+use Rattle.pb_text.proofs.lemmas.feeder.Steps.{prefix_taken, with_byte}
 use Rattle.pb_text.proofs.feeder.Feeder.feed_part.Goals as goal
 
 pub returns-then-used-piece : goal.returns-then-used-piece
-returns-then-used-piece g c = record {
-  bound = c.feed_fast-used.ensures.bound;
-  stands = λ longest start input spans s. rw append-nil (c.feed_fast-used.ensures.stands longest start input spans s);
-  offset = c.feed_fast-used.ensures.offset;
-  some = λ event h. cc h;
-  past = λ event h. cc h;
-  running = c.feed_fast-used.ensures.running;
-  unfinished = λ h. c.feed_fast-used.ensures.unfinished;
-  state = c.feed_fast-used.ensures.state;
-}
+returns-then-used-piece g c =
+    let fast = c.feed_fast-used.ensures in prefix_taken _ _ _ _ fast.bound fast.stands fast.offset fast.running fast.unfinished fast.state
 
 pub returns-in-Some : goal.returns-in-Some
 returns-in-Some g c =
@@ -29,13 +21,9 @@ returns-in-Some g c =
     })
 
 pub returns-in-None : goal.returns-in-None
-returns-in-None g c = record {
-  bound = c.feed_fast-used.ensures.bound;
-  stands = λ longest start input spans s. rw append-nil at (c.in-None.ensures.stands longest start _ spans (c.feed_fast-used.ensures.stands longest start input spans s));
-  offset = omega (arith, c.in-None.ensures.offset, c.feed_fast-used.ensures.offset);
-  some = λ event h. cc h;
-  past = λ event h. cc h;
-  running = c.in-None.ensures.running;
-  unfinished = c.in-None.ensures.unfinished;
-  state = c.in-None.ensures.state;
-}
+returns-in-None g c =
+    let fast = c.feed_fast-used.ensures in
+    let t = c.in-None.ensures in
+    prefix_taken _ _ _ _ fast.bound
+    (λ longest start input spans s. rw (append-nil, append-nil) at (t.stands longest start _ spans (fast.stands longest start input spans s)))
+    (omega (arith, t.offset, fast.offset)) t.running (t.unfinished refl) t.state

@@ -1,15 +1,13 @@
 use Rattle.pb_text.proofs.Common.{ℕ, ◌++◌, ◌+◌, ◌-◌, ◌<◌, ◌^◌, ◌∙◌, ◌∷◌, ◌≡◌, ◌≤◌, [], ap, arith, false, get_or, length, length-append, length-take}
-use Rattle.pb_text.proofs.Common.{length-take-le, List, min, None, Option, refl, Some, subst, sym, take, true, take-take, take_more, is_some}
-use Rattle.pb_text.proofs.Common.{begins, IsState, Stands, StandsAt, Feeder, Ghosts, Place, Spanned, end_of, byte_limit, place_next, place_past}
+use Rattle.pb_text.proofs.Common.{length-take-le, List, min, None, Option, Some, subst, sym, take, true, take-take, take_more, is_some, begins, IsState, Stands}
+use Rattle.pb_text.proofs.Common.{StandsAt, Feeder, Ghosts, Place, Spanned, end_of, byte_limit, place_next, place_past}
 use Rattle.pb_text.specs.contract.Automaton.{TakesStatement}
-use Rattle.pb_text.proofs.lemmas.machine.Running.{place_fits, past_more}
-use Rattle.pb_text.proofs.lemmas.feeder.Begin.{running}
-use Rattle.pb_text.proofs.lemmas.feeder.Whole.{stands_whole, first_of, span}
+use Rattle.pb_text.proofs.lemmas.machine.Running.{place_fits, past_more, stands_whole, first_of, span}
+use Rattle.pb_text.proofs.lemmas.feeder.Steps.{running}
 use Rattle.pb_text.proofs.feeder.Feeder.feed_rest.Goals as goal
 
 none_of : {A : Type 0} (o : Option A) → is_some o ≡ false → o ≡ None
-none_of None h = refl
-none_of (Some x) h = cc h
+none_of o h = grind arith
 
 past_of : {E : Type 0} (n m : Spanned E) → ◌≡◌ {A = Option (Spanned E)} (Some n) (Some m) → m.past ≡ n.past
 past_of n m h = let same : n ≡ m = cc h in ap (λ (x : Spanned _). x.past) (sym same)
@@ -31,9 +29,7 @@ module _ {M E : Type 0} {g : Ghosts M E} (f : Feeder M E g) (piece : List ℕ) (
   long = length-take-le last (take n piece) (omega (arith, taken.0))
 
   within : (last + 1 ≤ length piece) × (last + 1 ≤ n) × (f.place.offset + last < end_of f.longest (Some f.place)) × (last + 1 ≤ byte_limit - f.place.offset)
-  within =
-      let less : last < n = omega (arith, taken.0, length-take n piece) in
-      (omega (arith, less, least), omega (arith, less), omega (arith, less, least), omega (arith, less, least))
+  within = grind (arith, length-take)
 
   limit : f.end ≡ byte_limit
   limit = f.end_is ∙ ap (λ (o : Option Place). end_of f.longest o) none

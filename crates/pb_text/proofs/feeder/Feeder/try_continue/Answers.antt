@@ -1,6 +1,5 @@
 use Rattle.pb_text.proofs.Common.{◌∙◌, append-nil}
-use Rattle.pb_text.proofs.lemmas.feeder.Begin.{running, room}
-use Rattle.pb_text.proofs.lemmas.feeder.Steps.{stands_go}
+use Rattle.pb_text.proofs.lemmas.feeder.Steps.{running, room, stands_go}
 use Rattle.pb_text.proofs.feeder.Feeder.try_continue.Goals as goal
 
 pub returns-clause-stands : goal.returns-clause-stands

@@ -1,27 +1,19 @@
 -- `new` makes a value without bytes, with the empty list as its ghost value.
-use mathlib.Core.Path.{refl}
-use mathlib.Core.List.{[], ◌∷◌}
 use seplogic.Ra.Ura.{Ura}
 use mir.Val.{Val, vstruct, vcons, vnil}
 use base.Logic.{SProp}
-use prog.Memory.{Memory}
-use prog.Routine.{Routine}
-use prog.Wp.{WpFn, Tables}
+use prog.{Memory.Memory, Routine.Routine, Wp.WpFn, Wp.Tables}
 use types.Logic.{Logic}
-use contract.Monad.{Fun}
-use contract.Running.{tables, tables_of}
+use contract.{Monad.Fun, Running.tables, Running.tables_of}
 use sound.WpLaws.{WpFn-mono}
 use types.Kit.{raw, ◌$◌, ◌∵◌, !, qed, keep, join, suffices, done}
 use types.Run.{no_more, and_then, returns, enter}
 use types.Part.{agg}
 use types.ByLocal.{alloc_all, pass_all, free_all, look_at, get, sets}
-use denote.Shadow.{pure_i}
-use denote.Steps.{nothing}
-use denote.Triple.Entry.{on_entry}
-use denote.Triple.Spec.{Meets, triple_of}
-use denote.Triple.Table.{entered}
+use denote.{Shadow.pure_i, Steps.nothing}
+use denote.Triple.{Entry.on_entry, Spec.Meets, Spec.triple_of, Table.entered}
 use denote.Triple.Walked.{says, ends_at, walked, walk_Meets}
-use Rattle.pb_text.proofs.Common.{History}
+use Rattle.pb_text.proofs.Common.{◌∷◌, [], refl, History}
 use Rattle.pb_text.specs.contracts.history.History as T
 use Rattle.pb_text.specs.contracts.history.History.new.Key.{name as #it}
 use Rattle.pb_text.specs.contracts.history.History.new as it

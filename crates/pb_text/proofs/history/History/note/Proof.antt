@@ -5,36 +5,22 @@ use mir.Syntax.{named}
 use mir.Val.{Val, vunit, vptr}
 use base.Logic.{SProp, ent, sep, emp, via, fst∗, id⊢}
 use base.Fml.{GName, Lft, Share, ftrue, flft, fobs, fbor}
-use prog.Memory.{Memory}
-use prog.Routine.{Routine}
-use prog.Wp.{Calls, Loops, WpFn, Tables}
+use prog.{Memory.Memory, Routine.Routine, Wp.Calls, Wp.Loops, Wp.WpFn, Wp.Tables}
 use types.Logic.{Logic}
-use contract.Monad.{Fun}
-use contract.Running.{tables, tables_of}
+use contract.{Monad.Fun, Running.tables, Running.tables_of}
 use types.Kit.{‵, ◌⊛◌, ◌$◌, ◌∵◌, !, qed, by, move, keep, drop, use1, split, join, fsplit, fsplit3, fjoin, fjoin3, feq_i, suffices, frame, done}
-use types.Run.{unit_lit, of_opd, returns, enter}
-use types.SemTy.{Body}
+use types.{Run.unit_lit, Run.of_opd, Run.returns, Run.enter, SemTy.Body}
 use types.ByLocal.{alloc_all, pass_all, free_all, look_at, sets}
 use sound.WpLaws.{WpFn-mono}
-use denote.RattleType.{owns}
-use denote.Memory.{mem}
-use denote.Ref.{MutRef, mut_vals, mut_Tells}
-use denote.Signature.{plain}
-use denote.Steps.{opens, closes}
-use denote.Triple.Entry.{on_entry}
-use denote.Triple.Spec.{Meets, triple_of}
-use denote.Triple.Table.{entered}
-use denote.Triple.Walked.{says, Stays, stay_ref, walk_of, AllGo, Goes-ref, Walks, ends_at, walked, walk_Meets}
+use denote.{Builtin.u8, Exit.yes, Memory.mem, RattleType.owns, Ref.Bor, Ref.MutRef, Ref.mut_vals, Ref.mut_Tells, Signature.plain, Steps.opens, Steps.closes}
+use denote.Triple.{Entry.on_entry, Spec.Meets, Spec.triple_of, Table.entered}
+use denote.Triple.Walked.{says, Stays, stay_ref, stay_none_slice, walk_of, AllGo, Goes-ref, Goes-none_slice, Walks, ends_at, walked, walk_Meets}
 use Rattle.pb_text.specs.contracts.history.History as T
 use Rattle.pb_text.specs.contracts.history.History.note.Key.{name as #it}
 use Rattle.pb_text.specs.contracts.history.History.note as it
 use Rattle.pb_text.proofs.history.History.note.Statement as stated
 use Rattle.pb_text.proofs.history.History.note.Code as code
-use denote.Ref.{Bor}
-use denote.Builtin.{u8}
-use denote.Exit.{yes}
 use denote.Slice.{ShrSlice, slice_val, shr_slice_vals, shr_slice_Tells}
-use denote.Triple.Walked.{stay_none_slice, Goes-none_slice}
 
 abbrev Arg : Type 0
 Arg = MutBor History × (Bor (List ℕ) × Unit {0})

@@ -1,4 +1,4 @@
-use Rattle.pb_text.proofs.lemmas.source.Overs.{peeks}
+use Rattle.pb_text.proofs.lemmas.source.Drawn.{peeks}
 use Rattle.pb_text.proofs.over.OverSource.peek.Goals as goal
 
 pub returns-in-Ok : goal.returns-in-Ok

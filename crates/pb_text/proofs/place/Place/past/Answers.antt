@@ -1,13 +1,6 @@
-use Rattle.pb_text.proofs.Common.{ℕ, ◌∙◌, ◌≡◌, ap, arith, get_or, length, length-take-le, List, refl, sym, take, take-length, take_more, Place}
-use Rattle.pb_text.proofs.Common.{place_next, place_past}
-use Rattle.pb_text.proofs.lemmas.machine.Running.{past_bounds, past_more, past_on_line}
+use Rattle.pb_text.proofs.Common.{ℕ, ◌∙◌, ap, arith, get_or, length-take-le, List, sym, take, take_more, Place, place_next, place_past}
+use Rattle.pb_text.proofs.lemmas.machine.Running.{past_bounds, past_more}
 use Rattle.pb_text.proofs.place.Place.past.Goals as goal
-
-pub returns-then-not-has_line_feed : goal.returns-then-not-has_line_feed
-returns-then-not-has_line_feed c = sym (past_on_line c.args.self c.args.text.now (c.has_line_feed.ensures c.if-not-has_line_feed.true))
-
-pub loop-byte-init : goal.loop-byte-init
-loop-byte-init c = refl
 
 pub after-place-requires : goal.after-place-requires
 after-place-requires c = grind (arith, length-take-le, past_bounds, c.requires.line, c.loop-byte.invariant, c.requires.column, c.requires.offset)
@@ -18,8 +11,3 @@ loop-byte-preserved c =
     let text = c.args.text.now in
     c.after-place.ensures ∙ (ap (λ (p : Place). place_next p (get_or text k 0)) c.loop-byte.invariant
     ∙ (sym (past_more c.args.self (take k text) (get_or text k 0)) ∙ ap (λ (x : List ℕ). place_past c.args.self x) (sym (take_more text k 0 c.loop-byte-test.true))))
-
-pub returns : goal.returns
-returns c =
-    let all : c.loop-byte.byte-index ≡ length c.args.text.now = omega arith in
-    c.loop-byte.invariant ∙ ap (λ (x : List ℕ). place_past c.args.self x) (ap (λ (k : ℕ). take k c.args.text.now) all ∙ take-length c.args.text.now)
