@@ -1,5 +1,5 @@
 -- The state after a space.
-use Rattle.pb_sums.proofs.Common.{ℕ, ◌≡◌, List, None, refl, Some, subst, true, IsState, signed, Term, Phase, Part, Spaces, is_midway, PhaseFits}
+use Rattle.pb_sums.proofs.Common.{arith, ℕ, ◌≡◌, List, None, refl, Some, subst, true, IsState, signed, Term, Phase, Part, Spaces, is_midway, PhaseFits}
 use Rattle.pb_sums.proofs.Common.{after_space, sums, SumState}
 use Rattle.pb_sums.proofs.lemmas.machine.States.{midway_state}
 

@@ -43,8 +43,7 @@ pub kind-space : (s : Spaces) (b : ℕ) → IsTrue (is_space s b) → kind s (un
 kind-space s b e = rw e refl
 
 low : (s : Spaces) (b : ℕ) → 33 ≤ b → is_space s b ≡ false
-low White b h = grind (arith, nat_tests)
-low Blank b h = grind (arith, nat_tests)
+low s b h = grind (arith, nat_tests)
 
 pub kind-letter : (s : Spaces) (b : ℕ) → IsTrue (is_letter b) → kind s (unmarked b) ≡ Start b
 kind-letter s b e = rw (low s b (name_high b (letter_name b e)), e) refl

@@ -11,10 +11,7 @@ IsTaken Stop = ⊥
 IsTaken _ = Unit {0}
 
 taken-acts : (s : SumState) (ys xs : List Term) (name : List ℕ) (m : Action) → IsTaken m → over s (act ys xs name m) ≡ Refuse → ⊥
-taken-acts s ys xs name EndSum h e = end_or_refuse _ _ e
-taken-acts s ys xs name (EndLinear r z) h e = end_or_refuse _ _ e
-taken-acts s ys xs name Stop h e = h
-taken-acts s ys xs name _ h e = go_or_refuse _ e
+taken-acts s ys xs name m h e = grind (arith, end_or_refuse, go_or_refuse)
 
 module _ (s : Spaces) (w : Part) (limit : ℕ) (xs : List Term) (name : List ℕ) (p : Phase) (b : ℕ) (n : Bool) (k : Kind) (m : Action) where
   abbrev state : SumState
@@ -39,8 +36,7 @@ module _ (s : Spaces) (w : Part) (limit : ℕ) (xs : List Term) (name : List ℕ
   -- what the transition does not allow is rejected
   refuses-by : (d : Bool) → d ≡ (is_in_number p && is_digit b) → (answer : Push SumEvent) → answer ≡ (if d then Push.Large else Push.No)
       → n ≡ is_numeric p → k ≡ kind s (letter_at n b) → Stop ≡ transition w limit p k → Pushes sums state b answer state
-  refuses-by true h answer a e f g = subst (λ (x : Push SumEvent). Pushes sums state b x state) (sym a) (ap (λ x. over state (act (flushed p xs name) xs name x)) (planned-stop e f g), sym h, refl)
-  refuses-by false h answer a e f g = subst (λ (x : Push SumEvent). Pushes sums state b x state) (sym a) (ap (λ x. over state (act (flushed p xs name) xs name x)) (planned-stop e f g), sym h, refl)
+  refuses-by d h answer a e f g = grind (arith, planned-stop)
 
   pub refuses : (answer : Push SumEvent) → answer ≡ (if is_in_number p && is_digit b then Push.Large else Push.No)
       → n ≡ is_numeric p → k ≡ kind s (letter_at n b) → Stop ≡ transition w limit p k → Pushes sums state b answer state

@@ -13,9 +13,7 @@ use Rattle.pb_sums.proofs.lemmas.machine.Counts.{potential, letter-grows}
 -- When the automaton continues, and when it ends.
 gone-from : (s next : SumState) (b : ℕ) (n : Outcome) → step s.spaces s.part s.limit s.work b ≡ n → over s n ≡ Go next
     → (v : Work) × (next ≡ with_work s v) × (step s.spaces s.part s.limit s.work b ≡ Go v)
-gone-from s next b (Go v) e h = (v, sym (one_state (with_work s v) next h), e)
-gone-from s next b (End f v) e h = end_or_go f (with_work s v) next h
-gone-from s next b Refuse e h = refuse_or_go next h
+gone-from s next b n e h = grind (arith, one_state, end_or_go, refuse_or_go)
 
 pub continues : (s next : SumState) (b : ℕ) → sums.step s b ≡ Go next → (v : Work) × (next ≡ with_work s v) × (step s.spaces s.part s.limit s.work b ≡ Go v)
 continues s next b h = gone-from s next b (step s.spaces s.part s.limit s.work b) refl h
@@ -35,21 +33,13 @@ continues-midway s next b h =
     ap (λ x. is_midway x.work.phase) f.1 ∙ (gone s.part s.limit s.spaces s.work f.0 (letter_at (is_numeric s.work.phase) b) f.2).1
 
 done-stops : (want : Part) (limit : ℕ) (ph : Phase) (k : Kind) → is_done ph ≡ true → transition want limit ph k ≡ Stop
-done-stops want limit Phase.Done k h = refl
-done-stops want limit _ k h = cc
+done-stops want limit ph k h = grind arith
 
 numbers-midway : (ph : Phase) → is_midway ph ≡ false → is_in_number ph ≡ false
-numbers-midway (Phase.Digits role negative n) h = h
-numbers-midway _ h = refl
+numbers-midway ph h = grind arith
 
 nothing-kept : (ph : Phase) → is_midway ph ≡ false → 0 + in_hand ph + 0 + ready ph ≡ 0
-nothing-kept Phase.Start h = refl
-nothing-kept Phase.Done h = refl
-nothing-kept (Phase.Gap z) h = cc
-nothing-kept (Phase.Tilde z) h = cc
-nothing-kept (Phase.First z negated) h = cc
-nothing-kept (Phase.More z negated) h = cc
-nothing-kept _ h = refl
+nothing-kept ph h = grind arith
 
 pub stopped : (s : SumState) → sums.done s ≡ true → (b : ℕ) → sums.step s b ≡ Refuse
 stopped s h b = grind (arith, s.work.phase, s.work.terms, s.work.name, done-stops, s.part, s.limit, s.spaces)
@@ -108,18 +98,7 @@ module _ (spaces : Spaces) (part : Part) (limit : ℕ) where
   nothing-after s (l ∷ k ∷ text) e after d (mid, h, b, m, r) = refuse_or_go mid (sym (stopped s d l.byte) ∙ h)
 
   one_only : (items : List (Item SumEvent)) → AcceptsItems sums begin items → IsOneText spaces limit part items
-  one_only [] h = absurd (not_yet h)
-    where
-      not_yet : false ≡ true → ⊥
-      not_yet e = cc
-  one_only (i ∷ []) (at, after, g, r, d) =
-      let f : (i.gap ≡ []) × (at ≡ begin) = no-gap begin at i.gap g in
-      (f.0, ((reads_grammar spaces part limit i.text i.event after).0 (subst (λ x. ReadsStatement sums x i.text i.event after) f.1 r)).0)
-  one_only (i ∷ j ∷ rest) (at, after, g, r, (at2, after2, g2, r2, h)) =
-      let f : (i.gap ≡ []) × (at ≡ begin) = no-gap begin at i.gap g in
-      let e : after ≡ end = ((reads_grammar spaces part limit i.text i.event after).0 (subst (λ x. ReadsStatement sums x i.text i.event after) f.1 r)).1 in
-      let k : (j.gap ≡ []) × (at2 ≡ after) = no-gap after at2 j.gap g2 in
-      absurd (nothing-after end j.text j.event after2 refl (subst (λ x. ReadsStatement sums x j.text j.event after2) (k.1 ∙ e) r2))
+  one_only items h = grind (arith, no-gap, reads_grammar, nothing-after)
 
   one_each : (items : List (Item SumEvent)) → IsOneText spaces limit part items → AcceptsItems sums begin items
   one_each [] h = absurd h
@@ -149,8 +128,7 @@ midway_state spaces part limit xs name q h i =
     is_state (record { spaces = spaces; part = part; limit = limit; work = record { terms = xs; name = name; phase = q } }) (midway_order limit xs name q h i)
 
 pub more_midway : (p : Phase) → is_more p ≡ true → is_midway p ≡ true
-more_midway (Phase.More z negated) e = refl
-more_midway _ e = cc
+more_midway p e = grind arith
 
 -- a state within a name
 pub more_state : (spaces : Spaces) (part : Part) (limit : ℕ) (xs : List Term) (name : List ℕ) (q : Phase) → PhaseFits limit q → is_more q ≡ true

@@ -66,16 +66,10 @@ module _ (spaces : Spaces) (part : Part) (limit : ℕ) (xs : List Term) where
   begins _ e = cc e
 
   on-plus : (p : Phase) → begins_unread p ≡ true → transition part limit p Plus ≡ To (Phase.Signed (role p) false)
-  on-plus Phase.Start e = refl
-  on-plus Phase.Between e = refl
-  on-plus (Phase.Relation r) e = refl
-  on-plus _ e = cc e
+  on-plus p e = grind arith
 
   on-minus : (p : Phase) → begins_unread p ≡ true → transition part limit p Minus ≡ To (Phase.Signed (role p) true)
-  on-minus Phase.Start e = refl
-  on-minus Phase.Between e = refl
-  on-minus (Phase.Relation r) e = refl
-  on-minus _ e = cc e
+  on-minus p e = grind arith
 
   sign-on : (p : Phase) (negative : Bool) (b : ℕ) (k : Kind) → begins_unread p ≡ true → k ≡ kind spaces (letter_at true b) → transition part limit p k ≡ To (Phase.Signed (role p) negative)
       → sums.step (at p) b ≡ Go (at (Phase.Signed (role p) negative))

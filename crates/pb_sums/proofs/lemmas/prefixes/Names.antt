@@ -12,8 +12,7 @@ module _ (spaces : Spaces) (part : Part) (limit : ℕ) (xs : List Term) where
   -- a byte of a name after its first two
   more-on : (name : List ℕ) (z : ℤ) (negated : Bool) (b : ℕ) (k : Kind) → (k ≡ Start b) ⊎ (k ≡ Inner b)
       → over (at name (Phase.More z negated)) (action part limit xs name (Phase.More z negated) k) ≡ Go (at (name ++ b ∷ []) (Phase.More z negated))
-  more-on name z negated b k (inl e) = ap (λ x. over (at name (Phase.More z negated)) (action part limit xs name (Phase.More z negated) x)) e
-  more-on name z negated b k (inr e) = ap (λ x. over (at name (Phase.More z negated)) (action part limit xs name (Phase.More z negated) x)) e
+  more-on name z negated b k h = grind arith
 
   more-run : (name : List ℕ) (z : ℤ) (negated : Bool) (text : List ℕ) → Each (λ b. IsTrue (is_name_byte b)) text
       → Runs sums (at name (Phase.More z negated)) text (at (name ++ text) (Phase.More z negated))
@@ -29,14 +28,12 @@ module _ (spaces : Spaces) (part : Part) (limit : ℕ) (xs : List Term) where
   -- bytes of a name after its first two
   pub more_runs : (name new : List ℕ) (p : Phase) (text : List ℕ) → is_more p ≡ true → Each (λ b. IsTrue (is_name_byte b)) text → new ≡ name ++ text
       → Runs sums (at name p) text (at new p)
-  more_runs name new (Phase.More z negated) text e h f = subst (λ n. Runs sums (at name (Phase.More z negated)) text (at n (Phase.More z negated))) (sym f) (more-run name z negated text h)
-  more_runs name new _ text e h f = cc e
+  more_runs name new p text e h f = grind (arith, more-run)
 
   -- the second byte of a name
   first-on : (b c : ℕ) (z : ℤ) (negated : Bool) (k : Kind) → (k ≡ Start c) ⊎ (k ≡ Inner c)
       → over (at (b ∷ []) (Phase.First z negated)) (action part limit xs (b ∷ []) (Phase.First z negated) k) ≡ Go (at (b ∷ c ∷ []) (Phase.More z negated))
-  first-on b c z negated k (inl e) = ap (λ x. over (at (b ∷ []) (Phase.First z negated)) (action part limit xs (b ∷ []) (Phase.First z negated) x)) e
-  first-on b c z negated k (inr e) = ap (λ x. over (at (b ∷ []) (Phase.First z negated)) (action part limit xs (b ∷ []) (Phase.First z negated) x)) e
+  first-on b c z negated k h = grind arith
 
   name-run : (name : List ℕ) (p : Phase) (z : ℤ) (negated : Bool) (b c : ℕ) (text : List ℕ) → sums.step (at name p) b ≡ Go (at (b ∷ []) (Phase.First z negated))
       → IsTrue (is_name_byte c) → Each (λ d. IsTrue (is_name_byte d)) text → Runs sums (at name p) (b ∷ c ∷ text) (at (b ∷ c ∷ text) (Phase.More z negated))

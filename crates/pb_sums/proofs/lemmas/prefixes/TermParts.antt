@@ -1,5 +1,5 @@
 -- Whole terms that are taken at once, and the run that they form.
-use Rattle.pb_sums.proofs.Common.{ℕ, ℤ, ◌++◌, ◌+◌, ◌<◌, ◌∷◌, ◌≡◌, ◌≤◌, [], Bool, false, get_or, length, List, None, Option, refl, Some, subst}
+use Rattle.pb_sums.proofs.Common.{arith, ℕ, ℤ, ◌++◌, ◌+◌, ◌<◌, ◌∷◌, ◌≡◌, ◌≤◌, [], Bool, false, get_or, length, List, None, Option, refl, Some, subst}
 use Rattle.pb_sums.proofs.Common.{sym, take, true, Err, if◌then◌else◌, is_err, is_ok, IsTrue, Ok, Result, runs_further, Go, IsState, Runs, value_from}
 use Rattle.pb_sums.proofs.Common.{is_digit, is_letter, is_name_byte, Each, signed, relation_bytes, Relation, AtLeast, Equal, Term, Phase, Part}
 use Rattle.pb_sums.proofs.Common.{Spaces, after_name, after_number, begins_number, begins_relation, HasSign, role, sign_read, text_after, sums}
@@ -11,19 +11,14 @@ use Rattle.pb_sums.proofs.lemmas.prefixes.Names.{name_runs}
 use Rattle.pb_sums.proofs.lemmas.machine.States.{midway_state}
 
 pub grown : {A T E : Type 0} (r : Result T E) (new more old : List A) → new ≡ (if is_ok r then more else old) → is_err r ≡ false → new ≡ more
-grown (Ok x) new more old h e = h
-grown (Err x) new more old h e = cc
+grown r new more old h e = grind arith
 
 no-role : (p : Phase) → begins_term p ≡ true → role p ≡ None
-no-role Phase.Start e = refl
-no-role (Phase.Signed None negative) e = refl
-no-role Phase.Between e = refl
-no-role _ e = cc
+no-role p e = grind arith
 
 space-on : (spaces : Spaces) (part : Part) (limit : ℕ) (xs : List Term) (r : Option Relation) (negative : Bool) (v : ℕ)
     → sums.step (standing spaces part limit xs [] (Phase.Digits r negative v)) 32 ≡ Go (standing spaces part limit xs [] (after_number r (signed negative v)))
-space-on spaces part limit xs None negative v = refl
-space-on spaces part limit xs (Some r) negative v = refl
+space-on spaces part limit xs r negative v = grind arith
 
 pub number_state : (spaces : Spaces) (part : Part) (limit : ℕ) (xs : List Term) (r : Option Relation) (z : ℤ) → IsState sums (standing spaces part limit xs [] (after_number r z))
 number_state spaces part limit xs None z = midway_state spaces part limit xs [] (Phase.Gap z) tt refl
@@ -57,8 +52,7 @@ tilde-runs spaces part limit xs z true text e =
     )
 
 after-both : (negated : Bool) (z : ℤ) → Some (Phase.More z negated) ≡ after_name (after-tilde negated z)
-after-both false z = refl
-after-both true z = refl
+after-both negated z = grind arith
 
 literal_runs : (text : List ℕ) (i j : ℕ) (negated : Bool) (name : List ℕ) → IsTilde negated (take i text) → 2 ≤ length (take j (text_after i text))
     → IsTrue (is_letter (get_or (take j (text_after i text)) 0 0)) → Each (λ b. IsTrue (is_name_byte b)) (take j (text_after i text)) → name ≡ take j (text_after i text)

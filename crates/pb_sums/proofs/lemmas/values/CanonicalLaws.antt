@@ -34,16 +34,14 @@ module _ (limit : ℕ) (small : limit < 10 ^ 64) where
         (space ++ term_text x, further_text xs, refl, (space, term_text x, refl, space1, term-spelled x h.0), further-spelled xs h.1)
 
     pub sum-spelled : (xs : List Term) → AreTerms limit xs → SpellsSum spaces limit xs (sum_text xs)
-    sum-spelled [] h = refl
-    sum-spelled (x ∷ xs) h = (term_text x, further_text xs, refl, term-spelled x h.0, further-spelled xs h.1)
+    sum-spelled xs h = grind (arith, term-spelled, further-spelled)
 
     head-spelled : (xs : List Term) → AreTerms limit xs → Head spaces limit xs (head_text xs)
     head-spelled [] h = refl
     head-spelled (x ∷ xs) h = (sum_text (x ∷ xs), space, refl, sum-spelled (x ∷ xs) h, space0)
 
     relation-spelled : (r : Relation) → SpellsRelation spaces limit r (relation_text r)
-    relation-spelled AtLeast = refl
-    relation-spelled Equal = refl
+    relation-spelled r = grind arith
 
     pub linear-spelled : (c : Linear) → IsLinear limit c → SpellsLinear spaces limit c (linear_text c)
     linear-spelled c h =
@@ -71,12 +69,10 @@ module _ (limit : ℕ) (small : limit < 10 ^ 64) where
 
 -- The letters of canonical text are its bytes.
 pub bytes-degree : (z : ℤ) → bytes (degree_text z) ≡ signed_decimal z
-bytes-degree (pos n) = bytes-digits (decimal n)
-bytes-degree (negsuc n) = ap (λ x. 45 ∷ x) (bytes-digits (decimal (suc n)))
+bytes-degree z = grind (arith, bytes-digits)
 
 bytes-weight : (z : ℤ) → bytes (weight_text z) ≡ weight_bytes z
-bytes-weight (pos n) = ap (λ x. 43 ∷ x) (bytes-digits (decimal n))
-bytes-weight (negsuc n) = ap (λ x. 45 ∷ x) (bytes-digits (decimal (suc n)))
+bytes-weight z = grind (arith, bytes-digits)
 
 bytes-term : (x : Term) → bytes (term_text x) ≡ term_bytes x
 bytes-term x = grind (arith, append_assoc, bytes-append, bytes-weight, bytes-plain, x.literal.negated, x.literal.name)
@@ -90,9 +86,7 @@ bytes-further (x ∷ xs) =
     ∙ (ap (λ y. y ++ bytes (further_text xs)) (bytes-term x) ∙ ap (λ y. term_bytes x ++ y) (bytes-further xs)))
 
 pub bytes-sum : (xs : List Term) → bytes (sum_text xs) ≡ sum_bytes xs
-bytes-sum [] = refl
-bytes-sum (x ∷ xs) =
-    bytes-append (term_text x) (further_text xs) ∙ (ap (λ y. y ++ bytes (further_text xs)) (bytes-term x) ∙ ap (λ y. term_bytes x ++ y) (bytes-further xs))
+bytes-sum xs = grind (arith, bytes-append, bytes-term, bytes-further)
 
 bytes-head : (xs : List Term) → bytes (head_text xs) ≡ head_bytes xs
 bytes-head [] = refl

@@ -11,8 +11,7 @@ none-ascii : (i : ℕ) → get_or {A = ℕ} [] i 0 < 128
 none-ascii i = subst (λ (b : ℕ). b < 128) (sym (get_or_past {X = ℕ} [] i 0 (omega arith))) (omega arith)
 
 one-ascii : (b : ℕ) → b < 128 → (i : ℕ) → get_or (b ∷ []) i 0 < 128
-one-ascii b h zero = h
-one-ascii b h (suc i) = none-ascii i
+one-ascii b h i = grind (arith, none-ascii)
 
 each-ascii : (bs : List ℕ) → Each (λ b. IsTrue (is_name_byte b)) bs → (i : ℕ) → get_or bs i 0 < 128
 each-ascii [] h i = none-ascii i

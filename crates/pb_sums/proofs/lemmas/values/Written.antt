@@ -50,5 +50,4 @@ further_from xs i x some within e =
     ∙ ap (λ (y : Term). (32 ∷ term_bytes y) ++ further_bytes (drop i xs)) (sym e)))
 
 pub sum_parts : (xs : List Term) (d : Term) → 0 < length xs → sum_bytes xs ≡ term_bytes (get_or xs 0 d) ++ further_bytes (drop 1 xs)
-sum_parts [] d h = absurd (omega arith)
-sum_parts (x ∷ xs) d h = refl
+sum_parts xs d h = grind arith
