@@ -1,15 +1,13 @@
 -- If a machine of sums may allocate, the next byte is in a name, or ends a literal. Offered to other crates.
-use Rattle.pb_sums.proofs.Common.{ℕ, ◌*◌, ◌++◌, ◌+◌, ◌||◌, ◌∙◌, ◌∷◌, ◌≡◌, ◌⊎◌, [], ap, append-nil, append_assoc, Bool, false, inl, inr, List, None, arith}
-use Rattle.pb_sums.proofs.Common.{Option, refl, Some, subst, sym, true, IsTrue, nat_le, cond_both, false≢true, never, letter_name}
-use Rattle.pb_sums.proofs.Common.{each-append, End, Go, MayAsk, Next, ReadsStatement, Refuse, is_digit, is_letter, is_name_byte, bytes, Letter}
-use Rattle.pb_sums.proofs.Common.{Relation, AtLeast, Equal, SumEvent, Action, Add, Begin, To, Kind, Digit, Equals, Greater}
-use Rattle.pb_sums.proofs.Common.{Inner, Minus, Plus, Semicolon, Space, Start, Tilde, Phase, Part, Spaces, act, adds, digits, flushed, is_more}
-use Rattle.pb_sums.proofs.Common.{is_numeric, kind, letter_at, next_action, number, symbol, transition, asks, first, over, sums, SumState, allows}
-use Rattle.pb_sums.proofs.Common.{is_space, IsName, IsOneText, reads_sums}
+use Rattle.pb_sums.proofs.Common.{ℕ, ◌++◌, ◌+◌, ◌||◌, ◌∙◌, ◌∷◌, ◌≡◌, ◌⊎◌, [], ap, append-nil, append_assoc, Bool, false, inl, inr, List, arith, refl, subst}
+use Rattle.pb_sums.proofs.Common.{sym, true, IsTrue, false≢true, never, letter_name, each-append, End, Go, MayAsk, Next, ReadsStatement, Refuse, is_letter}
+use Rattle.pb_sums.proofs.Common.{is_name_byte, bytes, Letter, SumEvent, Action, Add, Begin, To, Kind, Start, Phase, Part, Spaces, act, adds, flushed, is_more}
+use Rattle.pb_sums.proofs.Common.{is_numeric, kind, letter_at, transition, asks, first, over, sums, SumState, IsName, IsOneText}
 use Rattle.pb_text.specs.meaning.Asking.{AsksOnly}
 use Rattle.pb_text.proofs.lemmas.machine.Asked as asked
 use Rattle.pb_text.proofs.lemmas.machine.Walking.{Walks, reads_after}
 use Rattle.pb_sums.specs.meaning.Asking.{EndsIn, IsNameStart, InName, AsksLiteral}
+use Rattle.pb_sums.proofs.lemmas.machine.LetterKinds.{Means, kind-means}
 use Rattle.pb_sums.proofs.lemmas.machine.LiteralPrefixes.{IsFirst, name-append, first-append}
 use Rattle.pb_sums.proofs.lemmas.machine.States.{accepts_one, ended-last, continues-midway, nothing-after}
 
@@ -47,24 +45,6 @@ at_name text name b e h = by_test (is_name_byte b) refl
     by_test true t = inl (name, e, name_further name b h t)
     by_test false t = inr (name, e, h, t)
 
--- what a kind says about its byte
-abbrev Means : Kind → ℕ → Type 0
-Means (Start c) b = (c ≡ b) × IsTrue (is_letter c)
-Means (Inner c) b = (c ≡ b) × IsTrue (is_name_byte c)
-Means _ b = Unit {0}
-
-symbol_means : (b : ℕ) → Means (symbol b) b
-symbol_means b = grind (arith)
-
-means : (spaces : Spaces) (l : Letter) → Means (kind spaces l) l.byte
-means spaces l =
-    let P : Kind → Type 0 = λ k. Means k l.byte in
-    cond_both l.numeral _ _ P
-    (λ _. cond_both (is_digit l.byte) _ _ P (λ _. tt) (λ _. tt))
-    (λ _. cond_both (is_space spaces l.byte) _ _ P (λ _. tt) (λ _.
-    cond_both (is_letter l.byte) _ _ P (λ e. (refl, e)) (λ _.
-    cond_both (is_name_byte l.byte) _ _ P (λ e. (refl, e)) (λ _. symbol_means l.byte))))
-
 -- a name is being read
 abbrev is_naming : Phase → Bool
 is_naming (Phase.First z negated) = true
@@ -80,18 +60,8 @@ Fits p b (Add (Phase.More z negated) c) = (c ≡ b) × IsTrue (is_name_byte c) �
 Fits p b (Add q c) = ⊥
 Fits p b _ = Unit {0}
 
-module _ (want : Part) (limit b : ℕ) where
-  digits_fit : (p : Phase) (role : Option Relation) (negative : Bool) (n d : ℕ) → Fits p b (digits limit role negative n d)
-  digits_fit p role negative n d = cond_both (nat_le (10 * n + d) limit) _ _ (Fits p b) (λ _. refl) (λ _. tt)
-
-  number_fits : (p : Phase) (role : Option Relation) (k : Kind) → Fits p b (number limit role k)
-  number_fits p role k = grind (arith, digits_fit)
-
-  after_fits : (p : Phase) (k : Kind) → Fits p b (next_action want k)
-  after_fits p k = grind (arith, cond_both)
-
-  transition_fits : (p : Phase) (k : Kind) → Means k b → Fits p b (transition want limit p k)
-  transition_fits p k m = grind (arith, cond_both, digits_fit, after_fits, letter_name, number_fits)
+transition_fits : (want : Part) (limit : ℕ) (spaces : Spaces) (l : Letter) (p : Phase) (k : Kind) → Means spaces k l → Fits p l.byte (transition want limit p k)
+transition_fits want limit spaces l p k m = grind (arith, letter_name)
 
 -- the text ends in the name being read
 abbrev Holds : Phase → List ℕ → List ℕ → Type 0
@@ -124,7 +94,9 @@ acts : (s : SumState) (text : List ℕ) (b : ℕ) (m : Action) → Fits s.work.p
 acts s text b m h k = grind (arith, held_no_name, ends_one, name_grown)
 
 fits : (s : SumState) (b : ℕ) → Fits s.work.phase b (transition s.part s.limit s.work.phase (kind s.spaces (letter_at (is_numeric s.work.phase) b)))
-fits s b = transition_fits s.part s.limit b s.work.phase (kind s.spaces (letter_at (is_numeric s.work.phase) b)) (means s.spaces (letter_at (is_numeric s.work.phase) b))
+fits s b =
+    let l : Letter = letter_at (is_numeric s.work.phase) b in
+    transition_fits s.part s.limit s.spaces l s.work.phase (kind s.spaces l) (kind-means s.spaces l)
 
 stepped : (s next : SumState) (b : ℕ) (text : List ℕ) → Known s text → sums.step s b ≡ Go next → Known next (text ++ b ∷ [])
 stepped s next b text k e =
@@ -157,7 +129,7 @@ by_either p name text b m f h k = by_adds (adds m) refl h
 
 -- Before a text, it does not allocate.
 begins_plain : (want : Part) (limit : ℕ) (k : Kind) → adds (transition want limit Phase.Start k) ≡ false
-begins_plain want limit k = grind (arith, cond_both)
+begins_plain want limit k = grind arith
 
 pub first_asks_nothing : (spaces : Spaces) (part : Part) (limit b : ℕ) → asks (first spaces part limit) b ≡ false
 first_asks_nothing spaces part limit b = rw (begins_plain part limit (kind spaces (letter_at true b))) refl

@@ -1,12 +1,12 @@
 -- The machine reads each text of the grammar: one lemma for each word of the grammar.
 use Rattle.pb_sums.proofs.lemmas.machine.LetterKinds.{on_letter, kind-digit, kind-space, kind-letter, kind-name}
-use Rattle.pb_sums.proofs.Common.{ℕ, ℤ, ◌*◌, ◌++◌, ◌+◌, ◌<◌, ◌^◌, ◌∙◌, ◌∷◌, ◌≡◌, ◌≤◌, ◌⊎◌, [], ap, append-nil, append_assoc, arith, Bool, cond, false}
-use Rattle.pb_sums.proofs.Common.{inl, inr, length, List, map, None, Option, refl, Some, subst, suc, sym, true, IsTrue, nat_le, le-mul_of_pos_right}
-use Rattle.pb_sums.proofs.Common.{pow-succ', le-leb, run, run-append, run-refuse, Takes, takes_then, nil_first, End, Go, Next, Refuse, is_name_byte, ◌⋅◌, Byte}
-use Rattle.pb_sums.proofs.Common.{digit, Each, Language, unmarked, Number, Sign, signed, value, Letter, Relation, AtLeast, Equal, SumEvent, Term, Action}
-use Rattle.pb_sums.proofs.Common.{EndSum, Stop, To, Kind, Digit, Equals, Greater, Inner, Minus, Plus, Semicolon, Space, Start, Tilde, Part, Spaces}
-use Rattle.pb_sums.proofs.Common.{act, action, at_name, digits, finished, fresh, kind, next_action, to, Work, allows, Head, is_space, reads_sums}
-use Rattle.pb_sums.proofs.Common.{Spaces0, Spaces1, Spells, SpellsFurther, SpellsLinear, SpellsLiteral, SpellsRelation, SpellsSum, SpellsTerm, Phase}
+use Rattle.pb_sums.proofs.Common.{ℕ, ℤ, ◌*◌, ◌++◌, ◌+◌, ◌<◌, ◌^◌, ◌∙◌, ◌∷◌, ◌≡◌, ◌≤◌, ◌⊎◌, [], ap, append-nil, append_assoc, arith, Bool, cond, false, inl, inr}
+use Rattle.pb_sums.proofs.Common.{length, List, map, None, Option, refl, Some, subst, suc, sym, true, IsTrue, le-mul_of_pos_right, pow-succ', le-leb, run}
+use Rattle.pb_sums.proofs.Common.{run-append, run-refuse, Takes, takes_then, nil_first, End, Go, Next, Refuse, is_name_byte, ◌⋅◌, Byte, digit, Each, Language}
+use Rattle.pb_sums.proofs.Common.{unmarked, Number, Sign, signed, value, Letter, Relation, AtLeast, Equal, SumEvent, Term, Action, EndSum, Stop, To, Kind}
+use Rattle.pb_sums.proofs.Common.{Digit, Equals, Greater, Inner, Minus, Plus, Semicolon, Space, Start, Tilde, Part, Spaces, act, action, at_name, digits}
+use Rattle.pb_sums.proofs.Common.{finished, fresh, kind, next_action, to, Work, allows, Head, is_space, reads_sums, Spaces0, Spaces1, Spells, SpellsFurther}
+use Rattle.pb_sums.proofs.Common.{SpellsLinear, SpellsLiteral, SpellsRelation, SpellsSum, SpellsTerm, Phase}
 use Rattle.pb_text.proofs.lemmas.numbers.DigitWalks.{ten_pos}
 
 module _ (spaces : Spaces) (want : Part) (limit : ℕ) where
@@ -72,7 +72,8 @@ module _ (spaces : Spaces) (want : Part) (limit : ℕ) where
   abbrev T : (N → Type 0) → Language → (N → Type 0) → Type 0
   T = Takes (on_letter spaces want limit)
 
-  sign-run : (role : Option Relation) (xs : List Term) (n : N) (negative : Bool) (a : List Letter) → Opens role xs n → Sign negative a → TakesDigits xs role negative 0 (go n a)
+  sign-run : (role : Option Relation) (xs : List Term) (n : N) (negative : Bool) (a : List Letter) → Opens role xs n → Sign negative a
+      → TakesDigits xs role negative 0 (go n a)
   sign-run role xs n true a o s d =
       ap (λ x. moves (go n x) (Digit d)) s ∙ ap (λ y. moves y (Digit d)) (reads n (to xs (Phase.Signed role true)) (unmarked 45) Minus [] refl o.1)
   sign-run role xs n false a o (inl s) d = ap (λ x. moves (go n x) (Digit d)) s ∙ o.2 d
@@ -126,11 +127,13 @@ module _ (spaces : Spaces) (want : Part) (limit : ℕ) where
   literal-run z xs true (b ∷ c ∷ bs) t h =
       ap (go (to xs (Phase.Gap z))) h.1
       ∙ (reads (to xs (Phase.Gap z)) (to xs (Phase.Tilde z)) (unmarked 126) Tilde (map unmarked (b ∷ c ∷ bs)) refl refl
-      ∙ (reads (to xs (Phase.Tilde z)) (at_name xs (Phase.First z true) (b ∷ [])) (unmarked b) (Start b) (map unmarked (c ∷ bs)) (kind-letter spaces b h.0.0) refl
+      ∙ (reads (to xs (Phase.Tilde z)) (at_name xs (Phase.First z true) (b ∷ [])) (unmarked b) (Start b) (map unmarked (c ∷ bs))
+      (kind-letter spaces b h.0.0) refl
       ∙ first-run z true xs b c bs h.0.1))
   literal-run z xs false (b ∷ c ∷ bs) t h =
       ap (go (to xs (Phase.Gap z))) h.1
-      ∙ (reads (to xs (Phase.Gap z)) (at_name xs (Phase.First z false) (b ∷ [])) (unmarked b) (Start b) (map unmarked (c ∷ bs)) (kind-letter spaces b h.0.0) refl
+      ∙ (reads (to xs (Phase.Gap z)) (at_name xs (Phase.First z false) (b ∷ [])) (unmarked b) (Start b) (map unmarked (c ∷ bs))
+      (kind-letter spaces b h.0.0) refl
       ∙ first-run z false xs b c bs h.0.1)
 
   -- terms
@@ -184,14 +187,14 @@ module _ (spaces : Spaces) (want : Part) (limit : ℕ) where
 
   -- what may follow the terms
   abbrev Follows : List Term → N → Type 0
-  Follows xs n = (moves n Greater ≡ cond (allows want AtLeast) (to xs Phase.Greater) Refuse) × (moves n Equals ≡ cond (allows want Equal) (to xs (Phase.Relation Equal)) Refuse)
+  Follows xs n = (moves n Greater ≡ cond (allows want AtLeast) (to xs Phase.Greater) Refuse)
+      × (moves n Equals ≡ cond (allows want Equal) (to xs (Phase.Relation Equal)) Refuse)
       × (moves n Semicolon ≡ cond (reads_sums want) (End (SumEvent.Sum xs) finished) Refuse)
 
   follows-act : (ys xs : List Term) (name : List ℕ) → (act ys xs name (next_action want Greater) ≡ cond (allows want AtLeast) (to ys Phase.Greater) Refuse)
       × (act ys xs name (next_action want Equals) ≡ cond (allows want Equal) (to ys (Phase.Relation Equal)) Refuse)
       × (act ys xs name (next_action want Semicolon) ≡ cond (reads_sums want) (End (SumEvent.Sum ys) finished) Refuse)
-  follows-act ys xs name =
-      (act-cond ys xs name (allows want AtLeast) (To Phase.Greater), act-cond ys xs name (allows want Equal) (To (Phase.Relation Equal)), act-cond ys xs name (reads_sums want) EndSum)
+  follows-act ys xs name = grind arith
 
   follows-held : (zs : List Term) (n : N) → Held zs n → Follows zs n
   follows-held zs n (xs, x, e, f) =

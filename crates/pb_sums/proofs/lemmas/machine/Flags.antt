@@ -1,12 +1,10 @@
 -- Which letter a byte is: digits of a number have their flag.
 use Rattle.pb_sums.proofs.lemmas.machine.LetterKinds.{on_letter, Means, kind-means}
-use Rattle.pb_sums.proofs.Common.{ℕ, ◌&&◌, ◌*◌, ◌++◌, ◌+◌, ◌-◌, ◌∙◌, ◌∷◌, ◌≡◌, ◌⊎◌, [], ap, arith, Bool, cond, false, inl, inr, List, None, Option}
-use Rattle.pb_sums.proofs.Common.{refl, Some, subst, sym, true, nat_le, nat_tests, end_or_go, go_or_end, one_end, one_state, refuse_or_end}
-use Rattle.pb_sums.proofs.Common.{refuse_or_go, End, Go, is_digit, is_letter, is_name_byte, unmarked, Letter, Relation, AtLeast, Equal, SumEvent}
-use Rattle.pb_sums.proofs.Common.{Term, Action, Add, Begin, EndLinear, EndSum, Stop, To, Kind, Digit, Equals, Greater, Inner, Minus, Other, Plus}
-use Rattle.pb_sums.proofs.Common.{Semicolon, Space, Start, Tilde, Phase, Part, Spaces, act, digits, finished, flushed, is_in_number, is_midway}
-use Rattle.pb_sums.proofs.Common.{is_numeric, kind, kind_of_numeral, kind_of_plain, letter_at, next_action, number, transition, Work, in_hand, ready}
-use Rattle.pb_sums.proofs.Common.{allows, is_space, reads_sums}
+use Rattle.pb_sums.proofs.Common.{ℕ, ◌&&◌, ◌+◌, ◌-◌, ◌∙◌, ◌≡◌, ◌⊎◌, ap, arith, Bool, cond, false, inl, inr, List, refl, subst, sym, true, nat_tests, end_or_go}
+use Rattle.pb_sums.proofs.Common.{go_or_end, one_end, one_state, refuse_or_end, refuse_or_go, End, Go, is_digit, is_letter, is_name_byte, unmarked, Letter}
+use Rattle.pb_sums.proofs.Common.{SumEvent, Term, Action, Add, Begin, EndLinear, EndSum, Stop, To, Kind, Digit, Inner, Other, Semicolon, Phase, Part, Spaces}
+use Rattle.pb_sums.proofs.Common.{act, finished, flushed, is_in_number, is_midway, is_numeric, kind, kind_of_numeral, kind_of_plain, letter_at, transition}
+use Rattle.pb_sums.proofs.Common.{Work, in_hand, ready, is_space}
 use Rattle.std.proofs.Math.Bool.{and-false}
 
 -- What the transition of a phase at a kind says about the next state. The byte was a digit of a number if and only if
@@ -26,22 +24,9 @@ IsSane ph k EndSum = k ≡ Semicolon
 IsSane ph k (EndLinear r z) = k ≡ Semicolon
 IsSane ph k Stop = Unit {0}
 
-sane_test : (ph : Phase) (k : Kind) (b : Bool) (m : Action) → IsSane ph k m → IsSane ph k (cond b m Stop)
-sane_test ph k b m h = grind arith
-
 module _ (want : Part) (limit : ℕ) where
-  digits-sane : (ph : Phase) (role : Option Relation) (negative : Bool) (n d : ℕ) → IsSane ph (Digit d) (digits limit role negative n d)
-  digits-sane ph role negative n d =
-      sane_test ph (Digit d) (nat_le (10 * n + d) limit) (To (Phase.Digits role negative (10 * n + d))) ((refl, refl), refl)
-
-  number-sane : (ph : Phase) (role : Option Relation) (k : Kind) → IsSane ph k (number limit role k)
-  number-sane ph role k = grind (arith, digits-sane)
-
-  after-sane : (ph : Phase) (k : Kind) → IsSane ph k (next_action want k)
-  after-sane ph k = grind (arith, sane_test)
-
   pub transition-sane : (ph : Phase) (k : Kind) → IsSane ph k (transition want limit ph k)
-  transition-sane ph k = grind (arith, sane_test, number-sane, after-sane, digits-sane)
+  transition-sane ph k = grind arith
 
   digit-needs : (ph : Phase) (d : ℕ) → (is_numeric ph ≡ true) ⊎ (transition want limit ph (Digit d) ≡ Stop)
   digit-needs ph d = grind arith

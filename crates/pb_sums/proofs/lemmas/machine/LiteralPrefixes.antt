@@ -1,6 +1,6 @@
 -- A literal that is read byte by byte: the first byte of its name, and more of them. Offered to other crates.
-use Rattle.pb_sums.proofs.Common.{arith, ℕ, ◌++◌, ◌∷◌, ◌≡◌, [], Bool, false, List, refl, subst, sym, true, IsTrue, each-append, is_letter, is_name_byte}
-use Rattle.pb_sums.proofs.Common.{Bytes, Language, unmarked, Letter, IsName, literal_bytes, SpellsLiteral}
+use Rattle.pb_sums.proofs.Common.{arith, ℕ, ◌++◌, ◌∷◌, ◌≡◌, [], Bool, List, subst, sym, IsTrue, each-append, is_letter, is_name_byte, Bytes, Language, unmarked}
+use Rattle.pb_sums.proofs.Common.{Letter, IsName, literal_bytes, SpellsLiteral}
 use Rattle.pb_text.proofs.lemmas.text.Letters.{bytes_one_more}
 
 abbrev pub IsFirst : List ℕ → Type 0

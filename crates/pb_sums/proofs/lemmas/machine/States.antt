@@ -1,10 +1,9 @@
 -- What holds of each state of a machine, and what its first state accepts. Offered to other crates.
-use Rattle.pb_sums.proofs.Common.{ℕ, ◌+◌, ◌-◌, ◌^◌, ◌↔◌, ◌∙◌, ◌∷◌, ◌≡◌, ◌≤◌, [], ap, arith, false, length, List, min, refl, subst, sym, true}
-use Rattle.pb_sums.proofs.Common.{min-le_left, end_or_go, go_or_end, one_end, one_state, refuse_or_end, refuse_or_go, never, AcceptsItems, Admits}
-use Rattle.pb_sums.proofs.Common.{End, Go, IsState, Next, ReadsStatement, Refuse, SkipsGap, Item, Letter, SumEvent, Term, Stop, Kind, Phase, Part}
-use Rattle.pb_sums.proofs.Common.{Spaces, finished, is_done, is_in_number, is_midway, is_more, is_numeric, kind, letter_at, Outcome}
-use Rattle.pb_sums.proofs.Common.{PhaseFits, step, transition, Work, all_units, first, in_hand, IsInOrder, last, over, ready, sums, SumState, units}
-use Rattle.pb_sums.proofs.Common.{with_work, IsOneText}
+use Rattle.pb_sums.proofs.Common.{ℕ, ◌+◌, ◌-◌, ◌^◌, ◌↔◌, ◌∙◌, ◌∷◌, ◌≡◌, ◌≤◌, [], ap, arith, false, length, List, min, refl, subst, sym, true, min-le_left}
+use Rattle.pb_sums.proofs.Common.{end_or_go, go_or_end, one_end, one_state, refuse_or_end, refuse_or_go, never, AcceptsItems, Admits, End, Go, IsState, Next}
+use Rattle.pb_sums.proofs.Common.{ReadsStatement, Refuse, SkipsGap, Item, Letter, SumEvent, Term, Stop, Kind, Phase, Part, Spaces, finished, is_done}
+use Rattle.pb_sums.proofs.Common.{is_in_number, is_midway, is_more, is_numeric, kind, letter_at, Outcome, PhaseFits, step, transition, Work, all_units, first}
+use Rattle.pb_sums.proofs.Common.{in_hand, IsInOrder, last, over, ready, sums, SumState, units, with_work, IsOneText, Some, after_space}
 use Rattle.pb_text.proofs.lemmas.machine.OneText.{IsOfOne, is_state as of_one_state, admits as of_one_admits}
 use Rattle.pb_sums.proofs.lemmas.machine.Flags.{gone, ended}
 use Rattle.pb_sums.proofs.lemmas.machine.Links.{midway-not-done, reads_grammar, reads_something}
@@ -134,3 +133,11 @@ more_midway p e = grind arith
 pub more_state : (spaces : Spaces) (part : Part) (limit : ℕ) (xs : List Term) (name : List ℕ) (q : Phase) → PhaseFits limit q → is_more q ≡ true
     → IsState sums (record { spaces = spaces; part = part; limit = limit; work = record { terms = xs; name = name; phase = q } })
 more_state spaces part limit xs name q h more = midway_state spaces part limit xs name q h (more_midway q more)
+
+-- the state after a space
+space-fits : (limit : ℕ) (p q : Phase) → Some q ≡ after_space p → PhaseFits limit q × (is_midway q ≡ true)
+space-fits limit p q e = grind arith
+
+pub space_state : (spaces : Spaces) (part : Part) (limit : ℕ) (xs : List Term) (name : List ℕ) (p q : Phase) → Some q ≡ after_space p
+    → IsState sums (record { spaces = spaces; part = part; limit = limit; work = record { terms = xs; name = name; phase = q } })
+space_state spaces part limit xs name p q e = let h = space-fits limit p q e in midway_state spaces part limit xs name q h.0 h.1

@@ -2,9 +2,9 @@
 use Rattle.pb_sums.proofs.lemmas.machine.Complete.{reads_each}
 use Rattle.pb_sums.proofs.lemmas.machine.LetterKinds.{on_letter}
 use Rattle.pb_sums.proofs.lemmas.machine.Sound.{reads_only}
-use Rattle.pb_sums.proofs.Common.{ℕ, ℤ, ◌++◌, ◌↔◌, ◌∙◌, ◌∷◌, ◌≡◌, [], ap, arith, Bool, cond, false, List, None, Option, refl, Some, sym, true, le-leb, false≢true}
-use Rattle.pb_sums.proofs.Common.{one_end, run, run-append, End, Go, Next, Refuse, digit, Language, unmarked, signed, Letter, Relation, AtLeast, SumEvent}
-use Rattle.pb_sums.proofs.Common.{Term, Stop, To, Greater, Semicolon, Phase, Part, Spaces, act, at_name, digits, finished, fresh, is_done}
+use Rattle.pb_sums.proofs.Common.{ℕ, ℤ, ◌++◌, ◌↔◌, ◌∙◌, ◌∷◌, ◌≡◌, [], ap, arith, Bool, cond, false, List, None, Option, refl, Some, sym, true, le-leb}
+use Rattle.pb_sums.proofs.Common.{false≢true, one_end, run, run-append, End, Go, Next, Refuse, digit, Language, unmarked, signed, Letter, Relation, AtLeast}
+use Rattle.pb_sums.proofs.Common.{SumEvent, Term, Stop, To, Greater, Semicolon, Phase, Part, Spaces, act, at_name, digits, finished, fresh, is_done}
 use Rattle.pb_sums.proofs.Common.{next_action, term, to, Work, Spells}
 
 module _ (spaces : Spaces) (want : Part) (limit : ℕ) where

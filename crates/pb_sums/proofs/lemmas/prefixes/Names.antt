@@ -1,7 +1,7 @@
 -- Names that are taken at once, and the run that they form.
-use Rattle.pb_sums.proofs.Common.{ℕ, ℤ, ◌++◌, ◌∷◌, ◌≡◌, ◌≤◌, ◌⊎◌, [], ap, append-nil, append_assoc, arith, Bool, false, get_or, inl, inr, length}
-use Rattle.pb_sums.proofs.Common.{List, refl, Some, subst, sym, true, IsTrue, Go, IsState, Runs, is_letter, is_name_byte, Each, unmarked, Term, Kind}
-use Rattle.pb_sums.proofs.Common.{Inner, Start, Phase, Part, Spaces, action, is_more, kind, after_name, over, sums, SumState}
+use Rattle.pb_sums.proofs.Common.{ℕ, ℤ, ◌++◌, ◌∷◌, ◌≡◌, ◌≤◌, ◌⊎◌, [], ap, append-nil, append_assoc, arith, Bool, get_or, length, List, refl, Some, subst, sym}
+use Rattle.pb_sums.proofs.Common.{true, IsTrue, Go, IsState, Runs, is_letter, is_name_byte, Each, unmarked, Term, Kind, PhaseFits, is_midway, Inner, Start}
+use Rattle.pb_sums.proofs.Common.{Phase, Part, Spaces, action, is_more, kind, after_name, over, sums, SumState}
 use Rattle.pb_sums.proofs.lemmas.machine.LetterKinds.{kind-name, kind-letter}
 use Rattle.pb_sums.proofs.lemmas.machine.States.{midway_state}
 
@@ -52,33 +52,25 @@ module _ (spaces : Spaces) (part : Part) (limit : ℕ) (xs : List Term) where
   abbrev Spells : List ℕ → Type 0
   Spells text = (2 ≤ length text) × IsTrue (is_letter (get_or text 0 0)) × Each (λ b. IsTrue (is_name_byte b)) text
 
+  -- the first byte of a name
+  name-starts : (name : List ℕ) (p q : Phase) (b : ℕ) → after_name p ≡ Some q → IsTrue (is_letter b)
+      → (z : ℤ) × (negated : Bool) × (Phase.More z negated ≡ q) × (sums.step (at name p) b ≡ Go (at (b ∷ []) (Phase.First z negated)))
+  name-starts name p q b e h = grind (arith, kind-letter)
+
   from-literal : (name : List ℕ) (p q : Phase) (text : List ℕ) → after_name p ≡ Some q → Spells text → Runs sums (at name p) text (at text q)
   from-literal name p q [] e h = absurd (omega (arith, h.0))
   from-literal name p q (b ∷ []) e h = absurd (omega (arith, h.0))
-  from-literal name (Phase.Gap z) q (b ∷ c ∷ text) e h =
-      let f : Phase.More z false ≡ q = cc in
-      let g : sums.step (at name (Phase.Gap z)) b ≡ Go (at (b ∷ []) (Phase.First z false)) =
-      ap (λ k. over (at name (Phase.Gap z)) (action part limit xs name (Phase.Gap z) k)) (kind-letter spaces b h.1) in
-      subst (λ (r : Phase). Runs sums (at name (Phase.Gap z)) (b ∷ c ∷ text) (at (b ∷ c ∷ text) r)) f
-      (name-run name (Phase.Gap z) z false b c text g h.2.1.0 h.2.1.1)
-  from-literal name (Phase.Tilde z) q (b ∷ c ∷ text) e h =
-      let f : Phase.More z true ≡ q = cc in
-      let g : sums.step (at name (Phase.Tilde z)) b ≡ Go (at (b ∷ []) (Phase.First z true)) =
-      ap (λ k. over (at name (Phase.Tilde z)) (action part limit xs name (Phase.Tilde z) k)) (kind-letter spaces b h.1) in
-      subst (λ (r : Phase). Runs sums (at name (Phase.Tilde z)) (b ∷ c ∷ text) (at (b ∷ c ∷ text) r)) f
-      (name-run name (Phase.Tilde z) z true b c text g h.2.1.0 h.2.1.1)
-  from-literal name _ q (b ∷ c ∷ text) e h = cc e
+  from-literal name p q (b ∷ c ∷ text) e h =
+      let (z, negated, f, g) = name-starts name p q b e h.1 in
+      subst (λ (r : Phase). Runs sums (at name p) (b ∷ c ∷ text) (at (b ∷ c ∷ text) r)) f (name-run name p z negated b c text g h.2.1.0 h.2.1.1)
 
   -- a whole name
   pub name_runs : (name new : List ℕ) (p q : Phase) (text : List ℕ) → Some q ≡ after_name p → 2 ≤ length text → IsTrue (is_letter (get_or text 0 0))
       → Each (λ b. IsTrue (is_name_byte b)) text → new ≡ text → Runs sums (at name p) text (at new q)
   name_runs name new p q text e l i h f = subst (λ (n : List ℕ). Runs sums (at name p) text (at n q)) (sym f) (from-literal name p q text (sym e) (l, i, h))
 
+  name-fits : (p q : Phase) → Some q ≡ after_name p → PhaseFits limit q × (is_midway q ≡ true)
+  name-fits p q e = grind arith
+
   pub after_state : (name : List ℕ) (p q : Phase) → Some q ≡ after_name p → IsState sums (at name q)
-  after_state name (Phase.Gap z) q e =
-      let f : Phase.More z false ≡ q = cc in
-      subst (λ (r : Phase). IsState sums (at name r)) f (midway_state spaces part limit xs name (Phase.More z false) tt refl)
-  after_state name (Phase.Tilde z) q e =
-      let f : Phase.More z true ≡ q = cc in
-      subst (λ (r : Phase). IsState sums (at name r)) f (midway_state spaces part limit xs name (Phase.More z true) tt refl)
-  after_state name _ q e = cc e
+  after_state name p q e = let h = name-fits p q e in midway_state spaces part limit xs name q h.0 h.1

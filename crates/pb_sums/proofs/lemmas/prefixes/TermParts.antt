@@ -1,9 +1,9 @@
 -- Whole terms that are taken at once, and the run that they form.
-use Rattle.pb_sums.proofs.Common.{arith, ℕ, ℤ, ◌++◌, ◌+◌, ◌<◌, ◌∷◌, ◌≡◌, ◌≤◌, [], Bool, false, get_or, length, List, None, Option, refl, Some, subst}
-use Rattle.pb_sums.proofs.Common.{sym, take, true, Err, if◌then◌else◌, is_err, is_ok, IsTrue, Ok, Result, runs_further, Go, IsState, Runs, value_from}
-use Rattle.pb_sums.proofs.Common.{is_digit, is_letter, is_name_byte, Each, signed, relation_bytes, Relation, AtLeast, Equal, Term, Phase, Part}
-use Rattle.pb_sums.proofs.Common.{Spaces, after_name, after_number, begins_number, begins_relation, HasSign, role, sign_read, text_after, sums}
-use Rattle.pb_sums.proofs.Common.{SumState, begins_term, IsLiteral, IsSpacedLiteral, IsSpacedNumber, IsTilde, standing, allows}
+use Rattle.pb_sums.proofs.Common.{arith, ℕ, ℤ, ◌++◌, ◌+◌, ◌<◌, ◌∷◌, ◌≡◌, ◌≤◌, [], Bool, false, get_or, length, List, None, Option, refl, Some, subst, sym, take}
+use Rattle.pb_sums.proofs.Common.{true, if◌then◌else◌, is_err, is_ok, IsTrue, Result, runs_further, Go, IsState, Runs, value_from, is_digit, is_letter}
+use Rattle.pb_sums.proofs.Common.{is_name_byte, Each, signed, relation_bytes, Relation, AtLeast, Equal, Term, Phase, Part, Spaces, after_name, after_number}
+use Rattle.pb_sums.proofs.Common.{begins_number, begins_relation, HasSign, role, sign_read, text_after, sums, SumState, begins_term, IsLiteral, IsSpacedLiteral}
+use Rattle.pb_sums.proofs.Common.{IsSpacedNumber, IsTilde, standing, allows}
 use Rattle.pb_text.proofs.lemmas.machine.Running.{runs_on}
 use Rattle.pb_sums.specs.declared.linear.Literal.{Literal}
 use Rattle.pb_sums.proofs.lemmas.prefixes.Digits.{number_runs}

@@ -1,10 +1,9 @@
 -- The canonical text of a value is a text of that value. Offered to other crates.
-use Rattle.pb_sums.proofs.Common.{ℕ, ℤ, ◌++◌, ◌<◌, ◌^◌, ◌∙◌, ◌∷◌, ◌≡◌, ◌≤◌, [], ap, append_assoc, arith, decimal, false, inl, inr, List, refl, suc}
-use Rattle.pb_sums.proofs.Common.{true, nat_abs, negsuc, pos, decimal-digits, bytes-append, bytes-digits, bytes-plain, unmarked, Number, bytes}
-use Rattle.pb_sums.proofs.Common.{digits_of, Letter, AreTerms, degree_text, further_text, head_bytes, head_text, IsLinear, IsTerm, linear_bytes}
-use Rattle.pb_sums.proofs.Common.{linear_text, literal_text, relation_text, space, sum_bytes, sum_text, term_bytes, term_text}
-use Rattle.pb_sums.proofs.Common.{weight_bytes, weight_text, Linear, Relation, AtLeast, Equal, Term, Spaces, Head, Spaces0, Spaces1}
-use Rattle.pb_sums.proofs.Common.{SpellsFurther, SpellsLinear, SpellsRelation, SpellsSum, SpellsTerm}
+use Rattle.pb_sums.proofs.Common.{ℕ, ℤ, ◌⋅◌, ◌++◌, ◌<◌, ◌^◌, ◌∙◌, ◌∷◌, ◌≡◌, ◌≤◌, [], ap, append_assoc, arith, decimal, false, inl, inr, List, refl, suc, true}
+use Rattle.pb_sums.proofs.Common.{nat_abs, negsuc, pos, decimal-digits, bytes-append, bytes-digits, bytes-plain, unmarked, Number, bytes, digits_of, Letter}
+use Rattle.pb_sums.proofs.Common.{AreTerms, degree_text, further_text, head_bytes, head_text, IsLinear, IsTerm, linear_bytes, linear_text, literal_text}
+use Rattle.pb_sums.proofs.Common.{relation_text, space, sum_bytes, sum_text, term_bytes, term_text, weight_bytes, weight_text, Linear, Relation, Term, Spaces}
+use Rattle.pb_sums.proofs.Common.{Head, Spaces0, Spaces1, SpellsFurther, SpellsLinear, SpellsRelation, SpellsSum, SpellsTerm}
 use Rattle.std.specs.Fmt.{signed_decimal}
 use Rattle.pb_sums.specs.contract.Canonical.{further_bytes}
 
@@ -47,25 +46,11 @@ module _ (limit : ℕ) (small : limit < 10 ^ 64) where
     linear-spelled c h =
         let H : List Letter = head_text c.terms in
         let O : List Letter = relation_text c.relation in
-        let D : List Letter = degree_text c.degree in (
-          H ++ O ++ space ++ D ++ space,
-          unmarked 59 ∷ [],
-          refl,
-          (
-            H ++ O ++ space ++ D,
-            space,
-            refl,
-            (
-              H ++ O ++ space,
-              D,
-              refl,
-              (H ++ O, space, refl, (H, O, refl, head-spelled c.terms h.0, relation-spelled c.relation), space0),
-              degree c.degree h.1,
-            ),
-            space0,
-          ),
-          refl,
-        )
+        let D : List Letter = degree_text c.degree in
+        let S : List Letter = H ++ O ++ space ++ D in
+        let related : (Head spaces limit c.terms ⋅ SpellsRelation spaces limit c.relation ⋅ Spaces0 spaces limit) (H ++ O ++ space) =
+        (H ++ O, space, refl, (H, O, refl, head-spelled c.terms h.0, relation-spelled c.relation), space0) in
+        (S ++ space, unmarked 59 ∷ [], refl, (S, space, refl, (H ++ O ++ space, D, refl, related, degree c.degree h.1), space0), refl)
 
 -- The letters of canonical text are its bytes.
 pub bytes-degree : (z : ℤ) → bytes (degree_text z) ≡ signed_decimal z

@@ -1,7 +1,6 @@
 -- A text of a value remains one if numbers may be larger. Offered to other crates.
 use Rattle.pb_sums.proofs.Common.{arith, ℕ, ◌∷◌, ◌≤◌, [], List, number-within, each_side, ◌⋅◌, Byte, Language, Number, Letter, Linear, SumEvent, Term, Part}
-use Rattle.pb_sums.proofs.Common.{Spaces, Head, Spaces0, Spaces1, Spells, SpellsFurther, SpellsLinear, SpellsLiteral, SpellsRelation, SpellsSum}
-use Rattle.pb_sums.proofs.Common.{SpellsTerm}
+use Rattle.pb_sums.proofs.Common.{Spaces, Head, Spaces0, Spaces1, Spells, SpellsFurther, SpellsLinear, SpellsLiteral, SpellsRelation, SpellsSum, SpellsTerm}
 
 module _ (spaces : Spaces) (small large : ℕ) (h : small ≤ large) where
   abbrev Grows : (ℕ → Language) → Type 0

@@ -1,6 +1,6 @@
 -- The value of a text under a limit is within that limit. Offered to other crates.
-use Rattle.pb_sums.proofs.Common.{arith, ℕ, ℤ, ◌∷◌, ◌≤◌, [], Bool, false, List, subst, suc, sym, true, zero, nat_abs, Number, signed, Letter, AreTerms}
-use Rattle.pb_sums.proofs.Common.{IsLinear, IsTerm, Linear, Term, Spaces, Head, SpellsFurther, SpellsLinear, SpellsSum, SpellsTerm}
+use Rattle.pb_sums.proofs.Common.{arith, ℕ, ℤ, ◌∷◌, ◌≤◌, [], Bool, List, subst, sym, nat_abs, Number, signed, Letter, AreTerms, IsLinear, IsTerm, Linear, Term}
+use Rattle.pb_sums.proofs.Common.{Spaces, Head, SpellsFurther, SpellsLinear, SpellsSum, SpellsTerm}
 
 signed-within : (limit : ℕ) (negative : Bool) (n : ℕ) → n ≤ limit → nat_abs (signed negative n) ≤ limit
 signed-within limit negative n h = grind arith

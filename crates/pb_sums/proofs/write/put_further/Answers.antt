@@ -1,5 +1,5 @@
-use Rattle.pb_sums.proofs.Common.{ℕ, ◌++◌, ◌∙◌, ◌∷◌, ap, append_assoc, arith, drop, length, List, sym, further_bytes, term_bytes}
-use Rattle.pb_sums.proofs.lemmas.values.Written.{further_past, further_from}
+use Rattle.pb_sums.proofs.Common.{ℕ, ◌++◌, ◌∙◌, ◌∷◌, ap, append_assoc, arith, drop, List, sym, further_bytes, term_bytes}
+use Rattle.pb_sums.proofs.lemmas.values.Written.{further_from}
 use Rattle.pb_sums.proofs.write.put_further.Goals as goal
 
 pub loop-left-preserved : goal.loop-left-preserved

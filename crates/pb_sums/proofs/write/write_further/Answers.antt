@@ -1,5 +1,4 @@
-use Rattle.pb_sums.proofs.Common.{ℕ, ◌++◌, ◌∙◌, ◌≡◌, [], ap, append_assoc, List, refl, subst, sym, part_broke, part_then, part_wrote, writes_nothing}
-use Rattle.pb_sums.proofs.Common.{Wrote, further_bytes, Term}
+use Rattle.pb_sums.proofs.Common.{ℕ, ◌++◌, ◌∙◌, [], ap, append_assoc, List, refl, subst, sym, part_wrote, writes_nothing, Wrote, Term}
 use Rattle.pb_sums.proofs.lemmas.values.Written.{further_none, further-append}
 use Rattle.pb_sums.proofs.write.write_further.Goals as goal
 

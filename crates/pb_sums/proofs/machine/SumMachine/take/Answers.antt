@@ -1,4 +1,5 @@
-use Rattle.pb_sums.proofs.Common.{ℕ, ℤ, ◌||◌, ◌≡◌, ◌⊎◌, inl, inr, refl, true, false, IsTrue, Relation, SumEvent, Action, Phase, To, Begin, Add, EndSum, EndLinear, adds, is_more, End, SumState}
+use Rattle.pb_sums.proofs.Common.{ℕ, ℤ, ◌||◌, ◌≡◌, ◌⊎◌, inl, inr, refl, true, false, IsTrue, Relation, SumEvent, Action, Phase, To, Begin, Add, EndSum}
+use Rattle.pb_sums.proofs.Common.{EndLinear, adds, is_more, End, SumState}
 use Rattle.pb_sums.specs.contracts.machine.SumMachine.{the_view}
 use Rattle.pb_sums.specs.engine.State.{ends, outcome}
 use Rattle.pb_sums.proofs.lemmas.machine.Pushes.{IsTaken, wants}

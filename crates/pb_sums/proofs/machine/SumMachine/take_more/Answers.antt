@@ -1,5 +1,3 @@
-use Rattle.pb_sums.proofs.Common.{arith}
-use Rattle.pb_sums.proofs.lemmas.prefixes.Names.{more_runs}
 use Rattle.pb_sums.proofs.lemmas.machine.States.{more_state}
 use Rattle.pb_sums.proofs.machine.SumMachine.take_more.Goals as goal
 

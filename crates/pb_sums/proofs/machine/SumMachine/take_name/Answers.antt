@@ -1,6 +1,4 @@
-use Rattle.pb_sums.proofs.Common.{arith, get_or-take, length-take-le}
-use Rattle.pb_sums.proofs.lemmas.values.Shorts.{name_utf8}
-use Rattle.pb_sums.proofs.lemmas.prefixes.Names.{name_runs, after_state}
+use Rattle.pb_sums.proofs.lemmas.prefixes.Names.{after_state}
 use Rattle.pb_sums.proofs.machine.SumMachine.take_name.Goals as goal
 
 pub returns-clause-state : goal.returns-clause-state

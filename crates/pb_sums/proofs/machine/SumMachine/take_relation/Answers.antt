@@ -1,7 +1,5 @@
-use Rattle.pb_sums.proofs.Common.{refl, Phase, arith}
-use Rattle.pb_sums.proofs.lemmas.prefixes.Digits.{none_there}
+use Rattle.pb_sums.proofs.Common.{refl, Phase}
 use Rattle.pb_sums.proofs.lemmas.machine.States.{midway_state}
-use Rattle.pb_sums.proofs.lemmas.prefixes.TermParts.{relation_runs, spaced_relation_runs}
 use Rattle.pb_sums.proofs.machine.SumMachine.take_relation.Goals as goal
 
 pub returns-clause-state : goal.returns-clause-state

@@ -1,4 +1,4 @@
-use Rattle.pb_sums.proofs.Common.{◌==◌, ◌∙◌, ap, arith, length, sym, to_z-of_z}
+use Rattle.pb_sums.proofs.Common.{◌==◌, ◌∙◌, ap, length, sym}
 use Rattle.pb_sums.proofs.lemmas.prefixes.Digits.{none_there}
 use Rattle.pb_sums.proofs.lemmas.prefixes.TermParts.{number_state}
 use Rattle.pb_sums.proofs.machine.SumMachine.take_spaced_number.Goals as goal

@@ -1,7 +1,5 @@
-use Rattle.pb_sums.proofs.Common.{arith, refl, to_z-of_z, Phase}
-use Rattle.pb_sums.proofs.lemmas.prefixes.Digits.{none_there}
+use Rattle.pb_sums.proofs.Common.{refl, Phase}
 use Rattle.pb_sums.proofs.lemmas.machine.States.{midway_state}
-use Rattle.pb_sums.proofs.lemmas.prefixes.TermParts.{term_runs, grown}
 use Rattle.pb_sums.proofs.machine.SumMachine.take_term.Goals as goal
 
 pub returns-clause-state : goal.returns-clause-state
