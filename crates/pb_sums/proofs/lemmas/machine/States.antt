@@ -1,9 +1,9 @@
 -- What holds of each state of a machine, and what its first state accepts. Offered to other crates.
-use Rattle.pb_sums.proofs.Common.{ℕ, ◌+◌, ◌-◌, ◌^◌, ◌↔◌, ◌∙◌, ◌∷◌, ◌≡◌, ◌≤◌, [], ap, arith, false, length, List, min, refl, subst, sym, true, min-le_left}
-use Rattle.pb_sums.proofs.Common.{end_or_go, go_or_end, one_end, one_state, refuse_or_end, refuse_or_go, never, AcceptsItems, Admits, End, Go, IsState, Next}
-use Rattle.pb_sums.proofs.Common.{ReadsStatement, Refuse, SkipsGap, Item, Letter, SumEvent, Term, Stop, Kind, Phase, Part, Spaces, finished, is_done}
-use Rattle.pb_sums.proofs.Common.{is_in_number, is_midway, is_more, is_numeric, kind, letter_at, Outcome, PhaseFits, step, transition, Work, all_units, first}
-use Rattle.pb_sums.proofs.Common.{in_hand, IsInOrder, last, over, ready, sums, SumState, units, with_work, IsOneText, Some, after_space}
+use Rattle.pb_sums.proofs.Common.{Runs, standing, ℕ, ◌+◌, ◌-◌, ◌^◌, ◌↔◌, ◌∙◌, ◌∷◌, ◌≡◌, ◌≤◌, [], ap, arith, false, length, List, min, refl, subst, sym, true}
+use Rattle.pb_sums.proofs.Common.{min-le_left, end_or_go, go_or_end, one_end, one_state, refuse_or_end, refuse_or_go, never, AcceptsItems, Admits, End, Go}
+use Rattle.pb_sums.proofs.Common.{IsState, Next, ReadsStatement, Refuse, SkipsGap, Item, Letter, SumEvent, Term, Stop, Kind, Phase, Part, Spaces, finished}
+use Rattle.pb_sums.proofs.Common.{is_done, is_in_number, is_midway, is_more, is_numeric, kind, letter_at, Outcome, PhaseFits, step, transition, Work, all_units}
+use Rattle.pb_sums.proofs.Common.{first, in_hand, IsInOrder, last, over, ready, sums, SumState, units, with_work, IsOneText, Some, after_space}
 use Rattle.pb_text.proofs.lemmas.machine.OneText.{IsOfOne, is_state as of_one_state, admits as of_one_admits}
 use Rattle.pb_sums.proofs.lemmas.machine.Flags.{gone, ended}
 use Rattle.pb_sums.proofs.lemmas.machine.Links.{midway-not-done, reads_grammar, reads_something}
@@ -125,6 +125,13 @@ pub midway_state : (spaces : Spaces) (part : Part) (limit : ℕ) (xs : List Term
     → IsState sums (record { spaces = spaces; part = part; limit = limit; work = record { terms = xs; name = name; phase = q } })
 midway_state spaces part limit xs name q h i =
     is_state (record { spaces = spaces; part = part; limit = limit; work = record { terms = xs; name = name; phase = q } }) (midway_order limit xs name q h i)
+
+-- a byte that leads to such a state, and a run from there
+pub goes_then : (spaces : Spaces) (part : Part) (limit : ℕ) (s t : SumState) (xs : List Term) (name : List ℕ) (q : Phase) (b : ℕ) (text : List ℕ)
+    → sums.step s b ≡ Go (standing spaces part limit xs name q) → PhaseFits limit q → is_midway q ≡ true
+    → Runs sums (standing spaces part limit xs name q) text t → Runs sums s (b ∷ text) t
+goes_then spaces part limit s t xs name q b text goes fits midway rest =
+    (standing spaces part limit xs name q, goes, midway_state spaces part limit xs name q fits midway, rest)
 
 pub more_midway : (p : Phase) → is_more p ≡ true → is_midway p ≡ true
 more_midway p e = grind arith

@@ -3,7 +3,7 @@ use Rattle.pb_sums.proofs.Common.{ℕ, ℤ, ◌++◌, ◌∷◌, ◌≡◌, ◌�
 use Rattle.pb_sums.proofs.Common.{true, IsTrue, Go, IsState, Runs, is_letter, is_name_byte, Each, unmarked, Term, Kind, PhaseFits, is_midway, Inner, Start}
 use Rattle.pb_sums.proofs.Common.{Phase, Part, Spaces, action, is_more, kind, after_name, over, sums, SumState}
 use Rattle.pb_sums.proofs.lemmas.machine.LetterKinds.{kind-name, kind-letter}
-use Rattle.pb_sums.proofs.lemmas.machine.States.{midway_state}
+use Rattle.pb_sums.proofs.lemmas.machine.States.{goes_then, midway_state}
 
 module _ (spaces : Spaces) (part : Part) (limit : ℕ) (xs : List Term) where
   abbrev at : List ℕ → Phase → SumState
@@ -17,13 +17,11 @@ module _ (spaces : Spaces) (part : Part) (limit : ℕ) (xs : List Term) where
   more-run : (name : List ℕ) (z : ℤ) (negated : Bool) (text : List ℕ) → Each (λ b. IsTrue (is_name_byte b)) text
       → Runs sums (at name (Phase.More z negated)) text (at (name ++ text) (Phase.More z negated))
   more-run name z negated [] h = ap (λ n. at n (Phase.More z negated)) (append-nil name)
-  more-run name z negated (b ∷ text) h = (
-    at (name ++ b ∷ []) (Phase.More z negated),
-    more-on name z negated b (kind spaces (unmarked b)) (kind-name spaces b h.0),
-    midway_state spaces part limit xs (name ++ b ∷ []) (Phase.More z negated) tt refl,
-    subst (λ n. Runs sums (at (name ++ b ∷ []) (Phase.More z negated)) text (at n (Phase.More z negated))) (append_assoc name (b ∷ []) text)
-        (more-run (name ++ b ∷ []) z negated text h.1),
-  )
+  more-run name z negated (b ∷ text) h =
+      let more : Phase = Phase.More z negated in
+      let goes = more-on name z negated b (kind spaces (unmarked b)) (kind-name spaces b h.0) in
+      goes_then spaces part limit (at name more) (at (name ++ b ∷ text) more) xs (name ++ b ∷ []) more b text goes tt refl
+      (subst (λ n. Runs sums (at (name ++ b ∷ []) more) text (at n more)) (append_assoc name (b ∷ []) text) (more-run (name ++ b ∷ []) z negated text h.1))
 
   -- bytes of a name after its first two
   pub more_runs : (name new : List ℕ) (p : Phase) (text : List ℕ) → is_more p ≡ true → Each (λ b. IsTrue (is_name_byte b)) text → new ≡ name ++ text
@@ -37,17 +35,13 @@ module _ (spaces : Spaces) (part : Part) (limit : ℕ) (xs : List Term) where
 
   name-run : (name : List ℕ) (p : Phase) (z : ℤ) (negated : Bool) (b c : ℕ) (text : List ℕ) → sums.step (at name p) b ≡ Go (at (b ∷ []) (Phase.First z negated))
       → IsTrue (is_name_byte c) → Each (λ d. IsTrue (is_name_byte d)) text → Runs sums (at name p) (b ∷ c ∷ text) (at (b ∷ c ∷ text) (Phase.More z negated))
-  name-run name p z negated b c text e h hs = (
-    at (b ∷ []) (Phase.First z negated),
-    e,
-    midway_state spaces part limit xs (b ∷ []) (Phase.First z negated) tt refl,
-    (
-      at (b ∷ c ∷ []) (Phase.More z negated),
-      first-on b c z negated (kind spaces (unmarked c)) (kind-name spaces c h),
-      midway_state spaces part limit xs (b ∷ c ∷ []) (Phase.More z negated) tt refl,
-      more-run (b ∷ c ∷ []) z negated text hs,
-    ),
-  )
+  name-run name p z negated b c text e h hs =
+      let first : Phase = Phase.First z negated in
+      let more : Phase = Phase.More z negated in
+      let goes = first-on b c z negated (kind spaces (unmarked c)) (kind-name spaces c h) in
+      let rest = more-run (b ∷ c ∷ []) z negated text hs in
+      goes_then spaces part limit (at name p) (at (b ∷ c ∷ text) more) xs (b ∷ []) first b (c ∷ text) e tt refl
+      (goes_then spaces part limit (at (b ∷ []) first) (at (b ∷ c ∷ text) more) xs (b ∷ c ∷ []) more c text goes tt refl rest)
 
   abbrev Spells : List ℕ → Type 0
   Spells text = (2 ≤ length text) × IsTrue (is_letter (get_or text 0 0)) × Each (λ b. IsTrue (is_name_byte b)) text

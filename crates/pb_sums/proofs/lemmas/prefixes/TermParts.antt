@@ -8,7 +8,7 @@ use Rattle.pb_text.proofs.lemmas.machine.Running.{runs_on}
 use Rattle.pb_sums.specs.declared.linear.Literal.{Literal}
 use Rattle.pb_sums.proofs.lemmas.prefixes.Digits.{number_runs}
 use Rattle.pb_sums.proofs.lemmas.prefixes.Names.{name_runs}
-use Rattle.pb_sums.proofs.lemmas.machine.States.{midway_state}
+use Rattle.pb_sums.proofs.lemmas.machine.States.{goes_then, midway_state}
 
 pub grown : {A T E : Type 0} (r : Result T E) (new more old : List A) → new ≡ (if is_ok r then more else old) → is_err r ≡ false → new ≡ more
 grown r new more old h e = grind arith
@@ -44,12 +44,9 @@ tilde-runs : (spaces : Spaces) (part : Part) (limit : ℕ) (xs : List Term) (z :
 tilde-runs spaces part limit xs z false text e =
     subst (λ (t : List ℕ). Runs sums (standing spaces part limit xs [] (Phase.Gap z)) t (standing spaces part limit xs [] (Phase.Gap z))) (sym e) refl
 tilde-runs spaces part limit xs z true text e =
-    subst (λ (t : List ℕ). Runs sums (standing spaces part limit xs [] (Phase.Gap z)) t (standing spaces part limit xs [] (Phase.Tilde z))) (sym e) (
-      standing spaces part limit xs [] (Phase.Tilde z),
-      refl,
-      midway_state spaces part limit xs [] (Phase.Tilde z) tt refl,
-      refl,
-    )
+    let at : Phase → SumState = standing spaces part limit xs [] in
+    subst (λ (t : List ℕ). Runs sums (at (Phase.Gap z)) t (at (Phase.Tilde z))) (sym e)
+    (goes_then spaces part limit (at (Phase.Gap z)) (at (Phase.Tilde z)) xs [] (Phase.Tilde z) 126 [] refl tt refl refl)
 
 after-both : (negated : Bool) (z : ℤ) → Some (Phase.More z negated) ≡ after_name (after-tilde negated z)
 after-both negated z = grind arith
@@ -91,23 +88,13 @@ term_runs spaces part limit xs ys old new p text i j z l b e f prefix literal h 
 pub relation_runs : (spaces : Spaces) (part : Part) (limit : ℕ) (xs : List Term) (name : List ℕ) (p : Phase) (text : List ℕ) (r : Relation)
     → begins_relation p ≡ true → name ≡ [] → allows part r ≡ true → text ≡ relation_bytes r
     → Runs sums (standing spaces part limit xs name p) text (standing spaces part limit xs name (Phase.Relation r))
-relation_runs spaces part limit xs name Phase.Between text AtLeast b n h e = rw (n, e) (
-  standing spaces part limit xs [] Phase.Greater,
-  rw h refl,
-  midway_state spaces part limit xs [] Phase.Greater tt refl,
-  (
-    standing spaces part limit xs [] (Phase.Relation AtLeast),
-    refl,
-    midway_state spaces part limit xs [] (Phase.Relation AtLeast) tt refl,
-    refl,
-  ),
-)
-relation_runs spaces part limit xs name Phase.Between text Equal b n h e = rw (n, e) (
-  standing spaces part limit xs [] (Phase.Relation Equal),
-  rw h refl,
-  midway_state spaces part limit xs [] (Phase.Relation Equal) tt refl,
-  refl,
-)
+relation_runs spaces part limit xs name Phase.Between text AtLeast b n h e =
+    let at : Phase → SumState = standing spaces part limit xs [] in
+    let last = goes_then spaces part limit (at Phase.Greater) (at (Phase.Relation AtLeast)) xs [] (Phase.Relation AtLeast) 61 [] refl tt refl refl in
+    rw (n, e) (goes_then spaces part limit (at Phase.Between) (at (Phase.Relation AtLeast)) xs [] Phase.Greater 62 (61 ∷ []) (rw h refl) tt refl last)
+relation_runs spaces part limit xs name Phase.Between text Equal b n h e =
+    let at : Phase → SumState = standing spaces part limit xs [] in
+    rw (n, e) (goes_then spaces part limit (at Phase.Between) (at (Phase.Relation Equal)) xs [] (Phase.Relation Equal) 61 [] (rw h refl) tt refl refl)
 relation_runs spaces part limit xs name _ text r b n h e = cc b
 
 -- a relation and a space
