@@ -3,9 +3,9 @@ use Rattle.pb_sums.proofs.lemmas.machine.LetterKinds.{on_letter, kind-digit, kin
 use Rattle.pb_sums.proofs.Common.{ℕ, ℤ, ◌*◌, ◌++◌, ◌+◌, ◌<◌, ◌^◌, ◌∙◌, ◌∷◌, ◌≡◌, ◌≤◌, ◌⊎◌, [], ap, append-nil, append_assoc, arith, Bool, cond, false, inl, inr}
 use Rattle.pb_sums.proofs.Common.{length, List, map, None, Option, refl, Some, subst, suc, sym, true, IsTrue, le-mul_of_pos_right, pow-succ', le-leb, run}
 use Rattle.pb_sums.proofs.Common.{run-append, run-refuse, Takes, takes_then, nil_first, End, Go, Next, Refuse, is_name_byte, ◌⋅◌, Byte, digit, Each, Language}
-use Rattle.pb_sums.proofs.Common.{unmarked, Number, Sign, signed, value, Letter, Relation, AtLeast, Equal, SumEvent, Term, Action, Stop, To, Kind, Digit}
-use Rattle.pb_sums.proofs.Common.{Equals, Greater, Inner, Minus, Plus, Semicolon, Space, Start, Tilde, Part, Spaces, act, action, at_name, digits, finished}
-use Rattle.pb_sums.proofs.Common.{fresh, kind, next_action, to, Work, allows, Head, is_space, reads_sums, Spaces0, Spaces1, Spells, SpellsFurther, SpellsLinear}
+use Rattle.pb_sums.proofs.Common.{unmarked, Number, Sign, signed, value, Letter, Relation, AtLeast, Equal, SumEvent, Term, Action, Stop, Kind, Digit, Equals}
+use Rattle.pb_sums.proofs.Common.{Greater, Inner, Minus, Plus, Semicolon, Space, Start, Tilde, Part, Spaces, act, action, at_name, digits, finished, fresh}
+use Rattle.pb_sums.proofs.Common.{kind, next_action, to, Work, allows, Head, is_space, reads_sums, Spaces0, Spaces1, Spells, SpellsFurther, SpellsLinear}
 use Rattle.pb_sums.proofs.Common.{SpellsLiteral, SpellsRelation, SpellsSum, SpellsTerm, Phase}
 use Rattle.pb_text.proofs.lemmas.numbers.DigitWalks.{ten_pos}
 
@@ -218,13 +218,7 @@ module _ (spaces : Spaces) (want : Part) (limit : ℕ) where
   Finishes xs n = moves n Semicolon ≡ End (SumEvent.Sum xs) finished
 
   finishes-run : IsTrue (reads_sums want) → (xs : List Term) → T (Is (Go fresh)) (SpellsSum spaces limit xs ⋅ Spaces0 spaces limit) (Finishes xs)
-  finishes-run ok [] n t e h =
-      let S : N = to [] Phase.Empty in
-      let i : moves n Space ≡ S = ap (λ y. moves y Space) e ∙ (act-cond [] [] [] (reads_sums want) (To Phase.Empty) ∙ ap (λ b. cond b S Refuse) ok) in
-      elim (many-run n S i refl t (nil_first (Spaces0 spaces limit) t h)) [
-        | inl f ↦ ap (λ y. moves y Semicolon) (f ∙ e) ∙ ((follows-act [] [] []).2 ∙ ap (λ b. cond b (End (SumEvent.Sum []) finished) Refuse) ok)
-        | inr f ↦ ap (λ y. moves y Semicolon) f
-      ]
+  finishes-run ok [] n t e h = grind (arith, act-cond, many-run, nil_first, follows-act)
   finishes-run ok (x ∷ xs) n t e h = (head-run (x ∷ xs) n t e h).2 ∙ ap (λ b. cond b (End (SumEvent.Sum (x ∷ xs)) finished) Refuse) ok
 
   semicolon-run : (n m : N) → moves n Semicolon ≡ m → (t : List Letter) → Byte 59 t → go n t ≡ m
@@ -232,12 +226,8 @@ module _ (spaces : Spaces) (want : Part) (limit : ℕ) where
 
   -- a linear text
   relation-run : (xs : List Term) (r : Relation) → IsTrue (allows want r) → T (Follows xs) (SpellsRelation spaces limit r) (Is (to xs (Phase.Relation r)))
-  relation-run xs AtLeast ok n t f h =
-      ap (go n) h
-      ∙ (reads n (to xs Phase.Greater) (unmarked 62) Greater (unmarked 61 ∷ []) refl (f.0 ∙ ap (λ b. cond b (to xs Phase.Greater) Refuse) ok)
-      ∙ reads (to xs Phase.Greater) (to xs (Phase.Relation AtLeast)) (unmarked 61) Equals [] refl refl)
-  relation-run xs Equal ok n t f h =
-      ap (go n) h ∙ reads n (to xs (Phase.Relation Equal)) (unmarked 61) Equals [] refl (f.1 ∙ ap (λ b. cond b (to xs (Phase.Relation Equal)) Refuse) ok)
+  relation-run xs AtLeast ok n t f h = grind (arith, reads)
+  relation-run xs Equal ok n t f h = grind (arith, reads)
 
   after-relation : (xs : List Term) (r : Relation) → T (Is (to xs (Phase.Relation r))) (Spaces0 spaces limit) (Opens (Some r) xs)
   after-relation xs r n t e h =

@@ -5,7 +5,7 @@ use Rattle.pb_sums.proofs.lemmas.machine.LetterKinds.{on_letter, Means, kind-mea
 use Rattle.pb_sums.proofs.Common.{arith, ℕ, ℤ, ◌*◌, ◌++◌, ◌+◌, ◌∙◌, ◌∷◌, ◌≡◌, ◌≤◌, [], ap, Bool, cond, false, inl, inr, List, None, Option, refl, Some, subst}
 use Rattle.pb_sums.proofs.Common.{sym, true, IsTrue, nat_le, leb-true, kept, OnPrefix, run, digits-grown, digits-one, letter_name, after_it, inside, many-grown}
 use Rattle.pb_sums.proofs.Common.{next, none_yet, regroup, some-grown, some-many, some-one, End, Go, Next, is_name_byte, ◌⋅◌, Byte, Empty, Language, unmarked}
-use Rattle.pb_sums.proofs.Common.{Digits, Number, Sign, signed, Letter, Relation, AtLeast, Equal, SumEvent, Term, Action, EndSum, Stop, To, Kind, Digit, Equals}
+use Rattle.pb_sums.proofs.Common.{Digits, Number, Sign, signed, Letter, Relation, AtLeast, Equal, SumEvent, Term, Action, Stop, To, Kind, Digit, Equals}
 use Rattle.pb_sums.proofs.Common.{Greater, Inner, Minus, Plus, Semicolon, Space, Start, Tilde, Phase, Part, Spaces, act, action, digits, finished, fresh, kind}
 use Rattle.pb_sums.proofs.Common.{next_action, number, term, Work, allows, Head, is_space, reads_sums, Spaces0, Spaces1, Spells, SpellsRelation, SpellsSum}
 use Rattle.pb_text.proofs.lemmas.text.Languages.{grown}
@@ -71,9 +71,7 @@ module _ (spaces : Spaces) (want : Part) (limit : ℕ) where
 
   after-sound : (ys xs : List Term) (name : List ℕ) (k : Kind) (c : Letter) (p : List Letter) → Means spaces k c → Head spaces limit ys p → (SpellsSum spaces limit ys ⋅ S0) p →
       On (act ys xs name (next_action want k)) (p ++ c ∷ [])
-  after-sound ys xs name Greater c p m h i =
-      on_test ys xs name (allows want AtLeast) (To Phase.Greater) (p ++ c ∷ [])
-      (λ e. (e, next (Head spaces limit ys) (Byte 62) p c h (ap (λ x. x ∷ []) m)))
+  after-sound ys xs name Greater c p m h i = grind (arith, on_test, next)
   after-sound ys xs name Equals c p m h i =
       on_test ys xs name (allows want Equal) (To (Phase.Relation Equal)) (p ++ c ∷ [])
       (λ e. (
@@ -81,9 +79,7 @@ module _ (spaces : Spaces) (want : Part) (limit : ℕ) where
         none_yet (Head spaces limit ys ⋅ SpellsRelation spaces limit Equal) S0 (p ++ c ∷ []) ([], tt, refl)
             (next (Head spaces limit ys) (SpellsRelation spaces limit Equal) p c h (ap (λ x. x ∷ []) m)),
       ))
-  after-sound ys xs name Semicolon c p m h i =
-      on_test ys xs name (reads_sums want) EndSum (p ++ c ∷ [])
-      (λ e. (e, next (SpellsSum spaces limit ys ⋅ S0) (Byte 59) p c i (ap (λ x. x ∷ []) m)))
+  after-sound ys xs name Semicolon c p m h i = grind (arith, on_test, next)
   after-sound ys xs name _ c p m h i = tt
 
   -- a literal that is complete ends its term

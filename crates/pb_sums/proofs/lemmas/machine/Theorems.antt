@@ -3,9 +3,9 @@ use Rattle.pb_sums.proofs.lemmas.machine.Complete.{reads_each}
 use Rattle.pb_sums.proofs.lemmas.machine.LetterKinds.{on_letter}
 use Rattle.pb_sums.proofs.lemmas.machine.Sound.{reads_only}
 use Rattle.pb_sums.proofs.Common.{ℕ, ℤ, ◌++◌, ◌↔◌, ◌∙◌, ◌∷◌, ◌≡◌, [], ap, arith, Bool, cond, false, List, None, Option, refl, Some, sym, true, le-leb}
-use Rattle.pb_sums.proofs.Common.{false≢true, one_end, run, run-append, End, Go, Next, Refuse, digit, Language, unmarked, signed, Letter, Relation, AtLeast}
-use Rattle.pb_sums.proofs.Common.{SumEvent, Term, Stop, To, Greater, Semicolon, Phase, Part, Spaces, act, at_name, digits, finished, fresh, is_done}
-use Rattle.pb_sums.proofs.Common.{next_action, term, to, Work, Spells}
+use Rattle.pb_sums.proofs.Common.{false≢true, one_end, run, run-append, End, Go, Next, digit, Language, unmarked, signed, Letter, Relation, AtLeast, SumEvent}
+use Rattle.pb_sums.proofs.Common.{Term, Stop, To, Greater, Semicolon, Phase, Part, Spaces, act, at_name, digits, finished, fresh, is_done, next_action, term}
+use Rattle.pb_sums.proofs.Common.{to, Work, Spells}
 
 module _ (spaces : Spaces) (want : Part) (limit : ℕ) where
   abbrev G : SumEvent → Language
@@ -28,10 +28,7 @@ module _ (spaces : Spaces) (want : Part) (limit : ℕ) where
   -- No text of a value is a proper prefix of another.
   pub prefix_free : (t u : List Letter) (e f : SumEvent) → G e t → G f (t ++ u) → u ≡ []
   prefix_free t [] e f g h = refl
-  prefix_free t (c ∷ u) e f g h =
-      let i : go (go (Go fresh) t) (c ∷ u) ≡ End f finished = sym (run-append (on_letter spaces want limit) (Go fresh) t (c ∷ u)) ∙ reads_each spaces want limit (t ++ c ∷ u) f h in
-      let j : ◌≡◌ {A = N} Refuse (End f finished) = ap (λ n. go n (c ∷ u)) (sym (reads_each spaces want limit t e g)) ∙ i in
-      cc
+  prefix_free t (c ∷ u) e f g h = grind (arith, run-append, on_letter, reads_each)
 
   -- Each state except the last one accepts a text.
   abbrev Alive : N → Type 0

@@ -75,8 +75,7 @@ module _ (spaces : Spaces) (part : Part) (limit : ℕ) (xs : List Term) where
 
   signed-run : (p : Phase) (negative : Bool) (sign text : List ℕ) → begins_unread p ≡ true → IsSign negative sign → AreDigits text → 0 < length text → value_from 0 text ≤ limit
       → Runs sums (at p) (sign ++ text) (at (Phase.Digits (role p) negative (value_from 0 text)))
-  signed-run p negative [] text e s h i l =
-      subst (λ (x : Bool). Runs sums (at p) text (at (Phase.Digits (role p) x (value_from 0 text)))) (sym s) (number-run p (role p) false text (begins p e) h i l)
+  signed-run p negative [] text e s h i l = grind (arith, number-run, begins)
   signed-run p false (b ∷ []) text e s h i l =
       sign-then p false b Plus text e (sym (ap (λ (x : ℕ). kind spaces (letter_at true x)) s)) (on-plus p e) h i l
   signed-run p true (b ∷ []) text e s h i l =
@@ -87,8 +86,7 @@ module _ (spaces : Spaces) (part : Part) (limit : ℕ) (xs : List Term) where
   digits-after : (p : Phase) (negative : Bool) (text : List ℕ) (i : ℕ) (digits : List ℕ) → begins_number p ≡ true → HasSign (sign_read p) text i negative → AreDigits digits
       → 0 < length digits → value_from 0 digits ≤ limit
       → Runs sums (at p) (take i text ++ digits) (at (Phase.Digits (role p) negative (value_from 0 digits)))
-  digits-after (Phase.Signed r read) negative text i digits e s h k l =
-      rw (s.0, s.1) (number-run (Phase.Signed r read) r read digits (record { numeric = refl; same = refl; on_digit = λ d. refl }) h k l)
+  digits-after (Phase.Signed r read) negative text i digits e s h k l = grind (arith, number-run)
   digits-after Phase.Start negative text i digits e s h k l = signed-run Phase.Start negative (take i text) digits refl s.0 h k l
   digits-after Phase.Between negative text i digits e s h k l = signed-run Phase.Between negative (take i text) digits refl s.0 h k l
   digits-after (Phase.Relation r) negative text i digits e s h k l = signed-run (Phase.Relation r) negative (take i text) digits refl s.0 h k l

@@ -77,8 +77,5 @@ bytes-head : (xs : List Term) → bytes (head_text xs) ≡ head_bytes xs
 bytes-head [] = refl
 bytes-head (x ∷ xs) = bytes-append (sum_text (x ∷ xs)) space ∙ ap (λ y. y ++ (32 ∷ [])) (bytes-sum (x ∷ xs))
 
-regrouped : (h o s d u e : List Letter) → h ++ o ++ s ++ d ++ u ++ e ≡ h ++ (o ++ (s ++ (d ++ (u ++ e))))
-regrouped h o s d u e = simp append_assoc
-
 pub bytes-linear : (c : Linear) → bytes (linear_text c) ≡ linear_bytes c
-bytes-linear c = grind (arith, regrouped, bytes-append, bytes-head, bytes-plain, bytes-degree)
+bytes-linear c = simp (append_assoc, bytes-append, bytes-head, bytes-plain, bytes-degree)
