@@ -1,7 +1,7 @@
 -- If a machine of sums may allocate, the next byte is in a name, or ends a literal. Offered to other crates.
-use Rattle.pb_sums.proofs.Common.{ℕ, ◌++◌, ◌+◌, ◌||◌, ◌∙◌, ◌∷◌, ◌≡◌, ◌⊎◌, [], ap, append-nil, append_assoc, Bool, false, inl, inr, List, arith, refl, subst}
+use Rattle.pb_sums.proofs.Common.{ℕ, ◌++◌, ◌||◌, ◌∙◌, ◌∷◌, ◌≡◌, ◌⊎◌, [], ap, append-nil, append_assoc, Bool, false, inl, inr, List, arith, refl, subst}
 use Rattle.pb_sums.proofs.Common.{sym, true, IsTrue, false≢true, never, letter_name, each-append, End, Go, MayAsk, Next, ReadsStatement, Refuse, is_letter}
-use Rattle.pb_sums.proofs.Common.{is_name_byte, bytes, Letter, SumEvent, Action, Add, Begin, To, Kind, Start, Phase, Part, Spaces, act, adds, flushed, is_more}
+use Rattle.pb_sums.proofs.Common.{is_name_byte, bytes, Letter, SumEvent, Action, Add, Begin, To, Kind, Phase, Part, Spaces, act, adds, flushed, is_more}
 use Rattle.pb_sums.proofs.Common.{is_numeric, kind, letter_at, transition, asks, first, over, sums, SumState, IsName, IsOneText}
 use Rattle.pb_text.specs.meaning.Asking.{AsksOnly}
 use Rattle.pb_text.proofs.lemmas.machine.Asked as asked
