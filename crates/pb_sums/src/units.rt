@@ -6,6 +6,7 @@ ghost use Rattle.pb_sums.specs.engine.State.{units};
 use crate::linear::Term;
 
 /// The number of literals plus the number of bytes of their names. The count saturates.
+#[tactic(auto, using(crate::proofs::lemmas::machine::Counts::count_more))]
 pub fn count_units(terms: &[Term]) -> usize
     ensures { result ≡ min (units terms.now) (2 ^ 64 - 1) }
 {

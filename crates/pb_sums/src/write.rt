@@ -105,6 +105,7 @@ fn put_term(term: &Term, prefix: &[u8], piece: &mut Piece)
 }
 
 /// Writes a piece and then the rest of a name.
+#[tactic(auto, using(crate::proofs::Rules::writing))]
 fn write_both<S: Sink>(piece: &Piece, rest: &[u8], out: &mut S) -> Result<(), Failed>
     ensures { Writes S.contents S.faults out.old (piece.now ++ rest.now) result out.new }
 {
@@ -166,6 +167,7 @@ fn put_further_term(term: &Term, piece: &mut Piece) -> bool
 }
 
 /// Prepends terms, the last one first, as long as they fit, and returns how many are left.
+#[tactic(auto, using(crate::proofs::lemmas::values::Written::further_past))]
 fn put_further(terms: &[Term], piece: &mut Piece) -> usize
     ensures within { result ≤ length terms.now }
     ensures text { piece.new ≡ further_bytes (drop result terms.now) ++ piece.old }
@@ -188,6 +190,7 @@ fn write_batch<S: Sink>(terms: &[Term], out: &mut S) -> Result<(), Failed>
 }
 
 /// Writes terms with a space before each.
+#[tactic(auto, using(crate::proofs::Rules::writing))]
 fn write_further<S: Sink>(terms: &[Term], out: &mut S) -> Result<(), Failed>
     ensures { Writes S.contents S.faults out.old (further_bytes terms.now) result out.new }
 {
@@ -275,6 +278,7 @@ pub fn put_linear(linear: &Linear, piece: &mut Piece) -> bool
 }
 
 /// Writes a linear text in several pieces.
+#[tactic(auto, using(crate::proofs::Rules::writing))]
 fn write_pieces<S: Sink>(linear: &Linear, out: &mut S) -> Result<(), Failed>
     ensures { Writes S.contents S.faults out.old (linear_bytes linear.now) result out.new }
 {

@@ -1,6 +1,5 @@
 -- Lemmas of the machine of sums.
 pub mod Asked
-pub mod AfterSpace
 pub mod Complete
 pub mod Counts
 pub mod Flags

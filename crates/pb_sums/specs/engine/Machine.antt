@@ -9,13 +9,11 @@ use Rattle.pb_sums.specs.declared.linear.Term.{Term}
 use Rattle.pb_sums.specs.declared.linear.Relation.{Relation}
 use Rattle.pb_sums.specs.declared.linear.Relation.TheVariants.{AtLeast, Equal}
 use Rattle.pb_sums.specs.declared.linear.SumEvent.{SumEvent}
-use Rattle.pb_sums.specs.declared.linear.SumEvent as event
 use Rattle.pb_sums.specs.declared.sum_kind.Spaces.{Spaces}
 use Rattle.pb_sums.specs.declared.sum_kind.Part.{Part}
 use Rattle.pb_sums.specs.declared.phase.Kind.{Kind}
 use Rattle.pb_sums.specs.declared.phase.Kind.TheVariants.{Space, Digit, Start, Inner, Tilde, Plus, Minus, Greater, Equals, Semicolon, Other}
 use Rattle.pb_sums.specs.declared.phase.Phase.{Phase}
-use Rattle.pb_sums.specs.declared.phase.Phase as phase
 use Rattle.pb_sums.specs.declared.phase.Action.{Action}
 use Rattle.pb_sums.specs.declared.phase.Action.TheVariants.{To, Begin, Add, EndSum, EndLinear, Stop}
 
@@ -46,25 +44,25 @@ letter_at numeric b = record { byte = b; numeral = numeric && is_digit b }
 
 -- the states in which digits are those of a number, and those after such a digit
 abbrev pub is_numeric : Phase → Bool
-is_numeric phase.TheVariants.Start = true
-is_numeric (phase.TheVariants.Signed role negative) = true
-is_numeric (phase.TheVariants.Digits role negative n) = true
-is_numeric phase.TheVariants.Between = true
-is_numeric (phase.TheVariants.Relation r) = true
+is_numeric Phase.Start = true
+is_numeric (Phase.Signed role negative) = true
+is_numeric (Phase.Digits role negative n) = true
+is_numeric Phase.Between = true
+is_numeric (Phase.Relation r) = true
 is_numeric _ = false
 
 abbrev pub is_in_number : Phase → Bool
-is_in_number (phase.TheVariants.Digits role negative n) = true
+is_in_number (Phase.Digits role negative n) = true
 is_in_number _ = false
 
 -- the states within a text: something has been read, but not everything
 abbrev pub is_midway : Phase → Bool
-is_midway phase.TheVariants.Start = false
-is_midway phase.TheVariants.Done = false
+is_midway Phase.Start = false
+is_midway Phase.Done = false
 is_midway _ = true
 
 abbrev pub is_done : Phase → Bool
-is_done phase.TheVariants.Done = true
+is_done Phase.Done = true
 is_done _ = false
 
 -- What a machine stores: the terms so far, the name being read, and what it has read last.
@@ -74,10 +72,10 @@ pub record Work : Type 0 where
   pub phase : Phase
 
 abbrev pub fresh : Work
-fresh = record { terms = []; name = []; phase = phase.TheVariants.Start }
+fresh = record { terms = []; name = []; phase = Phase.Start }
 
 abbrev pub finished : Work
-finished = record { terms = []; name = []; phase = phase.TheVariants.Done }
+finished = record { terms = []; name = []; phase = Phase.Done }
 
 abbrev pub term : ℤ → Bool → List ℕ → Term
 term z negated name = record { coefficient = z; literal = record { negated = negated; name = name } }
@@ -93,55 +91,55 @@ to xs p = at_name xs p []
 
 -- The action for a phase and a kind.
 abbrev pub digits : ℕ → Option Relation → Bool → ℕ → ℕ → Action
-digits limit role negative n d = cond (nat_le (10 * n + d) limit) (To (phase.TheVariants.Digits role negative (10 * n + d))) Stop
+digits limit role negative n d = cond (nat_le (10 * n + d) limit) (To (Phase.Digits role negative (10 * n + d))) Stop
 
 -- the first letter of a number
 abbrev pub number : ℕ → Option Relation → Kind → Action
-number limit role Plus = To (phase.TheVariants.Signed role false)
-number limit role Minus = To (phase.TheVariants.Signed role true)
+number limit role Plus = To (Phase.Signed role false)
+number limit role Minus = To (Phase.Signed role true)
 number limit role (Digit d) = digits limit role false 0 d
 number limit role _ = Stop
 
 -- what may follow the terms
 abbrev pub next_action : Part → Kind → Action
-next_action want Greater = cond (allows want AtLeast) (To phase.TheVariants.Greater) Stop
-next_action want Equals = cond (allows want Equal) (To (phase.TheVariants.Relation Equal)) Stop
+next_action want Greater = cond (allows want AtLeast) (To Phase.Greater) Stop
+next_action want Equals = cond (allows want Equal) (To (Phase.Relation Equal)) Stop
 next_action want Semicolon = cond (reads_sums want) EndSum Stop
 next_action want _ = Stop
 
 abbrev pub transition : Part → ℕ → Phase → Kind → Action
-transition want limit phase.TheVariants.Start Space = cond (reads_sums want) (To phase.TheVariants.Empty) Stop
-transition want limit phase.TheVariants.Start Plus = number limit None Plus
-transition want limit phase.TheVariants.Start Minus = number limit None Minus
-transition want limit phase.TheVariants.Start (Digit d) = number limit None (Digit d)
-transition want limit phase.TheVariants.Start k = next_action want k
-transition want limit (phase.TheVariants.Signed role negative) (Digit d) = digits limit role negative 0 d
-transition want limit (phase.TheVariants.Digits role negative n) (Digit d) = digits limit role negative n d
-transition want limit (phase.TheVariants.Digits None negative n) Space = To (phase.TheVariants.Gap (signed negative n))
-transition want limit (phase.TheVariants.Digits (Some r) negative n) Space = To (phase.TheVariants.Tail r (signed negative n))
-transition want limit (phase.TheVariants.Digits (Some r) negative n) Semicolon = EndLinear r (signed negative n)
-transition want limit (phase.TheVariants.Gap z) Space = To (phase.TheVariants.Gap z)
-transition want limit (phase.TheVariants.Gap z) Tilde = To (phase.TheVariants.Tilde z)
-transition want limit (phase.TheVariants.Gap z) (Start b) = Begin (phase.TheVariants.First z false) b
-transition want limit (phase.TheVariants.Tilde z) (Start b) = Begin (phase.TheVariants.First z true) b
-transition want limit (phase.TheVariants.First z negated) (Start b) = Add (phase.TheVariants.More z negated) b
-transition want limit (phase.TheVariants.First z negated) (Inner b) = Add (phase.TheVariants.More z negated) b
-transition want limit (phase.TheVariants.More z negated) (Start b) = Add (phase.TheVariants.More z negated) b
-transition want limit (phase.TheVariants.More z negated) (Inner b) = Add (phase.TheVariants.More z negated) b
-transition want limit (phase.TheVariants.More z negated) Space = To phase.TheVariants.Between
-transition want limit (phase.TheVariants.More z negated) k = next_action want k
-transition want limit phase.TheVariants.Between Space = To phase.TheVariants.Between
-transition want limit phase.TheVariants.Between Plus = number limit None Plus
-transition want limit phase.TheVariants.Between Minus = number limit None Minus
-transition want limit phase.TheVariants.Between (Digit d) = number limit None (Digit d)
-transition want limit phase.TheVariants.Between k = next_action want k
-transition want limit phase.TheVariants.Greater Equals = To (phase.TheVariants.Relation AtLeast)
-transition want limit (phase.TheVariants.Relation r) Space = To (phase.TheVariants.Relation r)
-transition want limit (phase.TheVariants.Relation r) k = number limit (Some r) k
-transition want limit (phase.TheVariants.Tail r z) Space = To (phase.TheVariants.Tail r z)
-transition want limit (phase.TheVariants.Tail r z) Semicolon = EndLinear r z
-transition want limit phase.TheVariants.Empty Space = To phase.TheVariants.Empty
-transition want limit phase.TheVariants.Empty Semicolon = EndSum
+transition want limit Phase.Start Space = cond (reads_sums want) (To Phase.Empty) Stop
+transition want limit Phase.Start Plus = number limit None Plus
+transition want limit Phase.Start Minus = number limit None Minus
+transition want limit Phase.Start (Digit d) = number limit None (Digit d)
+transition want limit Phase.Start k = next_action want k
+transition want limit (Phase.Signed role negative) (Digit d) = digits limit role negative 0 d
+transition want limit (Phase.Digits role negative n) (Digit d) = digits limit role negative n d
+transition want limit (Phase.Digits None negative n) Space = To (Phase.Gap (signed negative n))
+transition want limit (Phase.Digits (Some r) negative n) Space = To (Phase.Tail r (signed negative n))
+transition want limit (Phase.Digits (Some r) negative n) Semicolon = EndLinear r (signed negative n)
+transition want limit (Phase.Gap z) Space = To (Phase.Gap z)
+transition want limit (Phase.Gap z) Tilde = To (Phase.Tilde z)
+transition want limit (Phase.Gap z) (Start b) = Begin (Phase.First z false) b
+transition want limit (Phase.Tilde z) (Start b) = Begin (Phase.First z true) b
+transition want limit (Phase.First z negated) (Start b) = Add (Phase.More z negated) b
+transition want limit (Phase.First z negated) (Inner b) = Add (Phase.More z negated) b
+transition want limit (Phase.More z negated) (Start b) = Add (Phase.More z negated) b
+transition want limit (Phase.More z negated) (Inner b) = Add (Phase.More z negated) b
+transition want limit (Phase.More z negated) Space = To Phase.Between
+transition want limit (Phase.More z negated) k = next_action want k
+transition want limit Phase.Between Space = To Phase.Between
+transition want limit Phase.Between Plus = number limit None Plus
+transition want limit Phase.Between Minus = number limit None Minus
+transition want limit Phase.Between (Digit d) = number limit None (Digit d)
+transition want limit Phase.Between k = next_action want k
+transition want limit Phase.Greater Equals = To (Phase.Relation AtLeast)
+transition want limit (Phase.Relation r) Space = To (Phase.Relation r)
+transition want limit (Phase.Relation r) k = number limit (Some r) k
+transition want limit (Phase.Tail r z) Space = To (Phase.Tail r z)
+transition want limit (Phase.Tail r z) Semicolon = EndLinear r z
+transition want limit Phase.Empty Space = To Phase.Empty
+transition want limit Phase.Empty Semicolon = EndSum
 transition _ _ _ _ = Stop
 
 -- What it does: xs are the terms so far, ys those with the one that ends here.
@@ -149,13 +147,13 @@ abbrev pub act : List Term → List Term → List ℕ → Action → Outcome
 act ys xs name (To p) = to ys p
 act ys xs name (Begin p b) = at_name xs p (b ∷ [])
 act ys xs name (Add p b) = at_name xs p (name ++ b ∷ [])
-act ys xs name EndSum = End (event.TheVariants.Sum ys) finished
-act ys xs name (EndLinear r z) = End (event.TheVariants.Linear (record { terms = ys; relation = r; degree = z })) finished
+act ys xs name EndSum = End (SumEvent.Sum ys) finished
+act ys xs name (EndLinear r z) = End (SumEvent.Linear (record { terms = ys; relation = r; degree = z })) finished
 act ys xs name Stop = Refuse
 
 -- with the term whose literal is complete
 abbrev pub flushed : Phase → List Term → List ℕ → List Term
-flushed (phase.TheVariants.More z negated) xs name = xs ++ term z negated name ∷ []
+flushed (Phase.More z negated) xs name = xs ++ term z negated name ∷ []
 flushed _ xs name = xs
 
 abbrev pub action : Part → ℕ → List Term → List ℕ → Phase → Kind → Outcome
@@ -172,7 +170,7 @@ KindFits (Inner b) = b < 128
 KindFits _ = Unit {0}
 
 abbrev pub PhaseFits : ℕ → Phase → Type 0
-PhaseFits limit (phase.TheVariants.Digits role negative n) = n ≤ limit
+PhaseFits limit (Phase.Digits role negative n) = n ≤ limit
 PhaseFits limit _ = Unit {0}
 
 abbrev pub ActionFits : ℕ → Action → Type 0
@@ -183,7 +181,7 @@ ActionFits limit _ = Unit {0}
 
 -- whether a byte may allocate: one of a name, or one that ends a literal
 abbrev pub is_more : Phase → Bool
-is_more (phase.TheVariants.More z negated) = true
+is_more (Phase.More z negated) = true
 is_more _ = false
 
 abbrev pub adds : Action → Bool

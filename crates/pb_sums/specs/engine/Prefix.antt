@@ -9,7 +9,6 @@ use Rattle.pb_sums.specs.meaning.Sums.{allows}
 use Rattle.pb_sums.specs.declared.sum_kind.Part.{Part}
 use Rattle.pb_sums.specs.declared.linear.Relation.{Relation}
 use Rattle.pb_sums.specs.declared.phase.Phase.{Phase}
-use Rattle.pb_sums.specs.declared.phase.Phase as phase
 
 -- a sign, or none
 abbrev pub IsSign : Bool → List ℕ → Type 0
@@ -20,29 +19,29 @@ IsSign negative (b ∷ c ∷ text) = ⊥
 
 -- the states in which a number may begin, or its digits, the relation before it, and the sign that was read
 abbrev pub begins_number : Phase → Bool
-begins_number phase.TheVariants.Start = true
-begins_number (phase.TheVariants.Signed r negative) = true
-begins_number phase.TheVariants.Between = true
-begins_number (phase.TheVariants.Relation r) = true
+begins_number Phase.Start = true
+begins_number (Phase.Signed r negative) = true
+begins_number Phase.Between = true
+begins_number (Phase.Relation r) = true
 begins_number _ = false
 
 abbrev pub role : Phase → Option Relation
-role (phase.TheVariants.Signed r negative) = r
-role (phase.TheVariants.Relation r) = Some r
+role (Phase.Signed r negative) = r
+role (Phase.Relation r) = Some r
 role _ = None
 
 abbrev pub sign_read : Phase → Option Bool
-sign_read (phase.TheVariants.Signed r negative) = Some negative
+sign_read (Phase.Signed r negative) = Some negative
 sign_read _ = None
 
 -- the state after a number and space
 abbrev pub after_number : Option Relation → ℤ → Phase
-after_number None z = phase.TheVariants.Gap z
-after_number (Some r) z = phase.TheVariants.Tail r z
+after_number None z = Phase.Gap z
+after_number (Some r) z = Phase.Tail r z
 
 -- a relation may follow terms and space
 abbrev pub begins_relation : Phase → Bool
-begins_relation phase.TheVariants.Between = true
+begins_relation Phase.Between = true
 begins_relation _ = false
 
 -- The text does not begin with a relation that the part allows.
@@ -51,19 +50,19 @@ LacksRelation part text = (r : Relation) → allows part r ≡ true → take (le
 
 -- the state after a name, if one may begin
 abbrev pub after_name : Phase → Option Phase
-after_name (phase.TheVariants.Gap z) = Some (phase.TheVariants.More z false)
-after_name (phase.TheVariants.Tilde z) = Some (phase.TheVariants.More z true)
+after_name (Phase.Gap z) = Some (Phase.More z false)
+after_name (Phase.Tilde z) = Some (Phase.More z true)
 after_name _ = None
 
 -- the state after a space, in the states where one is common
 abbrev pub after_space : Phase → Option Phase
-after_space (phase.TheVariants.Digits None negative n) = Some (phase.TheVariants.Gap (signed negative n))
-after_space (phase.TheVariants.Digits (Some r) negative n) = Some (phase.TheVariants.Tail r (signed negative n))
-after_space (phase.TheVariants.Gap z) = Some (phase.TheVariants.Gap z)
-after_space (phase.TheVariants.More z negated) = Some phase.TheVariants.Between
-after_space phase.TheVariants.Between = Some phase.TheVariants.Between
-after_space (phase.TheVariants.Relation r) = Some (phase.TheVariants.Relation r)
-after_space (phase.TheVariants.Tail r z) = Some (phase.TheVariants.Tail r z)
+after_space (Phase.Digits None negative n) = Some (Phase.Gap (signed negative n))
+after_space (Phase.Digits (Some r) negative n) = Some (Phase.Tail r (signed negative n))
+after_space (Phase.Gap z) = Some (Phase.Gap z)
+after_space (Phase.More z negated) = Some Phase.Between
+after_space Phase.Between = Some Phase.Between
+after_space (Phase.Relation r) = Some (Phase.Relation r)
+after_space (Phase.Tail r z) = Some (Phase.Tail r z)
 after_space _ = None
 
 -- the rest of a text, as a slice of it

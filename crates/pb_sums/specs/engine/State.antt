@@ -7,7 +7,6 @@ use Rattle.pb_sums.specs.declared.linear.SumEvent.{SumEvent}
 use Rattle.pb_sums.specs.declared.sum_kind.Spaces.{Spaces}
 use Rattle.pb_sums.specs.declared.sum_kind.Part.{Part}
 use Rattle.pb_sums.specs.declared.phase.Phase.{Phase}
-use Rattle.pb_sums.specs.declared.phase.Phase as phase
 use Rattle.pb_sums.specs.declared.phase.Action.{Action}
 use Rattle.pb_sums.specs.declared.phase.Action.TheVariants.{EndSum, EndLinear, Stop}
 
@@ -44,14 +43,14 @@ units (x ∷ xs) = 1 + length x.literal.name + units xs
 
 -- a literal counts as stored from the first byte of its name on
 abbrev pub in_hand : Phase → ℕ
-in_hand (phase.TheVariants.First z negated) = 1
-in_hand (phase.TheVariants.More z negated) = 1
+in_hand (Phase.First z negated) = 1
+in_hand (Phase.More z negated) = 1
 in_hand _ = 0
 
 -- at a byte before a name, room for the literal, which comes with the first byte of the name
 abbrev pub ready : Phase → ℕ
-ready (phase.TheVariants.Gap z) = 1
-ready (phase.TheVariants.Tilde z) = 1
+ready (Phase.Gap z) = 1
+ready (Phase.Tilde z) = 1
 ready _ = 0
 
 abbrev pub all_units : Work → ℕ

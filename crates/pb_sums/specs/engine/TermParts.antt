@@ -10,13 +10,12 @@ use Rattle.pb_sums.specs.declared.linear.Term.{Term}
 use Rattle.pb_sums.specs.declared.sum_kind.Spaces.{Spaces}
 use Rattle.pb_sums.specs.declared.sum_kind.Part.{Part}
 use Rattle.pb_sums.specs.declared.phase.Phase.{Phase}
-use Rattle.pb_sums.specs.declared.phase.Phase as phase
 
 -- the states in which a term may begin, or the digits of its coefficient
 abbrev pub begins_term : Phase → Bool
-begins_term phase.TheVariants.Start = true
-begins_term (phase.TheVariants.Signed None negative) = true
-begins_term phase.TheVariants.Between = true
+begins_term Phase.Start = true
+begins_term (Phase.Signed None negative) = true
+begins_term Phase.Between = true
 begins_term _ = false
 
 -- `~`, or nothing
@@ -35,30 +34,30 @@ IsSpacedNumber limit p text z = (spaces : Spaces) (part : Part) (xs : List Term)
 -- a literal after a coefficient
 abbrev pub IsLiteral : List ℕ → Literal → Type 0
 IsLiteral text l = (spaces : Spaces) (part : Part) (limit : ℕ) (xs : List Term) (z : ℤ) →
-    Runs sums (standing spaces part limit xs [] (phase.TheVariants.Gap z)) text (standing spaces part limit xs l.name (phase.TheVariants.More z l.negated))
+    Runs sums (standing spaces part limit xs [] (Phase.Gap z)) text (standing spaces part limit xs l.name (Phase.More z l.negated))
 
 -- a literal after a coefficient, and a space after it
 abbrev pub IsSpacedLiteral : List ℕ → Literal → Type 0
 IsSpacedLiteral text l = (spaces : Spaces) (part : Part) (limit : ℕ) (xs : List Term) (z : ℤ) →
-    Runs sums (standing spaces part limit xs [] (phase.TheVariants.Gap z)) text
-    (standing spaces part limit (xs ++ (record { coefficient = z; literal = l }) ∷ []) [] phase.TheVariants.Between)
+    Runs sums (standing spaces part limit xs [] (Phase.Gap z)) text
+    (standing spaces part limit (xs ++ (record { coefficient = z; literal = l }) ∷ []) [] Phase.Between)
 
 -- a term and a space after it, from this state
 abbrev pub IsSpacedTerm : ℕ → Phase → List ℕ → Term → Type 0
 IsSpacedTerm limit p text x = (spaces : Spaces) (part : Part) (xs : List Term) →
-    Runs sums (standing spaces part limit xs [] p) text (standing spaces part limit (xs ++ x ∷ []) [] phase.TheVariants.Between)
+    Runs sums (standing spaces part limit xs [] p) text (standing spaces part limit (xs ++ x ∷ []) [] Phase.Between)
 
 -- terms, each with a space after it, from the beginning to this state
 abbrev pub AreSpacedTerms : ℕ → List ℕ → List Term → Phase → Type 0
 AreSpacedTerms limit text xs p = (spaces : Spaces) (part : Part) →
-    Runs sums (standing spaces part limit [] [] phase.TheVariants.Start) text (standing spaces part limit xs [] p)
+    Runs sums (standing spaces part limit [] [] Phase.Start) text (standing spaces part limit xs [] p)
 
 -- a relation and a degree with a space after each, after terms and space
 abbrev pub IsSpacedDegree : ℕ → Part → List ℕ → Relation → ℤ → Type 0
 IsSpacedDegree limit part text r z = (spaces : Spaces) (xs : List Term) →
-    Runs sums (standing spaces part limit xs [] phase.TheVariants.Between) text (standing spaces part limit xs [] (phase.TheVariants.Tail r z))
+    Runs sums (standing spaces part limit xs [] Phase.Between) text (standing spaces part limit xs [] (Phase.Tail r z))
 
 -- From its first state, a machine takes these bytes, and then a `;` ends this linear text.
 abbrev pub LeadsToLinear : ℕ → Part → List ℕ → Linear → Type 0
 LeadsToLinear limit part text c = (spaces : Spaces) →
-    Runs sums (first spaces part limit) text (standing spaces part limit c.terms [] (phase.TheVariants.Tail c.relation c.degree))
+    Runs sums (first spaces part limit) text (standing spaces part limit c.terms [] (Phase.Tail c.relation c.degree))

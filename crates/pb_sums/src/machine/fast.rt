@@ -26,6 +26,7 @@ impl SumMachine {
     /// If a term may begin, takes a whole term and a space after it. After the sign of a term,
     /// takes the rest and the space.
     #[inline(always)]
+    #[tactic(auto, using(crate::proofs::Rules::terms))]
     fn take_term(&mut self, text: &[u8]) -> usize
         ensures bound { result ≤ length text.now }
         ensures runs { Runs sums self.old (take result text.now) self.new }
@@ -54,6 +55,7 @@ impl SumMachine {
 
     /// After terms and space, takes a relation, and a space after it if there is one.
     #[inline(always)]
+    #[tactic(auto, using(crate::proofs::Rules::relations))]
     fn take_relation(&mut self, text: &[u8]) -> usize
         ensures bound { result ≤ length text.now }
         ensures runs { Runs sums self.old (take result text.now) self.new }
@@ -110,6 +112,7 @@ impl SumMachine {
 
     /// Takes a small number and a space after it, if a number may begin.
     #[inline(always)]
+    #[tactic(auto, using(crate::proofs::Rules::terms))]
     fn take_spaced_number(&mut self, text: &[u8]) -> usize
         ensures bound { result ≤ length text.now }
         ensures runs { Runs sums self.old (take result text.now) self.new }
@@ -132,6 +135,7 @@ impl SumMachine {
 
     /// Takes a small number, if one may begin.
     #[inline(always)]
+    #[tactic(auto, using(crate::proofs::Rules::numbers))]
     fn take_number(&mut self, text: &[u8]) -> usize
         ensures bound { result ≤ length text.now }
         ensures runs { Runs sums self.old (take result text.now) self.new }
@@ -153,6 +157,7 @@ impl SumMachine {
 
     /// Takes a name of at least two bytes, if one may begin.
     #[inline(always)]
+    #[tactic(auto, using(crate::proofs::Rules::names))]
     fn take_name(&mut self, text: &[u8]) -> usize
         ensures bound { result ≤ length text.now }
         ensures runs { Runs sums self.old (take result text.now) self.new }
@@ -176,6 +181,7 @@ impl SumMachine {
 
     /// Takes bytes of a name after its first two.
     #[inline(always)]
+    #[tactic(auto, using(crate::proofs::lemmas::prefixes::Names::more_runs))]
     fn take_more(&mut self, text: &[u8]) -> usize
         requires { is_more self.old.work.phase ≡ true }
         ensures bound { result ≤ length text.now }

@@ -1,12 +1,6 @@
 use Rattle.pb_sums.proofs.Common.{arith}
-use Rattle.pb_sums.proofs.lemmas.values.CanonicalLaws.{linear-spelled, sum-spelled, bytes-linear, bytes-sum}
+use Rattle.pb_sums.proofs.lemmas.values.CanonicalLaws.{linear-spelled}
 use Rattle.pb_sums.proofs.laws.canonical_spells.Goals as goal
 
 pub returns-clause-linear : goal.returns-clause-linear
 returns-clause-linear c = λ spaces limit x h i. linear-spelled limit (omega arith) spaces x i
-
-pub returns-clause-sum : goal.returns-clause-sum
-returns-clause-sum c = λ spaces limit xs h i. sum-spelled limit (omega arith) spaces xs i
-
-pub returns-clause-bytes : goal.returns-clause-bytes
-returns-clause-bytes c = (bytes-linear, bytes-sum)

@@ -1,9 +1,6 @@
 use Rattle.pb_sums.proofs.lemmas.machine.States.{is_state}
-use Rattle.pb_sums.proofs.lemmas.machine.Links.{reads_grammar, reads_something, reads-run}
+use Rattle.pb_sums.proofs.lemmas.machine.Links.{reads_something, reads-run}
 use Rattle.pb_sums.proofs.laws.sums_are_exact.Goals as goal
-
-pub returns-clause-grammar : goal.returns-clause-grammar
-returns-clause-grammar c = reads_grammar
 
 pub returns-clause-last : goal.returns-clause-last
 returns-clause-last c = λ s after text event h. (reads-run s.spaces s.part s.limit text s.work event after h).1

@@ -1,15 +1,13 @@
 -- If a machine of sums may allocate, the next byte is in a name, or ends a literal. Offered to other crates.
-use Rattle.pb_sums.proofs.Common.{ℕ, ◌*◌, ◌++◌, ◌+◌, ◌||◌, ◌∙◌, ◌∷◌, ◌≡◌, ◌⊎◌, [], ap, append-nil, append_assoc, Bool, false, inl, inr, List, None, arith}
-use Rattle.pb_sums.proofs.Common.{Option, refl, Some, subst, sym, true, IsTrue, nat_le, cond_both, false≢true, never, letter_name}
-use Rattle.pb_sums.proofs.Common.{each-append, End, Go, MayAsk, Next, ReadsStatement, Refuse, is_digit, is_letter, is_name_byte, bytes, Letter}
-use Rattle.pb_sums.proofs.Common.{Relation, AtLeast, Equal, SumEvent, Action, Add, Begin, To, Kind, Digit, Equals, Greater}
-use Rattle.pb_sums.proofs.Common.{Inner, Minus, Plus, Semicolon, Space, Start, Tilde, Phase, Part, Spaces, act, adds, digits, flushed, is_more}
-use Rattle.pb_sums.proofs.Common.{is_numeric, kind, letter_at, next_action, number, symbol, transition, asks, first, over, sums, SumState, allows}
-use Rattle.pb_sums.proofs.Common.{is_space, IsName, IsOneText, reads_sums}
+use Rattle.pb_sums.proofs.Common.{ℕ, ◌++◌, ◌||◌, ◌∙◌, ◌∷◌, ◌≡◌, ◌⊎◌, [], ap, append-nil, append_assoc, Bool, false, inl, inr, List, arith, refl, subst}
+use Rattle.pb_sums.proofs.Common.{sym, true, IsTrue, false≢true, never, letter_name, each-append, End, Go, MayAsk, Next, ReadsStatement, Refuse, is_letter}
+use Rattle.pb_sums.proofs.Common.{is_name_byte, bytes, Letter, SumEvent, Action, Add, Begin, To, Kind, Phase, Part, Spaces, act, adds, flushed, is_more}
+use Rattle.pb_sums.proofs.Common.{is_numeric, kind, letter_at, transition, asks, first, over, sums, SumState, IsName, IsOneText}
 use Rattle.pb_text.specs.meaning.Asking.{AsksOnly}
 use Rattle.pb_text.proofs.lemmas.machine.Asked as asked
 use Rattle.pb_text.proofs.lemmas.machine.Walking.{Walks, reads_after}
 use Rattle.pb_sums.specs.meaning.Asking.{EndsIn, IsNameStart, InName, AsksLiteral}
+use Rattle.pb_sums.proofs.lemmas.machine.LetterKinds.{Means, kind-means}
 use Rattle.pb_sums.proofs.lemmas.machine.LiteralPrefixes.{IsFirst, name-append, first-append}
 use Rattle.pb_sums.proofs.lemmas.machine.States.{accepts_one, ended-last, continues-midway, nothing-after}
 
@@ -18,14 +16,10 @@ IsNameByte e = IsTrue (is_name_byte e)
 
 -- a name being read, and one more byte
 pub name_further : (name : List ℕ) (b : ℕ) → IsName name → IsTrue (is_name_byte b) → IsNameStart (name ++ b ∷ [])
-name_further [] b h k = absurd h
-name_further (x ∷ []) b h k = absurd h
-name_further (x ∷ y ∷ bs) b h k = (h.0, each-append IsNameByte (y ∷ bs) b h.1 k)
+name_further name b h k = grind (arith, each-append)
 
 pub first_further : (name : List ℕ) (b : ℕ) → IsFirst name → IsTrue (is_name_byte b) → IsNameStart (name ++ b ∷ [])
-first_further [] b h k = absurd h
-first_further (x ∷ []) b h k = (h, (k, tt))
-first_further (x ∷ y ∷ bs) b h k = absurd h
+first_further name b h k = grind arith
 
 pub ends_more : (text name : List ℕ) (b : ℕ) → EndsIn text name → EndsIn (text ++ b ∷ []) (name ++ b ∷ [])
 ends_more text name b (before, e) = (before, ap (λ (x : List ℕ). x ++ b ∷ []) e ∙ append_assoc before name (b ∷ []))
@@ -41,8 +35,7 @@ ends_after before text end (prefix, e) = (before ++ prefix, ap (λ (x : List ℕ
 
 -- what may allocate in a text may allocate after other bytes
 pub asks_after : (before text : List ℕ) (b : ℕ) → AsksLiteral text b → AsksLiteral (before ++ text) b
-asks_after before text b (inl (name, e, h)) = inl (name, ends_after before text name e, h)
-asks_after before text b (inr (name, e, h, k)) = inr (name, ends_after before text name e, h, k)
+asks_after before text b h = grind (arith, ends_after)
 
 -- after a whole name
 pub at_name : (text name : List ℕ) (b : ℕ) → EndsIn text name → IsName name → AsksLiteral text b
@@ -51,24 +44,6 @@ at_name text name b e h = by_test (is_name_byte b) refl
     by_test : (x : Bool) → is_name_byte b ≡ x → AsksLiteral text b
     by_test true t = inl (name, e, name_further name b h t)
     by_test false t = inr (name, e, h, t)
-
--- what a kind says about its byte
-abbrev Means : Kind → ℕ → Type 0
-Means (Start c) b = (c ≡ b) × IsTrue (is_letter c)
-Means (Inner c) b = (c ≡ b) × IsTrue (is_name_byte c)
-Means _ b = Unit {0}
-
-symbol_means : (b : ℕ) → Means (symbol b) b
-symbol_means b = grind (arith)
-
-means : (spaces : Spaces) (l : Letter) → Means (kind spaces l) l.byte
-means spaces l =
-    let P : Kind → Type 0 = λ k. Means k l.byte in
-    cond_both l.numeral _ _ P
-    (λ _. cond_both (is_digit l.byte) _ _ P (λ _. tt) (λ _. tt))
-    (λ _. cond_both (is_space spaces l.byte) _ _ P (λ _. tt) (λ _.
-    cond_both (is_letter l.byte) _ _ P (λ e. (refl, e)) (λ _.
-    cond_both (is_name_byte l.byte) _ _ P (λ e. (refl, e)) (λ _. symbol_means l.byte))))
 
 -- a name is being read
 abbrev is_naming : Phase → Bool
@@ -85,55 +60,8 @@ Fits p b (Add (Phase.More z negated) c) = (c ≡ b) × IsTrue (is_name_byte c) �
 Fits p b (Add q c) = ⊥
 Fits p b _ = Unit {0}
 
-module _ (want : Part) (limit b : ℕ) where
-  digits_fit : (p : Phase) (role : Option Relation) (negative : Bool) (n d : ℕ) → Fits p b (digits limit role negative n d)
-  digits_fit p role negative n d = cond_both (nat_le (10 * n + d) limit) _ _ (Fits p b) (λ _. refl) (λ _. tt)
-
-  number_fits : (p : Phase) (role : Option Relation) (k : Kind) → Fits p b (number limit role k)
-  number_fits p role Plus = refl
-  number_fits p role Minus = refl
-  number_fits p role (Digit d) = digits_fit p role false 0 d
-  number_fits p role _ = tt
-
-  after_fits : (p : Phase) (k : Kind) → Fits p b (next_action want k)
-  after_fits p Greater = cond_both (allows want AtLeast) _ _ (Fits p b) (λ _. refl) (λ _. tt)
-  after_fits p Equals = cond_both (allows want Equal) _ _ (Fits p b) (λ _. refl) (λ _. tt)
-  after_fits p Semicolon = cond_both (reads_sums want) _ _ (Fits p b) (λ _. tt) (λ _. tt)
-  after_fits p _ = tt
-
-  transition_fits : (p : Phase) (k : Kind) → Means k b → Fits p b (transition want limit p k)
-  transition_fits Phase.Start Space m = cond_both (reads_sums want) _ _ (Fits Phase.Start b) (λ _. refl) (λ _. tt)
-  transition_fits Phase.Start Plus m = refl
-  transition_fits Phase.Start Minus m = refl
-  transition_fits Phase.Start (Digit d) m = digits_fit Phase.Start None false 0 d
-  transition_fits Phase.Start k m = after_fits Phase.Start k
-  transition_fits (Phase.Signed role negative) (Digit d) m = digits_fit (Phase.Signed role negative) role negative 0 d
-  transition_fits (Phase.Digits role negative n) (Digit d) m = digits_fit (Phase.Digits role negative n) role negative n d
-  transition_fits (Phase.Digits None negative n) Space m = refl
-  transition_fits (Phase.Digits None negative n) k m = tt
-  transition_fits (Phase.Digits (Some r) negative n) Space m = refl
-  transition_fits (Phase.Digits (Some r) negative n) k m = tt
-  transition_fits (Phase.Gap z) Space m = refl
-  transition_fits (Phase.Gap z) Tilde m = refl
-  transition_fits (Phase.Gap z) (Start c) m = m
-  transition_fits (Phase.Tilde z) (Start c) m = m
-  transition_fits (Phase.First z negated) (Start c) m = (m.0, letter_name c m.1, refl)
-  transition_fits (Phase.First z negated) (Inner c) m = (m.0, m.1, refl)
-  transition_fits (Phase.More z negated) (Start c) m = (m.0, letter_name c m.1, refl)
-  transition_fits (Phase.More z negated) (Inner c) m = (m.0, m.1, refl)
-  transition_fits (Phase.More z negated) Space m = refl
-  transition_fits (Phase.More z negated) k m = after_fits (Phase.More z negated) k
-  transition_fits Phase.Between Space m = refl
-  transition_fits Phase.Between Plus m = refl
-  transition_fits Phase.Between Minus m = refl
-  transition_fits Phase.Between (Digit d) m = digits_fit Phase.Between None false 0 d
-  transition_fits Phase.Between k m = after_fits Phase.Between k
-  transition_fits Phase.Greater Equals m = refl
-  transition_fits (Phase.Relation r) Space m = refl
-  transition_fits (Phase.Relation r) k m = number_fits (Phase.Relation r) (Some r) k
-  transition_fits (Phase.Tail r z) Space m = refl
-  transition_fits Phase.Empty Space m = refl
-  transition_fits _ _ m = tt
+transition_fits : (want : Part) (limit : ℕ) (spaces : Spaces) (l : Letter) (p : Phase) (k : Kind) → Means spaces k l → Fits p l.byte (transition want limit p k)
+transition_fits want limit spaces l p k m = grind (arith, letter_name)
 
 -- the text ends in the name being read
 abbrev Holds : Phase → List ℕ → List ℕ → Type 0
@@ -142,9 +70,7 @@ Holds (Phase.More z negated) name text = EndsIn text name × IsName name
 Holds _ name text = Unit {0}
 
 held_no_name : (q : Phase) (name text : List ℕ) → is_naming q ≡ false → Holds q name text
-held_no_name (Phase.First z negated) name text h = absurd (false≢true (sym h))
-held_no_name (Phase.More z negated) name text h = absurd (false≢true (sym h))
-held_no_name _ name text h = tt
+held_no_name q name text h = grind (arith, false≢true)
 
 name_grown : (p : Phase) (name text : List ℕ) (b : ℕ) → is_naming p ≡ true → Holds p name text → IsTrue (is_name_byte b) → EndsIn (text ++ b ∷ []) (name ++ b ∷ []) × IsName (name ++ b ∷ [])
 name_grown (Phase.First z negated) name text b h (e, f) k = (ends_more text name b e, first-append name b f k)
@@ -165,17 +91,12 @@ Stays (End e s) text = Unit {0}
 Stays Refuse text = Unit {0}
 
 acts : (s : SumState) (text : List ℕ) (b : ℕ) (m : Action) → Fits s.work.phase b m → Known s text → Stays (over s (act (flushed s.work.phase s.work.terms s.work.name) s.work.terms s.work.name m)) (text ++ b ∷ [])
-acts s text b (To q) h k = held_no_name q [] (text ++ b ∷ []) h
-acts s text b (Begin (Phase.First z negated) c) h k = subst (λ (x : ℕ). EndsIn (text ++ b ∷ []) (x ∷ []) × IsTrue (is_letter x)) (sym h.0) (ends_one text b, subst (λ (x : ℕ). IsTrue (is_letter x)) h.0 h.1)
-acts s text b (Begin q c) h k = absurd h
-acts s text b (Add (Phase.More z negated) c) h k =
-    subst (λ (x : ℕ). EndsIn (text ++ b ∷ []) (s.work.name ++ x ∷ []) × IsName (s.work.name ++ x ∷ [])) (sym h.0)
-    (name_grown s.work.phase s.work.name text b h.2 k (subst (λ (x : ℕ). IsTrue (is_name_byte x)) h.0 h.1))
-acts s text b (Add q c) h k = absurd h
-acts s text b _ h k = tt
+acts s text b m h k = grind (arith, held_no_name, ends_one, name_grown)
 
 fits : (s : SumState) (b : ℕ) → Fits s.work.phase b (transition s.part s.limit s.work.phase (kind s.spaces (letter_at (is_numeric s.work.phase) b)))
-fits s b = transition_fits s.part s.limit b s.work.phase (kind s.spaces (letter_at (is_numeric s.work.phase) b)) (means s.spaces (letter_at (is_numeric s.work.phase) b))
+fits s b =
+    let l : Letter = letter_at (is_numeric s.work.phase) b in
+    transition_fits s.part s.limit s.spaces l s.work.phase (kind s.spaces l) (kind-means s.spaces l)
 
 stepped : (s next : SumState) (b : ℕ) (text : List ℕ) → Known s text → sums.step s b ≡ Go next → Known next (text ++ b ∷ [])
 stepped s next b text k e =
@@ -208,12 +129,7 @@ by_either p name text b m f h k = by_adds (adds m) refl h
 
 -- Before a text, it does not allocate.
 begins_plain : (want : Part) (limit : ℕ) (k : Kind) → adds (transition want limit Phase.Start k) ≡ false
-begins_plain want limit Space = cond_both (reads_sums want) _ _ (λ m. adds m ≡ false) (λ _. refl) (λ _. refl)
-begins_plain want limit (Digit d) = cond_both (nat_le (10 * 0 + d) limit) _ _ (λ m. adds m ≡ false) (λ _. refl) (λ _. refl)
-begins_plain want limit Greater = cond_both (allows want AtLeast) _ _ (λ m. adds m ≡ false) (λ _. refl) (λ _. refl)
-begins_plain want limit Equals = cond_both (allows want Equal) _ _ (λ m. adds m ≡ false) (λ _. refl) (λ _. refl)
-begins_plain want limit Semicolon = cond_both (reads_sums want) _ _ (λ m. adds m ≡ false) (λ _. refl) (λ _. refl)
-begins_plain want limit _ = refl
+begins_plain want limit k = grind arith
 
 pub first_asks_nothing : (spaces : Spaces) (part : Part) (limit b : ℕ) → asks (first spaces part limit) b ≡ false
 first_asks_nothing spaces part limit b = rw (begins_plain part limit (kind spaces (letter_at true b))) refl

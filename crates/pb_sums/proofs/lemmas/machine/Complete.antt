@@ -1,12 +1,12 @@
 -- The machine reads each text of the grammar: one lemma for each word of the grammar.
 use Rattle.pb_sums.proofs.lemmas.machine.LetterKinds.{on_letter, kind-digit, kind-space, kind-letter, kind-name}
-use Rattle.pb_sums.proofs.Common.{ℕ, ℤ, ◌*◌, ◌++◌, ◌+◌, ◌<◌, ◌^◌, ◌∙◌, ◌∷◌, ◌≡◌, ◌≤◌, ◌⊎◌, [], ap, append-nil, append_assoc, arith, Bool, cond, false}
-use Rattle.pb_sums.proofs.Common.{inl, inr, length, List, map, None, Option, refl, Some, subst, suc, sym, true, IsTrue, nat_le, le-mul_of_pos_right}
-use Rattle.pb_sums.proofs.Common.{pow-succ', le-leb, run, run-refuse, Takes, takes_then, nil_first, End, Go, Next, Refuse, is_name_byte, ◌⋅◌, Byte}
-use Rattle.pb_sums.proofs.Common.{digit, Each, Language, unmarked, Number, signed, value, Letter, Relation, AtLeast, Equal, SumEvent, Term, Action}
-use Rattle.pb_sums.proofs.Common.{EndSum, Stop, To, Kind, Digit, Equals, Greater, Minus, Plus, Semicolon, Space, Start, Tilde, Part, Spaces}
-use Rattle.pb_sums.proofs.Common.{act, action, at_name, digits, finished, fresh, kind, next_action, to, Work, allows, Head, is_space, reads_sums}
-use Rattle.pb_sums.proofs.Common.{Spaces0, Spaces1, Spells, SpellsFurther, SpellsLinear, SpellsLiteral, SpellsRelation, SpellsSum, SpellsTerm, Phase}
+use Rattle.pb_sums.proofs.Common.{ℕ, ℤ, ◌*◌, ◌++◌, ◌+◌, ◌<◌, ◌^◌, ◌∙◌, ◌∷◌, ◌≡◌, ◌≤◌, ◌⊎◌, [], ap, append-nil, append_assoc, arith, Bool, cond, false, inl, inr}
+use Rattle.pb_sums.proofs.Common.{length, List, map, None, Option, refl, Some, subst, suc, sym, true, IsTrue, le-mul_of_pos_right, pow-succ', le-leb, run}
+use Rattle.pb_sums.proofs.Common.{run-append, run-refuse, Takes, takes_then, nil_first, End, Go, Next, Refuse, is_name_byte, ◌⋅◌, Byte, digit, Each, Language}
+use Rattle.pb_sums.proofs.Common.{unmarked, Number, Sign, signed, value, Letter, Relation, AtLeast, Equal, SumEvent, Term, Action, Stop, Kind, Digit, Equals}
+use Rattle.pb_sums.proofs.Common.{Greater, Inner, Minus, Plus, Semicolon, Space, Start, Tilde, Part, Spaces, act, action, at_name, digits, finished, fresh}
+use Rattle.pb_sums.proofs.Common.{kind, next_action, to, Work, allows, Head, is_space, reads_sums, Spaces0, Spaces1, Spells, SpellsFurther, SpellsLinear}
+use Rattle.pb_sums.proofs.Common.{SpellsLiteral, SpellsRelation, SpellsSum, SpellsTerm, Phase}
 use Rattle.pb_text.proofs.lemmas.numbers.DigitWalks.{ten_pos}
 
 module _ (spaces : Spaces) (want : Part) (limit : ℕ) where
@@ -18,41 +18,10 @@ module _ (spaces : Spaces) (want : Part) (limit : ℕ) where
 
   -- a test can be moved outside
   act-cond : (ys xs : List Term) (name : List ℕ) (b : Bool) (m : Action) → act ys xs name (cond b m Stop) ≡ cond b (act ys xs name m) Refuse
-  act-cond ys xs name true m = refl
-  act-cond ys xs name false m = refl
-
-  abbrev out_digits : List Term → Option Relation → Bool → ℕ → ℕ → N
-  out_digits xs role negative m d = cond (nat_le (10 * m + d) limit) (to xs (Phase.Digits role negative (10 * m + d))) Refuse
-
-  abbrev out_number : List Term → Option Relation → Kind → N
-  out_number xs role Plus = to xs (Phase.Signed role false)
-  out_number xs role Minus = to xs (Phase.Signed role true)
-  out_number xs role (Digit d) = out_digits xs role false 0 d
-  out_number xs role _ = Refuse
-
-  abbrev out_after : List Term → Kind → N
-  out_after xs Greater = cond (allows want AtLeast) (to xs Phase.Greater) Refuse
-  out_after xs Equals = cond (allows want Equal) (to xs (Phase.Relation Equal)) Refuse
-  out_after xs Semicolon = cond (reads_sums want) (End (SumEvent.Sum xs) finished) Refuse
-  out_after xs _ = Refuse
+  act-cond ys xs name b m = grind arith
 
   abbrev whole : List Term → Relation → ℤ → N
   whole xs r z = End (SumEvent.Linear (record { terms = xs; relation = r; degree = z })) finished
-
-  act-digits : (ys xs : List Term) (name : List ℕ) (role : Option Relation) (negative : Bool) (m d : ℕ) → act ys xs name (digits limit role negative m d) ≡ out_digits ys role negative m d
-  act-digits ys xs name role negative m d = act-cond ys xs name (nat_le (10 * m + d) limit) (To (Phase.Digits role negative (10 * m + d)))
-
-  abbrev IsOfAfter : Kind → Type 0
-  IsOfAfter Greater = Unit {0}
-  IsOfAfter Equals = Unit {0}
-  IsOfAfter Semicolon = Unit {0}
-  IsOfAfter _ = ⊥
-
-  act-after : (ys xs : List Term) (name : List ℕ) (k : Kind) → IsOfAfter k → act ys xs name (next_action want k) ≡ out_after ys k
-  act-after ys xs name Greater h = act-cond ys xs name (allows want AtLeast) (To Phase.Greater)
-  act-after ys xs name Equals h = act-cond ys xs name (allows want Equal) (To (Phase.Relation Equal))
-  act-after ys xs name Semicolon h = act-cond ys xs name (reads_sums want) EndSum
-  act-after ys xs name _ h = absurd h
 
   -- what an outcome does with a kind
   abbrev moves : N → Kind → N
@@ -66,42 +35,36 @@ module _ (spaces : Spaces) (want : Part) (limit : ℕ) where
   run-moves Refuse c t = sym (run-refuse (on_letter spaces want limit) t)
 
   -- a letter of a known kind
-  reads : (n : N) (c : Letter) (k : Kind) (t : List Letter) → kind spaces c ≡ k → go n (c ∷ t) ≡ go (moves n k) t
-  reads n c k t e = run-moves n c t ∙ ap (λ x. go (moves n x) t) e
+  reads : (n m : N) (c : Letter) (k : Kind) (t : List Letter) → kind spaces c ≡ k → moves n k ≡ m → go n (c ∷ t) ≡ go m t
+  reads n m c k t e f = run-moves n c t ∙ ap (λ x. go x t) (ap (moves n) e ∙ f)
 
   -- digits
   abbrev at_digits : List Term → Option Relation → Bool → ℕ → N
   at_digits xs role negative m = to xs (Phase.Digits role negative m)
 
   abbrev TakesDigits : List Term → Option Relation → Bool → ℕ → N → Type 0
-  TakesDigits xs role negative m n = (d : ℕ) → moves n (Digit d) ≡ out_digits xs role negative m d
+  TakesDigits xs role negative m n = (d : ℕ) → moves n (Digit d) ≡ act xs xs [] (digits limit role negative m d)
 
   digit-fits : (xs : List Term) (role : Option Relation) (negative : Bool) (m d v : ℕ) → 10 * m + d ≡ v → v ≤ limit →
-      out_digits xs role negative m d ≡ at_digits xs role negative v
+      act xs xs [] (digits limit role negative m d) ≡ at_digits xs role negative v
   digit-fits xs role negative m d v e h = rw (e, le-leb v limit h) refl
 
   digits-run : (xs : List Term) (role : Option Relation) (negative : Bool) (m d : ℕ) (ds : List ℕ) (n : N) (v : ℕ) → TakesDigits xs role negative m n →
       Each (λ e. e < 10) (d ∷ ds) → v ≡ m * 10 ^ length (d ∷ ds) + value (d ∷ ds) → v ≤ limit → go n (map digit (d ∷ ds)) ≡ at_digits xs role negative v
   digits-run xs role negative m d [] n v f h e l =
-      reads n (digit d) (Digit d) [] (kind-digit spaces d h.0) ∙ (f d ∙ digit-fits xs role negative m d v (omega arith) l)
+      reads n (at_digits xs role negative v) (digit d) (Digit d) [] (kind-digit spaces d h.0) (f d ∙ digit-fits xs role negative m d v (omega arith) l)
   digits-run xs role negative m d (x ∷ ds) n v f h e l =
-      let p : 10 ^ suc (length ds) ≡ 10 * 10 ^ length ds = pow-succ' 10 (length ds) in
       let q : 10 ^ suc (suc (length ds)) ≡ 10 * 10 ^ suc (length ds) = pow-succ' 10 (suc (length ds)) in
       let i : 10 * m + d ≤ (10 * m + d) * 10 ^ suc (length ds) = le-mul_of_pos_right (10 * m + d) (ten_pos (suc (length ds))) in
       let w : v ≡ (10 * m + d) * 10 ^ length (x ∷ ds) + value (x ∷ ds) = e ∙ rw q (omega arith) in
       let u : 10 * m + d ≤ limit = omega arith in
-      reads n (digit d) (Digit d) (map digit (x ∷ ds)) (kind-digit spaces d h.0)
-      ∙ (ap (λ y. go y (map digit (x ∷ ds))) (f d ∙ digit-fits xs role negative m d (10 * m + d) refl u)
-      ∙ digits-run xs role negative (10 * m + d) x ds (at_digits xs role negative (10 * m + d)) v (λ u. act-digits xs xs [] role negative (10 * m + d) u) h.1 w l)
+      let D : N = at_digits xs role negative (10 * m + d) in
+      reads n D (digit d) (Digit d) (map digit (x ∷ ds)) (kind-digit spaces d h.0) (f d ∙ digit-fits xs role negative m d (10 * m + d) refl u)
+      ∙ digits-run xs role negative (10 * m + d) x ds D v (λ y. refl) h.1 w l
 
-  abbrev IsOfNumber : Kind → Type 0
-  IsOfNumber Plus = Unit {0}
-  IsOfNumber Minus = Unit {0}
-  IsOfNumber (Digit d) = Unit {0}
-  IsOfNumber _ = ⊥
-
+  -- a number may begin
   abbrev Opens : Option Relation → List Term → N → Type 0
-  Opens role xs n = (k : Kind) → IsOfNumber k → moves n k ≡ out_number xs role k
+  Opens role xs n = (moves n Plus ≡ to xs (Phase.Signed role false)) × (moves n Minus ≡ to xs (Phase.Signed role true)) × TakesDigits xs role false 0 n
 
   abbrev Closed : Option Relation → List Term → ℤ → N → Type 0
   Closed role xs z n = (negative : Bool) × (m : ℕ) × (z ≡ signed negative m) × (n ≡ at_digits xs role negative m)
@@ -109,80 +72,68 @@ module _ (spaces : Spaces) (want : Part) (limit : ℕ) where
   abbrev T : (N → Type 0) → Language → (N → Type 0) → Type 0
   T = Takes (on_letter spaces want limit)
 
-  from_zero : (d : ℕ) (ds : List ℕ) → value (d ∷ ds) ≡ 0 * 10 ^ length (d ∷ ds) + value (d ∷ ds)
-  from_zero d ds = omega arith
+  sign-run : (role : Option Relation) (xs : List Term) (n : N) (negative : Bool) (a : List Letter) → Opens role xs n → Sign negative a
+      → TakesDigits xs role negative 0 (go n a)
+  sign-run role xs n true a o s d =
+      ap (λ x. moves (go n x) (Digit d)) s ∙ ap (λ y. moves y (Digit d)) (reads n (to xs (Phase.Signed role true)) (unmarked 45) Minus [] refl o.1)
+  sign-run role xs n false a o (inl s) d = ap (λ x. moves (go n x) (Digit d)) s ∙ o.2 d
+  sign-run role xs n false a o (inr s) d =
+      ap (λ x. moves (go n x) (Digit d)) s ∙ ap (λ y. moves y (Digit d)) (reads n (to xs (Phase.Signed role false)) (unmarked 43) Plus [] refl o.0)
 
   number-run : (role : Option Relation) (xs : List Term) (z : ℤ) → T (Opens role xs) (Number limit z) (Closed role xs z)
-  number-run role xs z n t o (true, m, l, e, (a, b, f, s, (d, ds, h, g, v))) = (
-    true,
-    m,
-    e,
-    ap (λ x. go n x) (f ∙ (ap (λ x. x ++ b) s ∙ ap (λ x. unmarked 45 ∷ x) g))
-        ∙ (reads n (unmarked 45) Minus (map digit (d ∷ ds)) refl
-        ∙ (ap (λ y. go y (map digit (d ∷ ds))) (o Minus tt)
-        ∙ digits-run xs role true 0 d ds (to xs (Phase.Signed role true)) m (λ u. act-digits xs xs [] role true 0 u) h (v ∙ from_zero d ds) l)),
-  )
-  number-run role xs z n t o (false, m, l, e, (a, b, f, inl s, (d, ds, h, g, v))) = (
-    false,
-    m,
-    e,
-    ap (λ x. go n x) (f ∙ (ap (λ x. x ++ b) s ∙ g))
-        ∙ digits-run xs role false 0 d ds n m (λ x. o (Digit x) tt) h (v ∙ from_zero d ds) l,
-  )
-  number-run role xs z n t o (false, m, l, e, (a, b, f, inr s, (d, ds, h, g, v))) = (
-    false,
-    m,
-    e,
-    ap (λ x. go n x) (f ∙ (ap (λ x. x ++ b) s ∙ ap (λ x. unmarked 43 ∷ x) g))
-        ∙ (reads n (unmarked 43) Plus (map digit (d ∷ ds)) refl
-        ∙ (ap (λ y. go y (map digit (d ∷ ds))) (o Plus tt)
-        ∙ digits-run xs role false 0 d ds (to xs (Phase.Signed role false)) m (λ u. act-digits xs xs [] role false 0 u) h (v ∙ from_zero d ds) l)),
-  )
+  number-run role xs z n t o (negative, m, l, e, (a, b, f, s, (d, ds, h, g, v))) =
+      let first : TakesDigits xs role negative 0 (go n a) = sign-run role xs n negative a o s in (
+        negative,
+        m,
+        e,
+        ap (go n) f ∙ (run-append (on_letter spaces want limit) n a b
+            ∙ (ap (go (go n a)) g ∙ digits-run xs role negative 0 d ds (go n a) m first h (omega (arith, v)) l)),
+      )
 
   -- space
   spaces-run : (n : N) → moves n Space ≡ n → (bs : List ℕ) → Each (λ b. IsTrue (is_space spaces b)) bs → go n (map unmarked bs) ≡ n
   spaces-run n e [] h = refl
-  spaces-run n e (b ∷ bs) h = reads n (unmarked b) Space (map unmarked bs) (kind-space spaces b h.0) ∙ (ap (λ y. go y (map unmarked bs)) e ∙ spaces-run n e bs h.1)
+  spaces-run n e (b ∷ bs) h = reads n n (unmarked b) Space (map unmarked bs) (kind-space spaces b h.0) e ∙ spaces-run n e bs h.1
 
   some-run : (n n' : N) → moves n Space ≡ n' → moves n' Space ≡ n' → (t : List Letter) → Spaces1 spaces limit t → go n t ≡ n'
-  some-run n n' e f t (b, bs, h, i, g) =
-      rw g (reads n (unmarked b) Space (map unmarked bs) (kind-space spaces b h) ∙ (ap (λ y. go y (map unmarked bs)) e ∙ spaces-run n' f bs i))
+  some-run n n' e f t (b, bs, h, i, g) = rw g (reads n n' (unmarked b) Space (map unmarked bs) (kind-space spaces b h) e ∙ spaces-run n' f bs i)
 
   many-run : (n n' : N) → moves n Space ≡ n' → moves n' Space ≡ n' → (t : List Letter) → Spaces0 spaces limit t → (go n t ≡ n) ⊎ (go n t ≡ n')
   many-run n n' e f t ([], i, g) = inl (rw g refl)
   many-run n n' e f t (b ∷ bs, i, g) = inr (some-run n n' e f t (b, bs, i.0, i.1, g))
 
   -- a literal
+  name-byte : (n m : N) (b : ℕ) (t : List Letter) → moves n (Start b) ≡ m → moves n (Inner b) ≡ m → IsTrue (is_name_byte b) → go n (unmarked b ∷ t) ≡ go m t
+  name-byte n m b t e f h = elim (kind-name spaces b h) [ inl g ↦ reads n m (unmarked b) (Start b) t g e | inr g ↦ reads n m (unmarked b) (Inner b) t g f ]
+
   name-run : (z : ℤ) (negated : Bool) (xs : List Term) (name bs : List ℕ) → Each (λ b. IsTrue (is_name_byte b)) bs →
       go (at_name xs (Phase.More z negated) name) (map unmarked bs) ≡ at_name xs (Phase.More z negated) (name ++ bs)
   name-run z negated xs name [] h = ap (λ x. at_name xs (Phase.More z negated) x) (sym (append-nil name))
   name-run z negated xs name (b ∷ bs) h =
-      let n : N = at_name xs (Phase.More z negated) name in
-      let n' : N = at_name xs (Phase.More z negated) (name ++ b ∷ []) in
-      let r : moves n (kind spaces (unmarked b)) ≡ n' = elim (kind-name spaces b h.0) [ inl e ↦ ap (λ k. moves n k) e | inr e ↦ ap (λ k. moves n k) e ] in
-      run-moves n (unmarked b) (map unmarked bs) ∙ (ap (λ y. go y (map unmarked bs)) r ∙ (name-run z negated xs (name ++ b ∷ []) bs h.1
-      ∙ ap (λ x. at_name xs (Phase.More z negated) x) (append_assoc name (b ∷ []) bs)))
+      let next : N = at_name xs (Phase.More z negated) (name ++ b ∷ []) in
+      name-byte (at_name xs (Phase.More z negated) name) next b (map unmarked bs) refl refl h.0
+      ∙ (name-run z negated xs (name ++ b ∷ []) bs h.1 ∙ ap (λ x. at_name xs (Phase.More z negated) x) (append_assoc name (b ∷ []) bs))
 
   first-run : (z : ℤ) (negated : Bool) (xs : List Term) (b : ℕ) (c : ℕ) (bs : List ℕ) → Each (λ b. IsTrue (is_name_byte b)) (c ∷ bs) →
       go (at_name xs (Phase.First z negated) (b ∷ [])) (map unmarked (c ∷ bs)) ≡ at_name xs (Phase.More z negated) (b ∷ c ∷ bs)
   first-run z negated xs b c bs h =
-      let n : N = at_name xs (Phase.First z negated) (b ∷ []) in
-      let n' : N = at_name xs (Phase.More z negated) (b ∷ c ∷ []) in
-      let r : moves n (kind spaces (unmarked c)) ≡ n' = elim (kind-name spaces c h.0) [ inl e ↦ ap (λ k. moves n k) e | inr e ↦ ap (λ k. moves n k) e ] in
-      run-moves n (unmarked c) (map unmarked bs) ∙ (ap (λ y. go y (map unmarked bs)) r ∙ name-run z negated xs (b ∷ c ∷ []) bs h.1)
+      name-byte (at_name xs (Phase.First z negated) (b ∷ [])) (at_name xs (Phase.More z negated) (b ∷ c ∷ [])) c (map unmarked bs) refl refl h.0
+      ∙ name-run z negated xs (b ∷ c ∷ []) bs h.1
 
   literal-run : (z : ℤ) (xs : List Term) (negated : Bool) (name : List ℕ) (t : List Letter) → SpellsLiteral (record { negated = negated; name = name }) t →
       go (to xs (Phase.Gap z)) t ≡ at_name xs (Phase.More z negated) name
   literal-run z xs negated [] t h = absurd h.0
   literal-run z xs negated (b ∷ []) t h = absurd h.0
   literal-run z xs true (b ∷ c ∷ bs) t h =
-      ap (λ x. go (to xs (Phase.Gap z)) x) h.1
-      ∙ (reads (to xs (Phase.Gap z)) (unmarked 126) Tilde (map unmarked (b ∷ c ∷ bs)) refl
-      ∙ (reads (to xs (Phase.Tilde z)) (unmarked b) (Start b) (map unmarked (c ∷ bs)) (kind-letter spaces b h.0.0)
+      ap (go (to xs (Phase.Gap z))) h.1
+      ∙ (reads (to xs (Phase.Gap z)) (to xs (Phase.Tilde z)) (unmarked 126) Tilde (map unmarked (b ∷ c ∷ bs)) refl refl
+      ∙ (reads (to xs (Phase.Tilde z)) (at_name xs (Phase.First z true) (b ∷ [])) (unmarked b) (Start b) (map unmarked (c ∷ bs))
+      (kind-letter spaces b h.0.0) refl
       ∙ first-run z true xs b c bs h.0.1))
   literal-run z xs false (b ∷ c ∷ bs) t h =
-      ap (λ x. go (to xs (Phase.Gap z)) x) h.1
-      ∙ (reads (to xs (Phase.Gap z)) (unmarked b) (Start b) (map unmarked (c ∷ bs)) (kind-letter spaces b h.0.0)
+      ap (go (to xs (Phase.Gap z))) h.1
+      ∙ (reads (to xs (Phase.Gap z)) (at_name xs (Phase.First z false) (b ∷ [])) (unmarked b) (Start b) (map unmarked (c ∷ bs))
+      (kind-letter spaces b h.0.0) refl
       ∙ first-run z false xs b c bs h.0.1)
 
   -- terms
@@ -208,22 +159,10 @@ module _ (spaces : Spaces) (want : Part) (limit : ℕ) where
       (λ n t e h. (xs, x, refl, ap (λ y. go y t) e ∙ literal-run z xs x.literal.negated x.literal.name t h))
 
   opens-between : (zs : List Term) → Opens None zs (to zs Phase.Between)
-  opens-between zs Plus h = refl
-  opens-between zs Minus h = refl
-  opens-between zs (Digit d) h = act-digits zs zs [] None false 0 d
-  opens-between zs _ h = absurd h
-
-  opens-start : Opens None [] (Go fresh)
-  opens-start Plus h = refl
-  opens-start Minus h = refl
-  opens-start (Digit d) h = act-digits [] [] [] None false 0 d
-  opens-start _ h = absurd h
+  opens-between zs = (refl, refl, λ d. refl)
 
   opens-relation : (r : Relation) (zs : List Term) → Opens (Some r) zs (to zs (Phase.Relation r))
-  opens-relation r zs Plus h = refl
-  opens-relation r zs Minus h = refl
-  opens-relation r zs (Digit d) h = act-digits zs zs [] (Some r) false 0 d
-  opens-relation r zs _ h = absurd h
+  opens-relation r zs = (refl, refl, λ d. refl)
 
   held-space : (zs : List Term) (n : N) → Held zs n → moves n Space ≡ to zs Phase.Between
   held-space zs n (xs, x, e, f) = ap (λ y. moves y Space) f ∙ ap (λ ys. to ys Phase.Between) (sym e)
@@ -244,42 +183,32 @@ module _ (spaces : Spaces) (want : Part) (limit : ℕ) where
   sum-run : (x : Term) (xs : List Term) → T (Is (Go fresh)) (SpellsSum spaces limit (x ∷ xs)) (Held (x ∷ xs))
   sum-run x xs n t e h =
       takes_then (on_letter spaces want limit) (Opens None []) (Held (x ∷ [])) (Held (x ∷ xs)) (SpellsTerm spaces limit x) (SpellsFurther spaces limit xs)
-      (term-run [] x) (further-run (x ∷ []) xs) n t (subst (λ y. Opens None [] y) (sym e) opens-start) h
+      (term-run [] x) (further-run (x ∷ []) xs) n t (subst (λ y. Opens None [] y) (sym e) (refl, refl, λ d. refl)) h
 
   -- what may follow the terms
   abbrev Follows : List Term → N → Type 0
-  Follows xs n = (k : Kind) → IsOfAfter k → moves n k ≡ out_after xs k
+  Follows xs n = (moves n Greater ≡ cond (allows want AtLeast) (to xs Phase.Greater) Refuse)
+      × (moves n Equals ≡ cond (allows want Equal) (to xs (Phase.Relation Equal)) Refuse)
+      × (moves n Semicolon ≡ cond (reads_sums want) (End (SumEvent.Sum xs) finished) Refuse)
 
-  follows-between : (zs : List Term) → Follows zs (to zs Phase.Between)
-  follows-between zs Greater h = act-after zs zs [] Greater tt
-  follows-between zs Equals h = act-after zs zs [] Equals tt
-  follows-between zs Semicolon h = act-after zs zs [] Semicolon tt
-  follows-between zs _ h = absurd h
-
-  follows-start : Follows [] (Go fresh)
-  follows-start Greater h = act-after [] [] [] Greater tt
-  follows-start Equals h = act-after [] [] [] Equals tt
-  follows-start Semicolon h = act-after [] [] [] Semicolon tt
-  follows-start _ h = absurd h
-
-  follows-more : (xs : List Term) (x : Term) → Follows (xs ++ x ∷ []) (at_name xs (Phase.More x.coefficient x.literal.negated) x.literal.name)
-  follows-more xs x Greater h = act-after (xs ++ x ∷ []) xs x.literal.name Greater tt
-  follows-more xs x Equals h = act-after (xs ++ x ∷ []) xs x.literal.name Equals tt
-  follows-more xs x Semicolon h = act-after (xs ++ x ∷ []) xs x.literal.name Semicolon tt
-  follows-more xs x _ h = absurd h
+  follows-act : (ys xs : List Term) (name : List ℕ) → (act ys xs name (next_action want Greater) ≡ cond (allows want AtLeast) (to ys Phase.Greater) Refuse)
+      × (act ys xs name (next_action want Equals) ≡ cond (allows want Equal) (to ys (Phase.Relation Equal)) Refuse)
+      × (act ys xs name (next_action want Semicolon) ≡ cond (reads_sums want) (End (SumEvent.Sum ys) finished) Refuse)
+  follows-act ys xs name = grind arith
 
   follows-held : (zs : List Term) (n : N) → Held zs n → Follows zs n
-  follows-held zs n (xs, x, e, f) = subst (λ y. Follows y n) (sym e) (subst (λ m. Follows (xs ++ x ∷ []) m) (sym f) (follows-more xs x))
+  follows-held zs n (xs, x, e, f) =
+      subst (λ y. Follows y n) (sym e) (subst (λ m. Follows (xs ++ x ∷ []) m) (sym f) (follows-act (xs ++ x ∷ []) xs x.literal.name))
 
   after-run : (zs : List Term) → T (Held zs) (Spaces0 spaces limit) (Follows zs)
   after-run zs n t h g =
       elim (many-run n (to zs Phase.Between) (held-space zs n h) refl t g) [
         | inl e ↦ subst (λ m. Follows zs m) (sym e) (follows-held zs n h)
-        | inr e ↦ subst (λ m. Follows zs m) (sym e) (follows-between zs)
+        | inr e ↦ subst (λ m. Follows zs m) (sym e) (follows-act zs zs [])
       ]
 
   head-run : (xs : List Term) → T (Is (Go fresh)) (Head spaces limit xs) (Follows xs)
-  head-run [] n t e h = subst (λ u. Follows [] (go n u)) (sym h) (subst (λ m. Follows [] m) (sym e) follows-start)
+  head-run [] n t e h = subst (λ u. Follows [] (go n u)) (sym h) (subst (λ m. Follows [] m) (sym e) (follows-act [] [] []))
   head-run (x ∷ xs) n t e h =
       takes_then (on_letter spaces want limit) (Is (Go fresh)) (Held (x ∷ xs)) (Follows (x ∷ xs)) (SpellsSum spaces limit (x ∷ xs)) (Spaces0 spaces limit)
       (sum-run x xs) (after-run (x ∷ xs)) n t e h
@@ -289,29 +218,16 @@ module _ (spaces : Spaces) (want : Part) (limit : ℕ) where
   Finishes xs n = moves n Semicolon ≡ End (SumEvent.Sum xs) finished
 
   finishes-run : IsTrue (reads_sums want) → (xs : List Term) → T (Is (Go fresh)) (SpellsSum spaces limit xs ⋅ Spaces0 spaces limit) (Finishes xs)
-  finishes-run ok [] n t e h =
-      let S : N = to [] Phase.Empty in
-      let i : moves n Space ≡ S = ap (λ y. moves y Space) e ∙ (act-cond [] [] [] (reads_sums want) (To Phase.Empty) ∙ ap (λ b. cond b S Refuse) ok) in
-      elim (many-run n S i refl t (nil_first (Spaces0 spaces limit) t h)) [
-        | inl f ↦ ap (λ y. moves y Semicolon) (f ∙ e) ∙ (follows-start Semicolon tt ∙ ap (λ b. cond b (End (SumEvent.Sum []) finished) Refuse) ok)
-        | inr f ↦ ap (λ y. moves y Semicolon) f
-      ]
-  finishes-run ok (x ∷ xs) n t e h = head-run (x ∷ xs) n t e h Semicolon tt ∙ ap (λ b. cond b (End (SumEvent.Sum (x ∷ xs)) finished) Refuse) ok
+  finishes-run ok [] n t e h = grind (arith, act-cond, many-run, nil_first, follows-act)
+  finishes-run ok (x ∷ xs) n t e h = (head-run (x ∷ xs) n t e h).2 ∙ ap (λ b. cond b (End (SumEvent.Sum (x ∷ xs)) finished) Refuse) ok
 
   semicolon-run : (n m : N) → moves n Semicolon ≡ m → (t : List Letter) → Byte 59 t → go n t ≡ m
-  semicolon-run n m e t h = ap (λ x. go n x) h ∙ (reads n (unmarked 59) Semicolon [] refl ∙ e)
+  semicolon-run n m e t h = ap (go n) h ∙ reads n m (unmarked 59) Semicolon [] refl e
 
   -- a linear text
   relation-run : (xs : List Term) (r : Relation) → IsTrue (allows want r) → T (Follows xs) (SpellsRelation spaces limit r) (Is (to xs (Phase.Relation r)))
-  relation-run xs AtLeast ok n t f h =
-      ap (λ x. go n x) h
-      ∙ (reads n (unmarked 62) Greater (unmarked 61 ∷ []) refl
-      ∙ (ap (λ y. go y (unmarked 61 ∷ [])) (f Greater tt ∙ ap (λ b. cond b (to xs Phase.Greater) Refuse) ok)
-      ∙ reads (to xs Phase.Greater) (unmarked 61) Equals [] refl))
-  relation-run xs Equal ok n t f h =
-      ap (λ x. go n x) h
-      ∙ (reads n (unmarked 61) Equals [] refl
-      ∙ (f Equals tt ∙ ap (λ b. cond b (to xs (Phase.Relation Equal)) Refuse) ok))
+  relation-run xs AtLeast ok n t f h = grind (arith, reads)
+  relation-run xs Equal ok n t f h = grind (arith, reads)
 
   after-relation : (xs : List Term) (r : Relation) → T (Is (to xs (Phase.Relation r))) (Spaces0 spaces limit) (Opens (Some r) xs)
   after-relation xs r n t e h =

@@ -1,7 +1,7 @@
 -- What is stored grows by at most one unit per byte. Offered to other crates.
-use Rattle.pb_sums.proofs.Common.{ℕ, ◌++◌, ◌+◌, ◌-◌, ◌<◌, ◌^◌, ◌∙◌, ◌∷◌, ◌≡◌, ◌≤◌, [], ap, arith, get_or, length, length-append, List, min, subst}
-use Rattle.pb_sums.proofs.Common.{sym, take, take_more, end_or_go, one_state, refuse_or_go, Go, Term, Action, Add, Begin, EndLinear, EndSum, Stop, To}
-use Rattle.pb_sums.proofs.Common.{Kind, Phase, Part, Spaces, act, finished, flushed, term, transition, Work, all_units, in_hand, ready, units, SumEvent}
+use Rattle.pb_sums.proofs.Common.{ℕ, ◌++◌, ◌+◌, ◌-◌, ◌<◌, ◌^◌, ◌∙◌, ◌∷◌, ◌≡◌, ◌≤◌, [], ap, arith, get_or, length, length-append, List, min, sym, take}
+use Rattle.pb_sums.proofs.Common.{take_more, end_or_go, one_state, refuse_or_go, Go, Term, Action, Kind, Phase, Part, Spaces, act, flushed, transition, Work}
+use Rattle.pb_sums.proofs.Common.{all_units, in_hand, ready, units}
 use Rattle.pb_sums.proofs.lemmas.machine.Flags.{IsSane, transition-sane}
 
 pub units-append : (xs : List Term) (x : Term) → units (xs ++ x ∷ []) ≡ units xs + (1 + length x.literal.name)
@@ -15,12 +15,10 @@ abbrev count : List Term → List ℕ → Phase → ℕ
 count xs name ph = units xs + in_hand ph + length name + ready ph
 
 pub flushed-units : (ph : Phase) (xs : List Term) (name : List ℕ) → units (flushed ph xs name) ≤ units xs + in_hand ph + length name
-flushed-units (Phase.More z negated) xs name = omega (arith, units-append xs (term z negated name))
-flushed-units _ xs name = omega arith
+flushed-units ph xs name = grind (arith, units-append)
 
 ready-one : (ph : Phase) → ready ph ≤ 1
-ready-one Phase.Start = omega arith
-ready-one _ = omega arith
+ready-one ph = grind arith
 
 pub to-grows : (u x h l r ih ir : ℕ) → u ≤ x + h + l → ih ≡ 0 → ir ≤ 1 → u + ih + 0 + ir ≤ x + h + l + r + 1
 to-grows u x h l r ih ir a b c = omega arith
@@ -33,18 +31,7 @@ add-grows x h l r ih ir m a b c = omega arith
 
 act-grows : (ph : Phase) (k : Kind) (xs : List Term) (name : List ℕ) (m : Action) (w : Work) → IsSane ph k m → act (flushed ph xs name) xs name m ≡ Go w
     → potential w ≤ count xs name ph + 1
-act-grows ph k xs name (To q) w h e =
-    subst (λ v. potential v ≤ count xs name ph + 1) (one_state (record { terms = flushed ph xs name; name = []; phase = q }) w e)
-    (to-grows (units (flushed ph xs name)) (units xs) (in_hand ph) (length name) (ready ph) (in_hand q) (ready q) (flushed-units ph xs name) h.1 (ready-one q))
-act-grows ph k xs name (Begin q b) w h e =
-    subst (λ v. potential v ≤ count xs name ph + 1) (one_state (record { terms = xs; name = b ∷ []; phase = q }) w e)
-    (begin-grows (units xs) (in_hand ph) (length name) (ready ph) (in_hand q) (ready q) h.1 h.2)
-act-grows ph k xs name (Add q b) w h e =
-    subst (λ v. potential v ≤ count xs name ph + 1) (one_state (record { terms = xs; name = name ++ b ∷ []; phase = q }) w e)
-    (add-grows (units xs) (in_hand ph) (length name) (ready ph) (in_hand q) (ready q) (length (name ++ b ∷ [])) h.1 h.2 (length-append name (b ∷ [])))
-act-grows ph k xs name EndSum w h e = end_or_go (SumEvent.Sum (flushed ph xs name)) finished w e
-act-grows ph k xs name (EndLinear r z) w h e = end_or_go (SumEvent.Linear (record { terms = flushed ph xs name; relation = r; degree = z })) finished w e
-act-grows ph k xs name Stop w h e = refuse_or_go w e
+act-grows ph k xs name m w h e = grind (arith, one_state, to-grows, flushed-units, ready-one, begin-grows, add-grows, length-append, end_or_go, refuse_or_go)
 
 pub letter-grows : (spaces : Spaces) (want : Part) (limit : ℕ) (w v : Work) (k : Kind) → act (flushed w.phase w.terms w.name) w.terms w.name (transition want limit w.phase k) ≡ Go v
     → potential v ≤ potential w + 1

@@ -1,12 +1,10 @@
 -- Which letter a byte is: digits of a number have their flag.
 use Rattle.pb_sums.proofs.lemmas.machine.LetterKinds.{on_letter, Means, kind-means}
-use Rattle.pb_sums.proofs.Common.{ℕ, ◌&&◌, ◌*◌, ◌++◌, ◌+◌, ◌-◌, ◌∙◌, ◌∷◌, ◌≡◌, ◌⊎◌, [], ap, arith, Bool, cond, false, inl, inr, List, None, Option}
-use Rattle.pb_sums.proofs.Common.{refl, Some, subst, sym, true, nat_le, nat_tests, end_or_go, go_or_end, one_end, one_state, refuse_or_end}
-use Rattle.pb_sums.proofs.Common.{refuse_or_go, End, Go, is_digit, is_letter, is_name_byte, unmarked, Letter, Relation, AtLeast, Equal, SumEvent}
-use Rattle.pb_sums.proofs.Common.{Term, Action, Add, Begin, EndLinear, EndSum, Stop, To, Kind, Digit, Equals, Greater, Inner, Minus, Other, Plus}
-use Rattle.pb_sums.proofs.Common.{Semicolon, Space, Start, Tilde, Phase, Part, Spaces, act, digits, finished, flushed, is_in_number, is_midway}
-use Rattle.pb_sums.proofs.Common.{is_numeric, kind, kind_of_numeral, kind_of_plain, letter_at, next_action, number, transition, Work, in_hand, ready}
-use Rattle.pb_sums.proofs.Common.{allows, is_space, reads_sums}
+use Rattle.pb_sums.proofs.Common.{ℕ, ◌&&◌, ◌+◌, ◌-◌, ◌∙◌, ◌≡◌, ◌⊎◌, ap, arith, Bool, cond, false, inl, inr, List, refl, subst, sym, true, nat_tests, end_or_go}
+use Rattle.pb_sums.proofs.Common.{go_or_end, one_end, one_state, refuse_or_end, refuse_or_go, End, Go, is_digit, is_letter, is_name_byte, unmarked, Letter}
+use Rattle.pb_sums.proofs.Common.{SumEvent, Term, Action, Add, Begin, EndLinear, EndSum, Stop, To, Kind, Digit, Inner, Other, Semicolon, Phase, Part, Spaces}
+use Rattle.pb_sums.proofs.Common.{act, finished, flushed, is_in_number, is_midway, is_numeric, kind, kind_of_numeral, kind_of_plain, letter_at, transition}
+use Rattle.pb_sums.proofs.Common.{Work, in_hand, ready, is_space}
 use Rattle.std.proofs.Math.Bool.{and-false}
 
 -- What the transition of a phase at a kind says about the next state. The byte was a digit of a number if and only if
@@ -26,81 +24,18 @@ IsSane ph k EndSum = k ≡ Semicolon
 IsSane ph k (EndLinear r z) = k ≡ Semicolon
 IsSane ph k Stop = Unit {0}
 
-sane_test : (ph : Phase) (k : Kind) (b : Bool) (m : Action) → IsSane ph k m → IsSane ph k (cond b m Stop)
-sane_test ph k true m h = h
-sane_test ph k false m h = tt
-
 module _ (want : Part) (limit : ℕ) where
-  digits-sane : (ph : Phase) (role : Option Relation) (negative : Bool) (n d : ℕ) → IsSane ph (Digit d) (digits limit role negative n d)
-  digits-sane ph role negative n d =
-      sane_test ph (Digit d) (nat_le (10 * n + d) limit) (To (Phase.Digits role negative (10 * n + d))) ((refl, refl), refl)
-
-  number-sane : (ph : Phase) (role : Option Relation) (k : Kind) → IsSane ph k (number limit role k)
-  number-sane ph role Plus = ((refl, refl), refl)
-  number-sane ph role Minus = ((refl, refl), refl)
-  number-sane ph role (Digit d) = digits-sane ph role false 0 d
-  number-sane ph role _ = tt
-
-  after-sane : (ph : Phase) (k : Kind) → IsSane ph k (next_action want k)
-  after-sane ph Greater = sane_test ph Greater (allows want AtLeast) (To Phase.Greater) ((refl, refl), refl)
-  after-sane ph Equals = sane_test ph Equals (allows want Equal) (To (Phase.Relation Equal)) ((refl, refl), refl)
-  after-sane ph Semicolon = sane_test ph Semicolon (reads_sums want) EndSum refl
-  after-sane ph _ = tt
-
   pub transition-sane : (ph : Phase) (k : Kind) → IsSane ph k (transition want limit ph k)
-  transition-sane Phase.Start Space = sane_test Phase.Start Space (reads_sums want) (To Phase.Empty) ((refl, refl), refl)
-  transition-sane Phase.Start Plus = number-sane Phase.Start None Plus
-  transition-sane Phase.Start Minus = number-sane Phase.Start None Minus
-  transition-sane Phase.Start (Digit d) = number-sane Phase.Start None (Digit d)
-  transition-sane Phase.Start k = after-sane Phase.Start k
-  transition-sane (Phase.Signed role negative) (Digit d) = digits-sane (Phase.Signed role negative) role negative 0 d
-  transition-sane (Phase.Digits role negative n) (Digit d) = digits-sane (Phase.Digits role negative n) role negative n d
-  transition-sane (Phase.Digits None negative n) Space = ((refl, refl), refl)
-  transition-sane (Phase.Digits (Some r) negative n) Space = ((refl, refl), refl)
-  transition-sane (Phase.Digits (Some r) negative n) Semicolon = refl
-  transition-sane (Phase.Gap z) Space = ((refl, refl), refl)
-  transition-sane (Phase.Gap z) Tilde = ((refl, refl), refl)
-  transition-sane (Phase.Gap z) (Start b) = ((refl, refl), refl, refl)
-  transition-sane (Phase.Tilde z) (Start b) = ((refl, refl), refl, refl)
-  transition-sane (Phase.First z negated) (Start b) = ((refl, refl), refl, refl)
-  transition-sane (Phase.First z negated) (Inner b) = ((refl, refl), refl, refl)
-  transition-sane (Phase.More z negated) (Start b) = ((refl, refl), refl, refl)
-  transition-sane (Phase.More z negated) (Inner b) = ((refl, refl), refl, refl)
-  transition-sane (Phase.More z negated) Space = ((refl, refl), refl)
-  transition-sane (Phase.More z negated) k = after-sane (Phase.More z negated) k
-  transition-sane Phase.Between Space = ((refl, refl), refl)
-  transition-sane Phase.Between Plus = number-sane Phase.Between None Plus
-  transition-sane Phase.Between Minus = number-sane Phase.Between None Minus
-  transition-sane Phase.Between (Digit d) = number-sane Phase.Between None (Digit d)
-  transition-sane Phase.Between k = after-sane Phase.Between k
-  transition-sane Phase.Greater Equals = ((refl, refl), refl)
-  transition-sane (Phase.Relation r) Space = ((refl, refl), refl)
-  transition-sane (Phase.Relation r) k = number-sane (Phase.Relation r) (Some r) k
-  transition-sane (Phase.Tail r z) Space = ((refl, refl), refl)
-  transition-sane (Phase.Tail r z) Semicolon = refl
-  transition-sane Phase.Empty Space = ((refl, refl), refl)
-  transition-sane Phase.Empty Semicolon = refl
-  transition-sane _ _ = tt
+  transition-sane ph k = grind arith
 
   digit-needs : (ph : Phase) (d : ℕ) → (is_numeric ph ≡ true) ⊎ (transition want limit ph (Digit d) ≡ Stop)
-  digit-needs Phase.Start d = inl refl
-  digit-needs (Phase.Signed role negative) d = inl refl
-  digit-needs (Phase.Digits role negative n) d = inl refl
-  digit-needs Phase.Between d = inl refl
-  digit-needs (Phase.Relation r) d = inl refl
-  digit-needs _ d = inr refl
+  digit-needs ph d = grind arith
 
   inner-needs : (ph : Phase) (b : ℕ) → (is_numeric ph ≡ false) ⊎ (transition want limit ph (Inner b) ≡ Stop)
-  inner-needs Phase.Start b = inr refl
-  inner-needs (Phase.Signed role negative) b = inr refl
-  inner-needs (Phase.Digits role negative n) b = inr refl
-  inner-needs Phase.Between b = inr refl
-  inner-needs (Phase.Relation r) b = inr refl
-  inner-needs _ b = inl refl
+  inner-needs ph b = grind arith
 
   other-stops : (ph : Phase) → transition want limit ph Other ≡ Stop
-  other-stops Phase.Start = refl
-  other-stops _ = refl
+  other-stops ph = grind arith
 
   digit-inner : (s : Spaces) (b : ℕ) → is_digit b ≡ true → kind_of_plain s b ≡ Inner b
   digit-inner s b e =
@@ -130,20 +65,10 @@ module _ (want : Part) (limit : ℕ) where
       go b false false e = inl (ap (λ n. record { byte = b; numeral = n }) (sym (ap (λ y. is_numeric ph && y) e ∙ and-false (is_numeric ph))))
 
   go-sane : (ph : Phase) (k : Kind) (ys xs : List Term) (name : List ℕ) (m : Action) (w : Work) → IsSane ph k m → act ys xs name m ≡ Go w → Flags k w.phase
-  go-sane ph k ys xs name (To q) w h e = subst (Flags k) (ap (λ x. x.phase) (one_state (record { terms = ys; name = []; phase = q }) w e)) h.0
-  go-sane ph k ys xs name (Begin q b) w h e = subst (Flags k) (ap (λ x. x.phase) (one_state (record { terms = xs; name = b ∷ []; phase = q }) w e)) h.0
-  go-sane ph k ys xs name (Add q b) w h e = subst (Flags k) (ap (λ x. x.phase) (one_state (record { terms = xs; name = name ++ b ∷ []; phase = q }) w e)) h.0
-  go-sane ph k ys xs name EndSum w h e = end_or_go (SumEvent.Sum ys) finished w e
-  go-sane ph k ys xs name (EndLinear r z) w h e = end_or_go (SumEvent.Linear (record { terms = ys; relation = r; degree = z })) finished w e
-  go-sane ph k ys xs name Stop w h e = refuse_or_go w e
+  go-sane ph k ys xs name m w h e = grind (arith, one_state, end_or_go, refuse_or_go)
 
   numeral-of : (s : Spaces) (c : Letter) (k : Kind) → Means s k c → (c.numeral ≡ is_digit_kind k) ⊎ (k ≡ Other)
-  numeral-of s c Space m = inl (ap (λ x. x.numeral) m.0)
-  numeral-of s c (Digit d) m = inl (ap (λ x. x.numeral) m.0)
-  numeral-of s c (Start b) m = inl (ap (λ x. x.numeral) m.0)
-  numeral-of s c (Inner b) m = inl (ap (λ x. x.numeral) m.0)
-  numeral-of s c Other m = inr refl
-  numeral-of s c _ m = inl (ap (λ x. x.numeral) m)
+  numeral-of s c k m = grind arith
 
   -- After a letter: in a number if and only if the letter is a digit of one, and within a text.
   pub gone : (s : Spaces) (w w' : Work) (c : Letter) → on_letter s want limit w c ≡ Go w' → (is_in_number w'.phase ≡ c.numeral) × (is_midway w'.phase ≡ true)
@@ -156,12 +81,7 @@ module _ (want : Part) (limit : ℕ) where
       ]
 
   end-sane : (ph : Phase) (k : Kind) (ys xs : List Term) (name : List ℕ) (m : Action) (v : SumEvent) (w : Work) → IsSane ph k m → act ys xs name m ≡ End v w → (k ≡ Semicolon) × (w ≡ finished)
-  end-sane ph k ys xs name EndSum v w h e = (h, sym (one_end (SumEvent.Sum ys) v finished w e).1)
-  end-sane ph k ys xs name (EndLinear r z) v w h e = (h, sym (one_end (SumEvent.Linear (record { terms = ys; relation = r; degree = z })) v finished w e).1)
-  end-sane ph k ys xs name (To q) v w h e = go_or_end (record { terms = ys; name = []; phase = q }) v w e
-  end-sane ph k ys xs name (Begin q b) v w h e = go_or_end (record { terms = xs; name = b ∷ []; phase = q }) v w e
-  end-sane ph k ys xs name (Add q b) v w h e = go_or_end (record { terms = xs; name = name ++ b ∷ []; phase = q }) v w e
-  end-sane ph k ys xs name Stop v w h e = refuse_or_end v w e
+  end-sane ph k ys xs name m v w h e = grind (arith, one_end, go_or_end, refuse_or_end)
 
   -- A text ends with a `;`, which is no digit, and then nothing is stored.
   pub ended : (s : Spaces) (w w' : Work) (v : SumEvent) (c : Letter) → on_letter s want limit w c ≡ End v w' → (c.numeral ≡ false) × (w' ≡ finished)

@@ -1,9 +1,8 @@
 -- What the kind of a letter says about the letter, and conversely.
-use Rattle.pb_sums.proofs.Common.{ℕ, ◌+◌, ◌-◌, ◌<◌, ◌≡◌, ◌≤◌, ◌⊎◌, ap, arith, Bool, cond, false, inl, inr, refl, true, IsTrue, cond_both}
-use Rattle.pb_sums.proofs.Common.{eqb-true, nat_tests, digit_of, letter_name, name_high, is_digit, is_letter, is_name_byte, digit, unmarked, Letter}
-use Rattle.pb_sums.proofs.Common.{Kind, Digit, Equals, Greater, Inner, Minus, Other, Plus, Semicolon, Space, Start, Tilde, Part, Spaces, action, kind}
-use Rattle.pb_sums.proofs.Common.{kind_of_numeral, kind_of_plain, Outcome, symbol, Work, is_space}
-use Rattle.pb_sums.specs.declared.sum_kind.Spaces.TheVariants.{White, Blank}
+use Rattle.pb_sums.proofs.Common.{ℕ, ◌+◌, ◌-◌, ◌<◌, ◌≡◌, ◌≤◌, ◌⊎◌, ap, arith, Bool, cond, false, inl, inr, refl, true, IsTrue, cond_both, eqb-true, nat_tests}
+use Rattle.pb_sums.proofs.Common.{digit_of, letter_name, name_high, is_digit, is_letter, is_name_byte, digit, unmarked, Letter, Kind, Digit, Equals, Greater}
+use Rattle.pb_sums.proofs.Common.{Inner, Minus, Other, Plus, Semicolon, Space, Start, Tilde, Part, Spaces, action, kind, kind_of_numeral, kind_of_plain}
+use Rattle.pb_sums.proofs.Common.{Outcome, symbol, Work, is_space}
 
 -- what a kind says about its letter
 abbrev pub Means : Spaces → Kind → Letter → Type 0
@@ -43,8 +42,7 @@ pub kind-space : (s : Spaces) (b : ℕ) → IsTrue (is_space s b) → kind s (un
 kind-space s b e = rw e refl
 
 low : (s : Spaces) (b : ℕ) → 33 ≤ b → is_space s b ≡ false
-low White b h = grind (arith, nat_tests)
-low Blank b h = grind (arith, nat_tests)
+low s b h = grind (arith, nat_tests)
 
 pub kind-letter : (s : Spaces) (b : ℕ) → IsTrue (is_letter b) → kind s (unmarked b) ≡ Start b
 kind-letter s b e = rw (low s b (name_high b (letter_name b e)), e) refl

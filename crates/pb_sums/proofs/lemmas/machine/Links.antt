@@ -1,15 +1,14 @@
 -- What an automaton of sums reads is what its machine over letters ends with. Offered to other crates.
-use Rattle.pb_sums.proofs.Common.{ℕ, ◌↔◌, ◌∙◌, ◌∷◌, ◌≡◌, ◌⊎◌, [], ap, Bool, false, inl, inr, List, refl, subst, sym, true, end_or_go, end_or_refuse}
-use Rattle.pb_sums.proofs.Common.{go_or_end, go_or_refuse, one_end, one_state, refuse_or_end, refuse_or_go, run, run-refuse, End, Go, ReadsStatement}
-use Rattle.pb_sums.proofs.Common.{Refuse, Letter, SumEvent, Phase, Part, Spaces, act, finished, flushed, fresh, is_done, is_in_number, is_midway}
-use Rattle.pb_sums.proofs.Common.{is_numeric, letter_at, Outcome, step, Work, first, last, over, sums, SumState, Spells}
+use Rattle.pb_sums.proofs.Common.{arith, ℕ, ◌↔◌, ◌∙◌, ◌∷◌, ◌≡◌, ◌⊎◌, [], ap, Bool, false, inl, inr, List, refl, subst, sym, true, end_or_go, end_or_refuse}
+use Rattle.pb_sums.proofs.Common.{go_or_end, go_or_refuse, one_end, one_state, refuse_or_end, refuse_or_go, run, run-refuse, End, Go, ReadsStatement, Refuse}
+use Rattle.pb_sums.proofs.Common.{Letter, SumEvent, Phase, Part, Spaces, act, finished, flushed, fresh, is_done, is_in_number, is_midway, is_numeric, letter_at}
+use Rattle.pb_sums.proofs.Common.{Outcome, step, Work, first, last, over, sums, SumState, Spells}
 use Rattle.pb_sums.proofs.lemmas.machine.LetterKinds.{on_letter}
 use Rattle.pb_sums.proofs.lemmas.machine.Flags.{flag, gone, ended}
 use Rattle.pb_sums.proofs.lemmas.machine.Theorems.{exact, alive}
 
 pub midway-not-done : (ph : Phase) → is_midway ph ≡ true → is_done ph ≡ false
-midway-not-done Phase.Done h = sym h
-midway-not-done _ h = refl
+midway-not-done ph h = grind arith
 
 module _ (spaces : Spaces) (want : Part) (limit : ℕ) where
   abbrev state : Work → SumState

@@ -1,6 +1,6 @@
 -- A literal that is read byte by byte: the first byte of its name, and more of them. Offered to other crates.
-use Rattle.pb_sums.proofs.Common.{ℕ, ◌++◌, ◌∷◌, ◌≡◌, [], Bool, false, List, refl, subst, sym, true, IsTrue, each-append, is_letter, is_name_byte}
-use Rattle.pb_sums.proofs.Common.{Bytes, Language, unmarked, Letter, IsName, literal_bytes, SpellsLiteral}
+use Rattle.pb_sums.proofs.Common.{arith, ℕ, ◌++◌, ◌∷◌, ◌≡◌, [], Bool, List, subst, sym, IsTrue, each-append, is_letter, is_name_byte, Bytes, Language, unmarked}
+use Rattle.pb_sums.proofs.Common.{Letter, IsName, literal_bytes, SpellsLiteral}
 use Rattle.pb_text.proofs.lemmas.text.Letters.{bytes_one_more}
 
 abbrev pub IsFirst : List ℕ → Type 0
@@ -9,18 +9,13 @@ IsFirst (b ∷ []) = IsTrue (is_letter b)
 IsFirst (b ∷ c ∷ bs) = ⊥
 
 pub name-append : (bs : List ℕ) (b : ℕ) → IsName bs → IsTrue (is_name_byte b) → IsName (bs ++ b ∷ [])
-name-append [] b h k = absurd h
-name-append (x ∷ []) b h k = absurd h
-name-append (x ∷ y ∷ bs) b h k = (h.0, each-append (λ e. IsTrue (is_name_byte e)) (y ∷ bs) b h.1 k)
+name-append bs b h k = grind (arith, each-append)
 
 pub first-append : (bs : List ℕ) (b : ℕ) → IsFirst bs → IsTrue (is_name_byte b) → IsName (bs ++ b ∷ [])
-first-append [] b h k = absurd h
-first-append (x ∷ []) b h k = (h, (k, tt))
-first-append (x ∷ y ∷ bs) b h k = absurd h
+first-append bs b h k = grind arith
 
 pub literal-append : (negated : Bool) (name : List ℕ) (b : ℕ) → literal_bytes negated (name ++ b ∷ []) ≡ literal_bytes negated name ++ b ∷ []
-literal-append true name b = refl
-literal-append false name b = refl
+literal-append negated name b = grind arith
 
 -- a literal with the first byte of its name, and with a whole name
 abbrev pub FirstOf : Bool → List ℕ → Language

@@ -1,6 +1,6 @@
 -- What comes before a state: the text that the machine has read is a part of the grammar.
-use Rattle.pb_sums.proofs.Common.{ℕ, ◌++◌, ◌∷◌, [], List, refl, after_it, nil_first, none_yet, regroup, regroup3, ◌⋅◌, Empty, Language, Letter, Term}
-use Rattle.pb_sums.proofs.Common.{Spaces, Spaces1, SpellsFurther, SpellsSum, SpellsTerm}
+use Rattle.pb_sums.proofs.Common.{ℕ, ◌++◌, ◌∷◌, [], List, refl, after_it, nil_first, none_yet, regroup, regroup3, ◌⋅◌, Empty, Language, Letter, Term, Spaces}
+use Rattle.pb_sums.proofs.Common.{Spaces1, SpellsFurther, SpellsSum, SpellsTerm}
 
 abbrev pub IsCons : List Term → Type 0
 IsCons [] = ⊥

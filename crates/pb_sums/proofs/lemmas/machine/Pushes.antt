@@ -1,20 +1,15 @@
 -- A push does what the transition says.
-use Rattle.pb_sums.proofs.Common.{ℕ, ◌&&◌, ◌||◌, ◌∙◌, ◌≡◌, [], ap, Bool, false, List, refl, subst, sym, true, if◌then◌else◌, IsTrue, arith}
-use Rattle.pb_sums.proofs.Common.{end_or_refuse, go_or_refuse, Admits, Go, IsState, Pushes, Refuse, is_digit, SumEvent, Term, Action}
-use Rattle.pb_sums.proofs.Common.{EndLinear, EndSum, Stop, To, Kind, Phase, Part, Spaces, act, adds, flushed, is_in_number}
-use Rattle.pb_sums.proofs.Common.{is_more, is_numeric, kind, letter_at, transition, asks, IsInOrder, over, sums, SumState, standing}
-use Rattle.pb_text.specs.declared.machine.Push.{Push}
-use Rattle.pb_sums.proofs.lemmas.machine.States.{admits, is_state}
+use Rattle.pb_sums.proofs.Common.{ℕ, ◌||◌, ◌∙◌, ◌≡◌, [], ap, Bool, List, sym, true, IsTrue, arith, end_or_refuse, go_or_refuse, Admits, Go, Refuse, Term}
+use Rattle.pb_sums.proofs.Common.{Action, Stop, To, Kind, Phase, Part, Spaces, act, adds, flushed, is_more, is_numeric, kind, letter_at, transition, asks, over}
+use Rattle.pb_sums.proofs.Common.{sums, SumState}
+use Rattle.pb_sums.proofs.lemmas.machine.States.{admits}
 
 abbrev pub IsTaken : Action → Type 0
 IsTaken Stop = ⊥
 IsTaken _ = Unit {0}
 
 taken-acts : (s : SumState) (ys xs : List Term) (name : List ℕ) (m : Action) → IsTaken m → over s (act ys xs name m) ≡ Refuse → ⊥
-taken-acts s ys xs name EndSum h e = end_or_refuse _ _ e
-taken-acts s ys xs name (EndLinear r z) h e = end_or_refuse _ _ e
-taken-acts s ys xs name Stop h e = h
-taken-acts s ys xs name _ h e = go_or_refuse _ e
+taken-acts s ys xs name m h e = grind (arith, end_or_refuse, go_or_refuse)
 
 module _ (s : Spaces) (w : Part) (limit : ℕ) (xs : List Term) (name : List ℕ) (p : Phase) (b : ℕ) (n : Bool) (k : Kind) (m : Action) where
   abbrev state : SumState
@@ -22,9 +17,6 @@ module _ (s : Spaces) (w : Part) (limit : ℕ) (xs : List Term) (name : List ℕ
 
   planned : n ≡ is_numeric p → k ≡ kind s (letter_at n b) → m ≡ transition w limit p k → transition w limit p (kind s (letter_at (is_numeric p) b)) ≡ m
   planned e f g = ap (λ x. transition w limit p x) (ap (λ x. kind s (letter_at x b)) (sym e) ∙ sym f) ∙ sym g
-
-  planned-stop : n ≡ is_numeric p → k ≡ kind s (letter_at n b) → Stop ≡ transition w limit p k → transition w limit p (kind s (letter_at (is_numeric p) b)) ≡ Stop
-  planned-stop e f g = ap (λ x. transition w limit p x) (ap (λ x. kind s (letter_at x b)) (sym e) ∙ sym f) ∙ sym g
 
   pub moved : n ≡ is_numeric p → k ≡ kind s (letter_at n b) → m ≡ transition w limit p k → sums.step state b ≡ over state (act (flushed p xs name) xs name m)
   moved e f g = ap (λ x. over state (act (flushed p xs name) xs name x)) (planned e f g)
@@ -36,29 +28,7 @@ module _ (s : Spaces) (w : Part) (limit : ℕ) (xs : List Term) (name : List ℕ
     admits state b (over state (act (flushed p xs name) xs name m)) (moved e f g) (taken-acts state (flushed p xs name) xs name m t),
   )
 
-  -- what the transition does not allow is rejected
-  refuses-by : (d : Bool) → d ≡ (is_in_number p && is_digit b) → (answer : Push SumEvent) → answer ≡ (if d then Push.Large else Push.No)
-      → n ≡ is_numeric p → k ≡ kind s (letter_at n b) → Stop ≡ transition w limit p k → Pushes sums state b answer state
-  refuses-by true h answer a e f g = subst (λ (x : Push SumEvent). Pushes sums state b x state) (sym a) (ap (λ x. over state (act (flushed p xs name) xs name x)) (planned-stop e f g), sym h, refl)
-  refuses-by false h answer a e f g = subst (λ (x : Push SumEvent). Pushes sums state b x state) (sym a) (ap (λ x. over state (act (flushed p xs name) xs name x)) (planned-stop e f g), sym h, refl)
-
-  pub refuses : (answer : Push SumEvent) → answer ≡ (if is_in_number p && is_digit b then Push.Large else Push.No)
-      → n ≡ is_numeric p → k ≡ kind s (letter_at n b) → Stop ≡ transition w limit p k → Pushes sums state b answer state
-  refuses = refuses-by (is_in_number p && is_digit b) refl
-
 pub goes_to : (s : Spaces) (w : Part) (limit : ℕ) (xs ys : List Term) (name : List ℕ) (p q : Phase) (b : ℕ) (n : Bool) (k : Kind) (new : List ℕ) → new ≡ [] →
     n ≡ is_numeric p → k ≡ kind s (letter_at n b) → To q ≡ transition w limit p k → ys ≡ flushed p xs name →
     sums.step (state s w limit xs name p b n k (To q)) b ≡ Go (record { spaces = s; part = w; limit = limit; work = record { terms = ys; name = new; phase = q } })
 goes_to s w limit xs ys name p q b n k new z e f g i = grind (arith)
-
--- it satisfies `IsInOrder`, and is a state
-pub ended_order : (limit : ℕ) (xs : List Term) (name : List ℕ) (p : Phase) → xs ≡ [] → name ≡ [] → p ≡ Phase.Done → IsInOrder limit (record { terms = xs; name = name; phase = p })
-ended_order limit xs name p e f g = rw g (tt, λ h. (e, f))
-
-pub ended_state : (s : Spaces) (w : Part) (limit : ℕ) (xs : List Term) (name : List ℕ) (p : Phase) → xs ≡ [] → name ≡ [] → p ≡ Phase.Done → IsState sums (standing s w limit xs name p)
-ended_state s w limit xs name p e f g = is_state (standing s w limit xs name p) (ended_order limit xs name p e f g)
-
-pub same_state : (s : Spaces) (w : Part) (limit : ℕ) (xs ys : List Term) (m n : List ℕ) (p q : Phase) → xs ≡ ys → m ≡ n → p ≡ q →
-    ◌≡◌ {A = SumState} (record { spaces = s; part = w; limit = limit; work = record { terms = xs; name = m; phase = p } })
-    (record { spaces = s; part = w; limit = limit; work = record { terms = ys; name = n; phase = q } })
-same_state s w limit xs ys m n p q e f g = cc

@@ -2,13 +2,12 @@
 use Rattle.pb_sums.proofs.lemmas.machine.Prefixes.{IsCons, cons-append, Before, sum-append}
 use Rattle.pb_sums.proofs.lemmas.machine.LiteralPrefixes.{first-append, name-append, FirstOf, LiteralOf, name-bytes}
 use Rattle.pb_sums.proofs.lemmas.machine.LetterKinds.{on_letter, Means, kind-means}
-use Rattle.pb_sums.proofs.Common.{ℕ, ℤ, ◌*◌, ◌++◌, ◌+◌, ◌∙◌, ◌∷◌, ◌≡◌, ◌≤◌, [], ap, Bool, cond, false, inl, inr, List, None, Option, refl, Some}
-use Rattle.pb_sums.proofs.Common.{subst, sym, true, IsTrue, nat_le, leb-true, kept, OnPrefix, run, digits-grown, digits-one, letter_name, after_it}
-use Rattle.pb_sums.proofs.Common.{inside, many-grown, next, none_yet, regroup, some-grown, some-many, some-one, End, Go, Next, is_name_byte, ◌⋅◌}
-use Rattle.pb_sums.proofs.Common.{Byte, Empty, Language, unmarked, Digits, Number, Sign, signed, Letter, Relation, AtLeast, Equal, SumEvent, Term}
-use Rattle.pb_sums.proofs.Common.{Action, EndSum, Stop, To, Kind, Digit, Equals, Greater, Inner, Minus, Plus, Semicolon, Space, Start, Tilde, Phase}
-use Rattle.pb_sums.proofs.Common.{Part, Spaces, act, action, digits, finished, fresh, kind, next_action, number, term, Work, allows, Head, is_space}
-use Rattle.pb_sums.proofs.Common.{reads_sums, Spaces0, Spaces1, Spells, SpellsRelation, SpellsSum}
+use Rattle.pb_sums.proofs.Common.{arith, ℕ, ℤ, ◌*◌, ◌++◌, ◌+◌, ◌∙◌, ◌∷◌, ◌≡◌, ◌≤◌, [], ap, Bool, cond, false, inl, inr, List, None, Option, refl, Some, subst}
+use Rattle.pb_sums.proofs.Common.{sym, true, IsTrue, nat_le, leb-true, kept, OnPrefix, run, digits-grown, digits-one, letter_name, after_it, inside, many-grown}
+use Rattle.pb_sums.proofs.Common.{next, none_yet, regroup, some-grown, some-many, some-one, End, Go, Next, is_name_byte, ◌⋅◌, Byte, Empty, Language, unmarked}
+use Rattle.pb_sums.proofs.Common.{Digits, Number, Sign, signed, Letter, Relation, AtLeast, Equal, SumEvent, Term, Action, Stop, To, Kind, Digit, Equals}
+use Rattle.pb_sums.proofs.Common.{Greater, Inner, Minus, Plus, Semicolon, Space, Start, Tilde, Phase, Part, Spaces, act, action, digits, finished, fresh, kind}
+use Rattle.pb_sums.proofs.Common.{next_action, number, term, Work, allows, Head, is_space, reads_sums, Spaces0, Spaces1, Spells, SpellsRelation, SpellsSum}
 use Rattle.pb_text.proofs.lemmas.text.Languages.{grown}
 
 module _ (spaces : Spaces) (want : Part) (limit : ℕ) where
@@ -53,8 +52,7 @@ module _ (spaces : Spaces) (want : Part) (limit : ℕ) where
   On = OnPrefix Prefix (Spells spaces limit want)
 
   on_test : (ys xs : List Term) (name : List ℕ) (b : Bool) (m : Action) (p : List Letter) → (b ≡ true → On (act ys xs name m) p) → On (act ys xs name (cond b m Stop)) p
-  on_test ys xs name true m p h = h refl
-  on_test ys xs name false m p h = tt
+  on_test ys xs name b m p h = grind arith
 
   digits-sound : (role : Option Relation) (negative : Bool) (ys xs : List Term) (name : List ℕ) (n d : ℕ) (c : Letter) (p : List Letter) → Permits role →
       (Lead role ys ⋅ Sign negative ⋅ Digits (10 * n + d)) (p ++ c ∷ []) → On (act ys xs name (digits limit role negative n d)) (p ++ c ∷ [])
@@ -73,9 +71,7 @@ module _ (spaces : Spaces) (want : Part) (limit : ℕ) where
 
   after-sound : (ys xs : List Term) (name : List ℕ) (k : Kind) (c : Letter) (p : List Letter) → Means spaces k c → Head spaces limit ys p → (SpellsSum spaces limit ys ⋅ S0) p →
       On (act ys xs name (next_action want k)) (p ++ c ∷ [])
-  after-sound ys xs name Greater c p m h i =
-      on_test ys xs name (allows want AtLeast) (To Phase.Greater) (p ++ c ∷ [])
-      (λ e. (e, next (Head spaces limit ys) (Byte 62) p c h (ap (λ x. x ∷ []) m)))
+  after-sound ys xs name Greater c p m h i = grind (arith, on_test, next)
   after-sound ys xs name Equals c p m h i =
       on_test ys xs name (allows want Equal) (To (Phase.Relation Equal)) (p ++ c ∷ [])
       (λ e. (
@@ -83,9 +79,7 @@ module _ (spaces : Spaces) (want : Part) (limit : ℕ) where
         none_yet (Head spaces limit ys ⋅ SpellsRelation spaces limit Equal) S0 (p ++ c ∷ []) ([], tt, refl)
             (next (Head spaces limit ys) (SpellsRelation spaces limit Equal) p c h (ap (λ x. x ∷ []) m)),
       ))
-  after-sound ys xs name Semicolon c p m h i =
-      on_test ys xs name (reads_sums want) EndSum (p ++ c ∷ [])
-      (λ e. (e, next (SpellsSum spaces limit ys ⋅ S0) (Byte 59) p c i (ap (λ x. x ∷ []) m)))
+  after-sound ys xs name Semicolon c p m h i = grind (arith, on_test, next)
   after-sound ys xs name _ c p m h i = tt
 
   -- a literal that is complete ends its term
@@ -99,12 +93,10 @@ module _ (spaces : Spaces) (want : Part) (limit : ℕ) where
       (regroup B (N ⋅ S1) L p (inside (B ⋅ N ⋅ S1) (B ⋅ (N ⋅ S1)) L p (regroup B N S1) h))
 
   head-of : (xs : List Term) (p : List Letter) → IsCons xs → (SpellsSum spaces limit xs ⋅ S0) p → Head spaces limit xs p
-  head-of [] p i h = absurd i
-  head-of (x ∷ xs) p i h = h
+  head-of xs p i h = grind arith
 
   before-of : (xs : List Term) (p : List Letter) → IsCons xs → (SpellsSum spaces limit xs ⋅ S1) p → Before spaces limit xs p
-  before-of [] p i h = absurd i
-  before-of (x ∷ xs) p i h = h
+  before-of xs p i h = grind arith
 
   first-grown : (z : ℤ) (negated : Bool) (xs : List Term) (name : List ℕ) (b : ℕ) (c : Letter) (p : List Letter) → c ≡ unmarked b → IsTrue (is_name_byte b) →
       (Weighted z xs ⋅ FirstOf negated name) p → (Weighted z xs ⋅ LiteralOf negated (name ++ b ∷ [])) (p ++ c ∷ [])

@@ -1,10 +1,9 @@
 -- What holds of each state of a machine, and what its first state accepts. Offered to other crates.
-use Rattle.pb_sums.proofs.Common.{ℕ, ◌+◌, ◌-◌, ◌^◌, ◌↔◌, ◌∙◌, ◌∷◌, ◌≡◌, ◌≤◌, [], ap, arith, false, length, List, min, refl, subst, sym, true}
-use Rattle.pb_sums.proofs.Common.{min-le_left, end_or_go, go_or_end, one_end, one_state, refuse_or_end, refuse_or_go, never, AcceptsItems, Admits}
-use Rattle.pb_sums.proofs.Common.{End, Go, IsState, Next, ReadsStatement, Refuse, SkipsGap, Item, Letter, SumEvent, Term, Stop, Kind, Phase, Part}
-use Rattle.pb_sums.proofs.Common.{Spaces, finished, is_done, is_in_number, is_midway, is_more, is_numeric, kind, letter_at, Outcome}
-use Rattle.pb_sums.proofs.Common.{PhaseFits, step, transition, Work, all_units, first, in_hand, IsInOrder, last, over, ready, sums, SumState, units}
-use Rattle.pb_sums.proofs.Common.{with_work, IsOneText}
+use Rattle.pb_sums.proofs.Common.{Runs, standing, ℕ, ◌+◌, ◌-◌, ◌^◌, ◌↔◌, ◌∙◌, ◌∷◌, ◌≡◌, ◌≤◌, [], ap, arith, false, length, List, min, refl, subst, sym, true}
+use Rattle.pb_sums.proofs.Common.{min-le_left, end_or_go, go_or_end, one_end, one_state, refuse_or_end, refuse_or_go, never, AcceptsItems, Admits, End, Go}
+use Rattle.pb_sums.proofs.Common.{IsState, Next, ReadsStatement, Refuse, SkipsGap, Item, Letter, SumEvent, Term, Stop, Kind, Phase, Part, Spaces, finished}
+use Rattle.pb_sums.proofs.Common.{is_done, is_in_number, is_midway, is_more, is_numeric, kind, letter_at, Outcome, PhaseFits, step, transition, Work, all_units}
+use Rattle.pb_sums.proofs.Common.{first, in_hand, IsInOrder, last, over, ready, sums, SumState, units, with_work, IsOneText, Some, after_space}
 use Rattle.pb_text.proofs.lemmas.machine.OneText.{IsOfOne, is_state as of_one_state, admits as of_one_admits}
 use Rattle.pb_sums.proofs.lemmas.machine.Flags.{gone, ended}
 use Rattle.pb_sums.proofs.lemmas.machine.Links.{midway-not-done, reads_grammar, reads_something}
@@ -13,9 +12,7 @@ use Rattle.pb_sums.proofs.lemmas.machine.Counts.{potential, letter-grows}
 -- When the automaton continues, and when it ends.
 gone-from : (s next : SumState) (b : ℕ) (n : Outcome) → step s.spaces s.part s.limit s.work b ≡ n → over s n ≡ Go next
     → (v : Work) × (next ≡ with_work s v) × (step s.spaces s.part s.limit s.work b ≡ Go v)
-gone-from s next b (Go v) e h = (v, sym (one_state (with_work s v) next h), e)
-gone-from s next b (End f v) e h = end_or_go f (with_work s v) next h
-gone-from s next b Refuse e h = refuse_or_go next h
+gone-from s next b n e h = grind (arith, one_state, end_or_go, refuse_or_go)
 
 pub continues : (s next : SumState) (b : ℕ) → sums.step s b ≡ Go next → (v : Work) × (next ≡ with_work s v) × (step s.spaces s.part s.limit s.work b ≡ Go v)
 continues s next b h = gone-from s next b (step s.spaces s.part s.limit s.work b) refl h
@@ -35,21 +32,13 @@ continues-midway s next b h =
     ap (λ x. is_midway x.work.phase) f.1 ∙ (gone s.part s.limit s.spaces s.work f.0 (letter_at (is_numeric s.work.phase) b) f.2).1
 
 done-stops : (want : Part) (limit : ℕ) (ph : Phase) (k : Kind) → is_done ph ≡ true → transition want limit ph k ≡ Stop
-done-stops want limit Phase.Done k h = refl
-done-stops want limit _ k h = cc
+done-stops want limit ph k h = grind arith
 
 numbers-midway : (ph : Phase) → is_midway ph ≡ false → is_in_number ph ≡ false
-numbers-midway (Phase.Digits role negative n) h = h
-numbers-midway _ h = refl
+numbers-midway ph h = grind arith
 
 nothing-kept : (ph : Phase) → is_midway ph ≡ false → 0 + in_hand ph + 0 + ready ph ≡ 0
-nothing-kept Phase.Start h = refl
-nothing-kept Phase.Done h = refl
-nothing-kept (Phase.Gap z) h = cc
-nothing-kept (Phase.Tilde z) h = cc
-nothing-kept (Phase.First z negated) h = cc
-nothing-kept (Phase.More z negated) h = cc
-nothing-kept _ h = refl
+nothing-kept ph h = grind arith
 
 pub stopped : (s : SumState) → sums.done s ≡ true → (b : ℕ) → sums.step s b ≡ Refuse
 stopped s h b = grind (arith, s.work.phase, s.work.terms, s.work.name, done-stops, s.part, s.limit, s.spaces)
@@ -108,18 +97,7 @@ module _ (spaces : Spaces) (part : Part) (limit : ℕ) where
   nothing-after s (l ∷ k ∷ text) e after d (mid, h, b, m, r) = refuse_or_go mid (sym (stopped s d l.byte) ∙ h)
 
   one_only : (items : List (Item SumEvent)) → AcceptsItems sums begin items → IsOneText spaces limit part items
-  one_only [] h = absurd (not_yet h)
-    where
-      not_yet : false ≡ true → ⊥
-      not_yet e = cc
-  one_only (i ∷ []) (at, after, g, r, d) =
-      let f : (i.gap ≡ []) × (at ≡ begin) = no-gap begin at i.gap g in
-      (f.0, ((reads_grammar spaces part limit i.text i.event after).0 (subst (λ x. ReadsStatement sums x i.text i.event after) f.1 r)).0)
-  one_only (i ∷ j ∷ rest) (at, after, g, r, (at2, after2, g2, r2, h)) =
-      let f : (i.gap ≡ []) × (at ≡ begin) = no-gap begin at i.gap g in
-      let e : after ≡ end = ((reads_grammar spaces part limit i.text i.event after).0 (subst (λ x. ReadsStatement sums x i.text i.event after) f.1 r)).1 in
-      let k : (j.gap ≡ []) × (at2 ≡ after) = no-gap after at2 j.gap g2 in
-      absurd (nothing-after end j.text j.event after2 refl (subst (λ x. ReadsStatement sums x j.text j.event after2) (k.1 ∙ e) r2))
+  one_only items h = grind (arith, no-gap, reads_grammar, nothing-after)
 
   one_each : (items : List (Item SumEvent)) → IsOneText spaces limit part items → AcceptsItems sums begin items
   one_each [] h = absurd h
@@ -148,11 +126,25 @@ pub midway_state : (spaces : Spaces) (part : Part) (limit : ℕ) (xs : List Term
 midway_state spaces part limit xs name q h i =
     is_state (record { spaces = spaces; part = part; limit = limit; work = record { terms = xs; name = name; phase = q } }) (midway_order limit xs name q h i)
 
+-- a byte that leads to such a state, and a run from there
+pub goes_then : (spaces : Spaces) (part : Part) (limit : ℕ) (s t : SumState) (xs : List Term) (name : List ℕ) (q : Phase) (b : ℕ) (text : List ℕ)
+    → sums.step s b ≡ Go (standing spaces part limit xs name q) → PhaseFits limit q → is_midway q ≡ true
+    → Runs sums (standing spaces part limit xs name q) text t → Runs sums s (b ∷ text) t
+goes_then spaces part limit s t xs name q b text goes fits midway rest =
+    (standing spaces part limit xs name q, goes, midway_state spaces part limit xs name q fits midway, rest)
+
 pub more_midway : (p : Phase) → is_more p ≡ true → is_midway p ≡ true
-more_midway (Phase.More z negated) e = refl
-more_midway _ e = cc
+more_midway p e = grind arith
 
 -- a state within a name
 pub more_state : (spaces : Spaces) (part : Part) (limit : ℕ) (xs : List Term) (name : List ℕ) (q : Phase) → PhaseFits limit q → is_more q ≡ true
     → IsState sums (record { spaces = spaces; part = part; limit = limit; work = record { terms = xs; name = name; phase = q } })
 more_state spaces part limit xs name q h more = midway_state spaces part limit xs name q h (more_midway q more)
+
+-- the state after a space
+space-fits : (limit : ℕ) (p q : Phase) → Some q ≡ after_space p → PhaseFits limit q × (is_midway q ≡ true)
+space-fits limit p q e = grind arith
+
+pub space_state : (spaces : Spaces) (part : Part) (limit : ℕ) (xs : List Term) (name : List ℕ) (p q : Phase) → Some q ≡ after_space p
+    → IsState sums (record { spaces = spaces; part = part; limit = limit; work = record { terms = xs; name = name; phase = q } })
+space_state spaces part limit xs name p q e = let h = space-fits limit p q e in midway_state spaces part limit xs name q h.0 h.1

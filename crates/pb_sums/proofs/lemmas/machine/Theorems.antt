@@ -3,12 +3,9 @@ use Rattle.pb_sums.proofs.lemmas.machine.Complete.{reads_each}
 use Rattle.pb_sums.proofs.lemmas.machine.LetterKinds.{on_letter}
 use Rattle.pb_sums.proofs.lemmas.machine.Sound.{reads_only}
 use Rattle.pb_sums.proofs.Common.{ℕ, ℤ, ◌++◌, ◌↔◌, ◌∙◌, ◌∷◌, ◌≡◌, [], ap, arith, Bool, cond, false, List, None, Option, refl, Some, sym, true, le-leb}
-use Rattle.pb_sums.proofs.Common.{run, run-append, End, Go, Next, Refuse, digit, Language, unmarked, signed, Letter, Relation, AtLeast, SumEvent}
-use Rattle.pb_sums.proofs.Common.{Term, Stop, To, Greater, Semicolon, Phase, Part, Spaces, act, at_name, digits, finished, fresh, is_done}
-use Rattle.pb_sums.proofs.Common.{next_action, term, to, Work, Spells}
-
-end-same : {S V : Type 0} (v w : V) (s u : S) → ◌≡◌ {A = Next S V} (End v s) (End w u) → v ≡ w
-end-same v w s u h = cc
+use Rattle.pb_sums.proofs.Common.{false≢true, one_end, run, run-append, End, Go, Next, digit, Language, unmarked, signed, Letter, Relation, AtLeast, SumEvent}
+use Rattle.pb_sums.proofs.Common.{Term, Stop, To, Greater, Semicolon, Phase, Part, Spaces, act, at_name, digits, finished, fresh, is_done, next_action, term}
+use Rattle.pb_sums.proofs.Common.{to, Work, Spells}
 
 module _ (spaces : Spaces) (want : Part) (limit : ℕ) where
   abbrev G : SumEvent → Language
@@ -26,15 +23,12 @@ module _ (spaces : Spaces) (want : Part) (limit : ℕ) where
 
   -- A text has at most one value.
   pub one_value : (t : List Letter) (e f : SumEvent) → G e t → G f t → e ≡ f
-  one_value t e f g h = end-same e f finished finished (sym (reads_each spaces want limit t e g) ∙ reads_each spaces want limit t f h)
+  one_value t e f g h = (one_end e f finished finished (sym (reads_each spaces want limit t e g) ∙ reads_each spaces want limit t f h)).0
 
   -- No text of a value is a proper prefix of another.
   pub prefix_free : (t u : List Letter) (e f : SumEvent) → G e t → G f (t ++ u) → u ≡ []
   prefix_free t [] e f g h = refl
-  prefix_free t (c ∷ u) e f g h =
-      let i : go (go (Go fresh) t) (c ∷ u) ≡ End f finished = sym (run-append (on_letter spaces want limit) (Go fresh) t (c ∷ u)) ∙ reads_each spaces want limit (t ++ c ∷ u) f h in
-      let j : ◌≡◌ {A = N} Refuse (End f finished) = ap (λ n. go n (c ∷ u)) (sym (reads_each spaces want limit t e g)) ∙ i in
-      cc
+  prefix_free t (c ∷ u) e f g h = grind (arith, run-append, on_letter, reads_each)
 
   -- Each state except the last one accepts a text.
   abbrev Alive : N → Type 0
@@ -47,22 +41,22 @@ module _ (spaces : Spaces) (want : Part) (limit : ℕ) where
   zero_fits : (xs : List Term) (name : List ℕ) (role : Option Relation) (negative : Bool) → act xs xs name (digits limit role negative 0 0) ≡ to xs (Phase.Digits role negative 0)
   zero_fits xs name role negative = ap (λ b. act xs xs name (cond b (To (Phase.Digits role negative 0)) Stop)) (le-leb 0 limit (omega arith))
 
-  alive-degree : (xs : List Term) (r : Relation) (negative : Bool) (n : ℕ) → Alive (to xs (Phase.Digits (Some r) negative n))
-  alive-degree xs r negative n = (unmarked 59 ∷ [], SumEvent.Linear (record { terms = xs; relation = r; degree = signed negative n }), refl)
+  alive-degree : (xs : List Term) (name : List ℕ) (r : Relation) (negative : Bool) (n : ℕ) → Alive (at_name xs (Phase.Digits (Some r) negative n) name)
+  alive-degree xs name r negative n = (unmarked 59 ∷ [], SumEvent.Linear (record { terms = xs; relation = r; degree = signed negative n }), refl)
 
-  alive-relation : (xs : List Term) (r : Relation) → Alive (to xs (Phase.Relation r))
-  alive-relation xs r =
-      before (to xs (Phase.Relation r)) (to xs (Phase.Digits (Some r) false 0)) (digit 0 ∷ [])
-      (zero_fits xs [] (Some r) false) (alive-degree xs r false 0)
+  alive-relation : (xs : List Term) (name : List ℕ) (r : Relation) → Alive (at_name xs (Phase.Relation r) name)
+  alive-relation xs name r =
+      before (at_name xs (Phase.Relation r) name) (to xs (Phase.Digits (Some r) false 0)) (digit 0 ∷ [])
+      (zero_fits xs name (Some r) false) (alive-degree xs [] r false 0)
 
-  alive-greater : (xs : List Term) → Alive (to xs Phase.Greater)
-  alive-greater xs = before (to xs Phase.Greater) (to xs (Phase.Relation AtLeast)) (unmarked 61 ∷ []) refl (alive-relation xs AtLeast)
+  alive-greater : (xs : List Term) (name : List ℕ) → Alive (at_name xs Phase.Greater name)
+  alive-greater xs name = before (at_name xs Phase.Greater name) (to xs (Phase.Relation AtLeast)) (unmarked 61 ∷ []) refl (alive-relation xs [] AtLeast)
 
   -- what may follow terms can be completed
   alive-after : (xs : List Term) (n : N) (w : Part) (zs : List Term) (name : List ℕ) → go n (unmarked 59 ∷ []) ≡ act xs zs name (next_action w Semicolon) → go n (unmarked 62 ∷ []) ≡ act xs zs name (next_action w Greater) → Alive n
   alive-after xs n Part.Sum zs name h i = (unmarked 59 ∷ [], SumEvent.Sum xs, h)
-  alive-after xs n Part.Linear zs name h i = before n (to xs Phase.Greater) (unmarked 62 ∷ []) i (alive-greater xs)
-  alive-after xs n Part.AtLeast zs name h i = before n (to xs Phase.Greater) (unmarked 62 ∷ []) i (alive-greater xs)
+  alive-after xs n Part.Linear zs name h i = before n (to xs Phase.Greater) (unmarked 62 ∷ []) i (alive-greater xs [])
+  alive-after xs n Part.AtLeast zs name h i = before n (to xs Phase.Greater) (unmarked 62 ∷ []) i (alive-greater xs [])
 
   alive-more : (xs : List Term) (name : List ℕ) (z : ℤ) (negated : Bool) → Alive (at_name xs (Phase.More z negated) name)
   alive-more xs name z negated =
@@ -74,7 +68,7 @@ module _ (spaces : Spaces) (want : Part) (limit : ℕ) where
   alive-digits : (role : Option Relation) (xs : List Term) (name : List ℕ) (negative : Bool) (n : ℕ) → Alive (at_name xs (Phase.Digits role negative n) name)
   alive-digits None xs name negative n =
       before (at_name xs (Phase.Digits None negative n) name) (to xs (Phase.Gap (signed negative n))) (unmarked 32 ∷ []) refl (alive-gap xs [] (signed negative n))
-  alive-digits (Some r) xs name negative n = (unmarked 59 ∷ [], SumEvent.Linear (record { terms = xs; relation = r; degree = signed negative n }), refl)
+  alive-digits (Some r) xs name negative n = alive-degree xs name r negative n
 
   pub alive : (ph : Phase) (xs : List Term) (name : List ℕ) → is_done ph ≡ false → Alive (at_name xs ph name)
   alive Phase.Start xs name h = alive-after xs (at_name xs Phase.Start name) want xs name refl refl
@@ -89,14 +83,8 @@ module _ (spaces : Spaces) (want : Part) (limit : ℕ) where
       before (at_name xs (Phase.First z negated) name) (at_name xs (Phase.More z negated) (name ++ 97 ∷ [])) (unmarked 97 ∷ []) refl (alive-more xs (name ++ 97 ∷ []) z negated)
   alive (Phase.More z negated) xs name h = alive-more xs name z negated
   alive Phase.Between xs name h = alive-after xs (at_name xs Phase.Between name) want xs name refl refl
-  alive Phase.Greater xs name h =
-      before (at_name xs Phase.Greater name) (to xs (Phase.Relation AtLeast)) (unmarked 61 ∷ []) refl (alive-relation xs AtLeast)
-  alive (Phase.Relation r) xs name h =
-      before (at_name xs (Phase.Relation r) name) (to xs (Phase.Digits (Some r) false 0)) (digit 0 ∷ [])
-      (zero_fits xs name (Some r) false) (alive-degree xs r false 0)
+  alive Phase.Greater xs name h = alive-greater xs name
+  alive (Phase.Relation r) xs name h = alive-relation xs name r
   alive (Phase.Tail r z) xs name h = (unmarked 59 ∷ [], SumEvent.Linear (record { terms = xs; relation = r; degree = z }), refl)
   alive Phase.Empty xs name h = (unmarked 59 ∷ [], SumEvent.Sum xs, refl)
-  alive Phase.Done xs name h = absurd (not_done h)
-    where
-      not_done : true ≡ false → ⊥
-      not_done e = cc
+  alive Phase.Done xs name h = absurd (false≢true (sym h))

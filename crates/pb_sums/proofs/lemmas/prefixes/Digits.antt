@@ -1,8 +1,8 @@
 -- Numbers that are taken at once, and the run that they form.
-use Rattle.pb_sums.proofs.Common.{ℕ, ◌*◌, ◌++◌, ◌+◌, ◌-◌, ◌<◌, ◌==◌, ◌∙◌, ◌∷◌, ◌≡◌, ◌≤◌, [], ap, arith, Bool, drop, false, length, List, Option, refl}
-use Rattle.pb_sums.proofs.Common.{subst, sym, take, true, IsTrue, eqb-true, le-leb, length-take-le, prefix_parts, Go, Runs, value_from, is_digit}
-use Rattle.pb_sums.proofs.Common.{Relation, Term, To, Kind, Digit, Minus, Plus, Phase, Part, Spaces, digits, flushed, is_numeric, kind, letter_at}
-use Rattle.pb_sums.proofs.Common.{transition, begins_number, HasSign, IsSign, role, sign_read, sums, SumState}
+use Rattle.pb_sums.proofs.Common.{ℕ, ◌*◌, ◌++◌, ◌+◌, ◌-◌, ◌<◌, ◌==◌, ◌∙◌, ◌∷◌, ◌≡◌, ◌≤◌, [], ap, arith, Bool, drop, false, length, List, Option, refl, subst}
+use Rattle.pb_sums.proofs.Common.{sym, take, true, IsTrue, eqb-true, le-leb, length-take-le, prefix_parts, Runs, value_from, is_digit, Relation, Term, To, Kind}
+use Rattle.pb_sums.proofs.Common.{Digit, Minus, Plus, Phase, Part, Spaces, digits, flushed, is_numeric, kind, letter_at, transition, begins_number, HasSign}
+use Rattle.pb_sums.proofs.Common.{IsSign, role, sign_read, sums, SumState}
 use Rattle.pb_text.proofs.lemmas.numbers.DigitValues.{AreDigits, value-grows}
 use Rattle.pb_sums.proofs.lemmas.machine.Pushes.{goes_to}
 use Rattle.pb_sums.proofs.lemmas.machine.States.{midway_state}
@@ -21,36 +21,28 @@ module _ (spaces : Spaces) (part : Part) (limit : ℕ) (xs : List Term) where
     pub same : flushed p xs [] ≡ xs
     pub on_digit : (d : ℕ) → transition part limit p (Digit d) ≡ digits limit r negative n d
 
-  digit-on : (p : Phase) (r : Option Relation) (negative : Bool) (n b : ℕ) → Begins p r negative n → IsTrue (is_digit b) → 10 * n + (b - 48) ≤ limit
-      → sums.step (at p) b ≡ Go (at (Phase.Digits r negative (10 * n + (b - 48))))
-  digit-on p r negative n b s e h =
+  -- a digit, and what follows it
+  digit-then : (p : Phase) (r : Option Relation) (negative : Bool) (n b : ℕ) (text : List ℕ) (t : SumState) → Begins p r negative n → IsTrue (is_digit b)
+      → 10 * n + (b - 48) ≤ limit → Runs sums (at (Phase.Digits r negative (10 * n + (b - 48)))) text t → Runs sums (at p) (b ∷ text) t
+  digit-then p r negative n b text t s e h rest =
+      let q : Phase = Phase.Digits r negative (10 * n + (b - 48)) in
       let k : kind spaces (letter_at true b) ≡ Digit (b - 48) = rw e refl in
-      let f : digits limit r negative n (b - 48) ≡ To (Phase.Digits r negative (10 * n + (b - 48))) = rw (le-leb (10 * n + (b - 48)) limit h) refl in
-      goes_to spaces part limit xs xs [] p (Phase.Digits r negative (10 * n + (b - 48))) b true (Digit (b - 48)) [] refl (sym s.numeric) (sym k)
-      (sym (s.on_digit (b - 48) ∙ f)) (sym s.same)
+      let f : digits limit r negative n (b - 48) ≡ To q = rw (le-leb (10 * n + (b - 48)) limit h) refl in
+      let goes = goes_to spaces part limit xs xs [] p q b true (Digit (b - 48)) [] refl (sym s.numeric) (sym k) (sym (s.on_digit (b - 48) ∙ f)) (sym s.same) in
+      (at q, goes, midway_state spaces part limit xs [] q h refl, rest)
 
-  -- digits, from a state that takes the first
-  digits-run : (p : Phase) (r : Option Relation) (negative : Bool) (n b : ℕ) (text : List ℕ) → Begins p r negative n → AreDigits (b ∷ text) → value_from n (b ∷ text) ≤ limit
-      → Runs sums (at p) (b ∷ text) (at (Phase.Digits r negative (value_from n (b ∷ text))))
-  digits-run p r negative n b [] s h l = (
-    at (Phase.Digits r negative (10 * n + (b - 48))),
-    digit-on p r negative n b s h.0 l,
-    midway_state spaces part limit xs [] (Phase.Digits r negative (10 * n + (b - 48))) l refl,
-    refl,
-  )
-  digits-run p r negative n b (c ∷ text) s h l =
-      let fits : 10 * n + (b - 48) ≤ limit = omega (arith, value-grows (10 * n + (b - 48)) (c ∷ text)) in (
-        at (Phase.Digits r negative (10 * n + (b - 48))),
-        digit-on p r negative n b s h.0 fits,
-        midway_state spaces part limit xs [] (Phase.Digits r negative (10 * n + (b - 48))) fits refl,
-        digits-run (Phase.Digits r negative (10 * n + (b - 48))) r negative (10 * n + (b - 48)) c text
-            (record { numeric = refl; same = refl; on_digit = λ d. refl }) h.1 l,
-      )
+  digits-run : (r : Option Relation) (negative : Bool) (n : ℕ) (text : List ℕ) → AreDigits text → value_from n text ≤ limit
+      → Runs sums (at (Phase.Digits r negative n)) text (at (Phase.Digits r negative (value_from n text)))
+  digits-run r negative n [] h l = refl
+  digits-run r negative n (b ∷ text) h l =
+      digit-then (Phase.Digits r negative n) r negative n b text _ (record { numeric = refl; same = refl; on_digit = λ d. refl }) h.0
+      (omega (arith, value-grows (10 * n + (b - 48)) text)) (digits-run r negative (10 * n + (b - 48)) text h.1 l)
 
   number-run : (p : Phase) (r : Option Relation) (negative : Bool) (text : List ℕ) → Begins p r negative 0 → AreDigits text → 0 < length text → value_from 0 text ≤ limit
       → Runs sums (at p) text (at (Phase.Digits r negative (value_from 0 text)))
   number-run p r negative [] s h i l = absurd (omega arith)
-  number-run p r negative (b ∷ text) s h i l = digits-run p r negative 0 b text s h l
+  number-run p r negative (b ∷ text) s h i l =
+      digit-then p r negative 0 b text _ s h.0 (omega (arith, value-grows (10 * 0 + (b - 48)) text)) (digits-run r negative (10 * 0 + (b - 48)) text h.1 l)
 
   -- the states in which a sign may appear
   abbrev begins_unread : Phase → Bool
@@ -66,47 +58,35 @@ module _ (spaces : Spaces) (part : Part) (limit : ℕ) (xs : List Term) where
   begins _ e = cc e
 
   on-plus : (p : Phase) → begins_unread p ≡ true → transition part limit p Plus ≡ To (Phase.Signed (role p) false)
-  on-plus Phase.Start e = refl
-  on-plus Phase.Between e = refl
-  on-plus (Phase.Relation r) e = refl
-  on-plus _ e = cc e
+  on-plus p e = grind arith
 
   on-minus : (p : Phase) → begins_unread p ≡ true → transition part limit p Minus ≡ To (Phase.Signed (role p) true)
-  on-minus Phase.Start e = refl
-  on-minus Phase.Between e = refl
-  on-minus (Phase.Relation r) e = refl
-  on-minus _ e = cc e
+  on-minus p e = grind arith
 
-  sign-on : (p : Phase) (negative : Bool) (b : ℕ) (k : Kind) → begins_unread p ≡ true → k ≡ kind spaces (letter_at true b) → transition part limit p k ≡ To (Phase.Signed (role p) negative)
-      → sums.step (at p) b ≡ Go (at (Phase.Signed (role p) negative))
-  sign-on p negative b k e f g =
+  sign-then : (p : Phase) (negative : Bool) (b : ℕ) (k : Kind) (text : List ℕ) → begins_unread p ≡ true → k ≡ kind spaces (letter_at true b)
+      → transition part limit p k ≡ To (Phase.Signed (role p) negative) → AreDigits text → 0 < length text → value_from 0 text ≤ limit
+      → Runs sums (at p) (b ∷ text) (at (Phase.Digits (role p) negative (value_from 0 text)))
+  sign-then p negative b k text e f g h i l =
+      let q : Phase = Phase.Signed (role p) negative in
       let s : Begins p (role p) false 0 = begins p e in
-      goes_to spaces part limit xs xs [] p (Phase.Signed (role p) negative) b true k [] refl (sym s.numeric) f (sym g) (sym s.same)
+      let goes = goes_to spaces part limit xs xs [] p q b true k [] refl (sym s.numeric) f (sym g) (sym s.same) in
+      let rest = number-run q (role p) negative text (record { numeric = refl; same = refl; on_digit = λ d. refl }) h i l in
+      (at q, goes, midway_state spaces part limit xs [] q tt refl, rest)
 
   signed-run : (p : Phase) (negative : Bool) (sign text : List ℕ) → begins_unread p ≡ true → IsSign negative sign → AreDigits text → 0 < length text → value_from 0 text ≤ limit
       → Runs sums (at p) (sign ++ text) (at (Phase.Digits (role p) negative (value_from 0 text)))
-  signed-run p negative [] text e s h i l =
-      subst (λ (x : Bool). Runs sums (at p) text (at (Phase.Digits (role p) x (value_from 0 text)))) (sym s) (number-run p (role p) false text (begins p e) h i l)
-  signed-run p false (b ∷ []) text e s h i l = (
-    at (Phase.Signed (role p) false),
-    sign-on p false b Plus e (sym (ap (λ (x : ℕ). kind spaces (letter_at true x)) s)) (on-plus p e),
-    midway_state spaces part limit xs [] (Phase.Signed (role p) false) tt refl,
-    number-run (Phase.Signed (role p) false) (role p) false text (record { numeric = refl; same = refl; on_digit = λ d. refl }) h i l,
-  )
-  signed-run p true (b ∷ []) text e s h i l = (
-    at (Phase.Signed (role p) true),
-    sign-on p true b Minus e (sym (ap (λ (x : ℕ). kind spaces (letter_at true x)) s)) (on-minus p e),
-    midway_state spaces part limit xs [] (Phase.Signed (role p) true) tt refl,
-    number-run (Phase.Signed (role p) true) (role p) true text (record { numeric = refl; same = refl; on_digit = λ d. refl }) h i l,
-  )
+  signed-run p negative [] text e s h i l = grind (arith, number-run, begins)
+  signed-run p false (b ∷ []) text e s h i l =
+      sign-then p false b Plus text e (sym (ap (λ (x : ℕ). kind spaces (letter_at true x)) s)) (on-plus p e) h i l
+  signed-run p true (b ∷ []) text e s h i l =
+      sign-then p true b Minus text e (sym (ap (λ (x : ℕ). kind spaces (letter_at true x)) s)) (on-minus p e) h i l
   signed-run p negative (b ∷ c ∷ sign) text e s h i l = absurd s
 
   -- the same, or the digits after a sign that was read
   digits-after : (p : Phase) (negative : Bool) (text : List ℕ) (i : ℕ) (digits : List ℕ) → begins_number p ≡ true → HasSign (sign_read p) text i negative → AreDigits digits
       → 0 < length digits → value_from 0 digits ≤ limit
       → Runs sums (at p) (take i text ++ digits) (at (Phase.Digits (role p) negative (value_from 0 digits)))
-  digits-after (Phase.Signed r read) negative text i digits e s h k l =
-      rw (s.0, s.1) (number-run (Phase.Signed r read) r read digits (record { numeric = refl; same = refl; on_digit = λ d. refl }) h k l)
+  digits-after (Phase.Signed r read) negative text i digits e s h k l = grind (arith, number-run)
   digits-after Phase.Start negative text i digits e s h k l = signed-run Phase.Start negative (take i text) digits refl s.0 h k l
   digits-after Phase.Between negative text i digits e s h k l = signed-run Phase.Between negative (take i text) digits refl s.0 h k l
   digits-after (Phase.Relation r) negative text i digits e s h k l = signed-run (Phase.Relation r) negative (take i text) digits refl s.0 h k l

@@ -1,9 +1,9 @@
 -- Names that are taken at once, and the run that they form.
-use Rattle.pb_sums.proofs.Common.{ℕ, ℤ, ◌++◌, ◌∷◌, ◌≡◌, ◌≤◌, ◌⊎◌, [], ap, append-nil, append_assoc, arith, Bool, false, get_or, inl, inr, length}
-use Rattle.pb_sums.proofs.Common.{List, refl, Some, subst, sym, true, IsTrue, Go, IsState, Runs, is_letter, is_name_byte, Each, unmarked, Term, Kind}
-use Rattle.pb_sums.proofs.Common.{Inner, Start, Phase, Part, Spaces, action, is_more, kind, after_name, over, sums, SumState}
+use Rattle.pb_sums.proofs.Common.{ℕ, ℤ, ◌++◌, ◌∷◌, ◌≡◌, ◌≤◌, ◌⊎◌, [], ap, append-nil, append_assoc, arith, Bool, get_or, length, List, refl, Some, subst, sym}
+use Rattle.pb_sums.proofs.Common.{true, IsTrue, Go, IsState, Runs, is_letter, is_name_byte, Each, unmarked, Term, Kind, PhaseFits, is_midway, Inner, Start}
+use Rattle.pb_sums.proofs.Common.{Phase, Part, Spaces, action, is_more, kind, after_name, over, sums, SumState}
 use Rattle.pb_sums.proofs.lemmas.machine.LetterKinds.{kind-name, kind-letter}
-use Rattle.pb_sums.proofs.lemmas.machine.States.{midway_state}
+use Rattle.pb_sums.proofs.lemmas.machine.States.{goes_then, midway_state}
 
 module _ (spaces : Spaces) (part : Part) (limit : ℕ) (xs : List Term) where
   abbrev at : List ℕ → Phase → SumState
@@ -12,76 +12,59 @@ module _ (spaces : Spaces) (part : Part) (limit : ℕ) (xs : List Term) where
   -- a byte of a name after its first two
   more-on : (name : List ℕ) (z : ℤ) (negated : Bool) (b : ℕ) (k : Kind) → (k ≡ Start b) ⊎ (k ≡ Inner b)
       → over (at name (Phase.More z negated)) (action part limit xs name (Phase.More z negated) k) ≡ Go (at (name ++ b ∷ []) (Phase.More z negated))
-  more-on name z negated b k (inl e) = ap (λ x. over (at name (Phase.More z negated)) (action part limit xs name (Phase.More z negated) x)) e
-  more-on name z negated b k (inr e) = ap (λ x. over (at name (Phase.More z negated)) (action part limit xs name (Phase.More z negated) x)) e
+  more-on name z negated b k h = grind arith
 
   more-run : (name : List ℕ) (z : ℤ) (negated : Bool) (text : List ℕ) → Each (λ b. IsTrue (is_name_byte b)) text
       → Runs sums (at name (Phase.More z negated)) text (at (name ++ text) (Phase.More z negated))
   more-run name z negated [] h = ap (λ n. at n (Phase.More z negated)) (append-nil name)
-  more-run name z negated (b ∷ text) h = (
-    at (name ++ b ∷ []) (Phase.More z negated),
-    more-on name z negated b (kind spaces (unmarked b)) (kind-name spaces b h.0),
-    midway_state spaces part limit xs (name ++ b ∷ []) (Phase.More z negated) tt refl,
-    subst (λ n. Runs sums (at (name ++ b ∷ []) (Phase.More z negated)) text (at n (Phase.More z negated))) (append_assoc name (b ∷ []) text)
-        (more-run (name ++ b ∷ []) z negated text h.1),
-  )
+  more-run name z negated (b ∷ text) h =
+      let more : Phase = Phase.More z negated in
+      let goes = more-on name z negated b (kind spaces (unmarked b)) (kind-name spaces b h.0) in
+      goes_then spaces part limit (at name more) (at (name ++ b ∷ text) more) xs (name ++ b ∷ []) more b text goes tt refl
+      (subst (λ n. Runs sums (at (name ++ b ∷ []) more) text (at n more)) (append_assoc name (b ∷ []) text) (more-run (name ++ b ∷ []) z negated text h.1))
 
   -- bytes of a name after its first two
   pub more_runs : (name new : List ℕ) (p : Phase) (text : List ℕ) → is_more p ≡ true → Each (λ b. IsTrue (is_name_byte b)) text → new ≡ name ++ text
       → Runs sums (at name p) text (at new p)
-  more_runs name new (Phase.More z negated) text e h f = subst (λ n. Runs sums (at name (Phase.More z negated)) text (at n (Phase.More z negated))) (sym f) (more-run name z negated text h)
-  more_runs name new _ text e h f = cc e
+  more_runs name new p text e h f = grind (arith, more-run)
 
   -- the second byte of a name
   first-on : (b c : ℕ) (z : ℤ) (negated : Bool) (k : Kind) → (k ≡ Start c) ⊎ (k ≡ Inner c)
       → over (at (b ∷ []) (Phase.First z negated)) (action part limit xs (b ∷ []) (Phase.First z negated) k) ≡ Go (at (b ∷ c ∷ []) (Phase.More z negated))
-  first-on b c z negated k (inl e) = ap (λ x. over (at (b ∷ []) (Phase.First z negated)) (action part limit xs (b ∷ []) (Phase.First z negated) x)) e
-  first-on b c z negated k (inr e) = ap (λ x. over (at (b ∷ []) (Phase.First z negated)) (action part limit xs (b ∷ []) (Phase.First z negated) x)) e
+  first-on b c z negated k h = grind arith
 
   name-run : (name : List ℕ) (p : Phase) (z : ℤ) (negated : Bool) (b c : ℕ) (text : List ℕ) → sums.step (at name p) b ≡ Go (at (b ∷ []) (Phase.First z negated))
       → IsTrue (is_name_byte c) → Each (λ d. IsTrue (is_name_byte d)) text → Runs sums (at name p) (b ∷ c ∷ text) (at (b ∷ c ∷ text) (Phase.More z negated))
-  name-run name p z negated b c text e h hs = (
-    at (b ∷ []) (Phase.First z negated),
-    e,
-    midway_state spaces part limit xs (b ∷ []) (Phase.First z negated) tt refl,
-    (
-      at (b ∷ c ∷ []) (Phase.More z negated),
-      first-on b c z negated (kind spaces (unmarked c)) (kind-name spaces c h),
-      midway_state spaces part limit xs (b ∷ c ∷ []) (Phase.More z negated) tt refl,
-      more-run (b ∷ c ∷ []) z negated text hs,
-    ),
-  )
+  name-run name p z negated b c text e h hs =
+      let first : Phase = Phase.First z negated in
+      let more : Phase = Phase.More z negated in
+      let goes = first-on b c z negated (kind spaces (unmarked c)) (kind-name spaces c h) in
+      let rest = more-run (b ∷ c ∷ []) z negated text hs in
+      goes_then spaces part limit (at name p) (at (b ∷ c ∷ text) more) xs (b ∷ []) first b (c ∷ text) e tt refl
+      (goes_then spaces part limit (at (b ∷ []) first) (at (b ∷ c ∷ text) more) xs (b ∷ c ∷ []) more c text goes tt refl rest)
 
   abbrev Spells : List ℕ → Type 0
   Spells text = (2 ≤ length text) × IsTrue (is_letter (get_or text 0 0)) × Each (λ b. IsTrue (is_name_byte b)) text
 
+  -- the first byte of a name
+  name-starts : (name : List ℕ) (p q : Phase) (b : ℕ) → after_name p ≡ Some q → IsTrue (is_letter b)
+      → (z : ℤ) × (negated : Bool) × (Phase.More z negated ≡ q) × (sums.step (at name p) b ≡ Go (at (b ∷ []) (Phase.First z negated)))
+  name-starts name p q b e h = grind (arith, kind-letter)
+
   from-literal : (name : List ℕ) (p q : Phase) (text : List ℕ) → after_name p ≡ Some q → Spells text → Runs sums (at name p) text (at text q)
   from-literal name p q [] e h = absurd (omega (arith, h.0))
   from-literal name p q (b ∷ []) e h = absurd (omega (arith, h.0))
-  from-literal name (Phase.Gap z) q (b ∷ c ∷ text) e h =
-      let f : Phase.More z false ≡ q = cc in
-      let g : sums.step (at name (Phase.Gap z)) b ≡ Go (at (b ∷ []) (Phase.First z false)) =
-      ap (λ k. over (at name (Phase.Gap z)) (action part limit xs name (Phase.Gap z) k)) (kind-letter spaces b h.1) in
-      subst (λ (r : Phase). Runs sums (at name (Phase.Gap z)) (b ∷ c ∷ text) (at (b ∷ c ∷ text) r)) f
-      (name-run name (Phase.Gap z) z false b c text g h.2.1.0 h.2.1.1)
-  from-literal name (Phase.Tilde z) q (b ∷ c ∷ text) e h =
-      let f : Phase.More z true ≡ q = cc in
-      let g : sums.step (at name (Phase.Tilde z)) b ≡ Go (at (b ∷ []) (Phase.First z true)) =
-      ap (λ k. over (at name (Phase.Tilde z)) (action part limit xs name (Phase.Tilde z) k)) (kind-letter spaces b h.1) in
-      subst (λ (r : Phase). Runs sums (at name (Phase.Tilde z)) (b ∷ c ∷ text) (at (b ∷ c ∷ text) r)) f
-      (name-run name (Phase.Tilde z) z true b c text g h.2.1.0 h.2.1.1)
-  from-literal name _ q (b ∷ c ∷ text) e h = cc e
+  from-literal name p q (b ∷ c ∷ text) e h =
+      let (z, negated, f, g) = name-starts name p q b e h.1 in
+      subst (λ (r : Phase). Runs sums (at name p) (b ∷ c ∷ text) (at (b ∷ c ∷ text) r)) f (name-run name p z negated b c text g h.2.1.0 h.2.1.1)
 
   -- a whole name
   pub name_runs : (name new : List ℕ) (p q : Phase) (text : List ℕ) → Some q ≡ after_name p → 2 ≤ length text → IsTrue (is_letter (get_or text 0 0))
       → Each (λ b. IsTrue (is_name_byte b)) text → new ≡ text → Runs sums (at name p) text (at new q)
   name_runs name new p q text e l i h f = subst (λ (n : List ℕ). Runs sums (at name p) text (at n q)) (sym f) (from-literal name p q text (sym e) (l, i, h))
 
+  name-fits : (p q : Phase) → Some q ≡ after_name p → PhaseFits limit q × (is_midway q ≡ true)
+  name-fits p q e = grind arith
+
   pub after_state : (name : List ℕ) (p q : Phase) → Some q ≡ after_name p → IsState sums (at name q)
-  after_state name (Phase.Gap z) q e =
-      let f : Phase.More z false ≡ q = cc in
-      subst (λ (r : Phase). IsState sums (at name r)) f (midway_state spaces part limit xs name (Phase.More z false) tt refl)
-  after_state name (Phase.Tilde z) q e =
-      let f : Phase.More z true ≡ q = cc in
-      subst (λ (r : Phase). IsState sums (at name r)) f (midway_state spaces part limit xs name (Phase.More z true) tt refl)
-  after_state name _ q e = cc e
+  after_state name p q e = let h = name-fits p q e in midway_state spaces part limit xs name q h.0 h.1

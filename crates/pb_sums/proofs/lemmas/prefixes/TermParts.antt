@@ -1,29 +1,24 @@
 -- Whole terms that are taken at once, and the run that they form.
-use Rattle.pb_sums.proofs.Common.{ℕ, ℤ, ◌++◌, ◌+◌, ◌<◌, ◌∷◌, ◌≡◌, ◌≤◌, [], Bool, false, get_or, length, List, None, Option, refl, Some, subst}
-use Rattle.pb_sums.proofs.Common.{sym, take, true, Err, if◌then◌else◌, is_err, is_ok, IsTrue, Ok, Result, runs_further, Go, IsState, Runs, value_from}
-use Rattle.pb_sums.proofs.Common.{is_digit, is_letter, is_name_byte, Each, signed, relation_bytes, Relation, AtLeast, Equal, Term, Phase, Part}
-use Rattle.pb_sums.proofs.Common.{Spaces, after_name, after_number, begins_number, begins_relation, HasSign, role, sign_read, text_after, sums}
-use Rattle.pb_sums.proofs.Common.{SumState, begins_term, IsLiteral, IsSpacedLiteral, IsSpacedNumber, IsTilde, standing, allows}
+use Rattle.pb_sums.proofs.Common.{arith, ℕ, ℤ, ◌++◌, ◌+◌, ◌<◌, ◌∷◌, ◌≡◌, ◌≤◌, [], Bool, false, get_or, length, List, None, Option, refl, Some, subst, sym, take}
+use Rattle.pb_sums.proofs.Common.{true, if◌then◌else◌, is_err, is_ok, IsTrue, Result, runs_further, Go, IsState, Runs, value_from, is_digit, is_letter}
+use Rattle.pb_sums.proofs.Common.{is_name_byte, Each, signed, relation_bytes, Relation, AtLeast, Equal, Term, Phase, Part, Spaces, after_name, after_number}
+use Rattle.pb_sums.proofs.Common.{begins_number, begins_relation, HasSign, role, sign_read, text_after, sums, SumState, begins_term, IsLiteral, IsSpacedLiteral}
+use Rattle.pb_sums.proofs.Common.{IsSpacedNumber, IsTilde, standing, allows}
 use Rattle.pb_text.proofs.lemmas.machine.Running.{runs_on}
 use Rattle.pb_sums.specs.declared.linear.Literal.{Literal}
 use Rattle.pb_sums.proofs.lemmas.prefixes.Digits.{number_runs}
 use Rattle.pb_sums.proofs.lemmas.prefixes.Names.{name_runs}
-use Rattle.pb_sums.proofs.lemmas.machine.States.{midway_state}
+use Rattle.pb_sums.proofs.lemmas.machine.States.{goes_then, midway_state}
 
 pub grown : {A T E : Type 0} (r : Result T E) (new more old : List A) → new ≡ (if is_ok r then more else old) → is_err r ≡ false → new ≡ more
-grown (Ok x) new more old h e = h
-grown (Err x) new more old h e = cc
+grown r new more old h e = grind arith
 
 no-role : (p : Phase) → begins_term p ≡ true → role p ≡ None
-no-role Phase.Start e = refl
-no-role (Phase.Signed None negative) e = refl
-no-role Phase.Between e = refl
-no-role _ e = cc
+no-role p e = grind arith
 
 space-on : (spaces : Spaces) (part : Part) (limit : ℕ) (xs : List Term) (r : Option Relation) (negative : Bool) (v : ℕ)
     → sums.step (standing spaces part limit xs [] (Phase.Digits r negative v)) 32 ≡ Go (standing spaces part limit xs [] (after_number r (signed negative v)))
-space-on spaces part limit xs None negative v = refl
-space-on spaces part limit xs (Some r) negative v = refl
+space-on spaces part limit xs r negative v = grind arith
 
 pub number_state : (spaces : Spaces) (part : Part) (limit : ℕ) (xs : List Term) (r : Option Relation) (z : ℤ) → IsState sums (standing spaces part limit xs [] (after_number r z))
 number_state spaces part limit xs None z = midway_state spaces part limit xs [] (Phase.Gap z) tt refl
@@ -49,16 +44,12 @@ tilde-runs : (spaces : Spaces) (part : Part) (limit : ℕ) (xs : List Term) (z :
 tilde-runs spaces part limit xs z false text e =
     subst (λ (t : List ℕ). Runs sums (standing spaces part limit xs [] (Phase.Gap z)) t (standing spaces part limit xs [] (Phase.Gap z))) (sym e) refl
 tilde-runs spaces part limit xs z true text e =
-    subst (λ (t : List ℕ). Runs sums (standing spaces part limit xs [] (Phase.Gap z)) t (standing spaces part limit xs [] (Phase.Tilde z))) (sym e) (
-      standing spaces part limit xs [] (Phase.Tilde z),
-      refl,
-      midway_state spaces part limit xs [] (Phase.Tilde z) tt refl,
-      refl,
-    )
+    let at : Phase → SumState = standing spaces part limit xs [] in
+    subst (λ (t : List ℕ). Runs sums (at (Phase.Gap z)) t (at (Phase.Tilde z))) (sym e)
+    (goes_then spaces part limit (at (Phase.Gap z)) (at (Phase.Tilde z)) xs [] (Phase.Tilde z) 126 [] refl tt refl refl)
 
 after-both : (negated : Bool) (z : ℤ) → Some (Phase.More z negated) ≡ after_name (after-tilde negated z)
-after-both false z = refl
-after-both true z = refl
+after-both negated z = grind arith
 
 literal_runs : (text : List ℕ) (i j : ℕ) (negated : Bool) (name : List ℕ) → IsTilde negated (take i text) → 2 ≤ length (take j (text_after i text))
     → IsTrue (is_letter (get_or (take j (text_after i text)) 0 0)) → Each (λ b. IsTrue (is_name_byte b)) (take j (text_after i text)) → name ≡ take j (text_after i text)
@@ -97,23 +88,13 @@ term_runs spaces part limit xs ys old new p text i j z l b e f prefix literal h 
 pub relation_runs : (spaces : Spaces) (part : Part) (limit : ℕ) (xs : List Term) (name : List ℕ) (p : Phase) (text : List ℕ) (r : Relation)
     → begins_relation p ≡ true → name ≡ [] → allows part r ≡ true → text ≡ relation_bytes r
     → Runs sums (standing spaces part limit xs name p) text (standing spaces part limit xs name (Phase.Relation r))
-relation_runs spaces part limit xs name Phase.Between text AtLeast b n h e = rw (n, e) (
-  standing spaces part limit xs [] Phase.Greater,
-  rw h refl,
-  midway_state spaces part limit xs [] Phase.Greater tt refl,
-  (
-    standing spaces part limit xs [] (Phase.Relation AtLeast),
-    refl,
-    midway_state spaces part limit xs [] (Phase.Relation AtLeast) tt refl,
-    refl,
-  ),
-)
-relation_runs spaces part limit xs name Phase.Between text Equal b n h e = rw (n, e) (
-  standing spaces part limit xs [] (Phase.Relation Equal),
-  rw h refl,
-  midway_state spaces part limit xs [] (Phase.Relation Equal) tt refl,
-  refl,
-)
+relation_runs spaces part limit xs name Phase.Between text AtLeast b n h e =
+    let at : Phase → SumState = standing spaces part limit xs [] in
+    let last = goes_then spaces part limit (at Phase.Greater) (at (Phase.Relation AtLeast)) xs [] (Phase.Relation AtLeast) 61 [] refl tt refl refl in
+    rw (n, e) (goes_then spaces part limit (at Phase.Between) (at (Phase.Relation AtLeast)) xs [] Phase.Greater 62 (61 ∷ []) (rw h refl) tt refl last)
+relation_runs spaces part limit xs name Phase.Between text Equal b n h e =
+    let at : Phase → SumState = standing spaces part limit xs [] in
+    rw (n, e) (goes_then spaces part limit (at Phase.Between) (at (Phase.Relation Equal)) xs [] (Phase.Relation Equal) 61 [] (rw h refl) tt refl refl)
 relation_runs spaces part limit xs name _ text r b n h e = cc b
 
 -- a relation and a space

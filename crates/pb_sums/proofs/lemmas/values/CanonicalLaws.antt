@@ -1,10 +1,9 @@
 -- The canonical text of a value is a text of that value. Offered to other crates.
-use Rattle.pb_sums.proofs.Common.{ℕ, ℤ, ◌++◌, ◌<◌, ◌^◌, ◌∙◌, ◌∷◌, ◌≡◌, ◌≤◌, [], ap, append_assoc, arith, decimal, false, inl, inr, List, refl, suc}
-use Rattle.pb_sums.proofs.Common.{true, nat_abs, negsuc, pos, decimal-digits, bytes-append, bytes-digits, bytes-plain, unmarked, Number, bytes}
-use Rattle.pb_sums.proofs.Common.{digits_of, Letter, AreTerms, degree_text, further_text, head_bytes, head_text, IsLinear, IsTerm, linear_bytes}
-use Rattle.pb_sums.proofs.Common.{linear_text, literal_text, relation_text, space, sum_bytes, sum_text, term_bytes, term_text}
-use Rattle.pb_sums.proofs.Common.{weight_bytes, weight_text, Linear, Relation, AtLeast, Equal, Term, Spaces, Head, Spaces0, Spaces1}
-use Rattle.pb_sums.proofs.Common.{SpellsFurther, SpellsLinear, SpellsRelation, SpellsSum, SpellsTerm}
+use Rattle.pb_sums.proofs.Common.{ℕ, ℤ, ◌⋅◌, ◌++◌, ◌<◌, ◌^◌, ◌∙◌, ◌∷◌, ◌≡◌, ◌≤◌, [], ap, append_assoc, arith, decimal, false, inl, inr, List, refl, suc, true}
+use Rattle.pb_sums.proofs.Common.{nat_abs, negsuc, pos, decimal-digits, bytes-append, bytes-digits, bytes-plain, unmarked, Number, bytes, digits_of, Letter}
+use Rattle.pb_sums.proofs.Common.{AreTerms, degree_text, further_text, head_bytes, head_text, IsLinear, IsTerm, linear_bytes, linear_text, literal_text}
+use Rattle.pb_sums.proofs.Common.{relation_text, space, sum_bytes, sum_text, term_bytes, term_text, weight_bytes, weight_text, Linear, Relation, Term, Spaces}
+use Rattle.pb_sums.proofs.Common.{Head, Spaces0, Spaces1, SpellsFurther, SpellsLinear, SpellsRelation, SpellsSum, SpellsTerm}
 use Rattle.std.specs.Fmt.{signed_decimal}
 use Rattle.pb_sums.specs.contract.Canonical.{further_bytes}
 
@@ -34,49 +33,31 @@ module _ (limit : ℕ) (small : limit < 10 ^ 64) where
         (space ++ term_text x, further_text xs, refl, (space, term_text x, refl, space1, term-spelled x h.0), further-spelled xs h.1)
 
     pub sum-spelled : (xs : List Term) → AreTerms limit xs → SpellsSum spaces limit xs (sum_text xs)
-    sum-spelled [] h = refl
-    sum-spelled (x ∷ xs) h = (term_text x, further_text xs, refl, term-spelled x h.0, further-spelled xs h.1)
+    sum-spelled xs h = grind (arith, term-spelled, further-spelled)
 
     head-spelled : (xs : List Term) → AreTerms limit xs → Head spaces limit xs (head_text xs)
     head-spelled [] h = refl
     head-spelled (x ∷ xs) h = (sum_text (x ∷ xs), space, refl, sum-spelled (x ∷ xs) h, space0)
 
     relation-spelled : (r : Relation) → SpellsRelation spaces limit r (relation_text r)
-    relation-spelled AtLeast = refl
-    relation-spelled Equal = refl
+    relation-spelled r = grind arith
 
     pub linear-spelled : (c : Linear) → IsLinear limit c → SpellsLinear spaces limit c (linear_text c)
     linear-spelled c h =
         let H : List Letter = head_text c.terms in
         let O : List Letter = relation_text c.relation in
-        let D : List Letter = degree_text c.degree in (
-          H ++ O ++ space ++ D ++ space,
-          unmarked 59 ∷ [],
-          refl,
-          (
-            H ++ O ++ space ++ D,
-            space,
-            refl,
-            (
-              H ++ O ++ space,
-              D,
-              refl,
-              (H ++ O, space, refl, (H, O, refl, head-spelled c.terms h.0, relation-spelled c.relation), space0),
-              degree c.degree h.1,
-            ),
-            space0,
-          ),
-          refl,
-        )
+        let D : List Letter = degree_text c.degree in
+        let S : List Letter = H ++ O ++ space ++ D in
+        let related : (Head spaces limit c.terms ⋅ SpellsRelation spaces limit c.relation ⋅ Spaces0 spaces limit) (H ++ O ++ space) =
+        (H ++ O, space, refl, (H, O, refl, head-spelled c.terms h.0, relation-spelled c.relation), space0) in
+        (S ++ space, unmarked 59 ∷ [], refl, (S, space, refl, (H ++ O ++ space, D, refl, related, degree c.degree h.1), space0), refl)
 
 -- The letters of canonical text are its bytes.
 pub bytes-degree : (z : ℤ) → bytes (degree_text z) ≡ signed_decimal z
-bytes-degree (pos n) = bytes-digits (decimal n)
-bytes-degree (negsuc n) = ap (λ x. 45 ∷ x) (bytes-digits (decimal (suc n)))
+bytes-degree z = grind (arith, bytes-digits)
 
 bytes-weight : (z : ℤ) → bytes (weight_text z) ≡ weight_bytes z
-bytes-weight (pos n) = ap (λ x. 43 ∷ x) (bytes-digits (decimal n))
-bytes-weight (negsuc n) = ap (λ x. 45 ∷ x) (bytes-digits (decimal (suc n)))
+bytes-weight z = grind (arith, bytes-digits)
 
 bytes-term : (x : Term) → bytes (term_text x) ≡ term_bytes x
 bytes-term x = grind (arith, append_assoc, bytes-append, bytes-weight, bytes-plain, x.literal.negated, x.literal.name)
@@ -90,16 +71,11 @@ bytes-further (x ∷ xs) =
     ∙ (ap (λ y. y ++ bytes (further_text xs)) (bytes-term x) ∙ ap (λ y. term_bytes x ++ y) (bytes-further xs)))
 
 pub bytes-sum : (xs : List Term) → bytes (sum_text xs) ≡ sum_bytes xs
-bytes-sum [] = refl
-bytes-sum (x ∷ xs) =
-    bytes-append (term_text x) (further_text xs) ∙ (ap (λ y. y ++ bytes (further_text xs)) (bytes-term x) ∙ ap (λ y. term_bytes x ++ y) (bytes-further xs))
+bytes-sum xs = grind (arith, bytes-append, bytes-term, bytes-further)
 
 bytes-head : (xs : List Term) → bytes (head_text xs) ≡ head_bytes xs
 bytes-head [] = refl
 bytes-head (x ∷ xs) = bytes-append (sum_text (x ∷ xs)) space ∙ ap (λ y. y ++ (32 ∷ [])) (bytes-sum (x ∷ xs))
 
-regrouped : (h o s d u e : List Letter) → h ++ o ++ s ++ d ++ u ++ e ≡ h ++ (o ++ (s ++ (d ++ (u ++ e))))
-regrouped h o s d u e = simp append_assoc
-
 pub bytes-linear : (c : Linear) → bytes (linear_text c) ≡ linear_bytes c
-bytes-linear c = grind (arith, regrouped, bytes-append, bytes-head, bytes-plain, bytes-degree)
+bytes-linear c = simp (append_assoc, bytes-append, bytes-head, bytes-plain, bytes-degree)

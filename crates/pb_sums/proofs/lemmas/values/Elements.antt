@@ -1,6 +1,6 @@
 -- Rules that each term of a list satisfies.
-use Rattle.pb_sums.proofs.Common.{ℕ, ◌++◌, ◌+◌, ◌<◌, ◌↔◌, ◌∙◌, ◌∷◌, ◌≡◌, [], arith, Bool, false, get_or, length, List, subst, suc, sym, take, true}
-use Rattle.pb_sums.proofs.Common.{zero, IsTrue, take_more, AreTerms, IsTerm, Term}
+use Rattle.pb_sums.proofs.Common.{ℕ, ◌++◌, ◌+◌, ◌<◌, ◌↔◌, ◌∙◌, ◌∷◌, ◌≡◌, [], arith, Bool, false, get_or, length, List, subst, suc, sym, take, true, zero}
+use Rattle.pb_sums.proofs.Common.{IsTrue, take_more, AreTerms, IsTerm, Term}
 
 terms-append : (limit : ℕ) (xs : List Term) (x : Term) → AreTerms limit xs → IsTerm limit x → AreTerms limit (xs ++ x ∷ [])
 terms-append limit [] x e f = (f, tt)

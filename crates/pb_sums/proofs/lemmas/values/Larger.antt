@@ -1,7 +1,6 @@
 -- A text of a value remains one if numbers may be larger. Offered to other crates.
-use Rattle.pb_sums.proofs.Common.{ℕ, ◌∷◌, ◌≤◌, [], List, number-within, each_side, ◌⋅◌, Byte, Language, Number, Letter, Linear, SumEvent, Term, Part}
-use Rattle.pb_sums.proofs.Common.{Spaces, Head, Spaces0, Spaces1, Spells, SpellsFurther, SpellsLinear, SpellsLiteral, SpellsRelation, SpellsSum}
-use Rattle.pb_sums.proofs.Common.{SpellsTerm}
+use Rattle.pb_sums.proofs.Common.{arith, ℕ, ◌∷◌, ◌≤◌, [], List, number-within, each_side, ◌⋅◌, Byte, Language, Number, Letter, Linear, SumEvent, Term, Part}
+use Rattle.pb_sums.proofs.Common.{Spaces, Head, Spaces0, Spaces1, Spells, SpellsFurther, SpellsLinear, SpellsLiteral, SpellsRelation, SpellsSum, SpellsTerm}
 
 module _ (spaces : Spaces) (small large : ℕ) (h : small ≤ large) where
   abbrev Grows : (ℕ → Language) → Type 0
@@ -32,8 +31,7 @@ module _ (spaces : Spaces) (small large : ℕ) (h : small ≤ large) where
       (grows_then (λ n. Spaces1 spaces n) (λ n. SpellsTerm spaces n x) S1 (term-grows x)) (further-grows xs) t k
 
   sum-grows : (xs : List Term) → Grows (λ n. SpellsSum spaces n xs)
-  sum-grows [] t k = k
-  sum-grows (x ∷ xs) t k = grows_then (λ n. SpellsTerm spaces n x) (λ n. SpellsFurther spaces n xs) (term-grows x) (further-grows xs) t k
+  sum-grows xs t k = grind (arith, grows_then, term-grows, further-grows)
 
   head-grows : (xs : List Term) → Grows (λ n. Head spaces n xs)
   head-grows [] t k = k
@@ -53,9 +51,4 @@ module _ (spaces : Spaces) (small large : ℕ) (h : small ≤ large) where
       (number-within small large c.degree h)) S0) (same (Byte 59))
 
   pub spells_larger : (part : Part) (t : List Letter) (e : SumEvent) → Spells spaces small part e t → Spells spaces large part e t
-  spells_larger part t (SumEvent.Sum xs) k = (
-    k.0,
-    grows_then (λ n. SpellsSum spaces n xs ⋅ Spaces0 spaces n) (λ n. Byte 59)
-        (grows_then (λ n. SpellsSum spaces n xs) (λ n. Spaces0 spaces n) (sum-grows xs) S0) (same (Byte 59)) t k.1,
-  )
-  spells_larger part t (SumEvent.Linear c) k = (k.0, linear-grows c t k.1)
+  spells_larger part t e k = grind (arith, grows_then, sum-grows, S0, same, linear-grows)

@@ -1,6 +1,6 @@
 -- Texts that are stored inline.
-use Rattle.pb_sums.proofs.Common.{ℕ, ◌+◌, ◌<◌, ◌∷◌, [], arith, get_or, length, List, set, subst, suc, sym, take, zero, IsTrue, get_or_past}
-use Rattle.pb_sums.proofs.Common.{take_more_set, IsUtf8, is_name_byte, Each}
+use Rattle.pb_sums.proofs.Common.{ℕ, ◌+◌, ◌<◌, ◌∷◌, [], arith, get_or, length, List, set, subst, suc, sym, take, zero, IsTrue, get_or_past, take_more_set}
+use Rattle.pb_sums.proofs.Common.{IsUtf8, is_name_byte, Each}
 use Rattle.std.proofs.lemmas.Str.{IsUtf8-nil, IsUtf8-append, IsUtf8-from_ascii}
 use Rattle.pb_text.proofs.lemmas.text.NameBytes.{name_ascii}
 
@@ -11,8 +11,7 @@ none-ascii : (i : ℕ) → get_or {A = ℕ} [] i 0 < 128
 none-ascii i = subst (λ (b : ℕ). b < 128) (sym (get_or_past {X = ℕ} [] i 0 (omega arith))) (omega arith)
 
 one-ascii : (b : ℕ) → b < 128 → (i : ℕ) → get_or (b ∷ []) i 0 < 128
-one-ascii b h zero = h
-one-ascii b h (suc i) = none-ascii i
+one-ascii b h i = grind (arith, none-ascii)
 
 each-ascii : (bs : List ℕ) → Each (λ b. IsTrue (is_name_byte b)) bs → (i : ℕ) → get_or bs i 0 < 128
 each-ascii [] h i = none-ascii i

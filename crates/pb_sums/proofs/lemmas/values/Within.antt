@@ -1,11 +1,9 @@
 -- The value of a text under a limit is within that limit. Offered to other crates.
-use Rattle.pb_sums.proofs.Common.{ℕ, ℤ, ◌∷◌, ◌≤◌, [], Bool, false, List, subst, suc, sym, true, zero, nat_abs, Number, signed, Letter, AreTerms}
-use Rattle.pb_sums.proofs.Common.{IsLinear, IsTerm, Linear, Term, Spaces, Head, SpellsFurther, SpellsLinear, SpellsSum, SpellsTerm}
+use Rattle.pb_sums.proofs.Common.{arith, ℕ, ℤ, ◌∷◌, ◌≤◌, [], Bool, List, subst, sym, nat_abs, Number, signed, Letter, AreTerms, IsLinear, IsTerm, Linear, Term}
+use Rattle.pb_sums.proofs.Common.{Spaces, Head, SpellsFurther, SpellsLinear, SpellsSum, SpellsTerm}
 
 signed-within : (limit : ℕ) (negative : Bool) (n : ℕ) → n ≤ limit → nat_abs (signed negative n) ≤ limit
-signed-within limit false n h = h
-signed-within limit true zero h = h
-signed-within limit true (suc n) h = h
+signed-within limit negative n h = grind arith
 
 pub number-within : (limit : ℕ) (z : ℤ) (t : List Letter) → Number limit z t → nat_abs z ≤ limit
 number-within limit z t (negative, n, h, e, k) = subst (λ (y : ℤ). nat_abs y ≤ limit) (sym e) (signed-within limit negative n h)
@@ -19,8 +17,7 @@ module _ (spaces : Spaces) (limit : ℕ) where
   further-within (x ∷ xs) t (ab, c, e, (a, b, f, s, h), k) = (term-within x b h, further-within xs c k)
 
   pub sum-within : (xs : List Term) (t : List Letter) → SpellsSum spaces limit xs t → AreTerms limit xs
-  sum-within [] t h = tt
-  sum-within (x ∷ xs) t (a, b, e, h, k) = (term-within x a h, further-within xs b k)
+  sum-within xs t h = grind (arith, term-within, further-within)
 
   head-within : (xs : List Term) (t : List Letter) → Head spaces limit xs t → AreTerms limit xs
   head-within [] t h = tt

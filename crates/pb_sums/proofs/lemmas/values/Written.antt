@@ -1,14 +1,13 @@
 -- What is written, in parts.
-use Rattle.pb_sums.proofs.Common.{ℕ, ◌++◌, ◌+◌, ◌-◌, ◌<◌, ◌∙◌, ◌∷◌, ◌≡◌, ◌≤◌, [], ap, append-nil, append_assoc, arith, drop, get_or, length, List}
-use Rattle.pb_sums.proofs.Common.{refl, suc, sym, take, take-append-drop, drop_all, take_more, sum_bytes, term_bytes, Term}
+use Rattle.pb_sums.proofs.Common.{ℕ, ◌++◌, ◌+◌, ◌-◌, ◌<◌, ◌∙◌, ◌∷◌, ◌≡◌, ◌≤◌, [], ap, append-nil, append_assoc, arith, drop, get_or, length, List, refl, suc}
+use Rattle.pb_sums.proofs.Common.{sym, take, take-append-drop, drop_all, take_more, sum_bytes, term_bytes, Term}
 use Rattle.std.proofs.Math.Seq.{drop-cons}
 use Rattle.pb_sums.specs.contract.Canonical.{further_bytes}
 
 pub further-append : (xs ys : List Term) → further_bytes (xs ++ ys) ≡ further_bytes xs ++ further_bytes ys
 unfolding further_bytes
 further-append [] ys = refl
-further-append (x ∷ xs) ys =
-    ap (λ z. 32 ∷ (term_bytes x ++ z)) (further-append xs ys) ∙ ap (λ z. 32 ∷ z) (sym (append_assoc (term_bytes x) (further_bytes xs) (further_bytes ys)))
+further-append (x ∷ xs) ys = simp (further-append xs ys, append_assoc)
 
 further-cons : (x : Term) (xs : List Term) → further_bytes (x ∷ xs) ≡ (32 ∷ term_bytes x) ++ further_bytes xs
 unfolding further_bytes
@@ -42,13 +41,7 @@ further_past xs n h = ap further_bytes (drop_all n xs h) ∙ further_none
 -- the terms from an index on
 pub further_from : (xs : List Term) (i : ℕ) (x : Term) → 0 < i → i ≤ length xs → x ≡ get_or xs (i - 1) x →
     further_bytes (drop (i - 1) xs) ≡ (32 ∷ term_bytes x) ++ further_bytes (drop i xs)
-further_from xs i x some within e =
-    let next : suc (i - 1) ≡ i = omega arith in
-    ap further_bytes (drop-cons xs (i - 1) x (omega arith))
-    ∙ (further-cons (get_or xs (i - 1) x) (drop (suc (i - 1)) xs)
-    ∙ (ap (λ (n : ℕ). (32 ∷ term_bytes (get_or xs (i - 1) x)) ++ further_bytes (drop n xs)) next
-    ∙ ap (λ (y : Term). (32 ∷ term_bytes y) ++ further_bytes (drop i xs)) (sym e)))
+further_from xs i x some within e = grind (arith, drop-cons, further-cons, get_or, drop)
 
 pub sum_parts : (xs : List Term) (d : Term) → 0 < length xs → sum_bytes xs ≡ term_bytes (get_or xs 0 d) ++ further_bytes (drop 1 xs)
-sum_parts [] d h = absurd (omega arith)
-sum_parts (x ∷ xs) d h = refl
+sum_parts xs d h = grind arith

@@ -1,9 +1,6 @@
-use Rattle.pb_sums.proofs.Common.{ℕ, ◌++◌, ◌∙◌, ◌∷◌, ap, append_assoc, arith, drop, length, List, sym, further_bytes, term_bytes}
-use Rattle.pb_sums.proofs.lemmas.values.Written.{further_past, further_from}
+use Rattle.pb_sums.proofs.Common.{ℕ, ◌++◌, ◌∙◌, ◌∷◌, ap, append_assoc, arith, drop, List, sym, further_bytes, term_bytes}
+use Rattle.pb_sums.proofs.lemmas.values.Written.{further_from}
 use Rattle.pb_sums.proofs.write.put_further.Goals as goal
-
-pub loop-left-init : goal.loop-left-init
-loop-left-init c = (omega arith, ap (λ (z : List ℕ). z ++ c.args.piece.now) (sym (further_past c.args.terms.now (length c.args.terms.now) (omega arith))))
 
 pub loop-left-preserved : goal.loop-left-preserved
 loop-left-preserved c =

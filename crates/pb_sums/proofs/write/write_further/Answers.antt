@@ -1,5 +1,4 @@
-use Rattle.pb_sums.proofs.Common.{ℕ, ◌++◌, ◌∙◌, ◌≡◌, [], ap, append_assoc, List, refl, subst, sym, part_broke, part_then, part_wrote, writes_nothing}
-use Rattle.pb_sums.proofs.Common.{Wrote, further_bytes, Term}
+use Rattle.pb_sums.proofs.Common.{ℕ, ◌++◌, ◌∙◌, [], ap, append_assoc, List, refl, subst, sym, part_wrote, writes_nothing, Wrote, Term}
 use Rattle.pb_sums.proofs.lemmas.values.Written.{further_none, further-append}
 use Rattle.pb_sums.proofs.write.write_further.Goals as goal
 
@@ -9,15 +8,6 @@ loop-rest-init g c = (
   refl,
   subst (λ (z : List ℕ). Wrote g.S.Sink.contents g.S.Sink.faults c.args.out.now z c.args.out.now) (sym further_none) (writes_nothing g.S.Sink.contents g.S.Sink.faults c.args.out.now),
 )
-
-pub returns-in_err-write_batch : goal.returns-in_err-write_batch
-returns-in_err-write_batch g c =
-    let prefix = c.loop-rest.invariant.0 in
-    let batch = c.split_at.result.0.now in
-    let following = c.split_at.result.1.now in
-    let rest : further_bytes c.loop-rest.rest.now ≡ further_bytes batch ++ further_bytes following = ap further_bytes c.split_at.ensures.by_index.0 ∙ further-append batch following in
-    part_then g.S.Sink.contents g.S.Sink.faults _ _ _ _ _ _ _ (ap further_bytes c.loop-rest.invariant.1 ∙ further-append prefix c.loop-rest.rest.now) c.loop-rest.invariant.2
-    (part_broke g.S.Sink.contents g.S.Sink.faults _ _ _ _ _ _ rest c.from_residual.ensures.0 c.in_err-write_batch.ensures)
 
 pub loop-rest-preserved : goal.loop-rest-preserved
 loop-rest-preserved g c =

@@ -1,10 +1,5 @@
-use Rattle.pb_sums.proofs.Common.{arith}
-use Rattle.pb_sums.proofs.lemmas.prefixes.Names.{more_runs}
 use Rattle.pb_sums.proofs.lemmas.machine.States.{more_state}
 use Rattle.pb_sums.proofs.machine.SumMachine.take_more.Goals as goal
-
-pub returns-clause-runs : goal.returns-clause-runs
-returns-clause-runs c = grind (arith, c.self.view_is, c.push_str.ensures, c.if-is_err.ensures.value, c.in-Ok.ensures.cases.0, c.requires, more_runs, c.name_prefix-length.ensures.name)
 
 pub returns-clause-state : goal.returns-clause-state
 returns-clause-state c =

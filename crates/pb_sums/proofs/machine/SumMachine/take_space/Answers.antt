@@ -1,4 +1,4 @@
-use Rattle.pb_sums.proofs.lemmas.machine.AfterSpace.{space_state}
+use Rattle.pb_sums.proofs.lemmas.machine.States.{space_state}
 use Rattle.pb_sums.proofs.machine.SumMachine.take_space.Goals as goal
 
 pub returns-clause-state : goal.returns-clause-state

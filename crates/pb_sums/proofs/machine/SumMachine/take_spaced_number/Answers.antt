@@ -1,10 +1,7 @@
-use Rattle.pb_sums.proofs.Common.{◌==◌, ◌∙◌, ap, arith, length, sym, to_z-of_z}
+use Rattle.pb_sums.proofs.Common.{◌==◌, ◌∙◌, ap, length, sym}
 use Rattle.pb_sums.proofs.lemmas.prefixes.Digits.{none_there}
 use Rattle.pb_sums.proofs.lemmas.prefixes.TermParts.{number_state}
 use Rattle.pb_sums.proofs.machine.SumMachine.take_spaced_number.Goals as goal
-
-pub returns-clause-runs : goal.returns-clause-runs
-returns-clause-runs c = grind (arith, c.self.view_is, none_there, c.as_bytes.ensures, c.is_empty.ensures, c.if-not-is_empty.false, c.after_number-self-inside.ensures, c.role.ensures, to_z-of_z, c.in-Some.ensures.runs)
 
 pub returns-clause-state : goal.returns-clause-state
 returns-clause-state c =

@@ -1,11 +1,6 @@
-use Rattle.pb_sums.proofs.Common.{arith, refl, to_z-of_z, Phase}
-use Rattle.pb_sums.proofs.lemmas.prefixes.Digits.{none_there}
+use Rattle.pb_sums.proofs.Common.{refl, Phase}
 use Rattle.pb_sums.proofs.lemmas.machine.States.{midway_state}
-use Rattle.pb_sums.proofs.lemmas.prefixes.TermParts.{term_runs, grown}
 use Rattle.pb_sums.proofs.machine.SumMachine.take_term.Goals as goal
-
-pub returns-clause-runs : goal.returns-clause-runs
-returns-clause-runs c = grind (arith, c.self.view_is, none_there, c.as_bytes.ensures, c.is_empty.ensures, c.if-not-is_empty.false, to_z-of_z, term_runs, c.begins_term.ensures, c.if-not-begins_term.false, c.in-Some.ensures.runs, c.in-Some-spaced_literal_prefix.ensures.runs, grown, c.if-is_err.ensures.value)
 
 pub returns-clause-state : goal.returns-clause-state
 returns-clause-state c = midway_state c.self.inside.spaces c.self.inside.part c.self.inside.limit _ _ Phase.Between tt refl
