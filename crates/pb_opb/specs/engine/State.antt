@@ -35,15 +35,7 @@ objectives limit = first White part.TheVariants.Sum limit
 
 -- before an instance
 abbrev pub begin : ℕ → ℕ → OpbState
-begin limit top = record {
-  limit = limit;
-  top = top;
-  variables = 0;
-  remaining = 0;
-  phase = phase.TheVariants.Start;
-  text = [];
-  sums = linears limit;
-}
+begin limit top = record { limit = limit; top = top; variables = 0; remaining = 0; phase = phase.TheVariants.Start; text = []; sums = linears limit }
 
 -- the phase with this many constraints to come
 abbrev pub phase_owing : Bool → ℕ → Phase
@@ -52,15 +44,8 @@ phase_owing objective_allowed (suc n) = phase.TheVariants.Between objective_allo
 
 -- between two statements
 abbrev pub between : OpbState → Bool → ℕ → OpbState
-between s objective_allowed remaining = record {
-  limit = s.limit;
-  top = s.top;
-  variables = s.variables;
-  remaining = remaining;
-  phase = phase_owing objective_allowed remaining;
-  text = [];
-  sums = linears s.limit;
-}
+between s objective_allowed remaining =
+    record s { remaining = remaining; phase = phase_owing objective_allowed remaining; text = []; sums = linears s.limit }
 
 abbrev pub at : OpbState → Phase → OpbState
 at s p = record s { phase = p }

@@ -1,8 +1,7 @@
 -- What is written for an instance reads back as that instance.
-use Rattle.pb_opb.proofs.Common.{ℕ, ◌++◌, ◌+◌, ◌<◌, ◌^◌, ◌∙◌, ◌∷◌, ◌≡◌, ◌≤◌, [], ap, append_assoc, arith, false, length, List, None, Option, refl}
-use Rattle.pb_opb.proofs.Common.{Some, true, Linear, Term, bytes_of, Item, body_events, constraint_events, header_bytes}
-use Rattle.pb_opb.proofs.Common.{in_order, instance_bytes, lines, objective_events, CanonicalInstance, OpbEvent, Header, Instance, AreComments}
-use Rattle.pb_opb.proofs.Common.{AreLinears, is_one, IsObjective, IsValueOf, statements}
+use Rattle.pb_opb.proofs.Common.{ℕ, ◌++◌, ◌+◌, ◌<◌, ◌^◌, ◌∙◌, ◌∷◌, ◌≡◌, ◌≤◌, [], ap, append_assoc, arith, false, length, List, None, Option, refl, Some, true}
+use Rattle.pb_opb.proofs.Common.{Linear, Term, bytes_of, Item, body_events, constraint_events, header_bytes, in_order, instance_bytes, lines, objective_events}
+use Rattle.pb_opb.proofs.Common.{CanonicalInstance, OpbEvent, Header, Instance, AreComments, AreLinears, is_one, IsObjective, IsValueOf, statements}
 use Rattle.std.proofs.lemmas.List.{length-map}
 use Rattle.pb_opb.specs.declared.instance.Comment.{Comment}
 use Rattle.pb_opb.proofs.lemmas.instances.Counted.{IsCounted, body_of}

@@ -1,5 +1,5 @@
 -- What is written reads back as the same value.
-use Rattle.pb_opb.proofs.Common.{◌∙◌, List, subst, sym, one_spelling, Item, events_of, ReadsBack, OpbEvent, begin, opb, IsValueOf}
+use Rattle.pb_opb.proofs.Common.{rules, ◌∙◌, List, subst, sym, one_spelling, Item, events_of, ReadsBack, OpbEvent, begin, opb, IsValueOf}
 use Rattle.pb_opb.proofs.lemmas.instances.Again.{canonical_instance}
 use Rattle.pb_opb.proofs.lemmas.machine.Bodies.{instance_each, finishes}
 use Rattle.pb_opb.proofs.lemmas.instances.OneValue.{same_value}

@@ -1,7 +1,7 @@
 -- An instance remains an instance if numbers may be larger.
-use Rattle.pb_opb.proofs.Common.{ℕ, ◌∷◌, ◌≤◌, [], arith, Bool, false, List, refl, suc, true, zero, Term, White, Spells, after_it, inside, ◌⋅◌}
-use Rattle.pb_opb.proofs.Common.{Blanks0, Blanks1, Byte, Bytes, Language, Count, Item, Letter, OpbEvent, Comment, Constraint, Header, Objective}
-use Rattle.pb_opb.proofs.Common.{constraint_word, IsBegun, IsInstance, SpellsHeader, SpellsObjective, variable_word}
+use Rattle.pb_opb.proofs.Common.{ℕ, ◌∷◌, ◌≤◌, [], arith, Bool, false, List, refl, suc, true, zero, Term, White, Spells, after_it, inside, ◌⋅◌, Blanks0, Blanks1}
+use Rattle.pb_opb.proofs.Common.{Byte, Bytes, Language, Count, Item, Letter, OpbEvent, Comment, Constraint, Header, Objective, constraint_word, IsBegun}
+use Rattle.pb_opb.proofs.Common.{IsInstance, SpellsHeader, SpellsObjective, variable_word}
 use Rattle.pb_sums.specs.declared.sum_kind.Part as part
 use Rattle.pb_sums.specs.declared.linear.SumEvent as sum
 use Rattle.pb_sums.proofs.lemmas.values.Larger.{spells_larger}
@@ -60,5 +60,4 @@ module _ (limit limit' top top' : ℕ) (h : limit ≤ limit') (j : top ≤ top')
   begun_grows i rest _ k = absurd k
 
   pub instance_grows : (items : List (Item OpbEvent)) → IsInstance limit top items → IsInstance limit' top' items
-  instance_grows [] k = absurd k
-  instance_grows (i ∷ rest) k = begun_grows i rest i.event k
+  instance_grows items k = grind (arith, begun_grows)

@@ -1,9 +1,8 @@
 -- Each state that a machine of instances can be in accepts some text.
-use Rattle.pb_opb.proofs.Common.{ℕ, ◌+◌, ◌-◌, ◌<◌, ◌≡◌, [], ap, arith, Bool, cond, false, le-leb, length, List, nat_eq, refl, subst, suc, sym}
-use Rattle.pb_opb.proofs.Common.{true, zero, slice_index, eq-eqb, ne_eqb, reads_something, SumEvent, sums, SumState, accepted, before, final, IsAlive}
-use Rattle.pb_opb.proofs.Common.{AcceptsItems, ReadsStatement, Item, Letter, OpbEvent, Stop, To, Field, Constraints, Variables, Phase, count}
-use Rattle.pb_opb.proofs.Common.{transition, word_of, Holds, IsIdle, IsInOrder, PhaseFits, act, after, between, giving, is_done, objectives, opb}
-use Rattle.pb_opb.proofs.Common.{OpbState, remaining_after, statement_of}
+use Rattle.pb_opb.proofs.Common.{ℕ, ◌+◌, ◌-◌, ◌<◌, ◌≡◌, [], ap, arith, Bool, cond, false, le-leb, length, List, nat_eq, refl, subst, suc, sym, true, zero}
+use Rattle.pb_opb.proofs.Common.{slice_index, eq-eqb, ne_eqb, reads_something, SumEvent, sums, SumState, accepted, before, final, IsAlive, AcceptsItems}
+use Rattle.pb_opb.proofs.Common.{ReadsStatement, Item, Letter, OpbEvent, Stop, To, Field, Constraints, Variables, Phase, count, transition, word_of, Holds}
+use Rattle.pb_opb.proofs.Common.{IsIdle, IsInOrder, PhaseFits, act, after, between, giving, is_done, objectives, opb, OpbState, remaining_after, statement_of}
 use Rattle.pb_sums.specs.declared.Spaces as grammar
 use Rattle.pb_sums.specs.declared.Part as part
 use Rattle.pb_sums.specs.declared.phase.Phase as sum_phase

@@ -1,12 +1,11 @@
 -- If a machine of instances may allocate at a byte, then that byte's position in its statement is one that may
 -- allocate.
-use Rattle.pb_opb.proofs.Common.{ℕ, ◌&&◌, ◌++◌, ◌∙◌, ◌∷◌, ◌≡◌, ◌≤◌, ◌⊎◌, [], ap, append-nil, ap₂, arith, Bool, false, inl, inr, IsTrue}
-use Rattle.pb_opb.proofs.Common.{List, nat_eq, refl, subst, suc, sym, true, zero, cond_both, reads_grammar}
-use Rattle.pb_opb.proofs.Common.{continues-midway, SumEvent, White, sums, SumState, Spells, prefixes_of, reads_after, Walks, never, bytes-append}
-use Rattle.pb_opb.proofs.Common.{bytes-plain, End, Go, MayAsk, Next, ReadsStatement, IsInLine, is_blank, is_white, ◌⋅◌, Blanks0}
-use Rattle.pb_opb.proofs.Common.{Byte, Bytes, Digits, bytes, Letter, OpbEvent, Comment, Constraint, Header, Objective, Action}
-use Rattle.pb_opb.proofs.Common.{Constraints, Variables, Phase, transition, act, asks, begin, giving, linears, objectives, opb}
-use Rattle.pb_opb.proofs.Common.{OpbState, over, statement_of, constraint_word, IsInstance, IsTail}
+use Rattle.pb_opb.proofs.Common.{ℕ, ◌&&◌, ◌++◌, ◌∙◌, ◌∷◌, ◌≡◌, ◌≤◌, ◌⊎◌, [], ap, append-nil, ap₂, arith, Bool, false, inl, inr, IsTrue, List, nat_eq, refl}
+use Rattle.pb_opb.proofs.Common.{subst, suc, sym, true, zero, cond_both, reads_grammar, continues-midway, SumEvent, White, sums, SumState, Spells, prefixes_of}
+use Rattle.pb_opb.proofs.Common.{reads_after, Walks, never, bytes-append, bytes-plain, End, Go, MayAsk, Next, ReadsStatement, IsInLine, is_blank, is_white, ◌⋅◌}
+use Rattle.pb_opb.proofs.Common.{Blanks0, Byte, Bytes, Digits, bytes, Letter, OpbEvent, Comment, Constraint, Header, Objective, Action, Constraints, Variables}
+use Rattle.pb_opb.proofs.Common.{Phase, transition, act, asks, begin, giving, linears, objectives, opb, OpbState, over, statement_of, constraint_word}
+use Rattle.pb_opb.proofs.Common.{IsInstance, IsTail}
 use Rattle.pb_text.specs.meaning.Asking.{AsksOnly}
 use Rattle.pb_text.proofs.lemmas.machine.Asked as asked
 use Rattle.pb_sums.specs.declared.sum_kind.Part as part
@@ -43,16 +42,14 @@ module _ (limit top : ℕ) where
       (λ _. gap_given (λ next. Idle next × (sums.asks s.sums b ≡ false)) s (sums.step s.sums b))))
 
   gap_of : (s : OpbState) (b : ℕ) → Idle s → Quiet (opb.step s b) (opb.asks s b)
-  gap_of s b (inl e) = subst (λ x. Quiet (opb.step x b) (opb.asks x b)) (sym e) (gap_begin b)
-  gap_of s b (inr (v, objective_allowed, n, e)) = subst (λ x. Quiet (opb.step x b) (opb.asks x b)) (sym e) (gap_idle v objective_allowed n b)
+  gap_of s b h = grind (arith, gap_begin, gap_idle)
 
   gaps : (s next : OpbState) (b : ℕ) → Idle s → opb.step s b ≡ Go next → opb.begun next ≡ false → Idle next × (opb.asks s b ≡ false)
   gaps s next b i g o = (subst (λ x. Quiet x (opb.asks s b)) g (gap_of s b i)) o
 
   -- after a statement
   after_header : (e : OpbEvent) (next : OpbState) (t : List Letter) → header.IsHeader limit top e next t → Idle next
-  after_header (Header v n tail) next t h = inr (v, true, n, h.2)
-  after_header _ next t h = absurd h
+  after_header e next t h = grind arith
 
   after_entry : (v n : ℕ) (objective_allowed : Bool) (e : OpbEvent) (next : OpbState) (t : List Letter) → entry.IsStatement limit top v n objective_allowed e next t → Idle next
   after_entry v n objective_allowed (Header w k tail) next t h = absurd h
@@ -85,8 +82,7 @@ module _ (limit top : ℕ) where
 
   -- the position of a byte that may allocate, by phase
   at_header : (e : OpbEvent) (next : OpbState) (t : List Letter) (text : List ℕ) (b : ℕ) → header.IsHeader limit top e next t → AsksHeader top text b → Asks top e text b
-  at_header (Header v n tail) next t text b h a = a
-  at_header _ next t text b h a = absurd h
+  at_header e next t text b h a = grind arith
 
   -- Within a sum, the text is read by the machine of sums.
   module _ (q : Phase) (g : Gives q) where

@@ -1,11 +1,10 @@
 -- What the machine reads after a header is a comment, an objective or a constraint.
-use Rattle.pb_opb.proofs.Common.{ℕ, ◌&&◌, ◌++◌, ◌+◌, ◌-◌, ◌<◌, ◌∙◌, ◌∷◌, ◌≡◌, [], ap, arith, Bool, false, IsTrue, length, List, nat_eq, refl, subst}
-use Rattle.pb_opb.proofs.Common.{suc, sym, take, true, slice_index, and_parts, cond_both, eqb-true, reads_grammar, continues-midway, SumEvent, White}
-use Rattle.pb_opb.proofs.Common.{sums, SumState, Spells, SpellsLinear, ends_walk, Keeps, On, reported, Walks, walks_more, never, grown, many-grown}
-use Rattle.pb_opb.proofs.Common.{next, none_yet, as_unmarked, bytes_grown, further, word_grown, word_whole, End, Go, Next, ReadsStatement, Refuse}
-use Rattle.pb_opb.proofs.Common.{IsInLine, is_white, ◌⋅◌, Byte, Bytes, Language, unmarked, Letter, plain, OpbEvent, Action, BeginSum, To, Phase}
-use Rattle.pb_opb.proofs.Common.{transition, act, after, is_in_number, linears, objectives, opb, OpbState, over, statement_of, min_word}
-use Rattle.pb_opb.proofs.Common.{SpellsObjective, Whites0}
+use Rattle.pb_opb.proofs.Common.{ℕ, ◌&&◌, ◌++◌, ◌+◌, ◌-◌, ◌<◌, ◌∙◌, ◌∷◌, ◌≡◌, [], ap, arith, Bool, false, IsTrue, length, List, nat_eq, refl, subst, suc, sym}
+use Rattle.pb_opb.proofs.Common.{take, true, slice_index, and_parts, cond_both, eqb-true, reads_grammar, continues-midway, SumEvent, White, sums, SumState}
+use Rattle.pb_opb.proofs.Common.{Spells, ends_walk, Keeps, On, reported, Walks, walks_more, never, grown, many-grown, next, none_yet, as_unmarked, bytes_grown}
+use Rattle.pb_opb.proofs.Common.{further, word_grown, word_whole, End, Go, Next, ReadsStatement, Refuse, IsInLine, is_white, ◌⋅◌, Byte, Bytes, Language}
+use Rattle.pb_opb.proofs.Common.{unmarked, Letter, plain, OpbEvent, Action, BeginSum, To, Phase, transition, act, after, is_in_number, linears, objectives, opb}
+use Rattle.pb_opb.proofs.Common.{OpbState, over, statement_of, min_word, SpellsObjective, Whites0}
 use Rattle.pb_sums.specs.declared.sum_kind.Part as part
 use Rattle.pb_sums.specs.declared.linear.SumEvent as sum
 use Rattle.pb_opb.specs.declared.phase.Phase as phase
@@ -56,10 +55,7 @@ module _ (limit top v n : ℕ) (objective_allowed : Bool) where
     -- constraints
     ends_constraint : (e : SumEvent) → Spells White s.limit part.TheVariants.Linear e (p ++ l ∷ [])
         → IsStatement (statement_of e) (after s phase.TheVariants.Constraint) (p ++ l ∷ [])
-    ends_constraint (sum.TheVariants.Sum xs) h = never false h.0 refl
-    ends_constraint (sum.TheVariants.Linear c) h =
-        let less : s.remaining - 1 ≡ n = omega (arith, k.3) in
-        (subst (λ x. SpellsLinear White x c (p ++ l ∷ [])) k.0 h.1, same_idle s.limit s.top s.variables (s.remaining - 1) n false false k.0 k.1 k.2 refl less)
+    ends_constraint e h = grind (arith, never, same_idle)
 
     in_constraint : Walks sums (linears s.limit) p s.sums → (x : Next SumState SumEvent) → sums.step s.sums l.byte ≡ x → Leaves (over s phase.TheVariants.Constraint x)
     in_constraint h (Go inner) e = λ w m. (k, walks_more sums p l (linears s.limit) s.sums inner h e (continues-midway s.sums inner l.byte e) m)
@@ -135,11 +131,7 @@ module _ (limit top v n : ℕ) (objective_allowed : Bool) where
         (λ _. cond_both (nat_eq l.byte 42) _ _ After
         (λ e w f. (
           k,
-          (
-            same,
-            subst IsInLine (sym kept) tt,
-            none_yet (Byte 42) (Bytes s.text) (p ++ l ∷ []) (ap plain (sym kept)) (first 42 f e),
-          ),
+          (same, subst IsInLine (sym kept) tt, none_yet (Byte 42) (Bytes s.text) (p ++ l ∷ []) (ap plain (sym kept)) (first 42 f e)),
         ))
         (λ _. cond_both (nat_eq l.byte 109 && m) _ _ After
         (λ e w f. let g : (nat_eq l.byte 109 ≡ true) × (m ≡ true) = and_parts (nat_eq l.byte 109) m e in (k, (sym same ∙ g.1, omega arith, first 109 f g.0)))
@@ -149,13 +141,7 @@ module _ (limit top v n : ℕ) (objective_allowed : Bool) where
         first b f e = ap (λ x. x ++ l ∷ []) none ∙ ap (λ x. x ∷ []) (as_unmarked l b f (eqb-true l.byte b e))
 
     sound : (q : Phase) → s.phase ≡ q → prefix s q p → After (transition s.top q l.byte)
-    sound (phase.TheVariants.Between m) e h = between_two m h.0 h.1 h.2 h.3
-    sound (phase.TheVariants.Comment m) e h = in_comment m e h.0 h.1 h.2
-    sound (phase.TheVariants.Min j) e h = in_min j h.0 h.1 h.2
-    sound phase.TheVariants.AfterMin e h = after_min h.0 h.1 h.2
-    sound phase.TheVariants.Objective e h = in_objective h.0 h.1 (sums.step s.sums l.byte) refl
-    sound phase.TheVariants.Constraint e h = in_constraint h (sums.step s.sums l.byte) refl
-    sound _ e h = absurd h
+    sound q e h = grind (arith, between_two, in_comment, in_min, after_min, in_objective, in_constraint)
 
   pub keeps : Keeps opb Prefix IsStatement
   keeps s l p f = sound s l p f.0 s.phase refl f.1

@@ -1,9 +1,9 @@
 -- The machine reads each comment, objective and constraint.
 use Rattle.pb_opb.proofs.Common.{ℕ, ◌++◌, ◌-◌, ◌∙◌, ◌∷◌, ◌≡◌, [], ap, arith, Bool, cond, false, IsTrue, List, nat_eq, refl, subst, suc, sym, true}
 use Rattle.pb_opb.proofs.Common.{reads_grammar, Linear, SumEvent, Term, White, last, sums, SumState, Spaces0, Spells, SpellsLinear, SpellsSum, Leads}
-use Rattle.pb_opb.proofs.Common.{leads_then, longer, reads_after, Walks, Go, ReadsStatement, IsInLine, is_white, ◌⋅◌, Byte, Bytes, unmarked, Letter}
-use Rattle.pb_opb.proofs.Common.{plain, OpbEvent, Comment, Constraint, Header, Objective, Give, To, Phase, transition, act, linears, objectives, opb}
-use Rattle.pb_opb.proofs.Common.{OpbState, min_word, SpellsComment, SpellsObjective, Whites0}
+use Rattle.pb_opb.proofs.Common.{leads_then, longer, reads_after, Walks, Go, ReadsStatement, IsInLine, is_white, ◌⋅◌, Byte, Bytes, unmarked, Letter, plain}
+use Rattle.pb_opb.proofs.Common.{OpbEvent, Comment, Constraint, Objective, Give, To, Phase, transition, act, linears, objectives, opb, OpbState, min_word}
+use Rattle.pb_opb.proofs.Common.{SpellsComment, SpellsObjective, Whites0}
 use Rattle.pb_sums.specs.declared.sum_kind.Part as part
 use Rattle.pb_sums.specs.declared.linear.SumEvent as sum
 use Rattle.pb_opb.specs.declared.phase.Phase as phase
@@ -30,12 +30,7 @@ module _ (limit top v n : ℕ) where
 
   -- comments
   comment_keeps : (objective_allowed : Bool) → Keeps (λ kept. stands limit top v (suc n) (phase.TheVariants.Comment objective_allowed) kept) (λ kept. Comment kept) (between objective_allowed)
-  comment_keeps objective_allowed = record {
-    keep = λ kept b h. rw h refl;
-    stop = λ kept. refl;
-    within = λ kept. refl;
-    number = λ kept. refl;
-  }
+  comment_keeps objective_allowed = record { keep = λ kept b h. rw h refl; stop = λ kept. refl; within = λ kept. refl; number = λ kept. refl }
 
   comment_reads : (objective_allowed : Bool) (bytes : List ℕ) (t : List Letter) → IsInLine bytes → SpellsComment bytes t → ReadsStatement opb (between objective_allowed) t (Comment bytes) (between objective_allowed)
   comment_reads objective_allowed bytes t h (ab, c, e, (a, b, f, star, text), feed) =
@@ -114,7 +109,4 @@ module _ (limit top v n : ℕ) where
   -- The machine reads each statement.
   pub entry_reads : (objective_allowed : Bool) (t : List Letter) (e : OpbEvent) (new : OpbState) → IsEntry limit objective_allowed n t (λ m k. new ≡ idle limit top v m k) e
       → ReadsStatement opb (between objective_allowed) t e new
-  entry_reads objective_allowed t (Header variables constraints tail) new h = absurd h
-  entry_reads objective_allowed t (Comment bytes) new h = subst (λ x. ReadsStatement opb (between objective_allowed) t (Comment bytes) x) (sym h.2) (comment_reads objective_allowed bytes t h.0 h.1)
-  entry_reads objective_allowed t (Objective xs) new h = subst (λ x. ReadsStatement opb (between objective_allowed) t (Objective xs) x) (sym h.2) (objective_reads objective_allowed xs t h.0 h.1)
-  entry_reads objective_allowed t (Constraint c) new h = subst (λ x. ReadsStatement opb (between objective_allowed) t (Constraint c) x) (sym h.1) (constraint_reads objective_allowed c t h.0)
+  entry_reads objective_allowed t e new h = grind (arith, comment_reads, objective_reads, constraint_reads)

@@ -1,11 +1,10 @@
 -- What the machine reads as a header is a header.
-use Rattle.pb_opb.proofs.Common.{ℕ, ◌&&◌, ◌*◌, ◌++◌, ◌+◌, ◌-◌, ◌<◌, ◌∙◌, ◌∷◌, ◌≡◌, ◌≤◌, [], ap, arith, false, IsTrue, length, List, nat_eq, nat_le}
-use Rattle.pb_opb.proofs.Common.{refl, subst, sym, take, true, slice_index, and_parts, cond_both, eqb-true, leb-true, Keeps, On, reported}
-use Rattle.pb_opb.proofs.Common.{digits-grown, digits-one, after_it, grown, many-grown, next, none_yet, some-grown, some-one, as_unmarked}
-use Rattle.pb_opb.proofs.Common.{bytes_grown, further, some_digit, word_grown, word_whole, ReadsStatement, is_blank, is_digit, ◌⋅◌, Blanks0, Blanks1}
-use Rattle.pb_opb.proofs.Common.{Byte, Bytes, digit, Language, unmarked, Count, Digits, Letter, plain, OpbEvent, Header, Action, To, Field}
-use Rattle.pb_opb.proofs.Common.{Constraints, Variables, Phase, after_count, transition, word_of, act, begin, is_in_number, opb, OpbState}
-use Rattle.pb_opb.proofs.Common.{constraint_word, IsTail, SpellsHeader, variable_word}
+use Rattle.pb_opb.proofs.Common.{ℕ, ◌&&◌, ◌*◌, ◌++◌, ◌+◌, ◌-◌, ◌<◌, ◌∙◌, ◌∷◌, ◌≡◌, ◌≤◌, [], ap, arith, false, IsTrue, length, List, nat_eq, nat_le, refl, subst}
+use Rattle.pb_opb.proofs.Common.{sym, take, true, slice_index, and_parts, cond_both, eqb-true, leb-true, Keeps, On, reported, digits-grown, digits-one}
+use Rattle.pb_opb.proofs.Common.{after_it, grown, many-grown, next, none_yet, some-grown, some-one, as_unmarked, bytes_grown, further, some_digit, word_grown}
+use Rattle.pb_opb.proofs.Common.{word_whole, ReadsStatement, is_blank, is_digit, ◌⋅◌, Blanks0, Blanks1, Byte, Bytes, digit, Language, unmarked, Count, Digits}
+use Rattle.pb_opb.proofs.Common.{Letter, plain, OpbEvent, Header, Action, To, Field, Constraints, Variables, Phase, after_count, transition, word_of, act}
+use Rattle.pb_opb.proofs.Common.{begin, is_in_number, opb, OpbState, constraint_word, IsTail, SpellsHeader, variable_word}
 use Rattle.std.proofs.lemmas.Grind.{common_steps}
 use Rattle.pb_opb.specs.declared.phase.Phase as phase
 use Rattle.pb_opb.proofs.lemmas.machine.Prefixes.{tail_grown}
@@ -39,8 +38,7 @@ before_grown top v Constraints l p n e h =
     grown (Whole top Variables v (Byte 42 ⋅ Blanks0)) Blanks1 Blanks1 p l (some-grown IsBlank l.byte l (as_unmarked l l.byte n refl) e) h
 
 hash : (f : Field) → plain (take 1 (word_of f)) ≡ unmarked 35 ∷ []
-hash Variables = refl
-hash Constraints = refl
+hash f = grind arith
 
 counted : (top n : ℕ) (P : Language) (p : List Letter) → n ≤ top → (P ⋅ Digits n) p → (P ⋅ Count top n) p
 counted top n P p l h = after_it P (Digits n) (Count top n) p (λ q r. (l, r)) h

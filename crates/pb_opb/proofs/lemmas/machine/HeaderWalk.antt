@@ -1,10 +1,9 @@
 -- The machine reads each header: one lemma for each word of the grammar.
-use Rattle.pb_opb.proofs.Common.{ℕ, ◌*◌, ◌++◌, ◌+◌, ◌<◌, ◌∙◌, ◌∷◌, ◌≡◌, ◌≤◌, [], ap, append_assoc, arith, Bool, cond, false, IsTrue}
-use Rattle.pb_opb.proofs.Common.{length, length-append, List, nat_eq, refl, subst, sym, true, get_or-append_seam, eq-eqb, Leads}
-use Rattle.pb_opb.proofs.Common.{leads_then, longer, reads_after, Walks, blank_each, Go, ReadsStatement, is_blank, ◌⋅◌}
-use Rattle.pb_opb.proofs.Common.{Blanks0, Blanks1, Byte, Bytes, Language, unmarked, Count, Letter, plain, Header, To, Field, Constraints, Variables}
-use Rattle.pb_opb.proofs.Common.{Phase, spell, transition, word_of, act, begin, opb, OpbState, constraint_word, IsTail}
-use Rattle.pb_opb.proofs.Common.{SpellsHeader, variable_word}
+use Rattle.pb_opb.proofs.Common.{ℕ, ◌*◌, ◌++◌, ◌+◌, ◌<◌, ◌∙◌, ◌∷◌, ◌≡◌, ◌≤◌, [], ap, append_assoc, arith, Bool, cond, false, IsTrue, length, length-append}
+use Rattle.pb_opb.proofs.Common.{List, nat_eq, refl, subst, sym, true, get_or-append_seam, eq-eqb, Leads, leads_then, longer, reads_after, Walks, blank_each}
+use Rattle.pb_opb.proofs.Common.{Go, ReadsStatement, is_blank, ◌⋅◌, Blanks0, Blanks1, Byte, Bytes, Language, unmarked, Count, Letter, plain, Header, To, Field}
+use Rattle.pb_opb.proofs.Common.{Constraints, Variables, Phase, spell, transition, word_of, act, begin, opb, OpbState, constraint_word, IsTail, SpellsHeader}
+use Rattle.pb_opb.proofs.Common.{variable_word}
 use Rattle.std.proofs.lemmas.Bool.Decides.{nat_tests}
 use Rattle.std.proofs.lemmas.Grind.{common_steps}
 use Rattle.pb_text.proofs.lemmas.numbers.DigitWalks.{TakesDigits, digits_lead}
@@ -38,14 +37,7 @@ module _ (limit top : ℕ) where
   -- the remaining bytes of a word
   spelled : (f : Field) (v : ℕ) (prefix left : List ℕ) (b : ℕ) → word_of f ≡ prefix ++ b ∷ left
       → Walks opb (head v (phase.TheVariants.Word f (length prefix))) (plain (b ∷ left)) (head v (phase.TheVariants.BeforeCount f))
-  spelled f v prefix [] b e =
-      let n : nat_eq (length prefix + 1) (length (word_of f)) ≡ true = rw e (grind (arith, common_steps)) in (
-        head v (phase.TheVariants.BeforeCount f),
-        ap (λ x. act (head v (phase.TheVariants.Word f (length prefix))) b x) (spell_next (word_of f) prefix [] b (phase.TheVariants.Word f (length prefix + 1)) (phase.TheVariants.BeforeCount f) true e n),
-        refl,
-        refl,
-        refl,
-      )
+  spelled f v prefix [] b e = grind (arith, nat_eq, common_steps, spell_next)
   spelled f v prefix (c ∷ left) b e =
       let n : nat_eq (length prefix + 1) (length (word_of f)) ≡ false = rw e (grind (arith, common_steps)) in (
         head v (phase.TheVariants.Word f (length prefix + 1)),
@@ -114,12 +106,7 @@ module _ (limit top : ℕ) where
 
   -- the tail
   tail_keeps : (v n : ℕ) → Keeps (λ kept. stands limit top v n phase.TheVariants.Tail kept) (λ kept. Header v n kept) (idle limit top v true n)
-  tail_keeps v n = record {
-    keep = λ kept b h. rw h refl;
-    stop = λ kept. refl;
-    within = λ kept. refl;
-    number = λ kept. refl;
-  }
+  tail_keeps v n = record { keep = λ kept b h. rw h refl; stop = λ kept. refl; within = λ kept. refl; number = λ kept. refl }
 
   begins_tail : (v n b : ℕ) → is_blank b ≡ true → opb.step (head v (phase.TheVariants.Count Constraints n)) b ≡ Go (stands limit top v n phase.TheVariants.Tail (b ∷ []))
   begins_tail v n = blank_each (λ b. opb.step (head v (phase.TheVariants.Count Constraints n)) b ≡ Go (stands limit top v n phase.TheVariants.Tail (b ∷ []))) refl refl refl

@@ -1,7 +1,6 @@
 -- Bytes of a line that are stored at once, and the run that they are.
-use Rattle.pb_opb.proofs.Common.{ℕ, ◌++◌, ◌∷◌, ◌≡◌, [], ap, append-nil, append_assoc, arith, false, List, nat_eq, None, Option, subst, take}
-use Rattle.pb_opb.proofs.Common.{true, IfSome, not-true, Go, Runs, IsInLine, IsInOrder, keeps_line, opb}
-use Rattle.pb_opb.proofs.Common.{OpbState}
+use Rattle.pb_opb.proofs.Common.{ℕ, ◌++◌, ◌∷◌, ◌≡◌, [], ap, append-nil, append_assoc, arith, false, List, nat_eq, None, Option, subst, take, true, IfSome}
+use Rattle.pb_opb.proofs.Common.{not-true, Go, Runs, IsInLine, IsInOrder, keeps_line, opb, OpbState}
 use Rattle.std.specs.Option.{unwrap_or}
 use Rattle.pb_opb.proofs.lemmas.machine.States.{is_state}
 

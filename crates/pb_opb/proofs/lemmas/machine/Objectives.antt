@@ -1,6 +1,6 @@
 -- The texts of objectives: `min:` and white space, and what a machine of sums reads after that.
-use Rattle.pb_opb.proofs.Common.{ℕ, List, refl, Term, White, Spaces0, Spells, SpellsSum, after_it, inside, regroup3, regroup⁻¹, ◌⋅◌, Byte, Bytes}
-use Rattle.pb_opb.proofs.Common.{Language, Letter, min_word, SpellsObjective, Whites0}
+use Rattle.pb_opb.proofs.Common.{ℕ, List, refl, Term, White, Spaces0, Spells, SpellsSum, after_it, inside, regroup3, regroup⁻¹, ◌⋅◌, Byte, Bytes, Language}
+use Rattle.pb_opb.proofs.Common.{Letter, min_word, SpellsObjective, Whites0}
 use Rattle.pb_sums.specs.declared.sum_kind.Part as part
 use Rattle.pb_sums.specs.declared.linear.SumEvent as sum
 use Rattle.pb_opb.proofs.lemmas.machine.FirstLetters.{spaces_white, whites_space}

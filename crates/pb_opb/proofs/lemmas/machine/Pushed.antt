@@ -1,10 +1,8 @@
 -- The state of a machine of instances after a byte.
-use Rattle.pb_opb.proofs.Common.{ℕ, ◌&&◌, ◌++◌, ◌<◌, ◌∙◌, ◌∷◌, ◌≡◌, [], ap, arith, Bool, false, IsTrue, List}
-use Rattle.pb_opb.proofs.Common.{refl, subst, sym, true, midway-not-done, continues, continues-midway, ended-last, SumEvent}
-use Rattle.pb_opb.proofs.Common.{White, first, sums, SumState, admits_before, admits_final, Admits, begins, begins_with, Continues, End, Go, is_large}
-use Rattle.pb_opb.proofs.Common.{IsState, Next, Refuse, is_digit, Action, BeginTail}
-use Rattle.pb_opb.proofs.Common.{Give, Keep, To, Phase, transition, Holds}
-use Rattle.pb_opb.proofs.Common.{IsIdle, IsInOrder, PhaseFits, act, after, asks, at, giving, is_in_number, is_within, linears, opb, OpbState}
+use Rattle.pb_opb.proofs.Common.{ℕ, ◌&&◌, ◌++◌, ◌<◌, ◌∙◌, ◌∷◌, ◌≡◌, [], ap, arith, Bool, false, IsTrue, List, refl, subst, sym, true, midway-not-done}
+use Rattle.pb_opb.proofs.Common.{continues, continues-midway, ended-last, SumEvent, White, first, sums, SumState, admits_before, admits_final, Admits, begins}
+use Rattle.pb_opb.proofs.Common.{begins_with, Continues, End, Go, is_large, IsState, Next, Refuse, is_digit, Action, BeginTail, Give, Keep, To, Phase}
+use Rattle.pb_opb.proofs.Common.{transition, Holds, IsIdle, IsInOrder, PhaseFits, act, after, asks, at, giving, is_in_number, is_within, linears, opb, OpbState}
 use Rattle.pb_opb.proofs.Common.{over, phase_owing, remaining_after, statement_of}
 use Rattle.pb_text.proofs.lemmas.machine.Residual.{refuses}
 use Rattle.pb_text.proofs.lemmas.machine.Admitted.{admits_within}

@@ -1,7 +1,7 @@
 -- The states of a machine of instances, within a header and between two statements.
-use Rattle.pb_opb.proofs.Common.{ℕ, ◌++◌, ◌∙◌, ◌∷◌, ◌≡◌, [], ap, append-nil, append_assoc, Bool, false, List, nat_eq, refl, subst, sym, true}
-use Rattle.pb_opb.proofs.Common.{not-true, Leads, longer, Walks, End, Go, ReadsStatement, IsInLine, Each, Many, unmarked, plain, OpbEvent, Phase}
-use Rattle.pb_opb.proofs.Common.{linears, opb, OpbState, phase_owing}
+use Rattle.pb_opb.proofs.Common.{ℕ, ◌++◌, ◌∙◌, ◌∷◌, ◌≡◌, [], ap, append-nil, append_assoc, Bool, false, List, nat_eq, refl, subst, sym, true, not-true, Leads}
+use Rattle.pb_opb.proofs.Common.{longer, Walks, End, Go, ReadsStatement, IsInLine, Each, Many, unmarked, plain, OpbEvent, Phase, linears, opb, OpbState}
+use Rattle.pb_opb.proofs.Common.{phase_owing}
 
 -- with the machine of sums at the start of a linear text
 abbrev pub stands : ℕ → ℕ → ℕ → ℕ → Phase → List ℕ → OpbState

@@ -1,6 +1,5 @@
 -- A run of the machine of sums is a run of the machine of instances.
-use Rattle.pb_opb.proofs.Common.{ℕ, ◌∙◌, ◌∷◌, ◌≡◌, [], ap, List, refl, subst, sym, true, sums, SumState, Go, Runs, IsInOrder, giving, opb, OpbState}
-use Rattle.pb_opb.proofs.Common.{over}
+use Rattle.pb_opb.proofs.Common.{ℕ, ◌∙◌, ◌∷◌, ◌≡◌, [], ap, List, refl, subst, sym, true, sums, SumState, Go, Runs, IsInOrder, giving, opb, OpbState, over}
 use Rattle.pb_opb.proofs.lemmas.machine.GivenBytes.{IsGiving, gives_at, given_step}
 use Rattle.pb_opb.proofs.lemmas.machine.Pushed.{goes_order}
 use Rattle.pb_opb.proofs.lemmas.machine.States.{is_state}

@@ -1,8 +1,7 @@
 -- A whole constraint leads from one constraint to the next.
-use Rattle.pb_opb.proofs.Common.{ℕ, ◌<◌, ◌∙◌, ◌∷◌, ◌≡◌, [], ap, arith, Bool, false, get_or, inl, length, List, refl, Some, subst, suc, sym}
-use Rattle.pb_opb.proofs.Common.{take, true, zero, first_is_state, Linear, White, last, sums, SumState, begins, begins_with, End, Go, TakesStatement}
-use Rattle.pb_opb.proofs.Common.{Give, Phase, transition, Holds, IsInOrder, act, giving, is_within, linears, opb, OpbState, over, phase_owing}
-use Rattle.pb_opb.proofs.Common.{remaining_after}
+use Rattle.pb_opb.proofs.Common.{ℕ, ◌<◌, ◌∙◌, ◌∷◌, ◌≡◌, [], ap, arith, Bool, false, get_or, inl, length, List, refl, Some, subst, suc, sym, take, true, zero}
+use Rattle.pb_opb.proofs.Common.{first_is_state, Linear, White, last, sums, SumState, begins, begins_with, End, Go, TakesStatement, Give, Phase, transition}
+use Rattle.pb_opb.proofs.Common.{Holds, IsInOrder, act, giving, is_within, linears, opb, OpbState, over, phase_owing, remaining_after}
 use Rattle.pb_sums.specs.declared.SumEvent as sum
 use Rattle.pb_sums.specs.declared.Part as part
 use Rattle.pb_sums.specs.engine.TermParts.{LeadsToLinear}
