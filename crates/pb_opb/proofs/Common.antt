@@ -60,3 +60,6 @@ pub use Rattle.pb_opb.specs.meaning.Instances.{IsBody, IsInstance, IsTail, min_w
 pub use Rattle.pb_opb.specs.meaning.Instances.{Whites0}
 pub use Rattle.pb_opb.specs.meaning.Values.{AreComments, AreLinears, comments_in, constraints_in, is_one, IsInstanceValue, IsObjective, IsValueOf, last_or}
 pub use Rattle.pb_opb.specs.meaning.Values.{objectives_in, statements, tails_in, variables_in}
+pub use Rattle.pb_sums.specs.declared.sum_kind.Part.{Part}
+pub use Rattle.pb_sums.specs.declared.sum_kind.Spaces.{Spaces}
+pub use Rattle.pb_opb.specs.contracts.machine.OpbMachine.{the_view}

@@ -1,9 +1,8 @@
 -- The machine accepts the statements of an instance, and no others.
-use Rattle.pb_opb.proofs.Common.{ℕ, ◌&&◌, ◌↔◌, ◌∙◌, ◌∷◌, ◌≡◌, [], ap, arith, Bool, false, IsTrue, List, nat_eq, refl, subst, suc, sym, true, zero, cond_both}
-use Rattle.pb_opb.proofs.Common.{SumEvent, sums, SumState, refuse_or_end, refuse_or_go, never, AcceptsItems, End, Go, Next, ReadsStatement, Refuse, SkipsGap}
-use Rattle.pb_opb.proofs.Common.{is_white, Each, Item, Letter, OpbEvent, Constraint, Header, Action, act, begin, linears, opb, OpbState, over, IsBegun}
-use Rattle.pb_opb.proofs.Common.{IsInstance}
-use Rattle.pb_opb.specs.declared.phase.Phase as phase
+use Rattle.pb_opb.proofs.Common.{Phase, ℕ, ◌&&◌, ◌↔◌, ◌∙◌, ◌∷◌, ◌≡◌, [], ap, arith, Bool, false, IsTrue, List, nat_eq, refl, subst, suc, sym, true, zero}
+use Rattle.pb_opb.proofs.Common.{cond_both, SumEvent, sums, SumState, refuse_or_end, refuse_or_go, never, AcceptsItems, End, Go, Next, ReadsStatement, Refuse}
+use Rattle.pb_opb.proofs.Common.{SkipsGap, is_white, Each, Item, Letter, OpbEvent, Constraint, Header, Action, act, begin, linears, opb, OpbState, over}
+use Rattle.pb_opb.proofs.Common.{IsBegun, IsInstance}
 use Rattle.pb_opb.proofs.lemmas.instances.Counted.{IsEntry, IsCounted, counted, body_of}
 use Rattle.pb_opb.proofs.lemmas.instances.Larger.{entry_grows}
 use Rattle.pb_opb.proofs.lemmas.machine.EntryPrefix.{entry_only}
@@ -20,7 +19,7 @@ InGap P (End e s) = Unit {0}
 InGap P Refuse = Unit {0}
 
 -- a byte that is given to the machine of sums begins a statement
-pub gap_given : (P : OpbState → Type 0) (s : OpbState) (x : Next SumState SumEvent) → InGap P (over s phase.TheVariants.Constraint x)
+pub gap_given : (P : OpbState → Type 0) (s : OpbState) (x : Next SumState SumEvent) → InGap P (over s Phase.Constraint x)
 gap_given P s x = grind (arith, never)
 
 module _ (limit top : ℕ) where

@@ -2,7 +2,6 @@
 use Rattle.pb_opb.proofs.Common.{arith, ℕ, ◌<◌, ◌∙◌, ◌∷◌, ◌≡◌, ◌⊎◌, [], ap, false, List, refl, sym, true, SumEvent, sums, SumState, same_first, End, Next}
 use Rattle.pb_opb.proofs.Common.{ReadsStatement, Letter, Give, Phase, transition, Holds, PhaseFits, act, after, giving, is_in_number, is_within, opb, OpbState}
 use Rattle.pb_opb.proofs.Common.{over, statement_of}
-use Rattle.pb_opb.specs.declared.phase.Phase as phase
 
 -- a phase in which bytes are given to the machine of sums
 pub record Gives (p : Phase) : Type 0 where
@@ -12,15 +11,15 @@ pub record Gives (p : Phase) : Type 0 where
   pub fits : (top : ℕ) → PhaseFits top p
   pub holds : (s : OpbState) → 0 < s.remaining → s.text ≡ [] → sums.done s.sums ≡ false → Holds s p
 
-pub gives_objective : Gives phase.TheVariants.Objective
+pub gives_objective : Gives Phase.Objective
 gives_objective = record { planned = λ top b. refl; within = refl; number = λ s. refl; fits = λ top. tt; holds = λ s o t d. (o, t, d) }
 
-pub gives_constraint : Gives phase.TheVariants.Constraint
+pub gives_constraint : Gives Phase.Constraint
 gives_constraint = record { planned = λ top b. refl; within = refl; number = λ s. refl; fits = λ top. tt; holds = λ s o t d. (o, t, d) }
 
 -- the states in which each byte is given
 abbrev pub IsGiving : OpbState → Type 0
-IsGiving s = (s.phase ≡ phase.TheVariants.Constraint) ⊎ (s.phase ≡ phase.TheVariants.Objective)
+IsGiving s = (s.phase ≡ Phase.Constraint) ⊎ (s.phase ≡ Phase.Objective)
 
 pub gives_at : (s : OpbState) → IsGiving s → Gives s.phase
 gives_at s h = grind (arith, gives_constraint, gives_objective)
