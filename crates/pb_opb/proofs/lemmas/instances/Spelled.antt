@@ -93,8 +93,7 @@ header-bytes n m tail =
     ∙ ap before (sym (append_assoc (decimal n) (between (decimal m ++ tail)) (10 ∷ []))))))
 
 comment-bytes : (text : List ℕ) → bytes (comment_text text) ≡ (42 ∷ text) ++ (10 ∷ [])
-comment-bytes text =
-    ap bytes (append_assoc star (plain text) feed) ∙ ap (λ y. 42 ∷ y) (bytes-append (plain text) feed ∙ ap (λ y. y ++ (10 ∷ [])) (bytes-plain text))
+comment-bytes text = simp (append_assoc, bytes-append, bytes-plain)
 
 regrouped5 : (a b c d e : List Letter) → a ++ b ++ c ++ d ++ e ≡ a ++ (b ++ ((c ++ d) ++ e))
 regrouped5 a b c d e = simp append_assoc

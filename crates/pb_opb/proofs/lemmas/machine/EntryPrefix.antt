@@ -6,7 +6,7 @@ use Rattle.pb_opb.proofs.Common.{further, word_grown, word_whole, End, Go, Next,
 use Rattle.pb_opb.proofs.Common.{unmarked, Letter, plain, OpbEvent, Action, BeginSum, To, Phase, transition, act, after, is_in_number, linears, objectives, opb}
 use Rattle.pb_opb.proofs.Common.{OpbState, over, statement_of, min_word, SpellsObjective, Whites0}
 use Rattle.pb_opb.proofs.lemmas.instances.Counted.{IsEntry}
-use Rattle.pb_opb.proofs.lemmas.machine.Stands.{line_grown, idle}
+use Rattle.pb_opb.proofs.lemmas.machine.Stands.{one_byte, line_grown, idle}
 use Rattle.pb_opb.proofs.lemmas.machine.Objectives.{MinPrefix, objective_of}
 
 abbrev IsWhite : ℕ → Type 0
@@ -105,7 +105,7 @@ module _ (limit top v n : ℕ) (objective_allowed : Bool) where
     in_comment m at same h c = cond_both (nat_eq l.byte 10) _ _ After
         (λ e f. (
           h,
-          next (Byte 42 ⋅ Bytes s.text) (Byte 10) p l c (ap (λ x. x ∷ []) (as_unmarked l 10 f (eqb-true l.byte 10 e))),
+          next (Byte 42 ⋅ Bytes s.text) (Byte 10) p l c (one_byte l 10 f e),
           same_idle s.limit s.top s.variables s.remaining (suc n) m objective_allowed k.0 k.1 k.2 same k.3,
         ))
         (λ e w f. (
@@ -131,7 +131,7 @@ module _ (limit top v n : ℕ) (objective_allowed : Bool) where
         (λ _. in_constraint (subst (λ x. Walks sums (linears s.limit) x s.sums) (sym none) inner) (sums.step s.sums l.byte) refl)))
       where
         first : (b : ℕ) → l.numeral ≡ false → nat_eq l.byte b ≡ true → p ++ l ∷ [] ≡ unmarked b ∷ []
-        first b f e = ap (λ x. x ++ l ∷ []) none ∙ ap (λ x. x ∷ []) (as_unmarked l b f (eqb-true l.byte b e))
+        first b f e = ap (λ x. x ++ l ∷ []) none ∙ one_byte l b f e
 
     sound : (q : Phase) → s.phase ≡ q → prefix s q p → After (transition s.top q l.byte)
     sound q e h = grind (arith, between_two, in_comment, in_min, after_min, in_objective, in_constraint)

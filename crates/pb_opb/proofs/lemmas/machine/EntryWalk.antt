@@ -43,19 +43,10 @@ module _ (limit top v n : ℕ) where
 
   min_leads : (objective_allowed : Bool) → objective_allowed ≡ true → Leads opb (between objective_allowed) (Bytes min_word) after_min
   min_leads objective_allowed m t e =
-      subst (λ x. Walks opb (between objective_allowed) x after_min) (sym e) (
-        stands limit top v (suc n) (Phase.Min 1) [],
-        ap (λ x. act (between objective_allowed) 109 (cond x (To (Phase.Min 1)) (Give Phase.Constraint))) m,
-        refl,
-        refl,
-        (
-          stands limit top v (suc n) (Phase.Min 2) [],
-          refl,
-          refl,
-          refl,
-          (stands limit top v (suc n) (Phase.Min 3) [], refl, refl, refl, (after_min, refl, refl, refl, refl)),
-        ),
-      )
+      let at : ℕ → OpbState = λ k. stands limit top v (suc n) (Phase.Min k) [] in
+      let first = ap (λ (x : Bool). act (between objective_allowed) 109 (cond x (To (Phase.Min 1)) (Give Phase.Constraint))) m in
+      subst (λ x. Walks opb (between objective_allowed) x after_min) (sym e)
+      (at 1, first, refl, refl, (at 2, refl, refl, refl, (at 3, refl, refl, refl, (after_min, refl, refl, refl, refl))))
 
   whites_stay : (b : ℕ) → is_white b ≡ true → opb.step after_min b ≡ Go after_min
   whites_stay b h = rw h refl

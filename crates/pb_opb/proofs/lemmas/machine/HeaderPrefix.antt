@@ -6,7 +6,7 @@ use Rattle.pb_opb.proofs.Common.{word_whole, ReadsStatement, is_blank, is_digit,
 use Rattle.pb_opb.proofs.Common.{Letter, plain, OpbEvent, Header, Action, To, Field, Constraints, Variables, Phase, after_count, transition, word_of, act}
 use Rattle.pb_opb.proofs.Common.{begin, is_in_number, opb, OpbState, constraint_word, IsTail, SpellsHeader, variable_word}
 use Rattle.std.proofs.lemmas.Grind.{common_steps}
-use Rattle.pb_opb.proofs.lemmas.machine.Stands.{tail_grown, idle}
+use Rattle.pb_opb.proofs.lemmas.machine.Stands.{one_byte, tail_grown, idle}
 
 abbrev IsBlank : ℕ → Type 0
 IsBlank b = IsTrue (is_blank b)
@@ -59,17 +59,14 @@ module _ (limit top : ℕ) where
 
     at_start : p ≡ [] → After (transition s.top Phase.Start l.byte)
     at_start h = cond_both (nat_eq l.byte 42) _ _ After
-        (λ e w n. (k, none_yet (Byte 42) Blanks0 (p ++ l ∷ []) ([], tt, refl) (ap (λ x. x ++ l ∷ []) h ∙ ap (λ x. x ∷ []) (as_unmarked l 42 n (eqb-true l.byte 42 e)))))
+        (λ e w n. (k, none_yet (Byte 42) Blanks0 (p ++ l ∷ []) ([], tt, refl) (ap (λ x. x ++ l ∷ []) h ∙ one_byte l 42 n e)))
         (λ e. tt)
 
     before_word : (f : Field) → Before s.top s.variables f p → After (transition s.top (Phase.BeforeWord f) l.byte)
     before_word f h = cond_both (is_blank l.byte) _ _ After
         (λ e w n. (k, before_grown s.top s.variables f l p n e h))
         (λ _. cond_both (nat_eq l.byte 35) _ _ After
-        (λ e w n. (
-          k,
-          (grind arith, next (Before s.top s.variables f) (Bytes (take 1 (word_of f))) p l h (ap (λ x. x ∷ []) (as_unmarked l 35 n (eqb-true l.byte 35 e)) ∙ sym (hash f))),
-        ))
+        (λ e w n. (k, (grind arith, next (Before s.top s.variables f) (Bytes (take 1 (word_of f))) p l h (one_byte l 35 n e ∙ sym (hash f)))))
         (λ _. tt))
 
     in_word : (f : Field) (j : ℕ) → j < length (word_of f) → (Before s.top s.variables f ⋅ Bytes (take j (word_of f))) p
@@ -112,12 +109,7 @@ module _ (limit top : ℕ) where
         let C : Language = Whole s.top Constraints n (Before s.top s.variables Constraints) in
         let c : C p = counted s.top n (Before s.top s.variables Constraints ⋅ Bytes constraint_word ⋅ Blanks0) p i h in
         cond_both (nat_eq l.byte 10) _ _ After
-        (λ e m. (
-          k,
-          tt,
-          next (C ⋅ Bytes []) (Byte 10) p l (none_yet C (Bytes []) p refl c) (ap (λ x. x ∷ []) (as_unmarked l 10 m (eqb-true l.byte 10 e))),
-          refl,
-        ))
+        (λ e m. (k, tt, next (C ⋅ Bytes []) (Byte 10) p l (none_yet C (Bytes []) p refl c) (one_byte l 10 m e), refl))
         (λ _. cond_both (is_blank l.byte) _ _ After
         (λ e w m. (k, ((e, tt), (λ x. cc), next C (Bytes (l.byte ∷ [])) p l c (ap (λ x. x ∷ []) (as_unmarked l l.byte m refl)))))
         (λ _. tt))
@@ -142,7 +134,7 @@ module _ (limit top : ℕ) where
         → (Whole s.top Constraints s.remaining (Before s.top s.variables Constraints) ⋅ Bytes s.text) p
         → After (transition s.top Phase.Tail l.byte)
     in_tail at h some c = cond_both (nat_eq l.byte 10) _ _ After
-        (λ e m. (k, h, next (C ⋅ Bytes s.text) (Byte 10) p l c (ap (λ x. x ∷ []) (as_unmarked l 10 m (eqb-true l.byte 10 e))), refl))
+        (λ e m. (k, h, next (C ⋅ Bytes s.text) (Byte 10) p l c (one_byte l 10 m e), refl))
         (λ e w m. (
           k,
           subst (λ q. prefix new q (p ++ l ∷ [])) (sym at) (

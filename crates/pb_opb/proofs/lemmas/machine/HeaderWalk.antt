@@ -38,14 +38,11 @@ module _ (limit top : ℕ) where
       → Walks opb (head v (Phase.Word f (length prefix))) (plain (b ∷ left)) (head v (Phase.BeforeCount f))
   spelled f v prefix [] b e = grind (arith, nat_eq, common_steps, spell_next)
   spelled f v prefix (c ∷ left) b e =
-      let n : nat_eq (length prefix + 1) (length (word_of f)) ≡ false = rw e (grind (arith, common_steps)) in (
-        head v (Phase.Word f (length prefix + 1)),
-        ap (λ x. act (head v (Phase.Word f (length prefix))) b x) (spell_next (word_of f) prefix (c ∷ left) b (Phase.Word f (length prefix + 1)) (Phase.BeforeCount f) false e n),
-        refl,
-        refl,
-        subst (λ k. Walks opb (head v (Phase.Word f k)) (plain (c ∷ left)) (head v (Phase.BeforeCount f))) (length-append prefix (b ∷ []))
-            (spelled f v (prefix ++ b ∷ []) left c (e ∙ sym (append_assoc prefix (b ∷ []) (c ∷ left)))),
-      )
+      let more : Phase = Phase.Word f (length prefix + 1) in
+      let n : nat_eq (length prefix + 1) (length (word_of f)) ≡ false = rw e (grind (arith, common_steps)) in
+      let goes = ap (λ x. act (head v (Phase.Word f (length prefix))) b x) (spell_next (word_of f) prefix (c ∷ left) b more (Phase.BeforeCount f) false e n) in
+      let rest = spelled f v (prefix ++ b ∷ []) left c (e ∙ sym (append_assoc prefix (b ∷ []) (c ∷ left))) in
+      (head v more, goes, refl, refl, subst (λ k. Walks opb (head v (Phase.Word f k)) (plain (c ∷ left)) (head v (Phase.BeforeCount f))) (length-append prefix (b ∷ [])) rest)
 
   begins_word : (f : Field) (v : ℕ) (left : List ℕ) (b : ℕ) → word_of f ≡ 35 ∷ b ∷ left
       → Walks opb (head v (Phase.BeforeWord f)) (plain (35 ∷ b ∷ left)) (head v (Phase.BeforeCount f))
@@ -57,11 +54,8 @@ module _ (limit top : ℕ) where
 
   -- digits of a count
   takes_digits : (f : Field) (v : ℕ) → TakesDigits opb (λ n. head v (Phase.Count f n)) top
-  takes_digits f v = record {
-    more = λ n d h l. ap (λ x. act (head v (Phase.Count f n)) (48 + d) x) (next_digit top f n d h l);
-    begun = λ n. refl;
-    number = λ n. refl;
-  }
+  takes_digits f v =
+      record { more = λ n d h l. ap (λ x. act (head v (Phase.Count f n)) (48 + d) x) (next_digit top f n d h l); begun = λ n. refl; number = λ n. refl }
 
   count_leads : (f : Field) (v n : ℕ) → Leads opb (head v (Phase.BeforeCount f)) (Count top n) (head v (Phase.Count f n))
   count_leads f v n t h =

@@ -38,15 +38,8 @@ planned_at n top p b m e h = ap (λ (k : ℕ). transition k p b) (sym e) ∙ sym
 
 -- the state if the machine continues
 pub to_order : (s : OpbState) → IsInOrder s → (b : ℕ) (p : Phase) → transition s.top s.phase b ≡ To p → PhaseFits s.top p → IsInOrder (at s p)
-to_order s h b p e fits = record {
-  limit = h.limit;
-  top = h.top;
-  fits = fits;
-  holds = known s h b (To p) e;
-  spaces = h.spaces;
-  limits = h.limits;
-  state = h.state;
-}
+to_order s h b p e fits =
+    record { limit = h.limit; top = h.top; fits = fits; holds = known s h b (To p) e; spaces = h.spaces; limits = h.limits; state = h.state }
 
 -- what the machine of sums leaves unchanged
 inner_goes : (inner next : SumState) (b : ℕ) → sums.step inner b ≡ Go next → (next.spaces ≡ inner.spaces) × (next.limit ≡ inner.limit) × (sums.done next ≡ false)
