@@ -1,7 +1,7 @@
 -- The machine accepts the statements of an instance, and no others.
 use Rattle.pb_opb.proofs.Common.{Phase, ℕ, ◌&&◌, ◌↔◌, ◌∙◌, ◌∷◌, ◌≡◌, [], ap, arith, Bool, false, IsTrue, List, nat_eq, refl, subst, suc, sym, true, zero}
 use Rattle.pb_opb.proofs.Common.{cond_both, SumEvent, sums, SumState, refuse_or_end, refuse_or_go, never, AcceptsItems, End, Go, Next, ReadsStatement, Refuse}
-use Rattle.pb_opb.proofs.Common.{SkipsGap, is_white, Each, Item, Letter, OpbEvent, Constraint, Header, Action, act, begin, linears, opb, OpbState, over}
+use Rattle.pb_opb.proofs.Common.{SkipsGap, is_white, Each, Item, Letter, OpbEvent, Header, Action, act, begin, linears, opb, OpbState, over}
 use Rattle.pb_opb.proofs.Common.{IsBegun, IsInstance}
 use Rattle.pb_opb.proofs.lemmas.instances.Counted.{IsEntry, IsCounted, counted, body_of}
 use Rattle.pb_opb.proofs.lemmas.instances.Larger.{entry_grows}

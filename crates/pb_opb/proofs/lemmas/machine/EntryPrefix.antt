@@ -1,5 +1,5 @@
 -- What the machine reads after a header is a comment, an objective or a constraint.
-use Rattle.pb_opb.proofs.Common.{Part, ℕ, ◌&&◌, ◌++◌, ◌+◌, ◌-◌, ◌<◌, ◌∙◌, ◌∷◌, ◌≡◌, [], ap, arith, Bool, false, IsTrue, length, List, nat_eq, refl, subst, suc}
+use Rattle.pb_opb.proofs.Common.{Part, ℕ, ◌&&◌, ◌++◌, ◌+◌, ◌<◌, ◌∙◌, ◌∷◌, ◌≡◌, [], ap, arith, Bool, false, IsTrue, length, List, nat_eq, refl, subst, suc}
 use Rattle.pb_opb.proofs.Common.{sym, take, true, slice_index, and_parts, cond_both, eqb-true, reads_grammar, continues-midway, SumEvent, White, sums, SumState}
 use Rattle.pb_opb.proofs.Common.{Spells, ends_walk, Keeps, On, reported, Walks, walks_more, never, grown, many-grown, next, none_yet, as_unmarked, bytes_grown}
 use Rattle.pb_opb.proofs.Common.{further, word_grown, word_whole, End, Go, Next, ReadsStatement, Refuse, IsInLine, is_white, ◌⋅◌, Byte, Bytes, Language}
