@@ -5,27 +5,32 @@ ghost use Rattle.pb_opb.specs.contract.Formats.{ReadsInstances, OneInstance, Fix
 ghost use Rattle.pb_opb.specs.contract.Laws.{CanonicalInstance, InstanceValues, ReadsBack};
 
 /// A new machine accepts exactly the instances.
+#[tactic(auto, using(crate::proofs::lemmas::machine::Bodies::reads_instances))]
 pub fn instances_are_exact()
     ensures { ReadsInstances }
 {}
 
 /// A text is the text of one instance only.
+#[tactic(auto, using(crate::proofs::Rules::laws))]
 pub fn one_instance()
     ensures { OneInstance }
 {}
 
 /// In all instances whose texts begin with the same bytes, the statements that end within these
 /// bytes are the same. Their positions are the same too.
+#[tactic(auto, using(crate::proofs::Rules::laws))]
 pub fn fixed_spans()
     ensures { FixedSpans }
 {}
 
 /// No instance's text is a prefix of another's.
+#[tactic(auto, using(crate::proofs::Rules::laws))]
 pub fn prefix_free()
     ensures { PrefixFree }
 {}
 
 /// An instance under limits is the same instance under larger ones.
+#[tactic(auto, using(crate::proofs::lemmas::instances::Larger::instance_grows))]
 pub fn larger_limits()
     ensures { LargerLimits }
 {}

@@ -1,6 +1,5 @@
 -- Lemmas of instances, their statements and their texts.
 pub mod Again
-pub mod Back
 pub mod Counted
 pub mod Gathered
 pub mod Kept

@@ -6,11 +6,9 @@ pub mod EntryPrefix
 pub mod EntryWalk
 pub mod Exactly
 pub mod FirstLetters
-pub mod Prefixes
 pub mod GivenBytes
 pub mod HeaderPrefix
 pub mod HeaderWalk
-pub mod Lines
 pub mod Objectives
 pub mod Pushed
 pub mod Stands

@@ -6,15 +6,14 @@ use Rattle.pb_sums.specs.declared.Spaces.TheVariants.{White}
 use Rattle.pb_opb.specs.engine.Machine.{word_of}
 use Rattle.pb_opb.specs.engine.State.{OpbState, linears, objectives}
 use Rattle.pb_opb.specs.declared.phase.Phase.{Phase}
-use Rattle.pb_opb.specs.declared.phase.Phase as phase
 use Rattle.pb_opb.specs.declared.phase.Action.{Action}
 use Rattle.pb_opb.specs.declared.phase.Action.TheVariants.{To, Declare, BeginTail, EndHeader, Give}
 
 -- a word was not read to its end, and a count is at most top
 abbrev pub PhaseFits : ℕ → Phase → Type 0
-PhaseFits top (phase.TheVariants.Word f k) = k < length (word_of f)
-PhaseFits top (phase.TheVariants.Count f n) = n ≤ top
-PhaseFits top (phase.TheVariants.Min k) = (0 < k) × (k < 4)
+PhaseFits top (Phase.Word f k) = k < length (word_of f)
+PhaseFits top (Phase.Count f n) = n ≤ top
+PhaseFits top (Phase.Min k) = (0 < k) × (k < 4)
 PhaseFits top _ = Unit {0}
 
 abbrev pub ActionFits : ℕ → Action → Type 0
@@ -22,8 +21,8 @@ ActionFits top (To p) = PhaseFits top p
 ActionFits top (Declare n) = n ≤ top
 ActionFits top (BeginTail n b) = n ≤ top
 ActionFits top (EndHeader n) = n ≤ top
-ActionFits top (Give phase.TheVariants.Objective) = Unit {0}
-ActionFits top (Give phase.TheVariants.Constraint) = Unit {0}
+ActionFits top (Give Phase.Objective) = Unit {0}
+ActionFits top (Give Phase.Constraint) = Unit {0}
 ActionFits top (Give _) = ⊥
 ActionFits top _ = Unit {0}
 
@@ -33,13 +32,13 @@ IsIdle s = (s.text ≡ []) × (s.sums ≡ linears s.limit)
 
 -- what holds with each phase
 abbrev pub Holds : OpbState → Phase → Type 0
-Holds s phase.TheVariants.Tail = s.sums ≡ linears s.limit
-Holds s (phase.TheVariants.Between objective_allowed) = (0 < s.remaining) × IsIdle s
-Holds s (phase.TheVariants.Comment objective_allowed) = (0 < s.remaining) × (s.sums ≡ linears s.limit)
-Holds s (phase.TheVariants.Min k) = (0 < s.remaining) × IsIdle s
-Holds s phase.TheVariants.AfterMin = (0 < s.remaining) × (s.text ≡ []) × (s.sums ≡ objectives s.limit)
-Holds s phase.TheVariants.Objective = (0 < s.remaining) × (s.text ≡ []) × (sums.done s.sums ≡ false)
-Holds s phase.TheVariants.Constraint = (0 < s.remaining) × (s.text ≡ []) × (sums.done s.sums ≡ false)
+Holds s Phase.Tail = s.sums ≡ linears s.limit
+Holds s (Phase.Between objective_allowed) = (0 < s.remaining) × IsIdle s
+Holds s (Phase.Comment objective_allowed) = (0 < s.remaining) × (s.sums ≡ linears s.limit)
+Holds s (Phase.Min k) = (0 < s.remaining) × IsIdle s
+Holds s Phase.AfterMin = (0 < s.remaining) × (s.text ≡ []) × (s.sums ≡ objectives s.limit)
+Holds s Phase.Objective = (0 < s.remaining) × (s.text ≡ []) × (sums.done s.sums ≡ false)
+Holds s Phase.Constraint = (0 < s.remaining) × (s.text ≡ []) × (sums.done s.sums ≡ false)
 Holds s _ = IsIdle s
 
 pub record IsInOrder (s : OpbState) : Type 0 where

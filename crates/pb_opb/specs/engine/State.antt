@@ -1,17 +1,14 @@
 -- The states of a machine of instances, and its automaton.
 use Rattle.std.specs.Prelude.{ℕ, zero, suc, ◌+◌, ◌-◌, ◌^◌, min, Bool, true, false, List, [], ◌∷◌, ◌++◌, length}
+use Rattle.pb_opb.specs.declared.phase.Field.{Field}
+use Rattle.pb_sums.specs.declared.Part.{Part}
 use Rattle.pb_text.specs.contract.Automaton.{Automaton, Next, Go, End, Refuse}
 use Rattle.pb_sums.specs.engine.State.{SumState, sums, first}
 use Rattle.pb_sums.specs.declared.Spaces.TheVariants.{White}
-use Rattle.pb_sums.specs.declared.Part as part
 use Rattle.pb_sums.specs.declared.SumEvent.{SumEvent}
-use Rattle.pb_sums.specs.declared.SumEvent as sum
 use Rattle.pb_opb.specs.engine.Machine.{transition}
 use Rattle.pb_opb.specs.declared.event.OpbEvent.{OpbEvent}
-use Rattle.pb_opb.specs.declared.event.OpbEvent as event
-use Rattle.pb_opb.specs.declared.phase.Field as field
 use Rattle.pb_opb.specs.declared.phase.Phase.{Phase}
-use Rattle.pb_opb.specs.declared.phase.Phase as phase
 use Rattle.pb_opb.specs.declared.phase.Action.{Action}
 use Rattle.pb_opb.specs.declared.phase.Action.TheVariants.{To, Declare, BeginTail, Keep, EndHeader, EndTail, EndComment, BeginSum, Give, Stop}
 
@@ -28,39 +25,24 @@ pub record OpbState : Type 0 where
   pub sums : SumState
 
 abbrev pub linears : ℕ → SumState
-linears limit = first White part.TheVariants.Linear limit
+linears limit = first White Part.Linear limit
 
 abbrev pub objectives : ℕ → SumState
-objectives limit = first White part.TheVariants.Sum limit
+objectives limit = first White Part.Sum limit
 
 -- before an instance
 abbrev pub begin : ℕ → ℕ → OpbState
-begin limit top = record {
-  limit = limit;
-  top = top;
-  variables = 0;
-  remaining = 0;
-  phase = phase.TheVariants.Start;
-  text = [];
-  sums = linears limit;
-}
+begin limit top = record { limit = limit; top = top; variables = 0; remaining = 0; phase = Phase.Start; text = []; sums = linears limit }
 
 -- the phase with this many constraints to come
 abbrev pub phase_owing : Bool → ℕ → Phase
-phase_owing objective_allowed zero = phase.TheVariants.Done
-phase_owing objective_allowed (suc n) = phase.TheVariants.Between objective_allowed
+phase_owing objective_allowed zero = Phase.Done
+phase_owing objective_allowed (suc n) = Phase.Between objective_allowed
 
 -- between two statements
 abbrev pub between : OpbState → Bool → ℕ → OpbState
-between s objective_allowed remaining = record {
-  limit = s.limit;
-  top = s.top;
-  variables = s.variables;
-  remaining = remaining;
-  phase = phase_owing objective_allowed remaining;
-  text = [];
-  sums = linears s.limit;
-}
+between s objective_allowed remaining =
+    record s { remaining = remaining; phase = phase_owing objective_allowed remaining; text = []; sums = linears s.limit }
 
 abbrev pub at : OpbState → Phase → OpbState
 at s p = record s { phase = p }
@@ -73,12 +55,12 @@ giving s p inner = record s { phase = p; sums = inner }
 
 -- the statement for a sum or a linear text
 abbrev pub statement_of : SumEvent → OpbEvent
-statement_of (sum.TheVariants.Sum terms) = event.TheVariants.Objective terms
-statement_of (sum.TheVariants.Linear linear) = event.TheVariants.Constraint linear
+statement_of (SumEvent.Sum terms) = OpbEvent.Objective terms
+statement_of (SumEvent.Linear linear) = OpbEvent.Constraint linear
 
 -- how many constraints are to come after an objective, and after a constraint
 abbrev pub remaining_after : Phase → ℕ → ℕ
-remaining_after phase.TheVariants.Objective remaining = remaining
+remaining_after Phase.Objective remaining = remaining
 remaining_after _ remaining = remaining - 1
 
 -- after an objective or a constraint
@@ -92,13 +74,13 @@ over s p Refuse = Refuse
 
 abbrev pub act : OpbState → ℕ → Action → Next OpbState OpbEvent
 act s b (To p) = Go (at s p)
-act s b (Declare n) = Go (record s { variables = n; phase = phase.TheVariants.BeforeWord field.TheVariants.Constraints })
-act s b (BeginTail n c) = Go (record s { remaining = n; phase = phase.TheVariants.Tail; text = c ∷ [] })
+act s b (Declare n) = Go (record s { variables = n; phase = Phase.BeforeWord Field.Constraints })
+act s b (BeginTail n c) = Go (record s { remaining = n; phase = Phase.Tail; text = c ∷ [] })
 act s b (Keep c) = Go (record s { text = s.text ++ c ∷ [] })
-act s b (EndHeader n) = End (event.TheVariants.Header s.variables n []) (between s true n)
-act s b EndTail = End (event.TheVariants.Header s.variables s.remaining s.text) (between s true s.remaining)
-act s b (EndComment objective_allowed) = End (event.TheVariants.Comment s.text) (between s objective_allowed s.remaining)
-act s b BeginSum = Go (giving s phase.TheVariants.AfterMin (objectives s.limit))
+act s b (EndHeader n) = End (OpbEvent.Header s.variables n []) (between s true n)
+act s b EndTail = End (OpbEvent.Header s.variables s.remaining s.text) (between s true s.remaining)
+act s b (EndComment objective_allowed) = End (OpbEvent.Comment s.text) (between s objective_allowed s.remaining)
+act s b BeginSum = Go (giving s Phase.AfterMin (objectives s.limit))
 act s b (Give p) = over s p (sums.step s.sums b)
 act s b Stop = Refuse
 
@@ -107,25 +89,25 @@ step s b = act s b (transition s.top s.phase b)
 
 -- a statement has begun and not ended
 abbrev pub is_within : Phase → Bool
-is_within phase.TheVariants.Start = false
-is_within (phase.TheVariants.Between objective_allowed) = false
-is_within phase.TheVariants.Done = false
+is_within Phase.Start = false
+is_within (Phase.Between objective_allowed) = false
+is_within Phase.Done = false
 is_within _ = true
 
 abbrev pub is_done : Phase → Bool
-is_done phase.TheVariants.Done = true
+is_done Phase.Done = true
 is_done _ = false
 
 -- bytes up to a line feed are stored
 abbrev pub keeps_line : Phase → Bool
-keeps_line phase.TheVariants.Tail = true
-keeps_line (phase.TheVariants.Comment objective_allowed) = true
+keeps_line Phase.Tail = true
+keeps_line (Phase.Comment objective_allowed) = true
 keeps_line _ = false
 
 abbrev pub is_in_number : OpbState → Phase → Bool
-is_in_number s (phase.TheVariants.Count f n) = true
-is_in_number s phase.TheVariants.Objective = sums.in_number s.sums
-is_in_number s phase.TheVariants.Constraint = sums.in_number s.sums
+is_in_number s (Phase.Count f n) = true
+is_in_number s Phase.Objective = sums.in_number s.sums
+is_in_number s Phase.Constraint = sums.in_number s.sums
 is_in_number s _ = false
 
 -- whether a byte is stored, or given to the machine of sums, which may allocate at it

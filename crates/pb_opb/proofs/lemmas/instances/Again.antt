@@ -1,13 +1,15 @@
 -- What is written for an instance reads back as that instance.
-use Rattle.pb_opb.proofs.Common.{ℕ, ◌++◌, ◌+◌, ◌<◌, ◌^◌, ◌∙◌, ◌∷◌, ◌≡◌, ◌≤◌, [], ap, append_assoc, arith, false, length, List, None, Option, refl}
-use Rattle.pb_opb.proofs.Common.{Some, true, Linear, Term, bytes_of, Item, body_events, constraint_events, header_bytes}
-use Rattle.pb_opb.proofs.Common.{in_order, instance_bytes, lines, objective_events, CanonicalInstance, OpbEvent, Header, Instance, AreComments}
-use Rattle.pb_opb.proofs.Common.{AreLinears, is_one, IsObjective, IsValueOf, statements}
+use Rattle.pb_opb.proofs.Common.{ℕ, ◌++◌, ◌+◌, ◌<◌, ◌^◌, ◌∙◌, ◌∷◌, ◌≡◌, ◌≤◌, [], ap, append_assoc, arith, false, length, List, None, Option, refl, Some, true}
+use Rattle.pb_opb.proofs.Common.{Linear, Term, bytes_of, Item, body_events, constraint_events, header_bytes, in_order, instance_bytes, lines, objective_events}
+use Rattle.pb_opb.proofs.Common.{CanonicalInstance, OpbEvent, Header, Instance, AreComments, AreLinears, is_one, IsObjective, IsValueOf, statements, rules}
+use Rattle.pb_opb.proofs.Common.{subst, sym, one_spelling, events_of, ReadsBack, begin, opb}
 use Rattle.std.proofs.lemmas.List.{length-map}
 use Rattle.pb_opb.specs.declared.instance.Comment.{Comment}
 use Rattle.pb_opb.proofs.lemmas.instances.Counted.{IsCounted, body_of}
 use Rattle.pb_opb.proofs.lemmas.instances.Spelled.{AreMain, AreInLines, spelled, header_text, header-spelled, header-bytes, item-bytes, body-bytes, constraints-body, objective-body}
 use Rattle.pb_opb.proofs.lemmas.instances.Reported.{spelled-events, order_variables, order_tail, order_objective, order_constraints, order_comments, in_lines}
+use Rattle.pb_opb.proofs.lemmas.machine.Bodies.{instance_each, finishes}
+use Rattle.pb_opb.proofs.lemmas.instances.OneValue.{same_value}
 
 constraints_main : (ls : List Linear) → AreMain (constraint_events ls)
 constraints_main [] = tt
@@ -53,3 +55,10 @@ canonical_instance limit top v l t h = (
   instance-bytes v,
   rw (spelled-events false (body_events v)) (instance-reported v h.comments),
 )
+
+-- What is written reads back as the same value.
+pub reads_back : ReadsBack
+reads_back limit top longest v m low high rules r =
+    let (items, spells, bytes, value) = canonical_instance limit top v low high rules in
+    let same = one_spelling opb finishes (begin limit top) r.spelled.items items (instance_each limit top r.spelled.items r.spelled.spelled) (instance_each limit top items spells) (r.spelled.used_are ∙ sym bytes) in
+    same_value (events_of items) m.event v (subst (λ (x : List (Item OpbEvent)). IsValueOf (events_of x) m.event) same r.value) value

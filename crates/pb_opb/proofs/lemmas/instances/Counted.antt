@@ -1,9 +1,8 @@
 -- The body of an instance, read from its start: how many constraints are to come, and whether an objective may come.
 -- Offered to other crates.
-use Rattle.pb_opb.proofs.Common.{ℕ, ◌∷◌, ◌≡◌, [], ap, arith, Bool, false, IsTrue, List, refl, subst, suc, sym, true, zero, White, SpellsLinear}
-use Rattle.pb_opb.proofs.Common.{IsInLine, is_white, Each, Item, Letter, events_of, OpbEvent, Comment, Constraint, Header, Objective, AreSpelled}
-use Rattle.pb_opb.proofs.Common.{constraint_count, EndsInConstraint, HasNoObjective, HasObjectiveFirst, IsBody, SpellsComment, SpellsEntry}
-use Rattle.pb_opb.proofs.Common.{SpellsObjective}
+use Rattle.pb_opb.proofs.Common.{ℕ, ◌∷◌, ◌≡◌, [], ap, arith, Bool, false, IsTrue, List, refl, subst, suc, sym, true, zero, White, SpellsLinear, IsInLine}
+use Rattle.pb_opb.proofs.Common.{is_white, Each, Item, Letter, events_of, OpbEvent, Comment, Constraint, Header, Objective, AreSpelled, constraint_count}
+use Rattle.pb_opb.proofs.Common.{EndsInConstraint, HasNoObjective, HasObjectiveFirst, IsBody, SpellsComment, SpellsEntry, SpellsObjective}
 
 module _ (limit : ℕ) where
   -- A statement after the header, and what follows it. `follows objective_allowed n` holds of the statements after it: n of them are

@@ -1,8 +1,7 @@
 -- Statements that are gathered one by one have the value that they state.
-use Rattle.pb_opb.proofs.Common.{ℕ, ◌++◌, ◌+◌, ◌∙◌, ◌∷◌, ◌≡◌, [], append-nil, append_assoc, arith, IsTrue, List, refl, subst, sym, Spanned, Item}
-use Rattle.pb_opb.proofs.Common.{events_of, gathered, IsRead, IsWhole, MayHold, StopsIn, OpbEvent, Comment, Constraint, Instance}
-use Rattle.pb_opb.proofs.Common.{counted_statements, ended_with, MayKeep, nothing, with, comment_at, comments_in, constraints_in, IsValueOf, last_or}
-use Rattle.pb_opb.proofs.Common.{objectives_in, tails_in, variables_in}
+use Rattle.pb_opb.proofs.Common.{ℕ, ◌++◌, ◌+◌, ◌∷◌, ◌≡◌, [], append-nil, append_assoc, arith, IsTrue, List, refl, subst, sym, Spanned, Item, events_of}
+use Rattle.pb_opb.proofs.Common.{gathered, IsRead, IsWhole, MayHold, StopsIn, OpbEvent, Comment, Constraint, Instance, counted_statements, ended_with, MayKeep}
+use Rattle.pb_opb.proofs.Common.{nothing, with, comments_in, constraints_in, IsValueOf, last_or, objectives_in, tails_in, variables_in}
 use Rattle.pb_text.proofs.lemmas.source.Unkept as stopped
 use Rattle.pb_text.specs.declared.Stop.{Stop}
 use Rattle.pb_opb.specs.meaning.Gather.{asks}
@@ -21,15 +20,9 @@ pub record Adds (b : InstanceSoFar) (events : List OpbEvent) (v : Instance) : Ty
 
 pub adds : (events : List OpbEvent) (b : InstanceSoFar) → Adds b events (gathered one_more b events).instance
 adds [] b = record { variables = refl; tail = refl; objective = refl; comments = sym (append-nil b.instance.comments); constraints = sym (append-nil b.instance.constraints) }
-adds (Comment text ∷ events) b =
-    let k = adds events (one_more b (Comment text)) in
-    record { variables = k.variables; tail = k.tail; objective = k.objective; comments = k.comments ∙ append_assoc b.instance.comments (comment_at b.ended text ∷ []) (comments_in b.ended events); constraints = k.constraints }
-adds (Constraint linear ∷ events) b =
-    let k = adds events (one_more b (Constraint linear)) in
-    record { variables = k.variables; tail = k.tail; objective = k.objective; comments = k.comments; constraints = k.constraints ∙ append_assoc b.instance.constraints (linear ∷ []) (constraints_in events) }
-adds (e ∷ events) b =
-    let k = adds events (one_more b e) in
-    record { variables = k.variables; tail = k.tail; objective = k.objective; comments = k.comments; constraints = k.constraints }
+adds (Comment text ∷ events) b = grind (arith, append_assoc, adds events (one_more b (Comment text)))
+adds (Constraint linear ∷ events) b = grind (arith, append_assoc, adds events (one_more b (Constraint linear)))
+adds (e ∷ events) b = grind (arith, adds events (one_more b e))
 
 ended_after : (events : List OpbEvent) (b : InstanceSoFar) → (gathered one_more b events).ended ≡ b.ended + counted_statements events
 ended_after [] b = omega arith

@@ -1,10 +1,9 @@
 -- The value of an instance that was read meets the rules; and what the statements after its header state. Offered to
 -- other crates.
-use Rattle.pb_opb.proofs.Common.{ℕ, ◌+◌, ◌<◌, ◌∙◌, ◌∷◌, ◌≡◌, ◌≤◌, [], ap, arith, Bool, false, IsTrue, length, List, None, Option, refl, Some, subst}
-use Rattle.pb_opb.proofs.Common.{suc, sym, true, zero, AreTerms, Linear, Term, White, Item, Letter, events_of, InstanceValues, IsOneHeader, OpbEvent}
-use Rattle.pb_opb.proofs.Common.{Comment, Constraint, Header, Objective, Instance, IsBegun, IsTail, SpellsHeader, SpellsObjective, AreComments}
-use Rattle.pb_opb.proofs.Common.{AreLinears, comments_in, constraints_in, is_one, IsInstanceValue, IsObjective, IsValueOf, last_or, objectives_in}
-use Rattle.pb_opb.proofs.Common.{tails_in, variables_in}
+use Rattle.pb_opb.proofs.Common.{ℕ, ◌+◌, ◌<◌, ◌∙◌, ◌∷◌, ◌≡◌, ◌≤◌, [], ap, arith, Bool, false, IsTrue, length, List, None, Option, refl, Some, subst, suc, sym}
+use Rattle.pb_opb.proofs.Common.{true, zero, AreTerms, Linear, Term, White, Item, Letter, events_of, InstanceValues, IsOneHeader, OpbEvent, Comment, Constraint}
+use Rattle.pb_opb.proofs.Common.{Header, Objective, Instance, IsBegun, IsTail, SpellsHeader, SpellsObjective, AreComments, AreLinears, comments_in}
+use Rattle.pb_opb.proofs.Common.{constraints_in, is_one, IsInstanceValue, IsObjective, IsValueOf, last_or, objectives_in, tails_in, variables_in}
 use Rattle.pb_sums.proofs.lemmas.values.Within.{sum-within, linear-within}
 use Rattle.pb_opb.specs.declared.instance.Comment as comment
 use Rattle.pb_opb.proofs.lemmas.instances.Counted.{IsEntry, IsCounted, counted}
@@ -109,12 +108,7 @@ begun limit top i rest (Header n m tail) v h k =
         comments = subst (λ (a : ℕ). AreComments 0 a v.comments) all (subst (AreComments 0 (0 + (m + length os))) (sym k.comments) (r.comments 0));
         constraints = subst (AreLinears limit) (sym k.constraints) r.constraints;
       },
-      record {
-        following = events;
-        header = rw (variables_is, count_is, tail_is) refl;
-        no_other = r.variables;
-        one_objective = o.1;
-      },
+      record { following = events; header = rw (variables_is, count_is, tail_is) refl; no_other = r.variables; one_objective = o.1 },
     )
 begun limit top i rest _ v h k = absurd h
 

@@ -1,9 +1,7 @@
 -- An instance remains an instance if numbers may be larger.
-use Rattle.pb_opb.proofs.Common.{ℕ, ◌∷◌, ◌≤◌, [], arith, Bool, false, List, refl, suc, true, zero, Term, White, Spells, after_it, inside, ◌⋅◌}
+use Rattle.pb_opb.proofs.Common.{SumEvent, Part, ℕ, ◌∷◌, ◌≤◌, [], arith, Bool, false, List, refl, suc, true, zero, Term, White, Spells, after_it, inside, ◌⋅◌}
 use Rattle.pb_opb.proofs.Common.{Blanks0, Blanks1, Byte, Bytes, Language, Count, Item, Letter, OpbEvent, Comment, Constraint, Header, Objective}
 use Rattle.pb_opb.proofs.Common.{constraint_word, IsBegun, IsInstance, SpellsHeader, SpellsObjective, variable_word}
-use Rattle.pb_sums.specs.declared.sum_kind.Part as part
-use Rattle.pb_sums.specs.declared.linear.SumEvent as sum
 use Rattle.pb_sums.proofs.lemmas.values.Larger.{spells_larger}
 use Rattle.pb_opb.proofs.lemmas.instances.Counted.{IsEntry, IsCounted, counted, body_of}
 use Rattle.pb_opb.proofs.lemmas.machine.Objectives.{MinPrefix, objective_of, objective_parts}
@@ -37,15 +35,15 @@ module _ (limit limit' : ℕ) (h : limit ≤ limit') where
   objective_grows : (xs : List Term) (t : List Letter) → SpellsObjective limit xs t → SpellsObjective limit' xs t
   objective_grows xs t k =
       objective_of limit' xs t
-      (after_it MinPrefix (Spells White limit part.TheVariants.Sum (sum.TheVariants.Sum xs)) (Spells White limit' part.TheVariants.Sum (sum.TheVariants.Sum xs)) t
-      (λ q r. spells_larger White limit limit' h part.TheVariants.Sum q (sum.TheVariants.Sum xs) r) (objective_parts limit xs t k))
+      (after_it MinPrefix (Spells White limit Part.Sum (SumEvent.Sum xs)) (Spells White limit' Part.Sum (SumEvent.Sum xs)) t
+      (λ q r. spells_larger White limit limit' h Part.Sum q (SumEvent.Sum xs) r) (objective_parts limit xs t k))
 
   pub entry_grows : (objective_allowed : Bool) (n : ℕ) (text : List Letter) (P Q : Bool → ℕ → Type 0) → ((m : Bool) (k : ℕ) → P m k → Q m k) → (e : OpbEvent)
       → IsEntry limit objective_allowed n text P e → IsEntry limit' objective_allowed n text Q e
   entry_grows objective_allowed n text P Q f (Header variables constraints tail) k = absurd k
   entry_grows objective_allowed n text P Q f (Comment bytes) k = (k.0, k.1, f objective_allowed (suc n) k.2)
   entry_grows objective_allowed n text P Q f (Objective xs) k = (k.0, objective_grows xs text k.1, f false (suc n) k.2)
-  entry_grows objective_allowed n text P Q f (Constraint c) k = ((spells_larger White limit limit' h part.TheVariants.Linear text (sum.TheVariants.Linear c) (refl, k.0)).1, f false n k.1)
+  entry_grows objective_allowed n text P Q f (Constraint c) k = ((spells_larger White limit limit' h Part.Linear text (SumEvent.Linear c) (refl, k.0)).1, f false n k.1)
 
   body_grows : (items : List (Item OpbEvent)) (objective_allowed : Bool) (remaining : ℕ) → IsCounted limit objective_allowed remaining items → IsCounted limit' objective_allowed remaining items
   body_grows [] objective_allowed zero k = tt
@@ -60,5 +58,4 @@ module _ (limit limit' top top' : ℕ) (h : limit ≤ limit') (j : top ≤ top')
   begun_grows i rest _ k = absurd k
 
   pub instance_grows : (items : List (Item OpbEvent)) → IsInstance limit top items → IsInstance limit' top' items
-  instance_grows [] k = absurd k
-  instance_grows (i ∷ rest) k = begun_grows i rest i.event k
+  instance_grows items k = grind (arith, begun_grows)

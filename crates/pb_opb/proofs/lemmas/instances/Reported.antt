@@ -1,8 +1,7 @@
 -- What statements in order state.
-use Rattle.pb_opb.proofs.Common.{ℕ, ◌++◌, ◌+◌, ◌∙◌, ◌∷◌, ◌≡◌, ◌≤◌, [], ap, arith, Bool, cond, drop, length, List, nat_le, None, Option, refl}
-use Rattle.pb_opb.proofs.Common.{Some, suc, take, take-append-drop, Linear, Term, events_of, comment_events}
-use Rattle.pb_opb.proofs.Common.{constraint_events, due, in_order, objective_events, OpbEvent, Comment, Constraint, Objective, AreComments}
-use Rattle.pb_opb.proofs.Common.{comments_in, constraints_in, last_or, objectives_in, tails_in, variables_in}
+use Rattle.pb_opb.proofs.Common.{ℕ, ◌++◌, ◌+◌, ◌∙◌, ◌∷◌, ◌≡◌, ◌≤◌, [], ap, arith, Bool, cond, drop, length, List, nat_le, None, Option, refl, Some, suc, take}
+use Rattle.pb_opb.proofs.Common.{take-append-drop, Linear, Term, events_of, comment_events, constraint_events, due, in_order, objective_events, OpbEvent}
+use Rattle.pb_opb.proofs.Common.{Comment, Constraint, Objective, AreComments, comments_in, constraints_in, last_or, objectives_in, tails_in, variables_in}
 use Rattle.std.proofs.lemmas.Bool.Decides.{nat_tests}
 use Rattle.pb_opb.specs.declared.instance.Comment as comment
 use Rattle.pb_opb.proofs.lemmas.instances.Spelled.{spelled, IsMain, AreMain, AreInLines}
@@ -32,8 +31,7 @@ module _ {A : Type 0} (F : List OpbEvent → List A) (none : F [] ≡ []) (over 
   none_in (l ∷ ls) = over l (constraint_events ls) ∙ none_in ls
 
   none_in_main : ((t : List Term) (events : List OpbEvent) → F (Objective t ∷ events) ≡ F events) → (o : Option (List Term)) (ls : List Linear) → F (objective_events o ++ constraint_events ls) ≡ []
-  none_in_main past None ls = none_in ls
-  none_in_main past (Some t) ls = past t (constraint_events ls) ∙ none_in ls
+  none_in_main past o ls = grind (arith, none_in)
 
 main_objective : (o : Option (List Term)) (ls : List Linear) → last_or None (objectives_in (objective_events o ++ constraint_events ls)) ≡ o
 main_objective None ls = ap (last_or None) (none_in objectives_in refl (λ l e. refl) ls)

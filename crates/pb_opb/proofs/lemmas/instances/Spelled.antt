@@ -1,10 +1,10 @@
 -- The canonical text of an instance is one of its texts.
-use Rattle.pb_opb.proofs.Common.{ℕ, ◌++◌, ◌+◌, ◌<◌, ◌^◌, ◌∙◌, ◌∷◌, ◌≡◌, ◌≤◌, [], ap, append-nil, append_assoc, arith, Bool, drop, false, IsTrue}
-use Rattle.pb_opb.proofs.Common.{length, List, refl, suc, sym, take, true, zero, decimal, AreTerms, head_bytes, linear_bytes, linear_text, space}
-use Rattle.pb_opb.proofs.Common.{sum_text, Linear, Term, White, decimal-digits, bytes-append, bytes-digits, bytes-plain, IsInLine, is_white, Each, ◌⋅◌, Blanks0, Blanks1, Byte, Bytes, Language, Count, Whites0}
-use Rattle.pb_opb.proofs.Common.{unmarked, bytes, bytes_of, digits_of, Item, Letter, plain, comment_events, constraint_events, due}
-use Rattle.pb_opb.proofs.Common.{event_bytes, header_bytes, in_order, lines, objective_bytes, OpbEvent, Comment, Constraint, Header, Objective}
-use Rattle.pb_opb.proofs.Common.{led_lines, constraint_word, min_word, SpellsComment, SpellsHeader, SpellsObjective, variable_word, AreLinears}
+use Rattle.pb_opb.proofs.Common.{ℕ, ◌++◌, ◌+◌, ◌<◌, ◌^◌, ◌∙◌, ◌∷◌, ◌≡◌, ◌≤◌, [], ap, append-nil, append_assoc, arith, Bool, drop, false, IsTrue, length, List}
+use Rattle.pb_opb.proofs.Common.{refl, suc, sym, take, true, zero, decimal, AreTerms, head_bytes, linear_bytes, linear_text, space, sum_text, Linear, Term}
+use Rattle.pb_opb.proofs.Common.{White, decimal-digits, bytes-append, bytes-digits, bytes-plain, IsInLine, is_white, Each, ◌⋅◌, Blanks0, Blanks1, Byte, Bytes}
+use Rattle.pb_opb.proofs.Common.{Language, Count, Whites0, unmarked, bytes, bytes_of, digits_of, Item, Letter, plain, comment_events, constraint_events, due}
+use Rattle.pb_opb.proofs.Common.{event_bytes, header_bytes, in_order, lines, objective_bytes, OpbEvent, Comment, Constraint, Header, Objective, led_lines}
+use Rattle.pb_opb.proofs.Common.{constraint_word, min_word, SpellsComment, SpellsHeader, SpellsObjective, variable_word, AreLinears}
 use Rattle.pb_sums.proofs.lemmas.values.CanonicalLaws.{linear-spelled, sum-spelled, bytes-linear, bytes-sum}
 use Rattle.pb_opb.specs.declared.instance.Comment as comment
 use Rattle.pb_opb.proofs.lemmas.instances.Counted.{IsCounted}
@@ -93,15 +93,13 @@ header-bytes n m tail =
     ∙ ap before (sym (append_assoc (decimal n) (between (decimal m ++ tail)) (10 ∷ []))))))
 
 comment-bytes : (text : List ℕ) → bytes (comment_text text) ≡ (42 ∷ text) ++ (10 ∷ [])
-comment-bytes text =
-    ap bytes (append_assoc star (plain text) feed) ∙ ap (λ y. 42 ∷ y) (bytes-append (plain text) feed ∙ ap (λ y. y ++ (10 ∷ [])) (bytes-plain text))
+comment-bytes text = simp (append_assoc, bytes-append, bytes-plain)
 
 regrouped5 : (a b c d e : List Letter) → a ++ b ++ c ++ d ++ e ≡ a ++ (b ++ ((c ++ d) ++ e))
 regrouped5 a b c d e = simp append_assoc
 
 head-bytes : (terms : List Term) → bytes (sum_text terms ++ following terms) ≡ head_bytes terms
-head-bytes [] = refl
-head-bytes (x ∷ xs) = bytes-append (sum_text (x ∷ xs)) space ∙ ap (λ y. y ++ (32 ∷ [])) (bytes-sum (x ∷ xs))
+head-bytes terms = grind (arith, bytes-append, bytes-sum)
 
 objective-bytes : (terms : List Term) → bytes (objective_text terms) ≡ objective_bytes terms
 objective-bytes terms = grind (arith, regrouped5, bytes-append, head-bytes)
@@ -143,9 +141,7 @@ pub item-bytes : (i : Item OpbEvent) (rest : List (Item OpbEvent)) → bytes_of 
 item-bytes i rest = grind (arith, bytes-append, i.gap, i.text, bytes-plain)
 
 lead-first : (remaining : Bool) (e : OpbEvent) (events : List OpbEvent) → gap_of remaining ++ (event_bytes e ++ led_lines events) ≡ lead remaining (e ∷ events)
-lead-first true e events = refl
-lead-first false e [] = append-nil (event_bytes e)
-lead-first false e (f ∷ events) = ap (λ y. event_bytes e ++ y) (sym (led-lines f events))
+lead-first remaining e events = grind (arith, append-nil, led-lines)
 
 main-bytes : (remaining : Bool) (e : OpbEvent) (events : List OpbEvent) → IsMain e → bytes_of (spelled true events) ≡ led_lines events
     → bytes_of (spelled remaining (e ∷ events)) ≡ lead remaining (e ∷ events)
@@ -195,8 +191,7 @@ in_lines-drop (suc k) [] h = tt
 in_lines-drop (suc k) (c ∷ cs) h = in_lines-drop k cs h.1
 
 gap-white : (remaining : Bool) → Each (λ b. IsTrue (is_white b)) (gap_of remaining)
-gap-white true = (refl, tt)
-gap-white false = tt
+gap-white remaining = grind arith
 
 module _ (limit : ℕ) (small : limit < 2 ^ 127) where
   comments-body : (cs : List comment.Comment) → AreInLines cs → (objective_allowed : Bool) (n : ℕ) (events : List OpbEvent) → ((remaining : Bool) → IsCounted limit objective_allowed (suc n) (spelled remaining events))

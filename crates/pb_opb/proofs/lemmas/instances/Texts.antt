@@ -1,14 +1,13 @@
 -- What is written for an instance, in parts.
-use Rattle.pb_opb.proofs.Common.{ℕ, ◌++◌, ◌+◌, ◌<◌, ◌∙◌, ◌∷◌, ◌≡◌, [], ap, append-nil, append_assoc, arith, drop, get_or, length, List}
-use Rattle.pb_opb.proofs.Common.{None, Option, refl, Some, suc, sym, take, zero, drop-cons, take_more, linear_bytes, sum_bytes, Linear}
-use Rattle.pb_opb.proofs.Common.{Term, body_events, comment_events, constraint_events, due, event_bytes, in_order, lines, objective_bytes}
-use Rattle.pb_opb.proofs.Common.{objective_events, OpbEvent, Constraint, Objective, Instance, led_lines, min_word}
+use Rattle.pb_opb.proofs.Common.{ℕ, ◌++◌, ◌+◌, ◌<◌, ◌∙◌, ◌∷◌, ◌≡◌, [], ap, append-nil, append_assoc, arith, drop, get_or, length, List, None, Option, refl}
+use Rattle.pb_opb.proofs.Common.{Some, suc, sym, take, zero, drop-cons, take_more, linear_bytes, sum_bytes, Linear, Term, body_events, comment_events}
+use Rattle.pb_opb.proofs.Common.{constraint_events, due, event_bytes, in_order, lines, objective_bytes, objective_events, OpbEvent, Constraint, Objective}
+use Rattle.pb_opb.proofs.Common.{Instance, led_lines}
 use Rattle.pb_opb.specs.declared.instance.Comment.{Comment}
 
 -- `min: `, the sum, ` ;`
 pub objective_parts : (xs : List Term) → 0 < length xs → objective_bytes xs ≡ (109 ∷ 105 ∷ 110 ∷ 58 ∷ 32 ∷ []) ++ (sum_bytes xs ++ (32 ∷ 59 ∷ []))
-objective_parts [] h = absurd (omega arith)
-objective_parts (x ∷ xs) h = ap (λ (z : List ℕ). min_word ++ (32 ∷ z)) (append_assoc (sum_bytes (x ∷ xs)) (32 ∷ []) (59 ∷ []))
+objective_parts xs h = grind (arith, append_assoc)
 
 pub led-append : (xs ys : List OpbEvent) → led_lines (xs ++ ys) ≡ led_lines xs ++ led_lines ys
 led-append [] ys = refl
@@ -34,9 +33,7 @@ pub comments_at : (cs : List Comment) (i : ℕ) (d : Comment) → i < length cs 
     led_lines (comment_events cs) ≡ led_lines (comment_events (take i cs)) ++ ((10 ∷ 42 ∷ (get_or cs i d).text) ++ led_lines (comment_events (drop (suc i) cs)))
 comments_at [] i d h = absurd (omega arith)
 comments_at (c ∷ cs) zero d h = refl
-comments_at (c ∷ cs) (suc i) d h =
-    let rest = comments_at cs i d (omega arith) in
-    rw rest (simp append_assoc)
+comments_at (c ∷ cs) (suc i) d h = grind (arith, append_assoc, comments_at cs i d (omega arith))
 
 -- A statement with the comments before it, and then the other statements.
 pub in_order_parts : (n : ℕ) (cs : List Comment) (e : OpbEvent) (events : List OpbEvent) →

@@ -1,14 +1,10 @@
 -- Each state that a machine of instances can be in accepts some text.
-use Rattle.pb_opb.proofs.Common.{ℕ, ◌+◌, ◌-◌, ◌<◌, ◌≡◌, [], ap, arith, Bool, cond, false, le-leb, length, List, nat_eq, refl, subst, suc, sym}
+use Rattle.pb_opb.proofs.Common.{Part, Spaces, ℕ, ◌+◌, ◌-◌, ◌<◌, ◌≡◌, [], ap, arith, Bool, cond, false, le-leb, length, List, nat_eq, refl, subst, suc, sym}
 use Rattle.pb_opb.proofs.Common.{true, zero, slice_index, eq-eqb, ne_eqb, reads_something, SumEvent, sums, SumState, accepted, before, final, IsAlive}
-use Rattle.pb_opb.proofs.Common.{AcceptsItems, ReadsStatement, Item, Letter, OpbEvent, Stop, To, Field, Constraints, Variables, Phase, count}
-use Rattle.pb_opb.proofs.Common.{transition, word_of, Holds, IsIdle, IsInOrder, PhaseFits, act, after, between, giving, is_done, objectives, opb}
-use Rattle.pb_opb.proofs.Common.{OpbState, remaining_after, statement_of}
-use Rattle.pb_sums.specs.declared.Spaces as grammar
-use Rattle.pb_sums.specs.declared.Part as part
+use Rattle.pb_opb.proofs.Common.{AcceptsItems, ReadsStatement, Item, Letter, OpbEvent, Stop, To, Field, Constraints, Variables, Phase, count, transition}
+use Rattle.pb_opb.proofs.Common.{word_of, Holds, IsIdle, IsInOrder, PhaseFits, act, after, between, giving, is_done, objectives, opb, OpbState, remaining_after}
+use Rattle.pb_opb.proofs.Common.{statement_of}
 use Rattle.pb_sums.specs.declared.phase.Phase as sum_phase
-use Rattle.pb_opb.specs.declared.event.OpbEvent as event
-use Rattle.pb_opb.specs.declared.phase.Phase as phase
 use Rattle.pb_opb.proofs.lemmas.machine.GivenBytes.{Gives, gives_objective, gives_constraint, within_reads}
 use Rattle.pb_opb.proofs.lemmas.machine.Stands.{stands}
 
@@ -20,15 +16,15 @@ sums_end inner h = reads_something inner.spaces inner.part inner.limit inner.wor
 pub owed_read : (s : OpbState) (objective_allowed : Bool) (remaining : ℕ) → (items : List (Item OpbEvent)) × AcceptsItems opb (between s objective_allowed remaining) items
 owed_read s objective_allowed zero = ([], refl)
 owed_read s objective_allowed (suc n) =
-    let mid = giving (between s objective_allowed (suc n)) phase.TheVariants.Constraint (record { spaces = grammar.TheVariants.White; part = part.TheVariants.Linear; limit = s.limit; work = record { terms = []; name = []; phase = sum_phase.TheVariants.Greater } }) in
+    let mid = giving (between s objective_allowed (suc n)) Phase.Constraint (record { spaces = Spaces.White; part = Part.Linear; limit = s.limit; work = record { terms = []; name = []; phase = sum_phase.TheVariants.Greater } }) in
     let r = sums_end mid.sums refl in
     let more = owed_read s false n in
     let less : suc n - 1 ≡ n = omega arith in
     accepted opb (between s objective_allowed (suc n)) (before opb (between s objective_allowed (suc n)) mid 62 refl refl (record {
       text = r.0;
       event = statement_of r.1;
-      after = after (between s objective_allowed (suc n)) phase.TheVariants.Constraint;
-      reads = within_reads (between s objective_allowed (suc n)) phase.TheVariants.Constraint gives_constraint r.0 mid.sums r.1 r.2 r.3;
+      after = after (between s objective_allowed (suc n)) Phase.Constraint;
+      reads = within_reads (between s objective_allowed (suc n)) Phase.Constraint gives_constraint r.0 mid.sums r.1 r.2 r.3;
       rest = more.0;
       accepts = subst (λ (k : ℕ). AcceptsItems opb (between s false k) more.0) (sym less) more.1;
     }))
@@ -45,12 +41,12 @@ module _ (limit top : ℕ) where
   abbrev pub idle : ℕ → ℕ → Phase → OpbState
   idle variables remaining p = stands limit top variables remaining p []
 
-  zero_counts : (f : Field) → count top f 0 48 ≡ To (phase.TheVariants.Count f 0)
-  zero_counts f = ap (λ (b : Bool). cond b (To (phase.TheVariants.Count f 0)) Stop) (le-leb 0 top (omega arith))
+  zero_counts : (f : Field) → count top f 0 48 ≡ To (Phase.Count f 0)
+  zero_counts f = ap (λ (b : Bool). cond b (To (Phase.Count f 0)) Stop) (le-leb 0 top (omega arith))
 
   -- the next byte of a word continues it, and the last one ends it
   spelled : (f : Field) (k : ℕ) (is_last : Bool) → nat_eq (k + 1) (length (word_of f)) ≡ is_last
-      → transition top (phase.TheVariants.Word f k) (slice_index (word_of f) k) ≡ To (cond is_last (phase.TheVariants.BeforeCount f) (phase.TheVariants.Word f (k + 1)))
+      → transition top (Phase.Word f k) (slice_index (word_of f) k) ≡ To (cond is_last (Phase.BeforeCount f) (Phase.Word f (k + 1)))
   spelled f k is_last e = rw (eq-eqb (slice_index (word_of f) k) (slice_index (word_of f) k) refl, e) refl
 
   module _ (variables remaining : ℕ) where
@@ -58,70 +54,70 @@ module _ (limit top : ℕ) where
     at_phase p = idle variables remaining p
 
     -- within a word, with this many bytes to come after the next one
-    word_further : (f : Field) → IsAlive opb (at_phase (phase.TheVariants.BeforeCount f)) → (left k : ℕ) → suc (k + left) ≡ length (word_of f) → IsAlive opb (at_phase (phase.TheVariants.Word f k))
+    word_further : (f : Field) → IsAlive opb (at_phase (Phase.BeforeCount f)) → (left k : ℕ) → suc (k + left) ≡ length (word_of f) → IsAlive opb (at_phase (Phase.Word f k))
     word_further f whole zero k e =
-        let s = at_phase (phase.TheVariants.Word f k) in
+        let s = at_phase (Phase.Word f k) in
         let b = slice_index (word_of f) k in
-        before opb s (at_phase (phase.TheVariants.BeforeCount f)) b (ap (act s b) (spelled f k true (eq-eqb (k + 1) (length (word_of f)) (omega (arith, e))))) refl whole
+        before opb s (at_phase (Phase.BeforeCount f)) b (ap (act s b) (spelled f k true (eq-eqb (k + 1) (length (word_of f)) (omega (arith, e))))) refl whole
     word_further f whole (suc left) k e =
-        let s = at_phase (phase.TheVariants.Word f k) in
+        let s = at_phase (Phase.Word f k) in
         let b = slice_index (word_of f) k in
-        before opb s (at_phase (phase.TheVariants.Word f (k + 1))) b (ap (act s b) (spelled f k false (ne_eqb (k + 1) (length (word_of f)) (λ h. omega (arith, e, h))))) refl
+        before opb s (at_phase (Phase.Word f (k + 1))) b (ap (act s b) (spelled f k false (ne_eqb (k + 1) (length (word_of f)) (λ h. omega (arith, e, h))))) refl
         (word_further f whole left (k + 1) (omega (arith, e)))
 
     -- before a word or a count, if what comes after it can be read
-    count_follows : (f : Field) → IsAlive opb (at_phase (phase.TheVariants.Count f 0)) → IsAlive opb (at_phase (phase.TheVariants.BeforeCount f))
+    count_follows : (f : Field) → IsAlive opb (at_phase (Phase.Count f 0)) → IsAlive opb (at_phase (Phase.BeforeCount f))
     count_follows f counted =
-        let s = at_phase (phase.TheVariants.BeforeCount f) in
-        before opb s (at_phase (phase.TheVariants.Count f 0)) 48 (ap (act s 48) (zero_counts f)) refl counted
+        let s = at_phase (Phase.BeforeCount f) in
+        before opb s (at_phase (Phase.Count f 0)) 48 (ap (act s 48) (zero_counts f)) refl counted
 
-    word_begun : (f : Field) (k : ℕ) → IsAlive opb (at_phase (phase.TheVariants.BeforeCount f)) → k < length (word_of f) → IsAlive opb (at_phase (phase.TheVariants.Word f k))
+    word_begun : (f : Field) (k : ℕ) → IsAlive opb (at_phase (Phase.BeforeCount f)) → k < length (word_of f) → IsAlive opb (at_phase (Phase.Word f k))
     word_begun f k whole h = word_further f whole (length (word_of f) - suc k) k (omega (arith, h))
 
-    word_follows : (f : Field) → IsAlive opb (at_phase (phase.TheVariants.BeforeCount f)) → IsAlive opb (at_phase (phase.TheVariants.BeforeWord f))
+    word_follows : (f : Field) → IsAlive opb (at_phase (Phase.BeforeCount f)) → IsAlive opb (at_phase (Phase.BeforeWord f))
     word_follows f whole =
-        before opb (at_phase (phase.TheVariants.BeforeWord f)) (at_phase (phase.TheVariants.Word f 1)) 35 refl refl (word_begun f 1 whole (grind arith))
+        before opb (at_phase (Phase.BeforeWord f)) (at_phase (Phase.Word f 1)) 35 refl refl (word_begun f 1 whole (grind arith))
 
-    constraints_counted : (n : ℕ) → IsAlive opb (at_phase (phase.TheVariants.Count Constraints n))
+    constraints_counted : (n : ℕ) → IsAlive opb (at_phase (Phase.Count Constraints n))
     constraints_counted n =
-        let s = at_phase (phase.TheVariants.Count Constraints n) in
+        let s = at_phase (Phase.Count Constraints n) in
         let more = owed_read s true n in
-        final opb s (between s true n) 10 (event.TheVariants.Header variables n []) refl more.0 more.1
+        final opb s (between s true n) 10 (OpbEvent.Header variables n []) refl more.0 more.1
 
   module _ (variables remaining : ℕ) where
     abbrev in_phase : Phase → OpbState
     in_phase p = idle variables remaining p
 
-    counted : (f : Field) (n : ℕ) → IsAlive opb (in_phase (phase.TheVariants.Count f n))
+    counted : (f : Field) (n : ℕ) → IsAlive opb (in_phase (Phase.Count f n))
     counted Constraints n = constraints_counted variables remaining n
     counted Variables n =
-        before opb (in_phase (phase.TheVariants.Count Variables n)) (idle n remaining (phase.TheVariants.BeforeWord Constraints)) 32 refl refl
+        before opb (in_phase (Phase.Count Variables n)) (idle n remaining (Phase.BeforeWord Constraints)) 32 refl refl
         (word_follows n remaining Constraints (count_follows n remaining Constraints (constraints_counted n remaining 0)))
 
-    count_owed : (f : Field) → IsAlive opb (in_phase (phase.TheVariants.BeforeCount f))
+    count_owed : (f : Field) → IsAlive opb (in_phase (Phase.BeforeCount f))
     count_owed f = count_follows variables remaining f (counted f 0)
 
-    word_owed : (f : Field) → IsAlive opb (in_phase (phase.TheVariants.BeforeWord f))
+    word_owed : (f : Field) → IsAlive opb (in_phase (Phase.BeforeWord f))
     word_owed f = word_follows variables remaining f (count_owed f)
 
-    started : IsAlive opb (in_phase phase.TheVariants.Start)
-    started = before opb (in_phase phase.TheVariants.Start) (in_phase (phase.TheVariants.BeforeWord Variables)) 42 refl refl (word_owed Variables)
+    started : IsAlive opb (in_phase Phase.Start)
+    started = before opb (in_phase Phase.Start) (in_phase (Phase.BeforeWord Variables)) 42 refl refl (word_owed Variables)
 
     -- an objective without terms
-    objective_owed : (after_min : OpbState) → after_min ≡ giving (in_phase phase.TheVariants.AfterMin) phase.TheVariants.AfterMin (objectives limit) → IsAlive opb after_min
+    objective_owed : (after_min : OpbState) → after_min ≡ giving (in_phase Phase.AfterMin) Phase.AfterMin (objectives limit) → IsAlive opb after_min
     objective_owed s e =
-        let t = giving (in_phase phase.TheVariants.AfterMin) phase.TheVariants.AfterMin (objectives limit) in
+        let t = giving (in_phase Phase.AfterMin) Phase.AfterMin (objectives limit) in
         let more = owed_read t false remaining in
-        subst (IsAlive opb) (sym e) (final opb t (between t false remaining) 59 (event.TheVariants.Objective []) refl more.0 more.1)
+        subst (IsAlive opb) (sym e) (final opb t (between t false remaining) 59 (OpbEvent.Objective []) refl more.0 more.1)
 
-    min_3 : IsAlive opb (in_phase (phase.TheVariants.Min 3))
-    min_3 = before opb (in_phase (phase.TheVariants.Min 3)) (giving (in_phase phase.TheVariants.AfterMin) phase.TheVariants.AfterMin (objectives limit)) 58 refl refl (objective_owed _ refl)
+    min_3 : IsAlive opb (in_phase (Phase.Min 3))
+    min_3 = before opb (in_phase (Phase.Min 3)) (giving (in_phase Phase.AfterMin) Phase.AfterMin (objectives limit)) 58 refl refl (objective_owed _ refl)
 
-    min_2 : IsAlive opb (in_phase (phase.TheVariants.Min 2))
-    min_2 = before opb (in_phase (phase.TheVariants.Min 2)) (in_phase (phase.TheVariants.Min 3)) 110 refl refl min_3
+    min_2 : IsAlive opb (in_phase (Phase.Min 2))
+    min_2 = before opb (in_phase (Phase.Min 2)) (in_phase (Phase.Min 3)) 110 refl refl min_3
 
-    min_begun : (k : ℕ) → 0 < k → k < 4 → IsAlive opb (in_phase (phase.TheVariants.Min k))
-    min_begun (suc zero) h i = before opb (in_phase (phase.TheVariants.Min 1)) (in_phase (phase.TheVariants.Min 2)) 105 refl refl min_2
+    min_begun : (k : ℕ) → 0 < k → k < 4 → IsAlive opb (in_phase (Phase.Min k))
+    min_begun (suc zero) h i = before opb (in_phase (Phase.Min 1)) (in_phase (Phase.Min 2)) 105 refl refl min_2
     min_begun (suc (suc zero)) h i = min_2
     min_begun (suc (suc (suc zero))) h i = min_3
     min_begun _ h i = absurd (omega arith)
@@ -137,30 +133,30 @@ gives_accepts : (s : OpbState) (p : Phase) → s.phase ≡ p → Gives p → sum
 gives_accepts s p e g h = accepted opb s (subst (λ (q : Phase). IsAlive opb (giving s q s.sums)) (sym e) (giving_alive s p g s.sums h))
 
 -- between two statements, with a positive count of constraints
-is_between : (s : OpbState) (objective_allowed : Bool) → s.phase ≡ phase.TheVariants.Between objective_allowed → 0 < s.remaining → IsIdle s → s ≡ between s objective_allowed s.remaining
+is_between : (s : OpbState) (objective_allowed : Bool) → s.phase ≡ Phase.Between objective_allowed → 0 < s.remaining → IsIdle s → s ≡ between s objective_allowed s.remaining
 is_between s objective_allowed e o (t, i) = grind (arith, s.remaining)
 
 -- what a state accepts, by what it has read last
 by_phase : (s : OpbState) (p : Phase) → s.phase ≡ p → PhaseFits s.top p → Holds s p → (items : List (Item OpbEvent)) × AcceptsItems opb s items
-by_phase s phase.TheVariants.Start e fits h = idle_accepts s phase.TheVariants.Start e h (started s.limit s.top s.variables s.remaining)
-by_phase s (phase.TheVariants.BeforeWord f) e fits h = idle_accepts s (phase.TheVariants.BeforeWord f) e h (word_owed s.limit s.top s.variables s.remaining f)
-by_phase s (phase.TheVariants.Word f k) e fits h = idle_accepts s (phase.TheVariants.Word f k) e h (word_begun s.limit s.top s.variables s.remaining f k (count_owed s.limit s.top s.variables s.remaining f) fits)
-by_phase s (phase.TheVariants.BeforeCount f) e fits h = idle_accepts s (phase.TheVariants.BeforeCount f) e h (count_owed s.limit s.top s.variables s.remaining f)
-by_phase s (phase.TheVariants.Count f n) e fits h = idle_accepts s (phase.TheVariants.Count f n) e h (counted s.limit s.top s.variables s.remaining f n)
-by_phase s phase.TheVariants.Tail e fits h =
+by_phase s Phase.Start e fits h = idle_accepts s Phase.Start e h (started s.limit s.top s.variables s.remaining)
+by_phase s (Phase.BeforeWord f) e fits h = idle_accepts s (Phase.BeforeWord f) e h (word_owed s.limit s.top s.variables s.remaining f)
+by_phase s (Phase.Word f k) e fits h = idle_accepts s (Phase.Word f k) e h (word_begun s.limit s.top s.variables s.remaining f k (count_owed s.limit s.top s.variables s.remaining f) fits)
+by_phase s (Phase.BeforeCount f) e fits h = idle_accepts s (Phase.BeforeCount f) e h (count_owed s.limit s.top s.variables s.remaining f)
+by_phase s (Phase.Count f n) e fits h = idle_accepts s (Phase.Count f n) e h (counted s.limit s.top s.variables s.remaining f n)
+by_phase s Phase.Tail e fits h =
     let more = owed_read s true s.remaining in
-    accepted opb s (final opb s (between s true s.remaining) 10 (event.TheVariants.Header s.variables s.remaining s.text) (ap (λ (p : Phase). act s 10 (transition s.top p 10)) e) more.0 more.1)
-by_phase s (phase.TheVariants.Between objective_allowed) e fits h =
+    accepted opb s (final opb s (between s true s.remaining) 10 (OpbEvent.Header s.variables s.remaining s.text) (ap (λ (p : Phase). act s 10 (transition s.top p 10)) e) more.0 more.1)
+by_phase s (Phase.Between objective_allowed) e fits h =
     let more = owed_read s objective_allowed s.remaining in
     (more.0, subst (λ (t : OpbState). AcceptsItems opb t more.0) (sym (is_between s objective_allowed e h.0 h.1)) more.1)
-by_phase s (phase.TheVariants.Comment objective_allowed) e fits h =
+by_phase s (Phase.Comment objective_allowed) e fits h =
     let more = owed_read s objective_allowed s.remaining in
-    accepted opb s (final opb s (between s objective_allowed s.remaining) 10 (event.TheVariants.Comment s.text) (ap (λ (p : Phase). act s 10 (transition s.top p 10)) e) more.0 more.1)
-by_phase s (phase.TheVariants.Min k) e fits h = idle_accepts s (phase.TheVariants.Min k) e h.1 (min_begun s.limit s.top s.variables s.remaining k fits.0 fits.1)
-by_phase s phase.TheVariants.AfterMin e fits h = accepted opb s (objective_owed s.limit s.top s.variables s.remaining s (rw (e, h.1, h.2) refl))
-by_phase s phase.TheVariants.Objective e fits h = gives_accepts s phase.TheVariants.Objective e gives_objective h.2
-by_phase s phase.TheVariants.Constraint e fits h = gives_accepts s phase.TheVariants.Constraint e gives_constraint h.2
-by_phase s phase.TheVariants.Done e fits h = ([], ap is_done e)
+    accepted opb s (final opb s (between s objective_allowed s.remaining) 10 (OpbEvent.Comment s.text) (ap (λ (p : Phase). act s 10 (transition s.top p 10)) e) more.0 more.1)
+by_phase s (Phase.Min k) e fits h = idle_accepts s (Phase.Min k) e h.1 (min_begun s.limit s.top s.variables s.remaining k fits.0 fits.1)
+by_phase s Phase.AfterMin e fits h = accepted opb s (objective_owed s.limit s.top s.variables s.remaining s (rw (e, h.1, h.2) refl))
+by_phase s Phase.Objective e fits h = gives_accepts s Phase.Objective e gives_objective h.2
+by_phase s Phase.Constraint e fits h = gives_accepts s Phase.Constraint e gives_constraint h.2
+by_phase s Phase.Done e fits h = ([], ap is_done e)
 
 -- each state in order accepts something
 pub live : (s : OpbState) → IsInOrder s → (items : List (Item OpbEvent)) × AcceptsItems opb s items

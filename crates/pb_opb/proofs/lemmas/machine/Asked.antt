@@ -1,25 +1,20 @@
 -- If a machine of instances may allocate at a byte, then that byte's position in its statement is one that may
 -- allocate.
-use Rattle.pb_opb.proofs.Common.{ℕ, ◌&&◌, ◌++◌, ◌∙◌, ◌∷◌, ◌≡◌, ◌≤◌, ◌⊎◌, [], ap, append-nil, ap₂, arith, Bool, false, inl, inr, IsTrue}
-use Rattle.pb_opb.proofs.Common.{List, nat_eq, refl, subst, suc, sym, true, zero, cond_both, reads_grammar}
-use Rattle.pb_opb.proofs.Common.{continues-midway, SumEvent, White, sums, SumState, Spells, prefixes_of, reads_after, Walks, never, bytes-append}
-use Rattle.pb_opb.proofs.Common.{bytes-plain, End, Go, MayAsk, Next, ReadsStatement, IsInLine, is_blank, is_white, ◌⋅◌, Blanks0}
-use Rattle.pb_opb.proofs.Common.{Byte, Bytes, Digits, bytes, Letter, OpbEvent, Comment, Constraint, Header, Objective, Action}
-use Rattle.pb_opb.proofs.Common.{Constraints, Variables, Phase, transition, act, asks, begin, giving, linears, objectives, opb}
-use Rattle.pb_opb.proofs.Common.{OpbState, over, statement_of, constraint_word, IsInstance, IsTail}
+use Rattle.pb_opb.proofs.Common.{Part, ℕ, ◌&&◌, ◌++◌, ◌∙◌, ◌∷◌, ◌≡◌, ◌≤◌, ◌⊎◌, [], ap, append-nil, ap₂, arith, Bool, false, inl, inr, IsTrue, List, nat_eq}
+use Rattle.pb_opb.proofs.Common.{refl, subst, suc, sym, true, zero, cond_both, reads_grammar, continues-midway, SumEvent, White, sums, SumState, Spells}
+use Rattle.pb_opb.proofs.Common.{prefixes_of, reads_after, Walks, never, bytes-append, bytes-plain, End, Go, MayAsk, Next, ReadsStatement, IsInLine, is_blank}
+use Rattle.pb_opb.proofs.Common.{is_white, ◌⋅◌, Blanks0, Byte, Bytes, Digits, bytes, Letter, OpbEvent, Comment, Constraint, Header, Objective, Action}
+use Rattle.pb_opb.proofs.Common.{Constraints, Variables, Phase, transition, act, asks, begin, giving, linears, objectives, opb, OpbState, over, statement_of}
+use Rattle.pb_opb.proofs.Common.{constraint_word, IsInstance, IsTail}
 use Rattle.pb_text.specs.meaning.Asking.{AsksOnly}
 use Rattle.pb_text.proofs.lemmas.machine.Asked as asked
-use Rattle.pb_sums.specs.declared.sum_kind.Part as part
-use Rattle.pb_sums.specs.declared.linear.SumEvent as sum
 use Rattle.pb_sums.proofs.lemmas.machine.Asked.{sums_asked, first_asks_nothing}
 use Rattle.pb_opb.specs.meaning.Asking.{MinLead, Asks}
-use Rattle.pb_opb.specs.declared.phase.Phase as phase
 use Rattle.pb_opb.proofs.lemmas.machine.Bodies.{InGap, gap_given, nothing_read, instance_each}
 use Rattle.pb_opb.proofs.lemmas.machine.EntryPrefix as entry
-use Rattle.pb_opb.proofs.lemmas.machine.Prefixes.{line_grown, tail_grown}
+use Rattle.pb_opb.proofs.lemmas.machine.Stands.{line_grown, tail_grown, idle}
 use Rattle.pb_opb.proofs.lemmas.machine.HeaderPrefix as header
 use Rattle.pb_opb.proofs.lemmas.machine.GivenBytes.{Gives, gives_objective, gives_constraint, given_step}
-use Rattle.pb_opb.proofs.lemmas.machine.Stands.{idle}
 
 module _ (limit top : ℕ) where
   -- between two statements, or before the first one
@@ -43,16 +38,14 @@ module _ (limit top : ℕ) where
       (λ _. gap_given (λ next. Idle next × (sums.asks s.sums b ≡ false)) s (sums.step s.sums b))))
 
   gap_of : (s : OpbState) (b : ℕ) → Idle s → Quiet (opb.step s b) (opb.asks s b)
-  gap_of s b (inl e) = subst (λ x. Quiet (opb.step x b) (opb.asks x b)) (sym e) (gap_begin b)
-  gap_of s b (inr (v, objective_allowed, n, e)) = subst (λ x. Quiet (opb.step x b) (opb.asks x b)) (sym e) (gap_idle v objective_allowed n b)
+  gap_of s b h = grind (arith, gap_begin, gap_idle)
 
   gaps : (s next : OpbState) (b : ℕ) → Idle s → opb.step s b ≡ Go next → opb.begun next ≡ false → Idle next × (opb.asks s b ≡ false)
   gaps s next b i g o = (subst (λ x. Quiet x (opb.asks s b)) g (gap_of s b i)) o
 
   -- after a statement
   after_header : (e : OpbEvent) (next : OpbState) (t : List Letter) → header.IsHeader limit top e next t → Idle next
-  after_header (Header v n tail) next t h = inr (v, true, n, h.2)
-  after_header _ next t h = absurd h
+  after_header e next t h = grind arith
 
   after_entry : (v n : ℕ) (objective_allowed : Bool) (e : OpbEvent) (next : OpbState) (t : List Letter) → entry.IsStatement limit top v n objective_allowed e next t → Idle next
   after_entry v n objective_allowed (Header w k tail) next t h = absurd h
@@ -78,15 +71,14 @@ module _ (limit top : ℕ) where
       (s.variables, s.remaining, a, s.text, k, ap bytes e ∙ (bytes-append a c ∙ ap (λ (x : List ℕ). bytes a ++ x) (ap bytes is ∙ bytes-plain s.text)), tail_grown s.text b line some h)
 
   header_asks : (s : OpbState) (p : List Letter) (b : ℕ) (q : Phase) → header.prefix s q p → asks s b (transition s.top q b) ≡ true → AsksHeader s.top (bytes p) b
-  header_asks s p b (phase.TheVariants.Count Variables n) h k = absurd (grind arith)
-  header_asks s p b (phase.TheVariants.Count Constraints n) h k = counted s p n b h.0 h.1 (grind arith)
-  header_asks s p b phase.TheVariants.Tail h k = tailed s p b h.0 h.1 (grind arith) h.2
+  header_asks s p b (Phase.Count Variables n) h k = absurd (grind arith)
+  header_asks s p b (Phase.Count Constraints n) h k = counted s p n b h.0 h.1 (grind arith)
+  header_asks s p b Phase.Tail h k = tailed s p b h.0 h.1 (grind arith) h.2
   header_asks s p b _ h k = absurd (grind arith)
 
   -- the position of a byte that may allocate, by phase
   at_header : (e : OpbEvent) (next : OpbState) (t : List Letter) (text : List ℕ) (b : ℕ) → header.IsHeader limit top e next t → AsksHeader top text b → Asks top e text b
-  at_header (Header v n tail) next t text b h a = a
-  at_header _ next t text b h a = absurd h
+  at_header e next t text b h a = grind arith
 
   -- Within a sum, the text is read by the machine of sums.
   module _ (q : Phase) (g : Gives q) where
@@ -109,29 +101,29 @@ module _ (limit top : ℕ) where
         (f, new, (inner, i, continues-midway s.sums inner l.byte i, n ∙ number, subst (λ (x : SumState). ReadsStatement sums x (k ∷ t) f new) (ap (λ x. x.sums) same) j), is)
 
   -- Within a comment, the text is a comment.
-  comment_ends : (top b : ℕ) (m : Bool) (s next : OpbState) (e : OpbEvent) → act s b (transition top (phase.TheVariants.Comment m) b) ≡ End e next → e ≡ Comment s.text
+  comment_ends : (top b : ℕ) (m : Bool) (s next : OpbState) (e : OpbEvent) → act s b (transition top (Phase.Comment m) b) ≡ End e next → e ≡ Comment s.text
   comment_ends top b m s next e h = grind arith
 
-  comment_goes : (top b : ℕ) (m : Bool) (s next : OpbState) → act s b (transition top (phase.TheVariants.Comment m) b) ≡ Go next → next.phase ≡ s.phase
+  comment_goes : (top b : ℕ) (m : Bool) (s next : OpbState) → act s b (transition top (Phase.Comment m) b) ≡ Go next → next.phase ≡ s.phase
   comment_goes top b m s next h = grind arith
 
-  comment_reads : (t : List Letter) (s : OpbState) (m : Bool) (e : OpbEvent) (next : OpbState) → s.phase ≡ phase.TheVariants.Comment m → ReadsStatement opb s t e next → (line : List ℕ) × (e ≡ Comment line)
+  comment_reads : (t : List Letter) (s : OpbState) (m : Bool) (e : OpbEvent) (next : OpbState) → s.phase ≡ Phase.Comment m → ReadsStatement opb s t e next → (line : List ℕ) × (e ≡ Comment line)
   comment_reads [] s m e next at r = absurd r
   comment_reads (l ∷ []) s m e next at (h, n) = (s.text, comment_ends s.top l.byte m s next e (sym (ap (λ q. act s l.byte (transition s.top q l.byte)) at) ∙ h))
   comment_reads (l ∷ k ∷ t) s m e next at (mid, h, o, n, r) =
       comment_reads (k ∷ t) mid m e next (comment_goes s.top l.byte m s mid (sym (ap (λ q. act s l.byte (transition s.top q l.byte)) at) ∙ h) ∙ at) r
 
   -- the phases in which no byte allocates, or not each
-  asks_min : (s : OpbState) (b j : ℕ) → asks s b (transition s.top (phase.TheVariants.Min j) b) ≡ true → ⊥
+  asks_min : (s : OpbState) (b j : ℕ) → asks s b (transition s.top (Phase.Min j) b) ≡ true → ⊥
   asks_min s b j h = grind arith
 
-  asks_after_min : (s : OpbState) (b : ℕ) → sums.asks s.sums b ≡ false → asks s b (transition s.top phase.TheVariants.AfterMin b) ≡ true → ⊥
+  asks_after_min : (s : OpbState) (b : ℕ) → sums.asks s.sums b ≡ false → asks s b (transition s.top Phase.AfterMin b) ≡ true → ⊥
   asks_after_min s b e h = grind arith
 
-  asks_between : (s : OpbState) (b : ℕ) (m : Bool) → sums.asks s.sums b ≡ false → asks s b (transition s.top (phase.TheVariants.Between m) b) ≡ true → ⊥
+  asks_between : (s : OpbState) (b : ℕ) (m : Bool) → sums.asks s.sums b ≡ false → asks s b (transition s.top (Phase.Between m) b) ≡ true → ⊥
   asks_between s b m e h = grind arith
 
-  asks_comment : (s : OpbState) (b : ℕ) (m : Bool) → asks s b (transition s.top (phase.TheVariants.Comment m) b) ≡ true → nat_eq b 10 ≡ false
+  asks_comment : (s : OpbState) (b : ℕ) (m : Bool) → asks s b (transition s.top (Phase.Comment m) b) ≡ true → nat_eq b 10 ≡ false
   asks_comment s b m h = grind arith
 
   in_comment : (s : OpbState) (p : List Letter) (b : ℕ) → IsInLine s.text → nat_eq b 10 ≡ false → (Byte 42 ⋅ Bytes s.text) p → (line : List ℕ) → Asks top (Comment line) (bytes p) b
@@ -141,40 +133,40 @@ module _ (limit top : ℕ) where
   in_objective : (s new : OpbState) (inner : SumState) (a c rest : List Letter) (l : Letter) (f : SumEvent) → MinLead a → Walks sums (objectives s.limit) c s.sums → ReadsStatement sums s.sums (l ∷ rest) f inner
       → sums.asks s.sums l.byte ≡ true → Asks top (statement_of f) (bytes (a ++ c)) l.byte
   in_objective s new inner a c rest l f lead w r h =
-      by_event f ((reads_grammar White part.TheVariants.Sum s.limit (c ++ l ∷ rest) f inner).0 (reads_after sums c (l ∷ rest) (objectives s.limit) s.sums inner f w r)).0
+      by_event f ((reads_grammar White Part.Sum s.limit (c ++ l ∷ rest) f inner).0 (reads_after sums c (l ∷ rest) (objectives s.limit) s.sums inner f w r)).0
     where
-      by_event : (g : SumEvent) → Spells White s.limit part.TheVariants.Sum g (c ++ l ∷ rest) → Asks top (statement_of g) (bytes (a ++ c)) l.byte
-      by_event (sum.TheVariants.Sum xs) k =
-          (a, bytes c, lead, bytes-append a c, sums_asked White part.TheVariants.Sum s.limit c s.sums l.byte w h)
-      by_event (sum.TheVariants.Linear d) k = never false k.0 refl
+      by_event : (g : SumEvent) → Spells White s.limit Part.Sum g (c ++ l ∷ rest) → Asks top (statement_of g) (bytes (a ++ c)) l.byte
+      by_event (SumEvent.Sum xs) k =
+          (a, bytes c, lead, bytes-append a c, sums_asked White Part.Sum s.limit c s.sums l.byte w h)
+      by_event (SumEvent.Linear d) k = never false k.0 refl
 
   in_constraint : (s : OpbState) (inner : SumState) (p rest : List Letter) (l : Letter) (f : SumEvent) → Walks sums (linears s.limit) p s.sums → ReadsStatement sums s.sums (l ∷ rest) f inner
       → sums.asks s.sums l.byte ≡ true → Asks top (statement_of f) (bytes p) l.byte
   in_constraint s inner p rest l f w r h =
-      by_event f ((reads_grammar White part.TheVariants.Linear s.limit (p ++ l ∷ rest) f inner).0 (reads_after sums p (l ∷ rest) (linears s.limit) s.sums inner f w r)).0
+      by_event f ((reads_grammar White Part.Linear s.limit (p ++ l ∷ rest) f inner).0 (reads_after sums p (l ∷ rest) (linears s.limit) s.sums inner f w r)).0
     where
-      by_event : (g : SumEvent) → Spells White s.limit part.TheVariants.Linear g (p ++ l ∷ rest) → Asks top (statement_of g) (bytes p) l.byte
-      by_event (sum.TheVariants.Sum xs) k = never false k.0 refl
-      by_event (sum.TheVariants.Linear d) k = sums_asked White part.TheVariants.Linear s.limit p s.sums l.byte w h
+      by_event : (g : SumEvent) → Spells White s.limit Part.Linear g (p ++ l ∷ rest) → Asks top (statement_of g) (bytes p) l.byte
+      by_event (SumEvent.Sum xs) k = never false k.0 refl
+      by_event (SumEvent.Linear d) k = sums_asked White Part.Linear s.limit p s.sums l.byte w h
 
   module _ (v n : ℕ) (objective_allowed : Bool) (s next : OpbState) (p rest : List Letter) (l : Letter) (e : OpbEvent) where
     entry_asks : (q : Phase) → s.phase ≡ q → entry.prefix limit top v n objective_allowed s q p → ReadsStatement opb s (l ∷ rest) e next → asks s l.byte (transition s.top q l.byte) ≡ true → Asks top e (bytes p) l.byte
-    entry_asks (phase.TheVariants.Between m) at (same, none, kept, inner) r k =
-        let quiet : sums.asks s.sums l.byte ≡ false = ap (λ (x : SumState). sums.asks x l.byte) inner ∙ first_asks_nothing White part.TheVariants.Linear s.limit l.byte in
+    entry_asks (Phase.Between m) at (same, none, kept, inner) r k =
+        let quiet : sums.asks s.sums l.byte ≡ false = ap (λ (x : SumState). sums.asks x l.byte) inner ∙ first_asks_nothing White Part.Linear s.limit l.byte in
         absurd (asks_between s l.byte m quiet k)
-    entry_asks (phase.TheVariants.Comment m) at (same, h, c) r k =
+    entry_asks (Phase.Comment m) at (same, h, c) r k =
         let (line, is) = comment_reads (l ∷ rest) s m e next at r in
         subst (λ (x : OpbEvent). Asks top x (bytes p) l.byte) (sym is) (in_comment s p l.byte h (asks_comment s l.byte m k) c line)
-    entry_asks phase.TheVariants.AfterMin at (m, inner, lead) r k =
-        let quiet : sums.asks s.sums l.byte ≡ false = ap (λ (x : SumState). sums.asks x l.byte) inner ∙ first_asks_nothing White part.TheVariants.Sum s.limit l.byte in
+    entry_asks Phase.AfterMin at (m, inner, lead) r k =
+        let quiet : sums.asks s.sums l.byte ≡ false = ap (λ (x : SumState). sums.asks x l.byte) inner ∙ first_asks_nothing White Part.Sum s.limit l.byte in
         absurd (asks_after_min s l.byte quiet k)
-    entry_asks phase.TheVariants.Objective at (m, (a, c, is, lead, w)) r k =
-        let (f, inner, x, same) = sum_reads phase.TheVariants.Objective gives_objective (l ∷ rest) s e next at r in
+    entry_asks Phase.Objective at (m, (a, c, is, lead, w)) r k =
+        let (f, inner, x, same) = sum_reads Phase.Objective gives_objective (l ∷ rest) s e next at r in
         subst (λ (y : List Letter). Asks top e (bytes y) l.byte) (sym is) (subst (λ (y : OpbEvent). Asks top y (bytes (a ++ c)) l.byte) (sym same) (in_objective s s inner a c rest l f lead w x k))
-    entry_asks phase.TheVariants.Constraint at w r k =
-        let (f, inner, x, same) = sum_reads phase.TheVariants.Constraint gives_constraint (l ∷ rest) s e next at r in
+    entry_asks Phase.Constraint at w r k =
+        let (f, inner, x, same) = sum_reads Phase.Constraint gives_constraint (l ∷ rest) s e next at r in
         subst (λ (y : OpbEvent). Asks top y (bytes p) l.byte) (sym same) (in_constraint s inner p rest l f w x k)
-    entry_asks (phase.TheVariants.Min j) at h r k = absurd (asks_min s l.byte j k)
+    entry_asks (Phase.Min j) at h r k = absurd (asks_min s l.byte j k)
     entry_asks _ at h r k = absurd h
 
   texts : (at s next : OpbState) (prefix rest : List Letter) (l : Letter) (e : OpbEvent) → Idle at → Walks opb at prefix s → ReadsStatement opb s (l ∷ rest) e next

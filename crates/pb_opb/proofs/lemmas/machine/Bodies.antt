@@ -1,9 +1,8 @@
 -- The machine accepts the statements of an instance, and no others.
-use Rattle.pb_opb.proofs.Common.{ℕ, ◌&&◌, ◌↔◌, ◌∙◌, ◌∷◌, ◌≡◌, [], ap, arith, Bool, false, IsTrue, List, nat_eq, refl, subst, suc, sym, true, zero, cond_both}
-use Rattle.pb_opb.proofs.Common.{SumEvent, sums, SumState, refuse_or_end, refuse_or_go, never, AcceptsItems, End, Go, Next, ReadsStatement, Refuse}
-use Rattle.pb_opb.proofs.Common.{SkipsGap, is_white, Each, Item, Letter, OpbEvent, Comment, Constraint, Header, Objective, Action, act, begin}
-use Rattle.pb_opb.proofs.Common.{linears, opb, OpbState, over, IsBegun, IsInstance}
-use Rattle.pb_opb.specs.declared.phase.Phase as phase
+use Rattle.pb_opb.proofs.Common.{Phase, ℕ, ◌&&◌, ◌↔◌, ◌∙◌, ◌∷◌, ◌≡◌, [], ap, arith, Bool, false, IsTrue, List, nat_eq, refl, subst, suc, sym, true, zero}
+use Rattle.pb_opb.proofs.Common.{cond_both, SumEvent, sums, SumState, refuse_or_end, refuse_or_go, never, AcceptsItems, End, Go, Next, ReadsStatement, Refuse}
+use Rattle.pb_opb.proofs.Common.{SkipsGap, is_white, Each, Item, Letter, OpbEvent, Header, Action, act, begin, linears, opb, OpbState, over}
+use Rattle.pb_opb.proofs.Common.{IsBegun, IsInstance}
 use Rattle.pb_opb.proofs.lemmas.instances.Counted.{IsEntry, IsCounted, counted, body_of}
 use Rattle.pb_opb.proofs.lemmas.instances.Larger.{entry_grows}
 use Rattle.pb_opb.proofs.lemmas.machine.EntryPrefix.{entry_only}
@@ -20,10 +19,8 @@ InGap P (End e s) = Unit {0}
 InGap P Refuse = Unit {0}
 
 -- a byte that is given to the machine of sums begins a statement
-pub gap_given : (P : OpbState → Type 0) (s : OpbState) (x : Next SumState SumEvent) → InGap P (over s phase.TheVariants.Constraint x)
-gap_given P s (Go inner) = λ o. never true refl o
-gap_given P s (End e new) = tt
-gap_given P s Refuse = tt
+pub gap_given : (P : OpbState → Type 0) (s : OpbState) (x : Next SumState SumEvent) → InGap P (over s Phase.Constraint x)
+gap_given P s x = grind (arith, never)
 
 module _ (limit top : ℕ) where
   no_gap : (b : ℕ) (mid : OpbState) → opb.step (begin limit top) b ≡ Go mid → opb.begun mid ≡ false → ⊥
@@ -67,10 +64,7 @@ module _ (limit top : ℕ) where
     -- what follows a statement
     entry_after : (objective_allowed : Bool) (n : ℕ) (text : List Letter) (P : Bool → ℕ → Type 0) (e : OpbEvent) → IsEntry limit objective_allowed n text P e
         → (m : Bool) × (k : ℕ) × P m k × IsEntry limit objective_allowed n text (λ m' k'. at_idle m k ≡ at_idle m' k') e
-    entry_after objective_allowed n text P (Header variables constraints tail) h = absurd h
-    entry_after objective_allowed n text P (Comment bytes) h = (objective_allowed, suc n, h.2, (h.0, h.1, refl))
-    entry_after objective_allowed n text P (Objective xs) h = (false, suc n, h.2, (h.0, h.1, refl))
-    entry_after objective_allowed n text P (Constraint c) h = (false, n, h.1, (h.0, refl))
+    entry_after objective_allowed n text P e h = grind arith
 
     -- nothing follows the last constraint
     pub nothing_read : (objective_allowed : Bool) (gap : List ℕ) (text : List Letter) (e : OpbEvent) (at after : OpbState) → SkipsGap opb (at_idle objective_allowed zero) gap at
@@ -103,14 +97,10 @@ module _ (limit top : ℕ) where
   -- with the header
   begun_only : (i : Item OpbEvent) (rest : List (Item OpbEvent)) (e : OpbEvent) (after : OpbState) → i.gap ≡ [] → IsHeader limit top e after i.text
       → AcceptsItems opb after rest → IsBegun limit top i rest e
-  begun_only i rest (Header v n tail) after g h a = (g, h.0, h.1, body_of limit n rest (body_only v rest true n (subst (λ s. AcceptsItems opb s rest) h.2 a)))
-  begun_only i rest _ after g h a = absurd h
+  begun_only i rest e after g h a = grind (arith, body_of, body_only)
 
   pub instance_only : (items : List (Item OpbEvent)) → AcceptsItems opb (begin limit top) items → IsInstance limit top items
-  instance_only [] h = never false h refl
-  instance_only (i ∷ rest) (at, after, g, r, a) =
-      let f : (i.gap ≡ []) × (at ≡ begin limit top) = start_gap i.gap at g in
-      begun_only i rest i.event after f.0 (header_only limit top i.text i.event after (subst (λ s. ReadsStatement opb s i.text i.event after) f.1 r)) a
+  instance_only items h = grind (arith, never, start_gap, begun_only, header_only)
 
   begun_each : (i : Item OpbEvent) (rest : List (Item OpbEvent)) (e : OpbEvent) → IsBegun limit top i rest e
       → (at : OpbState) × (after : OpbState) × SkipsGap opb (begin limit top) i.gap at × ReadsStatement opb at i.text e after × AcceptsItems opb after rest
@@ -124,8 +114,7 @@ module _ (limit top : ℕ) where
   begun_each i rest _ h = absurd h
 
   pub instance_each : (items : List (Item OpbEvent)) → IsInstance limit top items → AcceptsItems opb (begin limit top) items
-  instance_each [] h = absurd h
-  instance_each (i ∷ rest) h = begun_each i rest i.event h
+  instance_each items h = grind (arith, begun_each)
 
   -- A new machine accepts the instances.
   pub reads_instances : (items : List (Item OpbEvent)) → AcceptsItems opb (begin limit top) items ↔ IsInstance limit top items

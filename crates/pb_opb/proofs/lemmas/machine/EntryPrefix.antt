@@ -1,18 +1,13 @@
 -- What the machine reads after a header is a comment, an objective or a constraint.
-use Rattle.pb_opb.proofs.Common.{ℕ, ◌&&◌, ◌++◌, ◌+◌, ◌-◌, ◌<◌, ◌∙◌, ◌∷◌, ◌≡◌, [], ap, arith, Bool, false, IsTrue, length, List, nat_eq, refl, subst}
-use Rattle.pb_opb.proofs.Common.{suc, sym, take, true, slice_index, and_parts, cond_both, eqb-true, reads_grammar, continues-midway, SumEvent, White}
-use Rattle.pb_opb.proofs.Common.{sums, SumState, Spells, SpellsLinear, ends_walk, Keeps, On, reported, Walks, walks_more, never, grown, many-grown}
-use Rattle.pb_opb.proofs.Common.{next, none_yet, as_unmarked, bytes_grown, further, word_grown, word_whole, End, Go, Next, ReadsStatement, Refuse}
-use Rattle.pb_opb.proofs.Common.{IsInLine, is_white, ◌⋅◌, Byte, Bytes, Language, unmarked, Letter, plain, OpbEvent, Action, BeginSum, To, Phase}
-use Rattle.pb_opb.proofs.Common.{transition, act, after, is_in_number, linears, objectives, opb, OpbState, over, statement_of, min_word}
-use Rattle.pb_opb.proofs.Common.{SpellsObjective, Whites0}
-use Rattle.pb_sums.specs.declared.sum_kind.Part as part
-use Rattle.pb_sums.specs.declared.linear.SumEvent as sum
-use Rattle.pb_opb.specs.declared.phase.Phase as phase
+use Rattle.pb_opb.proofs.Common.{Part, ℕ, ◌&&◌, ◌++◌, ◌+◌, ◌<◌, ◌∙◌, ◌∷◌, ◌≡◌, [], ap, arith, Bool, false, IsTrue, length, List, nat_eq, refl, subst, suc}
+use Rattle.pb_opb.proofs.Common.{sym, take, true, slice_index, and_parts, cond_both, eqb-true, reads_grammar, continues-midway, SumEvent, White, sums, SumState}
+use Rattle.pb_opb.proofs.Common.{Spells, ends_walk, Keeps, On, reported, Walks, walks_more, never, grown, many-grown, next, none_yet, as_unmarked, bytes_grown}
+use Rattle.pb_opb.proofs.Common.{further, word_grown, word_whole, End, Go, Next, ReadsStatement, Refuse, IsInLine, is_white, ◌⋅◌, Byte, Bytes, Language}
+use Rattle.pb_opb.proofs.Common.{unmarked, Letter, plain, OpbEvent, Action, BeginSum, To, Phase, transition, act, after, is_in_number, linears, objectives, opb}
+use Rattle.pb_opb.proofs.Common.{OpbState, over, statement_of, min_word, SpellsObjective, Whites0}
 use Rattle.pb_opb.proofs.lemmas.instances.Counted.{IsEntry}
-use Rattle.pb_opb.proofs.lemmas.machine.Prefixes.{line_grown}
+use Rattle.pb_opb.proofs.lemmas.machine.Stands.{one_byte, line_grown, idle}
 use Rattle.pb_opb.proofs.lemmas.machine.Objectives.{MinPrefix, objective_of}
-use Rattle.pb_opb.proofs.lemmas.machine.Stands.{idle}
 
 abbrev IsWhite : ℕ → Type 0
 IsWhite b = IsTrue (is_white b)
@@ -24,12 +19,12 @@ SumPrefix limit inner = λ p. Walks sums (objectives limit) p inner
 module _ (limit top v n : ℕ) (objective_allowed : Bool) where
   -- What has been read, by phase.
   abbrev pub prefix : OpbState → Phase → Language
-  prefix s (phase.TheVariants.Between m) = λ p. (m ≡ objective_allowed) × (p ≡ []) × (s.text ≡ []) × (s.sums ≡ linears s.limit)
-  prefix s (phase.TheVariants.Comment m) = λ p. (m ≡ objective_allowed) × IsInLine s.text × (Byte 42 ⋅ Bytes s.text) p
-  prefix s (phase.TheVariants.Min k) = λ p. (objective_allowed ≡ true) × (k < length min_word) × Bytes (take k min_word) p
-  prefix s phase.TheVariants.AfterMin = λ p. (objective_allowed ≡ true) × (s.sums ≡ objectives s.limit) × MinPrefix p
-  prefix s phase.TheVariants.Objective = λ p. (objective_allowed ≡ true) × (MinPrefix ⋅ SumPrefix s.limit s.sums) p
-  prefix s phase.TheVariants.Constraint = λ p. Walks sums (linears s.limit) p s.sums
+  prefix s (Phase.Between m) = λ p. (m ≡ objective_allowed) × (p ≡ []) × (s.text ≡ []) × (s.sums ≡ linears s.limit)
+  prefix s (Phase.Comment m) = λ p. (m ≡ objective_allowed) × IsInLine s.text × (Byte 42 ⋅ Bytes s.text) p
+  prefix s (Phase.Min k) = λ p. (objective_allowed ≡ true) × (k < length min_word) × Bytes (take k min_word) p
+  prefix s Phase.AfterMin = λ p. (objective_allowed ≡ true) × (s.sums ≡ objectives s.limit) × MinPrefix p
+  prefix s Phase.Objective = λ p. (objective_allowed ≡ true) × (MinPrefix ⋅ SumPrefix s.limit s.sums) p
+  prefix s Phase.Constraint = λ p. Walks sums (linears s.limit) p s.sums
   prefix s _ = λ p. ⊥
 
   abbrev pub Known : OpbState → Type 0
@@ -54,31 +49,28 @@ module _ (limit top v n : ℕ) (objective_allowed : Bool) where
     After m = Leaves (act s l.byte m)
 
     -- constraints
-    ends_constraint : (e : SumEvent) → Spells White s.limit part.TheVariants.Linear e (p ++ l ∷ [])
-        → IsStatement (statement_of e) (after s phase.TheVariants.Constraint) (p ++ l ∷ [])
-    ends_constraint (sum.TheVariants.Sum xs) h = never false h.0 refl
-    ends_constraint (sum.TheVariants.Linear c) h =
-        let less : s.remaining - 1 ≡ n = omega (arith, k.3) in
-        (subst (λ x. SpellsLinear White x c (p ++ l ∷ [])) k.0 h.1, same_idle s.limit s.top s.variables (s.remaining - 1) n false false k.0 k.1 k.2 refl less)
+    ends_constraint : (e : SumEvent) → Spells White s.limit Part.Linear e (p ++ l ∷ [])
+        → IsStatement (statement_of e) (after s Phase.Constraint) (p ++ l ∷ [])
+    ends_constraint e h = grind (arith, never, same_idle)
 
-    in_constraint : Walks sums (linears s.limit) p s.sums → (x : Next SumState SumEvent) → sums.step s.sums l.byte ≡ x → Leaves (over s phase.TheVariants.Constraint x)
+    in_constraint : Walks sums (linears s.limit) p s.sums → (x : Next SumState SumEvent) → sums.step s.sums l.byte ≡ x → Leaves (over s Phase.Constraint x)
     in_constraint h (Go inner) e = λ w m. (k, walks_more sums p l (linears s.limit) s.sums inner h e (continues-midway s.sums inner l.byte e) m)
     in_constraint h (End e new) f = λ m.
-        ends_constraint e ((reads_grammar White part.TheVariants.Linear s.limit (p ++ l ∷ []) e new).0 (ends_walk sums p l (linears s.limit) s.sums new e h f m)).0
+        ends_constraint e ((reads_grammar White Part.Linear s.limit (p ++ l ∷ []) e new).0 (ends_walk sums p l (linears s.limit) s.sums new e h f m)).0
     in_constraint h Refuse e = tt
 
     -- objectives
-    ends_objective : objective_allowed ≡ true → (e : SumEvent) → (MinPrefix ⋅ Spells White s.limit part.TheVariants.Sum e) (p ++ l ∷ [])
-        → IsStatement (statement_of e) (after s phase.TheVariants.Objective) (p ++ l ∷ [])
-    ends_objective m (sum.TheVariants.Sum xs) h = (
+    ends_objective : objective_allowed ≡ true → (e : SumEvent) → (MinPrefix ⋅ Spells White s.limit Part.Sum e) (p ++ l ∷ [])
+        → IsStatement (statement_of e) (after s Phase.Objective) (p ++ l ∷ [])
+    ends_objective m (SumEvent.Sum xs) h = (
       m,
       subst (λ x. SpellsObjective x xs (p ++ l ∷ [])) k.0 (objective_of s.limit xs (p ++ l ∷ []) h),
       same_idle s.limit s.top s.variables s.remaining (suc n) false false k.0 k.1 k.2 refl k.3,
     )
-    ends_objective m (sum.TheVariants.Linear c) (a, b, e, h, spells) = never false spells.0 refl
+    ends_objective m (SumEvent.Linear c) (a, b, e, h, spells) = never false spells.0 refl
 
     in_objective : objective_allowed ≡ true → (MinPrefix ⋅ SumPrefix s.limit s.sums) p → (x : Next SumState SumEvent) → sums.step s.sums l.byte ≡ x
-        → Leaves (over s phase.TheVariants.Objective x)
+        → Leaves (over s Phase.Objective x)
     in_objective m h (Go inner) e = λ w i. (
       k,
       (
@@ -88,18 +80,18 @@ module _ (limit top v n : ℕ) (objective_allowed : Bool) where
       ),
     )
     in_objective m h (End e new) f = λ i. ends_objective m e
-        (grown MinPrefix (SumPrefix s.limit s.sums) (Spells White s.limit part.TheVariants.Sum e) p l
-        (λ q r. ((reads_grammar White part.TheVariants.Sum s.limit (q ++ l ∷ []) e new).0 (ends_walk sums q l (objectives s.limit) s.sums new e r f i)).0) h)
+        (grown MinPrefix (SumPrefix s.limit s.sums) (Spells White s.limit Part.Sum e) p l
+        (λ q r. ((reads_grammar White Part.Sum s.limit (q ++ l ∷ []) e new).0 (ends_walk sums q l (objectives s.limit) s.sums new e r f i)).0) h)
     in_objective m h Refuse e = tt
 
-    after_min : objective_allowed ≡ true → s.sums ≡ objectives s.limit → MinPrefix p → After (transition s.top phase.TheVariants.AfterMin l.byte)
+    after_min : objective_allowed ≡ true → s.sums ≡ objectives s.limit → MinPrefix p → After (transition s.top Phase.AfterMin l.byte)
     after_min m i h = cond_both (is_white l.byte) _ _ After
         (λ e w f. (k, (m, i, grown (Bytes min_word) Whites0 Whites0 p l (many-grown IsWhite l.byte l (as_unmarked l l.byte f refl) e) h)))
         (λ _. in_objective m (none_yet MinPrefix (SumPrefix s.limit s.sums) p i h) (sums.step s.sums l.byte) refl)
 
-    in_min : (j : ℕ) → objective_allowed ≡ true → j < length min_word → Bytes (take j min_word) p → After (transition s.top (phase.TheVariants.Min j) l.byte)
+    in_min : (j : ℕ) → objective_allowed ≡ true → j < length min_word → Bytes (take j min_word) p → After (transition s.top (Phase.Min j) l.byte)
     in_min j m i h = cond_both (nat_eq l.byte (slice_index min_word j)) _ _ After
-        (λ e. cond_both (nat_eq (j + 1) (length min_word)) BeginSum (To (phase.TheVariants.Min (j + 1))) After
+        (λ e. cond_both (nat_eq (j + 1) (length min_word)) BeginSum (To (Phase.Min (j + 1))) After
         (λ g w f. (k, (m, refl, none_yet (Bytes min_word) Whites0 (p ++ l ∷ []) ([], tt, refl) (word_whole min_word (j + 1) (p ++ l ∷ []) (eqb-true (j + 1) (length min_word) g) (longer f e)))))
         (λ g w f. (k, (m, further j (length min_word) i g, longer f e))))
         (λ _. tt)
@@ -108,12 +100,12 @@ module _ (limit top v n : ℕ) (objective_allowed : Bool) where
         longer f e = word_grown min_word j l i f (eqb-true l.byte (slice_index min_word j) e) p h
 
     -- comments
-    in_comment : (m : Bool) → s.phase ≡ phase.TheVariants.Comment m → m ≡ objective_allowed → IsInLine s.text → (Byte 42 ⋅ Bytes s.text) p
-        → After (transition s.top (phase.TheVariants.Comment m) l.byte)
+    in_comment : (m : Bool) → s.phase ≡ Phase.Comment m → m ≡ objective_allowed → IsInLine s.text → (Byte 42 ⋅ Bytes s.text) p
+        → After (transition s.top (Phase.Comment m) l.byte)
     in_comment m at same h c = cond_both (nat_eq l.byte 10) _ _ After
         (λ e f. (
           h,
-          next (Byte 42 ⋅ Bytes s.text) (Byte 10) p l c (ap (λ x. x ∷ []) (as_unmarked l 10 f (eqb-true l.byte 10 e))),
+          next (Byte 42 ⋅ Bytes s.text) (Byte 10) p l c (one_byte l 10 f e),
           same_idle s.limit s.top s.variables s.remaining (suc n) m objective_allowed k.0 k.1 k.2 same k.3,
         ))
         (λ e w f. (
@@ -129,33 +121,20 @@ module _ (limit top v n : ℕ) (objective_allowed : Bool) where
         new = record s { text = s.text ++ l.byte ∷ [] }
 
     -- between two statements
-    between_two : (m : Bool) → m ≡ objective_allowed → p ≡ [] → s.text ≡ [] → s.sums ≡ linears s.limit → After (transition s.top (phase.TheVariants.Between m) l.byte)
+    between_two : (m : Bool) → m ≡ objective_allowed → p ≡ [] → s.text ≡ [] → s.sums ≡ linears s.limit → After (transition s.top (Phase.Between m) l.byte)
     between_two m same none kept inner = cond_both (is_white l.byte) _ _ After
         (λ e w. never false w refl)
         (λ _. cond_both (nat_eq l.byte 42) _ _ After
-        (λ e w f. (
-          k,
-          (
-            same,
-            subst IsInLine (sym kept) tt,
-            none_yet (Byte 42) (Bytes s.text) (p ++ l ∷ []) (ap plain (sym kept)) (first 42 f e),
-          ),
-        ))
+        (λ e w f. (k, (same, subst IsInLine (sym kept) tt, none_yet (Byte 42) (Bytes s.text) (p ++ l ∷ []) (ap plain (sym kept)) (first 42 f e))))
         (λ _. cond_both (nat_eq l.byte 109 && m) _ _ After
         (λ e w f. let g : (nat_eq l.byte 109 ≡ true) × (m ≡ true) = and_parts (nat_eq l.byte 109) m e in (k, (sym same ∙ g.1, omega arith, first 109 f g.0)))
         (λ _. in_constraint (subst (λ x. Walks sums (linears s.limit) x s.sums) (sym none) inner) (sums.step s.sums l.byte) refl)))
       where
         first : (b : ℕ) → l.numeral ≡ false → nat_eq l.byte b ≡ true → p ++ l ∷ [] ≡ unmarked b ∷ []
-        first b f e = ap (λ x. x ++ l ∷ []) none ∙ ap (λ x. x ∷ []) (as_unmarked l b f (eqb-true l.byte b e))
+        first b f e = ap (λ x. x ++ l ∷ []) none ∙ one_byte l b f e
 
     sound : (q : Phase) → s.phase ≡ q → prefix s q p → After (transition s.top q l.byte)
-    sound (phase.TheVariants.Between m) e h = between_two m h.0 h.1 h.2 h.3
-    sound (phase.TheVariants.Comment m) e h = in_comment m e h.0 h.1 h.2
-    sound (phase.TheVariants.Min j) e h = in_min j h.0 h.1 h.2
-    sound phase.TheVariants.AfterMin e h = after_min h.0 h.1 h.2
-    sound phase.TheVariants.Objective e h = in_objective h.0 h.1 (sums.step s.sums l.byte) refl
-    sound phase.TheVariants.Constraint e h = in_constraint h (sums.step s.sums l.byte) refl
-    sound _ e h = absurd h
+    sound q e h = grind (arith, between_two, in_comment, in_min, after_min, in_objective, in_constraint)
 
   pub keeps : Keeps opb Prefix IsStatement
   keeps s l p f = sound s l p f.0 s.phase refl f.1

@@ -1,8 +1,7 @@
 -- The first letters of sums and of linear texts.
-use Rattle.pb_opb.proofs.Common.{ℕ, ◌++◌, ◌||◌, ◌∙◌, ◌∷◌, ◌≡◌, [], ap, false, inl, inr, IsTrue, List, map, nat_eq, refl, sym, true, ℤ, arith}
-use Rattle.pb_opb.proofs.Common.{eqb-true, SumEvent, Term, White, sums, SumState, is_space, Spaces1, SpellsFurther, SpellsLiteral}
-use Rattle.pb_opb.proofs.Common.{SpellsSum, SpellsTerm, refuse_or_end, refuse_or_go, digit_dark, ReadsStatement, Refuse, is_blank}
-use Rattle.pb_opb.proofs.Common.{is_white, ◌⋅◌, digit, Each, Language, unmarked, Number, Letter, linears}
+use Rattle.pb_opb.proofs.Common.{ℕ, ◌++◌, ◌||◌, ◌∙◌, ◌∷◌, ◌≡◌, [], ap, false, IsTrue, List, nat_eq, sym, ℤ, arith, eqb-true, SumEvent, Term, White, sums}
+use Rattle.pb_opb.proofs.Common.{SumState, is_space, Spaces1, SpellsFurther, SpellsLiteral, SpellsSum, SpellsTerm, refuse_or_end, refuse_or_go, digit_dark}
+use Rattle.pb_opb.proofs.Common.{ReadsStatement, Refuse, is_blank, is_white, ◌⋅◌, Each, Language, Number, Letter, linears}
 use Rattle.std.proofs.Math.Bool.{and-true}
 
 white-space : (b : ℕ) → is_space White b ≡ is_white b
@@ -26,10 +25,7 @@ dark_then P Q f t (a, b, e, h, k) =
     let g : IsDark a = f a h in (g.0, g.1 ++ b, e ∙ ap (λ x. x ++ b) g.2, g.3)
 
 number-dark : (limit : ℕ) (z : ℤ) (t : List Letter) → Number limit z t → IsDark t
-number-dark limit z t (true, n, l, e, (a, b, f, s, d)) = (unmarked 45, b, f ∙ ap (λ x. x ++ b) s, refl)
-number-dark limit z t (false, n, l, e, (a, b, f, inl s, (d, ds, h, g, v))) =
-    (digit d, map digit ds, f ∙ (ap (λ x. x ++ b) s ∙ g), digit_dark d h.0)
-number-dark limit z t (false, n, l, e, (a, b, f, inr s, d)) = (unmarked 43, b, f ∙ ap (λ x. x ++ b) s, refl)
+number-dark limit z t h = grind (arith, digit_dark)
 
 pub sum-dark : (limit : ℕ) (x : Term) (xs : List Term) (P Q : Language) (t : List Letter) → (SpellsSum White limit (x ∷ xs) ⋅ P ⋅ Q) t → IsDark t
 sum-dark limit x xs P Q =
@@ -41,8 +37,7 @@ sum-dark limit x xs P Q =
 
 -- a byte that a machine rejects does not begin what it reads
 taken : (s : SumState) (l : Letter) (t : List Letter) (e : SumEvent) (after : SumState) → ReadsStatement sums s (l ∷ t) e after → sums.step s l.byte ≡ Refuse → ⊥
-taken s l [] e after (h, n) k = refuse_or_end e after (sym k ∙ h)
-taken s l (d ∷ t) e after (mid, h, i, n, r) k = refuse_or_go mid (sym k ∙ h)
+taken s l t e after h k = grind (arith, refuse_or_end, refuse_or_go)
 
 -- a linear text does not begin with white space, a star or `m`
 pub linear_first : (limit : ℕ) (l : Letter) (t : List Letter) (e : SumEvent) (after : SumState) → ReadsStatement sums (linears limit) (l ∷ t) e after

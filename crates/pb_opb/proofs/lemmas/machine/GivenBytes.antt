@@ -1,8 +1,7 @@
 -- A machine of instances in the phases in which it gives bytes to its machine of sums.
-use Rattle.pb_opb.proofs.Common.{ℕ, ◌<◌, ◌∙◌, ◌∷◌, ◌≡◌, ◌⊎◌, [], ap, false, inl, inr, List, refl, subst, sym, true, SumEvent, sums, SumState}
-use Rattle.pb_opb.proofs.Common.{same_first, End, Go, Next, ReadsStatement, Letter, Give, Phase, transition, Holds, PhaseFits, act, after, giving}
-use Rattle.pb_opb.proofs.Common.{is_in_number, is_within, opb, OpbState, over, statement_of}
-use Rattle.pb_opb.specs.declared.phase.Phase as phase
+use Rattle.pb_opb.proofs.Common.{arith, ℕ, ◌<◌, ◌∙◌, ◌∷◌, ◌≡◌, ◌⊎◌, [], ap, false, List, refl, sym, true, SumEvent, sums, SumState, same_first, End, Next}
+use Rattle.pb_opb.proofs.Common.{ReadsStatement, Letter, Give, Phase, transition, Holds, PhaseFits, act, after, giving, is_in_number, is_within, opb, OpbState}
+use Rattle.pb_opb.proofs.Common.{over, statement_of}
 
 -- a phase in which bytes are given to the machine of sums
 pub record Gives (p : Phase) : Type 0 where
@@ -12,19 +11,18 @@ pub record Gives (p : Phase) : Type 0 where
   pub fits : (top : ℕ) → PhaseFits top p
   pub holds : (s : OpbState) → 0 < s.remaining → s.text ≡ [] → sums.done s.sums ≡ false → Holds s p
 
-pub gives_objective : Gives phase.TheVariants.Objective
+pub gives_objective : Gives Phase.Objective
 gives_objective = record { planned = λ top b. refl; within = refl; number = λ s. refl; fits = λ top. tt; holds = λ s o t d. (o, t, d) }
 
-pub gives_constraint : Gives phase.TheVariants.Constraint
+pub gives_constraint : Gives Phase.Constraint
 gives_constraint = record { planned = λ top b. refl; within = refl; number = λ s. refl; fits = λ top. tt; holds = λ s o t d. (o, t, d) }
 
 -- the states in which each byte is given
 abbrev pub IsGiving : OpbState → Type 0
-IsGiving s = (s.phase ≡ phase.TheVariants.Constraint) ⊎ (s.phase ≡ phase.TheVariants.Objective)
+IsGiving s = (s.phase ≡ Phase.Constraint) ⊎ (s.phase ≡ Phase.Objective)
 
 pub gives_at : (s : OpbState) → IsGiving s → Gives s.phase
-gives_at s (inl e) = subst Gives (sym e) gives_constraint
-gives_at s (inr e) = subst Gives (sym e) gives_objective
+gives_at s h = grind (arith, gives_constraint, gives_objective)
 
 -- a step in such a phase is one of the machine of sums
 pub given_step : (s : OpbState) (p : Phase) → Gives p → (b : ℕ) → s.phase ≡ p → opb.step s b ≡ over s p (sums.step s.sums b)
@@ -41,8 +39,7 @@ module _ (s : OpbState) (p : Phase) (h : Gives p) where
   pub within_reads : (t : List Letter) (inner : SumState) (e : SumEvent) (new : SumState) → ReadsStatement sums inner t e new → ReadsStatement opb (at inner) t (statement_of e) (after s p)
   within_reads [] inner e new r = absurd r
   within_reads (l ∷ []) inner e new (g, n) = (stepped inner l.byte (End e new) g, n)
-  within_reads (l ∷ k ∷ t) inner e new (mid, g, i, n, r) =
-      (at mid, stepped inner l.byte (Go mid) g, h.within, n ∙ sym (h.number (at mid)), within_reads (k ∷ t) mid e new r)
+  within_reads (l ∷ k ∷ t) inner e new (mid, g, i, n, r) = grind (arith, stepped, within_reads (k ∷ t) mid e new r)
 
   -- the same if the first letter is given too
   pub given_reads : (l : Letter) (t : List Letter) (e : SumEvent) (new : SumState) → transition s.top s.phase l.byte ≡ Give p

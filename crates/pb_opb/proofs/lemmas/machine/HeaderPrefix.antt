@@ -1,15 +1,12 @@
 -- What the machine reads as a header is a header.
-use Rattle.pb_opb.proofs.Common.{ℕ, ◌&&◌, ◌*◌, ◌++◌, ◌+◌, ◌-◌, ◌<◌, ◌∙◌, ◌∷◌, ◌≡◌, ◌≤◌, [], ap, arith, false, IsTrue, length, List, nat_eq, nat_le}
-use Rattle.pb_opb.proofs.Common.{refl, subst, sym, take, true, slice_index, and_parts, cond_both, eqb-true, leb-true, Keeps, On, reported}
-use Rattle.pb_opb.proofs.Common.{digits-grown, digits-one, after_it, grown, many-grown, next, none_yet, some-grown, some-one, as_unmarked}
-use Rattle.pb_opb.proofs.Common.{bytes_grown, further, some_digit, word_grown, word_whole, ReadsStatement, is_blank, is_digit, ◌⋅◌, Blanks0, Blanks1}
-use Rattle.pb_opb.proofs.Common.{Byte, Bytes, digit, Language, unmarked, Count, Digits, Letter, plain, OpbEvent, Header, Action, To, Field}
-use Rattle.pb_opb.proofs.Common.{Constraints, Variables, Phase, after_count, transition, word_of, act, begin, is_in_number, opb, OpbState}
-use Rattle.pb_opb.proofs.Common.{constraint_word, IsTail, SpellsHeader, variable_word}
+use Rattle.pb_opb.proofs.Common.{ℕ, ◌&&◌, ◌*◌, ◌++◌, ◌+◌, ◌-◌, ◌<◌, ◌∙◌, ◌∷◌, ◌≡◌, ◌≤◌, [], ap, arith, false, IsTrue, length, List, nat_eq, nat_le, refl, subst}
+use Rattle.pb_opb.proofs.Common.{sym, take, true, slice_index, and_parts, cond_both, eqb-true, leb-true, Keeps, On, reported, digits-grown, digits-one}
+use Rattle.pb_opb.proofs.Common.{after_it, grown, many-grown, next, none_yet, some-grown, some-one, as_unmarked, bytes_grown, further, some_digit, word_grown}
+use Rattle.pb_opb.proofs.Common.{word_whole, ReadsStatement, is_blank, is_digit, ◌⋅◌, Blanks0, Blanks1, Byte, Bytes, digit, Language, unmarked, Count, Digits}
+use Rattle.pb_opb.proofs.Common.{Letter, plain, OpbEvent, Header, Action, To, Field, Constraints, Variables, Phase, after_count, transition, word_of, act}
+use Rattle.pb_opb.proofs.Common.{begin, is_in_number, opb, OpbState, constraint_word, IsTail, SpellsHeader, variable_word}
 use Rattle.std.proofs.lemmas.Grind.{common_steps}
-use Rattle.pb_opb.specs.declared.phase.Phase as phase
-use Rattle.pb_opb.proofs.lemmas.machine.Prefixes.{tail_grown}
-use Rattle.pb_opb.proofs.lemmas.machine.Stands.{idle}
+use Rattle.pb_opb.proofs.lemmas.machine.Stands.{one_byte, tail_grown, idle}
 
 abbrev IsBlank : ℕ → Type 0
 IsBlank b = IsTrue (is_blank b)
@@ -24,12 +21,12 @@ Before top v Constraints = Whole top Variables v (Byte 42 ⋅ Blanks0) ⋅ Blank
 
 -- What has been read, by phase.
 abbrev pub prefix : OpbState → Phase → Language
-prefix s phase.TheVariants.Start = λ p. p ≡ []
-prefix s (phase.TheVariants.BeforeWord f) = Before s.top s.variables f
-prefix s (phase.TheVariants.Word f k) = λ p. (k < length (word_of f)) × (Before s.top s.variables f ⋅ Bytes (take k (word_of f))) p
-prefix s (phase.TheVariants.BeforeCount f) = Before s.top s.variables f ⋅ Bytes (word_of f) ⋅ Blanks0
-prefix s (phase.TheVariants.Count f n) = λ p. (n ≤ s.top) × (Before s.top s.variables f ⋅ Bytes (word_of f) ⋅ Blanks0 ⋅ Digits n) p
-prefix s phase.TheVariants.Tail = λ p.
+prefix s Phase.Start = λ p. p ≡ []
+prefix s (Phase.BeforeWord f) = Before s.top s.variables f
+prefix s (Phase.Word f k) = λ p. (k < length (word_of f)) × (Before s.top s.variables f ⋅ Bytes (take k (word_of f))) p
+prefix s (Phase.BeforeCount f) = Before s.top s.variables f ⋅ Bytes (word_of f) ⋅ Blanks0
+prefix s (Phase.Count f n) = λ p. (n ≤ s.top) × (Before s.top s.variables f ⋅ Bytes (word_of f) ⋅ Blanks0 ⋅ Digits n) p
+prefix s Phase.Tail = λ p.
     IsTail s.text × (s.text ≡ [] → ⊥) × (Whole s.top Constraints s.remaining (Before s.top s.variables Constraints) ⋅ Bytes s.text) p
 prefix s _ = λ p. ⊥
 
@@ -39,8 +36,7 @@ before_grown top v Constraints l p n e h =
     grown (Whole top Variables v (Byte 42 ⋅ Blanks0)) Blanks1 Blanks1 p l (some-grown IsBlank l.byte l (as_unmarked l l.byte n refl) e) h
 
 hash : (f : Field) → plain (take 1 (word_of f)) ≡ unmarked 35 ∷ []
-hash Variables = refl
-hash Constraints = refl
+hash f = grind arith
 
 counted : (top n : ℕ) (P : Language) (p : List Letter) → n ≤ top → (P ⋅ Digits n) p → (P ⋅ Count top n) p
 counted top n P p l h = after_it P (Digits n) (Count top n) p (λ q r. (l, r)) h
@@ -61,25 +57,22 @@ module _ (limit top : ℕ) where
     abbrev After : Action → Type 0
     After m = On opb Prefix Reported (act s l.byte m) l (p ++ l ∷ [])
 
-    at_start : p ≡ [] → After (transition s.top phase.TheVariants.Start l.byte)
+    at_start : p ≡ [] → After (transition s.top Phase.Start l.byte)
     at_start h = cond_both (nat_eq l.byte 42) _ _ After
-        (λ e w n. (k, none_yet (Byte 42) Blanks0 (p ++ l ∷ []) ([], tt, refl) (ap (λ x. x ++ l ∷ []) h ∙ ap (λ x. x ∷ []) (as_unmarked l 42 n (eqb-true l.byte 42 e)))))
+        (λ e w n. (k, none_yet (Byte 42) Blanks0 (p ++ l ∷ []) ([], tt, refl) (ap (λ x. x ++ l ∷ []) h ∙ one_byte l 42 n e)))
         (λ e. tt)
 
-    before_word : (f : Field) → Before s.top s.variables f p → After (transition s.top (phase.TheVariants.BeforeWord f) l.byte)
+    before_word : (f : Field) → Before s.top s.variables f p → After (transition s.top (Phase.BeforeWord f) l.byte)
     before_word f h = cond_both (is_blank l.byte) _ _ After
         (λ e w n. (k, before_grown s.top s.variables f l p n e h))
         (λ _. cond_both (nat_eq l.byte 35) _ _ After
-        (λ e w n. (
-          k,
-          (grind arith, next (Before s.top s.variables f) (Bytes (take 1 (word_of f))) p l h (ap (λ x. x ∷ []) (as_unmarked l 35 n (eqb-true l.byte 35 e)) ∙ sym (hash f))),
-        ))
+        (λ e w n. (k, (grind arith, next (Before s.top s.variables f) (Bytes (take 1 (word_of f))) p l h (one_byte l 35 n e ∙ sym (hash f)))))
         (λ _. tt))
 
     in_word : (f : Field) (j : ℕ) → j < length (word_of f) → (Before s.top s.variables f ⋅ Bytes (take j (word_of f))) p
-        → After (transition s.top (phase.TheVariants.Word f j) l.byte)
+        → After (transition s.top (Phase.Word f j) l.byte)
     in_word f j i h = cond_both (nat_eq l.byte (slice_index (word_of f) j)) _ _ After
-        (λ e. cond_both (nat_eq (j + 1) (length (word_of f))) (phase.TheVariants.BeforeCount f) (phase.TheVariants.Word f (j + 1)) (λ q. After (To q))
+        (λ e. cond_both (nat_eq (j + 1) (length (word_of f))) (Phase.BeforeCount f) (Phase.Word f (j + 1)) (λ q. After (To q))
         (λ g w n. (
           k,
           none_yet (P ⋅ Bytes (word_of f)) Blanks0 (p ++ l ∷ []) ([], tt, refl)
@@ -94,7 +87,7 @@ module _ (limit top : ℕ) where
         longer : l.numeral ≡ false → nat_eq l.byte (slice_index (word_of f) j) ≡ true → (P ⋅ Bytes (take (j + 1) (word_of f))) (p ++ l ∷ [])
         longer n e = grown P (Bytes (take j (word_of f))) (Bytes (take (j + 1) (word_of f))) p l (word_grown (word_of f) j l i n (eqb-true l.byte (slice_index (word_of f) j) e)) h
 
-    before_count : (f : Field) → (Before s.top s.variables f ⋅ Bytes (word_of f) ⋅ Blanks0) p → After (transition s.top (phase.TheVariants.BeforeCount f) l.byte)
+    before_count : (f : Field) → (Before s.top s.variables f ⋅ Bytes (word_of f) ⋅ Blanks0) p → After (transition s.top (Phase.BeforeCount f) l.byte)
     before_count f h = cond_both (is_blank l.byte) _ _ After
         (λ e w n. (k, grown (Before s.top s.variables f ⋅ Bytes (word_of f)) Blanks0 Blanks0 p l (many-grown IsBlank l.byte l (as_unmarked l l.byte n refl) e) h))
         (λ _. cond_both (is_digit l.byte && nat_le (10 * 0 + (l.byte - 48)) s.top) _ _ After
@@ -116,18 +109,13 @@ module _ (limit top : ℕ) where
         let C : Language = Whole s.top Constraints n (Before s.top s.variables Constraints) in
         let c : C p = counted s.top n (Before s.top s.variables Constraints ⋅ Bytes constraint_word ⋅ Blanks0) p i h in
         cond_both (nat_eq l.byte 10) _ _ After
-        (λ e m. (
-          k,
-          tt,
-          next (C ⋅ Bytes []) (Byte 10) p l (none_yet C (Bytes []) p refl c) (ap (λ x. x ∷ []) (as_unmarked l 10 m (eqb-true l.byte 10 e))),
-          refl,
-        ))
+        (λ e m. (k, tt, next (C ⋅ Bytes []) (Byte 10) p l (none_yet C (Bytes []) p refl c) (one_byte l 10 m e), refl))
         (λ _. cond_both (is_blank l.byte) _ _ After
         (λ e w m. (k, ((e, tt), (λ x. cc), next C (Bytes (l.byte ∷ [])) p l c (ap (λ x. x ∷ []) (as_unmarked l l.byte m refl)))))
         (λ _. tt))
 
     in_count : (f : Field) (n : ℕ) → n ≤ s.top → (Before s.top s.variables f ⋅ Bytes (word_of f) ⋅ Blanks0 ⋅ Digits n) p
-        → After (transition s.top (phase.TheVariants.Count f n) l.byte)
+        → After (transition s.top (Phase.Count f n) l.byte)
     in_count f n i h = cond_both (is_digit l.byte) _ _ After
         (λ _. cond_both (is_digit l.byte && nat_le (10 * n + (l.byte - 48)) s.top) _ _ After
         (λ e w m.
@@ -142,11 +130,11 @@ module _ (limit top : ℕ) where
         (λ _. tt))
         (λ _. following f n i h)
 
-    in_tail : s.phase ≡ phase.TheVariants.Tail → IsTail s.text → (s.text ≡ [] → ⊥)
+    in_tail : s.phase ≡ Phase.Tail → IsTail s.text → (s.text ≡ [] → ⊥)
         → (Whole s.top Constraints s.remaining (Before s.top s.variables Constraints) ⋅ Bytes s.text) p
-        → After (transition s.top phase.TheVariants.Tail l.byte)
+        → After (transition s.top Phase.Tail l.byte)
     in_tail at h some c = cond_both (nat_eq l.byte 10) _ _ After
-        (λ e m. (k, h, next (C ⋅ Bytes s.text) (Byte 10) p l c (ap (λ x. x ∷ []) (as_unmarked l 10 m (eqb-true l.byte 10 e))), refl))
+        (λ e m. (k, h, next (C ⋅ Bytes s.text) (Byte 10) p l c (one_byte l 10 m e), refl))
         (λ e w m. (
           k,
           subst (λ q. prefix new q (p ++ l ∷ [])) (sym at) (
@@ -163,12 +151,12 @@ module _ (limit top : ℕ) where
         new = record s { text = s.text ++ l.byte ∷ [] }
 
     sound : (q : Phase) → s.phase ≡ q → prefix s q p → After (transition s.top q l.byte)
-    sound phase.TheVariants.Start e h = at_start h
-    sound (phase.TheVariants.BeforeWord f) e h = before_word f h
-    sound (phase.TheVariants.Word f j) e h = in_word f j h.0 h.1
-    sound (phase.TheVariants.BeforeCount f) e h = before_count f h
-    sound (phase.TheVariants.Count f n) e h = in_count f n h.0 h.1
-    sound phase.TheVariants.Tail e h = in_tail e h.0 h.1 h.2
+    sound Phase.Start e h = at_start h
+    sound (Phase.BeforeWord f) e h = before_word f h
+    sound (Phase.Word f j) e h = in_word f j h.0 h.1
+    sound (Phase.BeforeCount f) e h = before_count f h
+    sound (Phase.Count f n) e h = in_count f n h.0 h.1
+    sound Phase.Tail e h = in_tail e h.0 h.1 h.2
     sound _ e h = absurd h
 
   pub keeps : Keeps opb Prefix Reported

@@ -1,24 +1,22 @@
 -- The machine reads each header: one lemma for each word of the grammar.
-use Rattle.pb_opb.proofs.Common.{ℕ, ◌*◌, ◌++◌, ◌+◌, ◌<◌, ◌∙◌, ◌∷◌, ◌≡◌, ◌≤◌, [], ap, append_assoc, arith, Bool, cond, false, IsTrue}
-use Rattle.pb_opb.proofs.Common.{length, length-append, List, nat_eq, refl, subst, sym, true, get_or-append_seam, eq-eqb, Leads}
-use Rattle.pb_opb.proofs.Common.{leads_then, longer, reads_after, Walks, blank_each, Go, ReadsStatement, is_blank, ◌⋅◌}
-use Rattle.pb_opb.proofs.Common.{Blanks0, Blanks1, Byte, Bytes, Language, unmarked, Count, Letter, plain, Header, To, Field, Constraints, Variables}
-use Rattle.pb_opb.proofs.Common.{Phase, spell, transition, word_of, act, begin, opb, OpbState, constraint_word, IsTail}
-use Rattle.pb_opb.proofs.Common.{SpellsHeader, variable_word}
+use Rattle.pb_opb.proofs.Common.{ℕ, ◌*◌, ◌++◌, ◌+◌, ◌<◌, ◌∙◌, ◌∷◌, ◌≡◌, ◌≤◌, [], ap, append_assoc, arith, Bool, cond, false, IsTrue, length, length-append}
+use Rattle.pb_opb.proofs.Common.{List, nat_eq, refl, subst, sym, true, get_or-append_seam, eq-eqb, Leads, leads_then, longer, reads_after, Walks, blank_each}
+use Rattle.pb_opb.proofs.Common.{Go, ReadsStatement, is_blank, ◌⋅◌, Blanks0, Blanks1, Byte, Bytes, Language, unmarked, Count, Letter, plain, Header, To, Field}
+use Rattle.pb_opb.proofs.Common.{Constraints, Variables, Phase, spell, transition, word_of, act, begin, opb, OpbState, constraint_word, IsTail, SpellsHeader}
+use Rattle.pb_opb.proofs.Common.{variable_word}
 use Rattle.std.proofs.lemmas.Bool.Decides.{nat_tests}
 use Rattle.std.proofs.lemmas.Grind.{common_steps}
 use Rattle.pb_text.proofs.lemmas.numbers.DigitWalks.{TakesDigits, digits_lead}
-use Rattle.pb_opb.specs.declared.phase.Phase as phase
 use Rattle.pb_opb.proofs.lemmas.machine.Stands.{stands, idle, stays_many, Keeps, line_reads}
 
 spell_next : (w prefix left : List ℕ) (b : ℕ) (more whole : Phase) (x : Bool) → w ≡ prefix ++ b ∷ left → nat_eq (length prefix + 1) (length w) ≡ x
     → spell w (length prefix) b more whole ≡ To (cond x whole more)
 spell_next w prefix left b more whole x e f = grind (arith, common_steps, get_or-append_seam, eq-eqb)
 
-first_digit : (top : ℕ) (f : Field) (d : ℕ) → d < 10 → d ≤ top → transition top (phase.TheVariants.BeforeCount f) (48 + d) ≡ To (phase.TheVariants.Count f d)
+first_digit : (top : ℕ) (f : Field) (d : ℕ) → d < 10 → d ≤ top → transition top (Phase.BeforeCount f) (48 + d) ≡ To (Phase.Count f d)
 first_digit top f d h l = grind (arith, nat_tests)
 
-next_digit : (top : ℕ) (f : Field) (m d : ℕ) → d < 10 → 10 * m + d ≤ top → transition top (phase.TheVariants.Count f m) (48 + d) ≡ To (phase.TheVariants.Count f (10 * m + d))
+next_digit : (top : ℕ) (f : Field) (m d : ℕ) → d < 10 → 10 * m + d ≤ top → transition top (Phase.Count f m) (48 + d) ≡ To (Phase.Count f (10 * m + d))
 next_digit top f m d h l = grind (arith, nat_tests)
 
 module _ (limit top : ℕ) where
@@ -29,73 +27,60 @@ module _ (limit top : ℕ) where
   abbrev IsBlank : ℕ → Type 0
   IsBlank b = IsTrue (is_blank b)
 
-  blanks_before_word : (f : Field) (v : ℕ) → Leads opb (head v (phase.TheVariants.BeforeWord f)) Blanks0 (head v (phase.TheVariants.BeforeWord f))
-  blanks_before_word f v = stays_many IsBlank (head v (phase.TheVariants.BeforeWord f)) (λ b h. rw h refl) refl refl
+  blanks_before_word : (f : Field) (v : ℕ) → Leads opb (head v (Phase.BeforeWord f)) Blanks0 (head v (Phase.BeforeWord f))
+  blanks_before_word f v = stays_many IsBlank (head v (Phase.BeforeWord f)) (λ b h. rw h refl) refl refl
 
-  blanks_before_count : (f : Field) (v : ℕ) → Leads opb (head v (phase.TheVariants.BeforeCount f)) Blanks0 (head v (phase.TheVariants.BeforeCount f))
-  blanks_before_count f v = stays_many IsBlank (head v (phase.TheVariants.BeforeCount f)) (λ b h. rw h refl) refl refl
+  blanks_before_count : (f : Field) (v : ℕ) → Leads opb (head v (Phase.BeforeCount f)) Blanks0 (head v (Phase.BeforeCount f))
+  blanks_before_count f v = stays_many IsBlank (head v (Phase.BeforeCount f)) (λ b h. rw h refl) refl refl
 
   -- the remaining bytes of a word
   spelled : (f : Field) (v : ℕ) (prefix left : List ℕ) (b : ℕ) → word_of f ≡ prefix ++ b ∷ left
-      → Walks opb (head v (phase.TheVariants.Word f (length prefix))) (plain (b ∷ left)) (head v (phase.TheVariants.BeforeCount f))
-  spelled f v prefix [] b e =
-      let n : nat_eq (length prefix + 1) (length (word_of f)) ≡ true = rw e (grind (arith, common_steps)) in (
-        head v (phase.TheVariants.BeforeCount f),
-        ap (λ x. act (head v (phase.TheVariants.Word f (length prefix))) b x) (spell_next (word_of f) prefix [] b (phase.TheVariants.Word f (length prefix + 1)) (phase.TheVariants.BeforeCount f) true e n),
-        refl,
-        refl,
-        refl,
-      )
+      → Walks opb (head v (Phase.Word f (length prefix))) (plain (b ∷ left)) (head v (Phase.BeforeCount f))
+  spelled f v prefix [] b e = grind (arith, nat_eq, common_steps, spell_next)
   spelled f v prefix (c ∷ left) b e =
-      let n : nat_eq (length prefix + 1) (length (word_of f)) ≡ false = rw e (grind (arith, common_steps)) in (
-        head v (phase.TheVariants.Word f (length prefix + 1)),
-        ap (λ x. act (head v (phase.TheVariants.Word f (length prefix))) b x) (spell_next (word_of f) prefix (c ∷ left) b (phase.TheVariants.Word f (length prefix + 1)) (phase.TheVariants.BeforeCount f) false e n),
-        refl,
-        refl,
-        subst (λ k. Walks opb (head v (phase.TheVariants.Word f k)) (plain (c ∷ left)) (head v (phase.TheVariants.BeforeCount f))) (length-append prefix (b ∷ []))
-            (spelled f v (prefix ++ b ∷ []) left c (e ∙ sym (append_assoc prefix (b ∷ []) (c ∷ left)))),
-      )
+      let more : Phase = Phase.Word f (length prefix + 1) in
+      let n : nat_eq (length prefix + 1) (length (word_of f)) ≡ false = rw e (grind (arith, common_steps)) in
+      let goes = ap (λ x. act (head v (Phase.Word f (length prefix))) b x) (spell_next (word_of f) prefix (c ∷ left) b more (Phase.BeforeCount f) false e n) in
+      let rest = spelled f v (prefix ++ b ∷ []) left c (e ∙ sym (append_assoc prefix (b ∷ []) (c ∷ left))) in
+      (head v more, goes, refl, refl, subst (λ k. Walks opb (head v (Phase.Word f k)) (plain (c ∷ left)) (head v (Phase.BeforeCount f))) (length-append prefix (b ∷ [])) rest)
 
   begins_word : (f : Field) (v : ℕ) (left : List ℕ) (b : ℕ) → word_of f ≡ 35 ∷ b ∷ left
-      → Walks opb (head v (phase.TheVariants.BeforeWord f)) (plain (35 ∷ b ∷ left)) (head v (phase.TheVariants.BeforeCount f))
-  begins_word f v left b e = (head v (phase.TheVariants.Word f 1), refl, refl, refl, spelled f v (35 ∷ []) left b e)
+      → Walks opb (head v (Phase.BeforeWord f)) (plain (35 ∷ b ∷ left)) (head v (Phase.BeforeCount f))
+  begins_word f v left b e = (head v (Phase.Word f 1), refl, refl, refl, spelled f v (35 ∷ []) left b e)
 
-  word_leads : (f : Field) (v : ℕ) → Leads opb (head v (phase.TheVariants.BeforeWord f)) (Bytes (word_of f)) (head v (phase.TheVariants.BeforeCount f))
-  word_leads Variables v t e = subst (λ x. Walks opb (head v (phase.TheVariants.BeforeWord Variables)) x (head v (phase.TheVariants.BeforeCount Variables))) (sym e) (begins_word Variables v _ 118 refl)
-  word_leads Constraints v t e = subst (λ x. Walks opb (head v (phase.TheVariants.BeforeWord Constraints)) x (head v (phase.TheVariants.BeforeCount Constraints))) (sym e) (begins_word Constraints v _ 99 refl)
+  word_leads : (f : Field) (v : ℕ) → Leads opb (head v (Phase.BeforeWord f)) (Bytes (word_of f)) (head v (Phase.BeforeCount f))
+  word_leads Variables v t e = subst (λ x. Walks opb (head v (Phase.BeforeWord Variables)) x (head v (Phase.BeforeCount Variables))) (sym e) (begins_word Variables v _ 118 refl)
+  word_leads Constraints v t e = subst (λ x. Walks opb (head v (Phase.BeforeWord Constraints)) x (head v (Phase.BeforeCount Constraints))) (sym e) (begins_word Constraints v _ 99 refl)
 
   -- digits of a count
-  takes_digits : (f : Field) (v : ℕ) → TakesDigits opb (λ n. head v (phase.TheVariants.Count f n)) top
-  takes_digits f v = record {
-    more = λ n d h l. ap (λ x. act (head v (phase.TheVariants.Count f n)) (48 + d) x) (next_digit top f n d h l);
-    begun = λ n. refl;
-    number = λ n. refl;
-  }
+  takes_digits : (f : Field) (v : ℕ) → TakesDigits opb (λ n. head v (Phase.Count f n)) top
+  takes_digits f v =
+      record { more = λ n d h l. ap (λ x. act (head v (Phase.Count f n)) (48 + d) x) (next_digit top f n d h l); begun = λ n. refl; number = λ n. refl }
 
-  count_leads : (f : Field) (v n : ℕ) → Leads opb (head v (phase.TheVariants.BeforeCount f)) (Count top n) (head v (phase.TheVariants.Count f n))
+  count_leads : (f : Field) (v n : ℕ) → Leads opb (head v (Phase.BeforeCount f)) (Count top n) (head v (Phase.Count f n))
   count_leads f v n t h =
-      digits_lead opb (λ n. head v (phase.TheVariants.Count f n)) top (takes_digits f v) (head v (phase.TheVariants.BeforeCount f))
-      (λ d i l. ap (λ x. act (head v (phase.TheVariants.BeforeCount f)) (48 + d) x) (first_digit top f d i l)) n h.0 t h.1
+      digits_lead opb (λ n. head v (Phase.Count f n)) top (takes_digits f v) (head v (Phase.BeforeCount f))
+      (λ d i l. ap (λ x. act (head v (Phase.BeforeCount f)) (48 + d) x) (first_digit top f d i l)) n h.0 t h.1
 
-  declares : (v n b : ℕ) → is_blank b ≡ true → opb.step (head v (phase.TheVariants.Count Variables n)) b ≡ Go (head n (phase.TheVariants.BeforeWord Constraints))
-  declares v n = blank_each (λ b. opb.step (head v (phase.TheVariants.Count Variables n)) b ≡ Go (head n (phase.TheVariants.BeforeWord Constraints))) refl refl refl
+  declares : (v n b : ℕ) → is_blank b ≡ true → opb.step (head v (Phase.Count Variables n)) b ≡ Go (head n (Phase.BeforeWord Constraints))
+  declares v n = blank_each (λ b. opb.step (head v (Phase.Count Variables n)) b ≡ Go (head n (Phase.BeforeWord Constraints))) refl refl refl
 
-  blanks_between : (v n : ℕ) → Leads opb (head v (phase.TheVariants.Count Variables n)) Blanks1 (head n (phase.TheVariants.BeforeWord Constraints))
+  blanks_between : (v n : ℕ) → Leads opb (head v (Phase.Count Variables n)) Blanks1 (head n (Phase.BeforeWord Constraints))
   blanks_between v n t (b, bs, h, i, e) =
-      subst (λ x. Walks opb (head v (phase.TheVariants.Count Variables n)) x (head n (phase.TheVariants.BeforeWord Constraints))) (sym e)
-      (head n (phase.TheVariants.BeforeWord Constraints), declares v n b h, refl, refl, blanks_before_word Constraints n (plain bs) (bs, i, refl))
+      subst (λ x. Walks opb (head v (Phase.Count Variables n)) x (head n (Phase.BeforeWord Constraints))) (sym e)
+      (head n (Phase.BeforeWord Constraints), declares v n b h, refl, refl, blanks_before_word Constraints n (plain bs) (bs, i, refl))
 
   -- a word, and its count
-  field_leads : (f : Field) (v n : ℕ) (P : Language) → Leads opb (head 0 phase.TheVariants.Start) P (head v (phase.TheVariants.BeforeWord f))
-      → Leads opb (head 0 phase.TheVariants.Start) (P ⋅ Bytes (word_of f) ⋅ Blanks0 ⋅ Count top n) (head v (phase.TheVariants.Count f n))
+  field_leads : (f : Field) (v n : ℕ) (P : Language) → Leads opb (head 0 Phase.Start) P (head v (Phase.BeforeWord f))
+      → Leads opb (head 0 Phase.Start) (P ⋅ Bytes (word_of f) ⋅ Blanks0 ⋅ Count top n) (head v (Phase.Count f n))
   field_leads f v n P h =
-      leads_then opb (P ⋅ Bytes (word_of f) ⋅ Blanks0) (Count top n) (head 0 phase.TheVariants.Start) (head v (phase.TheVariants.BeforeCount f)) (head v (phase.TheVariants.Count f n))
-      (leads_then opb (P ⋅ Bytes (word_of f)) Blanks0 (head 0 phase.TheVariants.Start) (head v (phase.TheVariants.BeforeCount f)) (head v (phase.TheVariants.BeforeCount f))
-      (leads_then opb P (Bytes (word_of f)) (head 0 phase.TheVariants.Start) (head v (phase.TheVariants.BeforeWord f)) (head v (phase.TheVariants.BeforeCount f)) h
+      leads_then opb (P ⋅ Bytes (word_of f) ⋅ Blanks0) (Count top n) (head 0 Phase.Start) (head v (Phase.BeforeCount f)) (head v (Phase.Count f n))
+      (leads_then opb (P ⋅ Bytes (word_of f)) Blanks0 (head 0 Phase.Start) (head v (Phase.BeforeCount f)) (head v (Phase.BeforeCount f))
+      (leads_then opb P (Bytes (word_of f)) (head 0 Phase.Start) (head v (Phase.BeforeWord f)) (head v (Phase.BeforeCount f)) h
       (word_leads f v)) (blanks_before_count f v)) (count_leads f v n)
 
-  star_leads : Leads opb (head 0 phase.TheVariants.Start) (Byte 42) (head 0 (phase.TheVariants.BeforeWord Variables))
-  star_leads t e = subst (λ x. Walks opb (head 0 phase.TheVariants.Start) x (head 0 (phase.TheVariants.BeforeWord Variables))) (sym e) (head 0 (phase.TheVariants.BeforeWord Variables), refl, refl, refl, refl)
+  star_leads : Leads opb (head 0 Phase.Start) (Byte 42) (head 0 (Phase.BeforeWord Variables))
+  star_leads t e = subst (λ x. Walks opb (head 0 Phase.Start) x (head 0 (Phase.BeforeWord Variables))) (sym e) (head 0 (Phase.BeforeWord Variables), refl, refl, refl, refl)
 
   abbrev FirstCount : ℕ → Language
   FirstCount v = Byte 42 ⋅ Blanks0 ⋅ Bytes variable_word ⋅ Blanks0 ⋅ Count top v
@@ -103,34 +88,29 @@ module _ (limit top : ℕ) where
   abbrev Counts : ℕ → ℕ → Language
   Counts v n = FirstCount v ⋅ Blanks1 ⋅ Bytes constraint_word ⋅ Blanks0 ⋅ Count top n
 
-  counts_lead : (v n : ℕ) → Leads opb (head 0 phase.TheVariants.Start) (Counts v n) (head v (phase.TheVariants.Count Constraints n))
+  counts_lead : (v n : ℕ) → Leads opb (head 0 Phase.Start) (Counts v n) (head v (Phase.Count Constraints n))
   counts_lead v n =
       field_leads Constraints v n (FirstCount v ⋅ Blanks1)
-      (leads_then opb (FirstCount v) Blanks1 (head 0 phase.TheVariants.Start) (head 0 (phase.TheVariants.Count Variables v)) (head v (phase.TheVariants.BeforeWord Constraints))
+      (leads_then opb (FirstCount v) Blanks1 (head 0 Phase.Start) (head 0 (Phase.Count Variables v)) (head v (Phase.BeforeWord Constraints))
       (field_leads Variables 0 v (Byte 42 ⋅ Blanks0)
-      (leads_then opb (Byte 42) Blanks0 (head 0 phase.TheVariants.Start) (head 0 (phase.TheVariants.BeforeWord Variables)) (head 0 (phase.TheVariants.BeforeWord Variables)) star_leads
+      (leads_then opb (Byte 42) Blanks0 (head 0 Phase.Start) (head 0 (Phase.BeforeWord Variables)) (head 0 (Phase.BeforeWord Variables)) star_leads
       (blanks_before_word Variables 0)))
       (blanks_between 0 v))
 
   -- the tail
-  tail_keeps : (v n : ℕ) → Keeps (λ kept. stands limit top v n phase.TheVariants.Tail kept) (λ kept. Header v n kept) (idle limit top v true n)
-  tail_keeps v n = record {
-    keep = λ kept b h. rw h refl;
-    stop = λ kept. refl;
-    within = λ kept. refl;
-    number = λ kept. refl;
-  }
+  tail_keeps : (v n : ℕ) → Keeps (λ kept. stands limit top v n Phase.Tail kept) (λ kept. Header v n kept) (idle limit top v true n)
+  tail_keeps v n = record { keep = λ kept b h. rw h refl; stop = λ kept. refl; within = λ kept. refl; number = λ kept. refl }
 
-  begins_tail : (v n b : ℕ) → is_blank b ≡ true → opb.step (head v (phase.TheVariants.Count Constraints n)) b ≡ Go (stands limit top v n phase.TheVariants.Tail (b ∷ []))
-  begins_tail v n = blank_each (λ b. opb.step (head v (phase.TheVariants.Count Constraints n)) b ≡ Go (stands limit top v n phase.TheVariants.Tail (b ∷ []))) refl refl refl
+  begins_tail : (v n b : ℕ) → is_blank b ≡ true → opb.step (head v (Phase.Count Constraints n)) b ≡ Go (stands limit top v n Phase.Tail (b ∷ []))
+  begins_tail v n = blank_each (λ b. opb.step (head v (Phase.Count Constraints n)) b ≡ Go (stands limit top v n Phase.Tail (b ∷ []))) refl refl refl
 
   tail_reads : (v n : ℕ) (tail : List ℕ) → IsTail tail
-      → ReadsStatement opb (head v (phase.TheVariants.Count Constraints n)) (plain tail ++ unmarked 10 ∷ []) (Header v n tail) (idle limit top v true n)
+      → ReadsStatement opb (head v (Phase.Count Constraints n)) (plain tail ++ unmarked 10 ∷ []) (Header v n tail) (idle limit top v true n)
   tail_reads v n [] h = (refl, refl)
   tail_reads v n (b ∷ bs) h =
-      longer opb (unmarked b) (plain bs ++ unmarked 10 ∷ []) (head v (phase.TheVariants.Count Constraints n)) (stands limit top v n phase.TheVariants.Tail (b ∷ [])) (idle limit top v true n) (Header v n (b ∷ bs))
+      longer opb (unmarked b) (plain bs ++ unmarked 10 ∷ []) (head v (Phase.Count Constraints n)) (stands limit top v n Phase.Tail (b ∷ [])) (idle limit top v true n) (Header v n (b ∷ bs))
       (begins_tail v n b h.0) refl refl
-      (line_reads (λ kept. stands limit top v n phase.TheVariants.Tail kept) (λ kept. Header v n kept) (idle limit top v true n) (tail_keeps v n) bs (b ∷ []) h.1)
+      (line_reads (λ kept. stands limit top v n Phase.Tail kept) (λ kept. Header v n kept) (idle limit top v true n) (tail_keeps v n) bs (b ∷ []) h.1)
 
   -- The machine reads each header.
   pub header_reads : (v n : ℕ) (tail : List ℕ) (t : List Letter) → IsTail tail → SpellsHeader top v n tail t
@@ -139,5 +119,5 @@ module _ (limit top : ℕ) where
       let parts : t ≡ a ++ (plain tail ++ unmarked 10 ∷ []) =
       e ∙ (ap (λ x. x ++ c) (f ∙ ap (λ x. a ++ x) g) ∙ (ap (λ x. (a ++ plain tail) ++ x) k ∙ append_assoc a (plain tail) (unmarked 10 ∷ []))) in
       subst (λ x. ReadsStatement opb (begin limit top) x (Header v n tail) (idle limit top v true n)) (sym parts)
-      (reads_after opb a (plain tail ++ unmarked 10 ∷ []) (begin limit top) (head v (phase.TheVariants.Count Constraints n)) (idle limit top v true n) (Header v n tail)
+      (reads_after opb a (plain tail ++ unmarked 10 ∷ []) (begin limit top) (head v (Phase.Count Constraints n)) (idle limit top v true n) (Header v n tail)
       (counts_lead v n a counts) (tail_reads v n tail h))

@@ -1,8 +1,6 @@
 -- The texts of objectives: `min:` and white space, and what a machine of sums reads after that.
-use Rattle.pb_opb.proofs.Common.{ℕ, List, refl, Term, White, Spaces0, Spells, SpellsSum, after_it, inside, regroup3, regroup⁻¹, ◌⋅◌, Byte, Bytes}
-use Rattle.pb_opb.proofs.Common.{Language, Letter, min_word, SpellsObjective, Whites0}
-use Rattle.pb_sums.specs.declared.sum_kind.Part as part
-use Rattle.pb_sums.specs.declared.linear.SumEvent as sum
+use Rattle.pb_opb.proofs.Common.{SumEvent, Part, ℕ, List, refl, Term, White, Spaces0, Spells, SpellsSum, after_it, inside, regroup3, regroup⁻¹, ◌⋅◌, Byte}
+use Rattle.pb_opb.proofs.Common.{Bytes, Language, Letter, min_word, SpellsObjective, Whites0}
 use Rattle.pb_opb.proofs.lemmas.machine.FirstLetters.{spaces_white, whites_space}
 
 -- `min:` and white space
@@ -21,7 +19,7 @@ module _ (limit : ℕ) where
     S = SpellsSum White limit xs
 
     abbrev Rest : Language
-    Rest = Spells White limit part.TheVariants.Sum (sum.TheVariants.Sum xs)
+    Rest = Spells White limit Part.Sum (SumEvent.Sum xs)
 
     pub objective_of : (MinPrefix ⋅ Rest) t → SpellsObjective limit xs t
     objective_of h =

@@ -1,15 +1,11 @@
 -- The state of a machine of instances after a byte.
-use Rattle.pb_opb.proofs.Common.{ℕ, ◌&&◌, ◌++◌, ◌<◌, ◌∙◌, ◌∷◌, ◌≡◌, [], ap, arith, Bool, false, IsTrue, List}
-use Rattle.pb_opb.proofs.Common.{refl, subst, sym, true, midway-not-done, continues, continues-midway, ended-last, SumEvent}
-use Rattle.pb_opb.proofs.Common.{White, first, sums, SumState, admits_before, admits_final, Admits, begins, begins_with, Continues, End, Go, is_large}
-use Rattle.pb_opb.proofs.Common.{IsState, Next, Refuse, is_digit, Action, BeginTail}
-use Rattle.pb_opb.proofs.Common.{Give, Keep, To, Phase, transition, Holds}
-use Rattle.pb_opb.proofs.Common.{IsIdle, IsInOrder, PhaseFits, act, after, asks, at, giving, is_in_number, is_within, linears, opb, OpbState}
+use Rattle.pb_opb.proofs.Common.{Part, ℕ, ◌&&◌, ◌++◌, ◌<◌, ◌∙◌, ◌∷◌, ◌≡◌, [], ap, arith, Bool, false, IsTrue, List, refl, subst, sym, true, midway-not-done}
+use Rattle.pb_opb.proofs.Common.{continues, continues-midway, ended-last, SumEvent, White, first, sums, SumState, admits_before, admits_final, Admits, begins}
+use Rattle.pb_opb.proofs.Common.{begins_with, Continues, End, Go, is_large, IsState, Next, Refuse, is_digit, Action, BeginTail, Give, Keep, To, Phase}
+use Rattle.pb_opb.proofs.Common.{transition, Holds, IsIdle, IsInOrder, PhaseFits, act, after, asks, at, giving, is_in_number, is_within, linears, opb, OpbState}
 use Rattle.pb_opb.proofs.Common.{over, phase_owing, remaining_after, statement_of}
 use Rattle.pb_text.proofs.lemmas.machine.Residual.{refuses}
 use Rattle.pb_text.proofs.lemmas.machine.Admitted.{admits_within}
-use Rattle.pb_sums.specs.declared.Part as part
-use Rattle.pb_opb.specs.declared.phase.Phase as phase
 use Rattle.pb_opb.proofs.lemmas.machine.Alive.{giving_alive, owed_read}
 use Rattle.pb_opb.proofs.lemmas.machine.GivenBytes.{Gives, IsGiving, gives_at, gives_objective, gives_constraint}
 use Rattle.pb_opb.proofs.lemmas.machine.States.{is_state, outside}
@@ -30,7 +26,7 @@ Knows s q (Give p) = IsGiven s q p
 Knows s q _ = Unit {0}
 
 pub knows : (s : OpbState) (q : Phase) → Holds s q → (b : ℕ) → Knows s q (transition s.top q b)
-knows s (phase.TheVariants.Between objective_allowed) h b = grind (arith, gives_constraint)
+knows s (Phase.Between objective_allowed) h b = grind (arith, gives_constraint)
 knows s _ h b = grind (arith, gives_objective, gives_constraint)
 
 known : (s : OpbState) → IsInOrder s → (b : ℕ) (m : Action) → transition s.top s.phase b ≡ m → Knows s s.phase m
@@ -42,15 +38,8 @@ planned_at n top p b m e h = ap (λ (k : ℕ). transition k p b) (sym e) ∙ sym
 
 -- the state if the machine continues
 pub to_order : (s : OpbState) → IsInOrder s → (b : ℕ) (p : Phase) → transition s.top s.phase b ≡ To p → PhaseFits s.top p → IsInOrder (at s p)
-to_order s h b p e fits = record {
-  limit = h.limit;
-  top = h.top;
-  fits = fits;
-  holds = known s h b (To p) e;
-  spaces = h.spaces;
-  limits = h.limits;
-  state = h.state;
-}
+to_order s h b p e fits =
+    record { limit = h.limit; top = h.top; fits = fits; holds = known s h b (To p) e; spaces = h.spaces; limits = h.limits; state = h.state }
 
 -- what the machine of sums leaves unchanged
 inner_goes : (inner next : SumState) (b : ℕ) → sums.step inner b ≡ Go next → (next.spaces ≡ inner.spaces) × (next.limit ≡ inner.limit) × (sums.done next ≡ false)
@@ -89,11 +78,11 @@ owing_holds : (s : OpbState) (objective_allowed : Bool) (n : ℕ) (inner : SumSt
 owing_holds s objective_allowed n inner e = grind arith
 
 -- the state if the machine of sums has ended and begins again
-module _ (s : OpbState) (h : IsInOrder s) (b : ℕ) (p : Phase) (next again : SumState) (x : SumEvent) (planned : transition s.top s.phase b ≡ Give p) (ends : sums.step s.sums b ≡ End x next) (begins : again ≡ first next.spaces part.TheVariants.Linear next.limit) where
+module _ (s : OpbState) (h : IsInOrder s) (b : ℕ) (p : Phase) (next again : SumState) (x : SumEvent) (planned : transition s.top s.phase b ≡ Give p) (ends : sums.step s.sums b ≡ End x next) (begins : again ≡ first next.spaces Part.Linear next.limit) where
   again_is : again ≡ linears s.limit
   again_is =
       let i = inner_ends s.sums next b x ends in
-      begins ∙ (ap (λ (y : _). first y part.TheVariants.Linear next.limit) (i.0 ∙ h.spaces) ∙ ap (λ (y : ℕ). first White part.TheVariants.Linear y) (i.1 ∙ h.limits))
+      begins ∙ (ap (λ (y : _). first y Part.Linear next.limit) (i.0 ∙ h.spaces) ∙ ap (λ (y : ℕ). first White Part.Linear y) (i.1 ∙ h.limits))
 
   abbrev ended : OpbState
   ended = record s { remaining = remaining_after p s.remaining; phase = phase_owing false (remaining_after p s.remaining); sums = again }
@@ -140,7 +129,7 @@ module _ (s : OpbState) (h : IsInOrder s) (b : ℕ) (p : Phase) (planned : trans
 -- a byte of a tail or a comment
 pub tail_admits : (s : OpbState) → IsInOrder s → (b n c : ℕ) → transition s.top s.phase b ≡ BeginTail n c → IsTrue (opb.asks s b) × Admits opb s b
 tail_admits s h b n c planned =
-    let next = record s { remaining = n; phase = phase.TheVariants.Tail; text = c ∷ [] } in
+    let next = record s { remaining = n; phase = Phase.Tail; text = c ∷ [] } in
     let idle = known s h b (BeginTail n c) planned in
     let order : IsInOrder next = record { limit = h.limit; top = h.top; fits = tt; holds = idle.1; spaces = h.spaces; limits = h.limits; state = h.state } in
     (subst (λ (m : Action). IsTrue (asks s b m)) (sym planned) refl, admits_within opb s next b (ap (act s b) planned) refl refl (is_state next order))

@@ -1,7 +1,7 @@
 -- The states of a machine of instances, within a header and between two statements.
-use Rattle.pb_opb.proofs.Common.{ℕ, ◌++◌, ◌∙◌, ◌∷◌, ◌≡◌, [], ap, append-nil, append_assoc, Bool, false, List, nat_eq, refl, subst, sym, true}
-use Rattle.pb_opb.proofs.Common.{not-true, Leads, longer, Walks, End, Go, ReadsStatement, IsInLine, Each, Many, unmarked, plain, OpbEvent, Phase}
-use Rattle.pb_opb.proofs.Common.{linears, opb, OpbState, phase_owing}
+use Rattle.pb_opb.proofs.Common.{Letter, as_unmarked, eqb-true, ℕ, ◌++◌, ◌∙◌, ◌∷◌, ◌≡◌, [], ap, append-nil, append_assoc, Bool, false, List, nat_eq, refl}
+use Rattle.pb_opb.proofs.Common.{subst, sym, true, not-true, Leads, longer, Walks, End, Go, ReadsStatement, IsInLine, Each, Many, unmarked, plain, OpbEvent}
+use Rattle.pb_opb.proofs.Common.{Phase, linears, opb, OpbState, phase_owing, arith, IsTrue, not, each-append, IsTail}
 
 -- with the machine of sums at the start of a linear text
 abbrev pub stands : ℕ → ℕ → ℕ → ℕ → Phase → List ℕ → OpbState
@@ -43,3 +43,13 @@ line_reads at event new k (b ∷ bs) kept h =
     longer opb (unmarked b) (plain bs ++ unmarked 10 ∷ []) (at kept) (at more) new (event (kept ++ b ∷ bs))
     (k.keep kept b (not-true (nat_eq b 10) h.0)) (k.within more) (sym (k.number more))
     (subst (λ (x : List ℕ). ReadsStatement opb (at more) (plain bs ++ unmarked 10 ∷ []) (event x) new) (append_assoc kept (b ∷ []) bs) (line_reads at event new k bs more h.1))
+
+-- Lines and tails that grow at their end.
+pub line_grown : (bs : List ℕ) (b : ℕ) → nat_eq b 10 ≡ false → IsInLine bs → IsInLine (bs ++ b ∷ [])
+line_grown bs b e h = each-append (λ x. IsTrue (not (nat_eq x 10))) bs b h (ap not e)
+
+pub tail_grown : (bs : List ℕ) (b : ℕ) → nat_eq b 10 ≡ false → (bs ≡ [] → ⊥) → IsTail bs → IsTail (bs ++ b ∷ [])
+tail_grown bs b e n h = grind (arith, line_grown)
+
+pub one_byte : (l : Letter) (b : ℕ) → l.numeral ≡ false → nat_eq l.byte b ≡ true → l ∷ [] ≡ unmarked b ∷ []
+one_byte l b n e = ap (λ x. x ∷ []) (as_unmarked l b n (eqb-true l.byte b e))

@@ -1,9 +1,7 @@
 -- What holds for each state that a machine of instances can be in.
-use Rattle.pb_opb.proofs.Common.{ℕ, ◌+◌, ◌∷◌, ◌≡◌, ◌≤◌, [], arith, Bool, false, length-append, refl}
-use Rattle.pb_opb.proofs.Common.{suc, true, zero, SumEvent, sums, SumState, End, Go, IsState, Next, Refuse}
-use Rattle.pb_opb.proofs.Common.{OpbEvent, Action, EndComment, EndHeader, EndTail, Give}
-use Rattle.pb_opb.proofs.Common.{Keep, Stop, To, Phase, transition, Holds, IsIdle}
-use Rattle.pb_opb.proofs.Common.{IsInOrder, act, is_done, is_in_number, is_within, opb, OpbState, over, phase_owing, remaining_after}
+use Rattle.pb_opb.proofs.Common.{ℕ, ◌+◌, ◌≡◌, ◌≤◌, arith, Bool, false, length-append, true, SumEvent, sums, SumState, End, Go, IsState, Next, Refuse, OpbEvent}
+use Rattle.pb_opb.proofs.Common.{Action, Give, Keep, Stop, To, Phase, transition, Holds, IsIdle, IsInOrder, act, is_done, is_in_number, is_within, opb}
+use Rattle.pb_opb.proofs.Common.{OpbState, over, phase_owing}
 use Rattle.pb_opb.proofs.lemmas.machine.Alive.{live}
 
 abbrev N : Type 0
@@ -36,23 +34,13 @@ record Continues (s next : OpbState) : Type 0 where
   pub grows : opb.spent next ≤ opb.spent s + 1
 
 owing : (objective_allowed : Bool) (n : ℕ) → is_within (phase_owing objective_allowed n) ≡ false
-owing objective_allowed zero = refl
-owing objective_allowed (suc n) = refl
+owing objective_allowed n = grind arith
 
 sum_grows : (s : OpbState) (p : Phase) → IsState sums s.sums → GoesOn s.phase p → (b : ℕ) (n : Next SumState SumEvent) → sums.step s.sums b ≡ n → On (λ next. Continues s next) (λ next. opb.begun next ≡ false) (over s p n)
-sum_grows s p state g b (Go inner) e = record { owes = g.0; stays = g.1; grows = omega (arith, state.grows b inner e) }
-sum_grows s p state g b (End f inner) e = owing false (remaining_after p s.remaining)
-sum_grows s p state g b Refuse e = tt
+sum_grows s p state g b n e = grind (arith, owing)
 
 on_act : (s : OpbState) → IsState sums s.sums → (b : ℕ) (m : Action) → OnAction s.phase m → On (λ next. Continues s next) (λ next. opb.begun next ≡ false) (act s b m)
-on_act s state b (To p) h = record { owes = h.0; stays = h.1; grows = omega arith }
-on_act s state b (Keep c) h = record { owes = h; stays = λ i. i; grows = omega (arith, length-append s.text (c ∷ [])) }
-on_act s state b (EndHeader n) h = owing true n
-on_act s state b EndTail h = owing true s.remaining
-on_act s state b (EndComment objective_allowed) h = owing objective_allowed s.remaining
-on_act s state b (Give p) h = sum_grows s p state h b (sums.step s.sums b) refl
-on_act s state b Stop h = tt
-on_act s state b _ h = record { owes = refl; stays = λ i. refl; grows = omega arith }
+on_act s state b m h = grind (arith, length-append, owing, sum_grows)
 
 steps : (s : OpbState) → IsState sums s.sums → (b : ℕ) → On (λ next. Continues s next) (λ next. opb.begun next ≡ false) (opb.step s b)
 steps s state b = on_act s state b (transition s.top s.phase b) (on_transition s.top s.phase b)

@@ -1,5 +1,4 @@
-use Rattle.pb_opb.proofs.Common.{◌++◌, ◌∷◌, arith, refl, linear_bytes, part_broke, part_then, part_wrote}
-use Rattle.pb_opb.proofs.Common.{comment_events, led_lines}
+use Rattle.pb_opb.proofs.Common.{◌++◌, ◌∷◌, arith, refl, linear_bytes, part_broke, part_then, part_wrote, comment_events, led_lines}
 use Rattle.pb_opb.proofs.lemmas.instances.Texts.{constraint_turn, constraint_done}
 use Rattle.pb_opb.proofs.write.write_constraints.Goals as goal
 

@@ -1,5 +1,4 @@
-use Rattle.pb_opb.proofs.Common.{ℕ, subst, To, PhaseFits, OpbState}
-use Rattle.pb_opb.specs.contracts.machine.OpbMachine.{the_view}
+use Rattle.pb_opb.proofs.Common.{the_view, ℕ, subst, To, PhaseFits, OpbState}
 use Rattle.pb_opb.proofs.lemmas.machine.Pushed.{planned_at, to_order}
 use Rattle.pb_opb.proofs.machine.OpbMachine.advance.Goals as goal
 

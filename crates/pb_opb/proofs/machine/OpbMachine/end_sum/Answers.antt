@@ -1,4 +1,4 @@
-use Rattle.pb_opb.specs.contracts.machine.OpbMachine.{the_view}
+use Rattle.pb_opb.proofs.Common.{the_view}
 use Rattle.pb_opb.proofs.lemmas.machine.Pushed.{end_order, end_step}
 use Rattle.pb_opb.proofs.machine.OpbMachine.end_sum.Goals as goal
 

@@ -1,5 +1,4 @@
-use Rattle.pb_opb.proofs.Common.{◌∙◌, ◌≡◌, ap, false, subst, SumState, is_large, Refuse, opb, OpbState, arith}
-use Rattle.pb_opb.specs.contracts.machine.OpbMachine.{the_view}
+use Rattle.pb_opb.proofs.Common.{the_view, ◌∙◌, ◌≡◌, ap, false, subst, SumState, is_large, Refuse, opb, OpbState, arith}
 use Rattle.pb_opb.proofs.lemmas.machine.Pushed.{give_order, end_order, end_step, give_refused, give_admits}
 use Rattle.pb_opb.proofs.machine.OpbMachine.give.Goals as goal
 

@@ -1,6 +1,5 @@
-use Rattle.pb_opb.proofs.Common.{ℕ, ◌∙◌, ◌≡◌, ap, List, subst, sym, BeginTail, Keep, To, PhaseFits, OpbState}
+use Rattle.pb_opb.proofs.Common.{the_view, ℕ, ◌∙◌, ◌≡◌, ap, List, subst, sym, BeginTail, Keep, To, PhaseFits, OpbState}
 use Rattle.pb_text.proofs.lemmas.text.Results.{unchanged}
-use Rattle.pb_opb.specs.contracts.machine.OpbMachine.{the_view}
 use Rattle.pb_opb.proofs.lemmas.machine.Pushed.{planned_at, to_order, tail_admits, keep_admits}
 use Rattle.pb_opb.proofs.machine.OpbMachine.take.Goals as goal
 

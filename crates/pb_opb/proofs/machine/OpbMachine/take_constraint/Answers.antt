@@ -1,5 +1,4 @@
-use Rattle.pb_opb.proofs.Common.{◌≡◌, get_or, Give, transition, OpbState}
-use Rattle.pb_opb.specs.contracts.machine.OpbMachine.{the_view}
+use Rattle.pb_opb.proofs.Common.{the_view, ◌≡◌, get_or, Give, transition, OpbState}
 use Rattle.pb_opb.proofs.lemmas.machine.Pushed.{planned_at}
 use Rattle.pb_opb.proofs.lemmas.machine.WholeConstraints.{constraint_taken}
 use Rattle.pb_opb.proofs.machine.OpbMachine.take_constraint.Goals as goal

@@ -1,5 +1,4 @@
-use Rattle.pb_opb.proofs.Common.{◌∙◌, ap, sym, begins, Give, opb, OpbState}
-use Rattle.pb_opb.specs.contracts.machine.OpbMachine.{the_view}
+use Rattle.pb_opb.proofs.Common.{the_view, ◌∙◌, ap, sym, begins, Give, opb, OpbState}
 use Rattle.pb_opb.proofs.lemmas.machine.Pushed.{planned_at, give_begins}
 use Rattle.pb_opb.proofs.machine.OpbMachineMachine.starts.Goals as goal
 

@@ -1,7 +1,5 @@
-use Rattle.pb_opb.proofs.Common.{refl, take}
-use Rattle.pb_opb.specs.contracts.machine.OpbMachine.{the_view}
-use Rattle.pb_opb.proofs.lemmas.machine.Lines.{kept_or_none}
-use Rattle.pb_opb.proofs.lemmas.machine.Taken.{runs_given}
+use Rattle.pb_opb.proofs.Common.{the_view, refl, take}
+use Rattle.pb_opb.proofs.lemmas.machine.Taken.{kept_or_none, runs_given}
 use Rattle.pb_opb.proofs.machine.OpbMachineMachine.take_run.Goals as goal
 use Rattle.pb_opb.proofs.machine.OpbMachineMachine.take_run.Goals.{in-Constraint, in-Tail, in_default}
 
