@@ -18,6 +18,7 @@ use pb_text::Limits;
 use std::alloc::Global;
 
 // Adds the form of one side of a constraint.
+#[tactic(auto, using(crate::proofs::rulesets::Names::add_side))]
 fn add_side(
     alloc: Global,
     names: &mut Names,
