@@ -136,7 +136,7 @@ impl Tree {
 }
 
 // Removes the term on a variable, and returns its coefficient.
-#[tactic(auto, using(crate::proofs::rulesets::Terms::take_out))]
+#[tactic(auto, using(crate::proofs::Rulesets::take_out))]
 fn take_out(terms: &mut BTreeMap<usize, Entry>, variable: usize) -> u128
     requires keyed { IsKeyed terms.old }
     requires rising { IsRising 0 (values terms.old) }
@@ -153,7 +153,7 @@ fn take_out(terms: &mut BTreeMap<usize, Entry>, variable: usize) -> u128
 }
 
 // How much of a term cancels in the sum with the one on its variable.
-#[tactic(auto, using(crate::proofs::rulesets::Terms::cancelled_by))]
+#[tactic(auto, using(crate::proofs::Rulesets::cancelled_by))]
 fn cancelled_by(terms: &BTreeMap<usize, Entry>, term: Entry) -> u128
     requires keyed { IsKeyed terms.now }
     requires positive { 0 < term.coefficient }
@@ -168,7 +168,7 @@ fn cancelled_by(terms: &BTreeMap<usize, Entry>, term: Entry) -> u128
 }
 
 // How much cancels in the sum with a list.
-#[tactic(auto, using(crate::proofs::rulesets::Terms::cancelled))]
+#[tactic(auto, using(crate::proofs::Rulesets::cancelled))]
 fn cancelled_by_list(terms: &BTreeMap<usize, Entry>, list: &Terms) -> u128
     requires keyed { IsKeyed terms.now }
     requires rising { IsRising 0 (values terms.now) }
@@ -185,7 +185,7 @@ fn cancelled_by_list(terms: &BTreeMap<usize, Entry>, list: &Terms) -> u128
 }
 
 // How much cancels in the sum with another map.
-#[tactic(auto, using(crate::proofs::rulesets::Terms::cancelled))]
+#[tactic(auto, using(crate::proofs::Rulesets::cancelled))]
 fn cancelled_by_tree(terms: &BTreeMap<usize, Entry>, others: &BTreeMap<usize, Entry>) -> u128
     requires keyed { IsKeyed terms.now }
     requires rising { IsRising 0 (values terms.now) }

@@ -62,6 +62,7 @@ pub(crate) fn found(
 }
 
 // Puts a name at the head of its chain.
+#[tactic(auto, using(crate::proofs::Rulesets::link))]
 pub(crate) fn link(heads: &mut [u32], entries: &mut [NameEntry], number: usize)
     requires within { number < length entries.old }
     requires small { number + 1 < 2 ^ 32 }

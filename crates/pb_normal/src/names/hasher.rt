@@ -106,7 +106,7 @@ fn after_blocks(bytes: &[u8], start: u64, key: u64) -> u64
 // Two words that have the last 16 bytes, or all bytes if there are fewer. They may have some bytes
 // twice.
 #[inline(always)]
-#[tactic(auto, using(crate::proofs::rulesets::Names::ends), unfolding(crate::specs::contract::NameHasher::ends_of))]
+#[tactic(auto, using(crate::proofs::Rulesets::ends), unfolding(crate::specs::contract::NameHasher::ends_of))]
 fn ends(bytes: &[u8]) -> (u64, u64)
     ensures { result ≡ ends_of bytes.now }
 {

@@ -1,4 +1,4 @@
-use Rattle.pb_normal.proofs.lemmas.terms.Collecting.{Adds-permutation, Adds-self}
+use Rattle.pb_normal.proofs.lemmas.terms.Totals.{Adds-permutation, Adds-self}
 use Rattle.pb_normal.proofs.collect.collected.Goals as goal
 
 pub returns-then-is_rising-2-clause-adds : goal.returns-then-is_rising-2-clause-adds

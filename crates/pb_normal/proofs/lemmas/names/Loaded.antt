@@ -1,9 +1,8 @@
 -- The forms that constraints load as, over the names so far. Offered to other crates.
-use Rattle.std.proofs.Math.Seq.{take-append-add}
-use Rattle.pb_normal.proofs.Common.{ℕ, ◌++◌, ◌+◌, ◌<◌, ◌∙◌, ◌∷◌, ◌≡◌, [], ap, append-nil, append_assoc, arith, Err, get_or, length, List, Ok, OnErr}
-use Rattle.pb_normal.proofs.Common.{take_all, OnOk, refl, Result, subst, suc, sym, take, zero, flat_map-append, All, AllByRecursion, Linear, take_read}
-use Rattle.pb_normal.proofs.Common.{NormalFault, Memory, Overflow, Side, AreFormsOf, constraint_names, sides_in, with_sides, Form, AfterPrefix}
-use Rattle.pb_normal.proofs.Common.{AreDistinct, HasNames, with_names, names_of}
+use Rattle.pb_normal.proofs.Common.{take-append-add, ℕ, ◌++◌, ◌+◌, ◌<◌, ◌∙◌, ◌∷◌, ◌≡◌, [], ap, append-nil, append_assoc, arith, Err, get_or, length, List, Ok}
+use Rattle.pb_normal.proofs.Common.{OnErr, take_all, OnOk, refl, Result, subst, suc, sym, take, zero, flat_map-append, All, AllByRecursion, Linear, take_read}
+use Rattle.pb_normal.proofs.Common.{NormalFault, Memory, Overflow, Side, AreFormsOf, constraint_names, sides_in, with_sides, Form, AfterPrefix, AreDistinct}
+use Rattle.pb_normal.proofs.Common.{HasNames, with_names, names_of}
 use Rattle.pb_sums.specs.declared.linear.Relation.{Relation}
 use Rattle.pb_sums.specs.declared.linear.Relation.TheVariants.{AtLeast, Equal}
 use Rattle.pb_normal.specs.declared.side.Side.TheVariants.{AtLeast as least, AtMost as most}

@@ -1,9 +1,8 @@
 -- A name keeps its number, and names appear one by one. Offered to other crates.
-use Rattle.pb_normal.proofs.Common.{ℕ, ◌++◌, ◌<◌, ◌∙◌, ◌∷◌, ◌≡◌, [], ap, arith, Bool, Err, false, length, List, map}
-use Rattle.pb_normal.proofs.Common.{Ok, OnErr, refl, Result, slice_get, Some, suc, sym, take, true, zero, or_from}
-use Rattle.pb_normal.proofs.Common.{or_right, map-append, take-map, slice_get_within, bytes_eq-Decides, list_any}
-use Rattle.pb_normal.proofs.Common.{position_or_len, bytes_eq, Term, Entry, Side, entry_of, raw_of, AfterPrefix, AreDistinct, has_name, HasNames}
-use Rattle.pb_normal.proofs.Common.{number_in, with_name, with_names, names_of, side_number, side_terms}
+use Rattle.pb_normal.proofs.Common.{ℕ, ◌++◌, ◌<◌, ◌∙◌, ◌∷◌, ◌≡◌, [], ap, arith, Bool, Err, false, length, List, map, Ok, OnErr, refl, Result, slice_get, Some}
+use Rattle.pb_normal.proofs.Common.{suc, sym, take, true, zero, or_from, or_right, map-append, take-map, slice_get_within, bytes_eq-Decides, list_any}
+use Rattle.pb_normal.proofs.Common.{position_or_len, bytes_eq, Term, Entry, Side, entry_of, raw_of, AfterPrefix, AreDistinct, has_name, HasNames, number_in}
+use Rattle.pb_normal.proofs.Common.{with_name, with_names, names_of, side_number, side_terms}
 
 -- a position that was found is the same if more elements follow
 position_or_len-found : {A : Type 0} (p : A → Bool) (xs ys : List A) → list_any p xs ≡ true → position_or_len p (xs ++ ys) ≡ position_or_len p xs

@@ -1,7 +1,6 @@
 -- A form is determined by its coefficients and its degree. Offered to other crates.
-use Rattle.pb_normal.proofs.Common.{nat_tests, ℕ, ◌&&◌, ◌+◌, ◌<◌, ◌∙◌, ◌∷◌, ◌≡◌, [], ap, arith, Bool, eqb, inl, inr, List, not, refl, sym}
-use Rattle.pb_normal.proofs.Common.{cases_order, ints, Entry, coefficient, counted, Form, IsOrdered, IsRising, negated_of, plain_of}
-use Rattle.pb_normal.proofs.Common.{total, IsSum}
+use Rattle.pb_normal.proofs.Common.{nat_tests, ℕ, ◌&&◌, ◌+◌, ◌<◌, ◌∙◌, ◌∷◌, ◌≡◌, [], ap, arith, Bool, eqb, inl, inr, List, not, refl, sym, cases_order, ints}
+use Rattle.pb_normal.proofs.Common.{Entry, coefficient, counted, Form, IsOrdered, IsRising, negated_of, plain_of, total, IsSum}
 use Rattle.pb_normal.proofs.lemmas.terms.Variables.{counted-other}
 
 -- a variable below all others has no coefficient

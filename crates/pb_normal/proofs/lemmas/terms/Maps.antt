@@ -1,9 +1,7 @@
 -- What a change of every term and a filter preserve. Offered to other crates.
-use Rattle.std.proofs.lemmas.Bool.{cond_both}
-use Rattle.pb_normal.proofs.Common.{ℕ, ◌%◌, ◌*◌, ◌+◌, ◌/◌, ◌<◌, ◌∷◌, ◌≡◌, ◌≤◌, ◌⊎◌, [], arith, Bool, cond, eqb, inl, inr, List, map, min, not}
-use Rattle.pb_normal.proofs.Common.{refl, mul-le-mul_left, div-add-mod', mod_below, div_ceil, filter, Entry, counted, each}
-use Rattle.pb_normal.proofs.Common.{Form, Holds, IsNormal, IsRising, total, true_at, divided, negation_of, of_variable, opposite, weakened}
-use Rattle.pb_normal.proofs.Common.{with_coefficient}
+use Rattle.pb_normal.proofs.Common.{cond_both, ℕ, ◌%◌, ◌*◌, ◌+◌, ◌/◌, ◌<◌, ◌∷◌, ◌≡◌, ◌≤◌, ◌⊎◌, [], arith, Bool, cond, eqb, inl, inr, List, map, min, not, refl}
+use Rattle.pb_normal.proofs.Common.{mul-le-mul_left, div-add-mod', mod_below, div_ceil, filter, Entry, counted, each, Form, Holds, IsNormal, IsRising, total}
+use Rattle.pb_normal.proofs.Common.{true_at, divided, negation_of, of_variable, opposite, weakened, with_coefficient}
 use Rattle.pb_normal.proofs.lemmas.terms.Totals.{IsRising-from}
 
 pub IsRising-map : (g : Entry → Entry) (n : ℕ) (ts : List Entry) → ((t : Entry) → (g t).variable ≡ t.variable) → ((t : Entry) → 0 < t.coefficient → 0 < (g t).coefficient) → IsRising n ts → IsRising n (map g ts)
@@ -78,8 +76,7 @@ total-divided p k (t ∷ ts) h = grind (arith, total-divided p k ts h, le-div_ce
 
 -- if a form holds, its quotient holds
 pub Holds-divided : (a : ℕ → Bool) (k : ℕ) (f : Form) → 0 < k → Holds a f → Holds a (divided k f)
-Holds-divided a k f h holds =
-    div_ceil-least f.degree k _ h (omega (arith, total-divided (true_at a) k f.terms h))
+Holds-divided a k f h holds = div_ceil-least f.degree k _ h (omega (arith, total-divided (true_at a) k f.terms h))
 
 -- weakening: what is dropped counts for at most its coefficient
 total-without : (p : ℕ → Bool → Bool) (x : ℕ) (ts : List Entry) → total p ts ≤ total p (filter (λ t. not (eqb t.variable x)) ts) + total (of_variable x) ts
@@ -102,22 +99,10 @@ Holds-negation_back a f h n = grind (arith, total-opposite a f.terms)
 
 -- what stays normal
 pub IsNormal-divided : (k : ℕ) (f : Form) → 0 < k → IsNormal f → IsNormal (divided k f)
-IsNormal-divided k f h n = record {
-  ordered = IsRising-divided k 0 f.terms h n.ordered;
-  size_in = omega (arith, n.size_in, total-divided-le each k f.terms h);
-  degree_in = omega (arith, n.degree_in, div_ceil-le f.degree k h);
-}
+IsNormal-divided k f h n = grind (arith, n.ordered, n.size_in, n.degree_in, IsRising-divided, total-divided-le, div_ceil-le)
 
 pub IsNormal-weakened : (x : ℕ) (f : Form) → IsNormal f → IsNormal (weakened x f)
-IsNormal-weakened x f n = record {
-  ordered = IsRising-filter (λ t. not (eqb t.variable x)) 0 f.terms n.ordered;
-  size_in = omega (arith, n.size_in, total-filter-le (λ t. not (eqb t.variable x)) each f.terms);
-  degree_in = omega (arith, n.degree_in);
-}
+IsNormal-weakened x f n = grind (arith, n.ordered, n.size_in, n.degree_in, IsRising-filter, total-filter-le)
 
 pub IsNormal-negation : (f : Form) → 1 ≤ f.degree → IsNormal f → IsNormal (negation_of f)
-IsNormal-negation f h n = record {
-  ordered = IsRising-opposite 0 f.terms n.ordered;
-  size_in = omega (arith, n.size_in, total-each-opposite f.terms);
-  degree_in = omega (arith, n.size_in);
-}
+IsNormal-negation f h n = grind (arith, n.ordered, n.size_in, n.degree_in, IsRising-opposite, total-each-opposite)

@@ -1,6 +1,6 @@
 -- A total over a list of terms, as a sum over the variables
-use Rattle.pb_normal.proofs.Common.{ℕ, ◌&&◌, ◌+◌, ◌<◌, ◌∷◌, ◌≡◌, ◌≢◌, ◌≤◌, [], ap, arith, Bool, cond, eqb, false, inl, inr, List, max, refl}
-use Rattle.pb_normal.proofs.Common.{nat_tests, suc, sym, true, zero, cases_eq, ne_eqb, Entry, counted, negated_of, plain_of, total}
+use Rattle.pb_normal.proofs.Common.{ℕ, ◌&&◌, ◌+◌, ◌<◌, ◌∷◌, ◌≡◌, ◌≢◌, ◌≤◌, [], ap, arith, Bool, cond, eqb, false, List, max, refl, nat_tests, suc, sym, true}
+use Rattle.pb_normal.proofs.Common.{zero, cases_eq, ne_eqb, Entry, counted, negated_of, plain_of, total}
 
 pub total-same : (p q : ℕ → Bool → Bool) → ((v : ℕ) (n : Bool) → p v n ≡ q v n) → (ts : List Entry) → total p ts ≡ total q ts
 total-same p q h [] = refl
@@ -21,11 +21,7 @@ up_to-add g h k (suc n) e = omega (arith, up_to-add g h k n e, e n)
 
 up_to-one : (g : ℕ → ℕ) (v n : ℕ) → v < n → ((x : ℕ) → x ≢ v → g x ≡ 0) → up_to g n ≡ g v
 up_to-one g v zero lt h = absurd (omega arith)
-up_to-one g v (suc n) lt h =
-    elim (cases_eq v n) [
-      | inl e ↦ omega (arith, up_to-zero g n (λ x xlt. h x (omega arith)), ap g e)
-      | inr ne ↦ omega (arith, up_to-one g v n (omega arith) h, h n (omega arith))
-    ]
+up_to-one g v (suc n) lt h = grind (arith, cases_eq v n, up_to-zero g n, up_to-one g v n, h)
 
 -- six sums that balance at each variable balance as a whole
 pub up_to-balance : (a b c d e f : ℕ → ℕ) (n : ℕ) → ((x : ℕ) → a x + b x + c x ≡ d x + e x + f x) → up_to a n + up_to b n + up_to c n ≡ up_to d n + up_to e n + up_to f n

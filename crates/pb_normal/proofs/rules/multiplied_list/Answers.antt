@@ -1,5 +1,4 @@
-use Rattle.pb_normal.proofs.Common.{◌*◌, arith, refl, Entry, with_coefficient}
-use Rattle.std.proofs.lemmas.List.{map_more}
+use Rattle.pb_normal.proofs.Common.{◌*◌, arith, refl, Entry, with_coefficient, map_more}
 use Rattle.pb_normal.proofs.lemmas.terms.Merging.{no_entry}
 use Rattle.pb_normal.proofs.rules.multiplied_list.Goals as goal
 

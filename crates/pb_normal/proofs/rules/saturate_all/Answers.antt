@@ -1,5 +1,4 @@
-use Rattle.pb_normal.proofs.Common.{◌<◌, ◌≡◌, ◌≤◌, append-nil, arith, drop_all, length, min, refl, take_all, Entry, with_coefficient}
-use Rattle.std.proofs.lemmas.List.Edits.{map_over_more}
+use Rattle.pb_normal.proofs.Common.{◌<◌, ◌≡◌, ◌≤◌, append-nil, arith, drop_all, length, min, refl, take_all, Entry, with_coefficient, map_over_more}
 use Rattle.pb_normal.proofs.lemmas.rules.Scales.{saturated_nothing, saturated_each}
 use Rattle.pb_normal.proofs.rules.saturate_all.Goals as goal
 

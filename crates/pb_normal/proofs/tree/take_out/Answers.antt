@@ -1,5 +1,5 @@
 use Rattle.pb_normal.proofs.Common.{◌∙◌, sym}
-use Rattle.pb_normal.proofs.lemmas.terms.Removals.{values-remove, dropped-some}
+use Rattle.pb_normal.proofs.lemmas.terms.KeyedTerms.{values-remove, dropped-some}
 use Rattle.pb_normal.proofs.tree.take_out.Goals as goal
 
 pub returns-in-Some-clause-weakened : goal.returns-in-Some-clause-weakened

@@ -1,6 +1,5 @@
 use Rattle.pb_normal.proofs.Common.{ℕ, ◌-◌, ◌<◌, ◌≡◌, ◌≤◌, ◌↔◌, arith, Bool, false, IsTrue, length, true, hashes_of, names_in, nexts_of}
-use Rattle.pb_normal.proofs.lemmas.names.Chains.{search-goes}
-use Rattle.pb_normal.proofs.lemmas.names.Texts.{next_at}
+use Rattle.pb_normal.proofs.lemmas.names.Tables.{search-goes, next_at}
 use Rattle.pb_normal.proofs.names.chains.found.Goals as goal
 
 inside : (at n : ℕ) → 0 < at → at ≤ n → at - 1 < n
