@@ -42,7 +42,7 @@ unfoldable pub use Rattle.pb_normal.specs.engine.NameTable.{chain_of}
 pub use Rattle.pb_normal.specs.engine.Raw.{entry_of, is_below_0, raw_of, shift}
 pub use Rattle.pb_normal.specs.meaning.Constraints.{AreFormsOf, constraint_names, Fits, sides_in, with_sides}
 pub use Rattle.pb_normal.specs.meaning.Form.{AgreeOn, at_least_0, bound, coefficient, counted, each, Form, Holds, IsNormal, IsOrdered, IsOver, IsRising}
-pub use Rattle.pb_normal.specs.meaning.Form.{IsWithin, low, negated_of, negative, plain_of, size, total, true_at}
+pub use Rattle.pb_normal.specs.meaning.Form.{IsWithin, negated_of, negative, plain_of, size, total, true_at}
 pub use Rattle.pb_normal.specs.meaning.Names.{AfterPrefix, AreDistinct, has_name, HasNames, number_in, with_name, with_names}
 pub use Rattle.pb_normal.specs.meaning.Rules.{divided, IsCountOf, IsSum, multiplied, negation_of, of_variable, on, only, opposite, Passes, saturated}
 pub use Rattle.pb_normal.specs.meaning.Rules.{SumIsContradiction, SumMeasures, SumPasses, unit_of, weakened, with_coefficient}

@@ -201,6 +201,7 @@ fn cancelled_by_tree(terms: &BTreeMap<usize, Entry>, others: &BTreeMap<usize, En
 }
 
 // Adds a term, and returns how much of it cancels.
+#[tactic(auto, using(crate::proofs::Rulesets::cancelled_by))]
 fn put(terms: &mut BTreeMap<usize, Entry>, term: Entry) -> Result<u128, AllocError>
     requires keyed { IsKeyed terms.old }
     requires positive { 0 < term.coefficient }

@@ -86,15 +86,12 @@ pub record Numbering (side : Side) (old new : List (List ℕ)) (ts : List Term) 
 
 -- one more term
 pub Numbering-push : (side : Side) (old ks new : List (List ℕ)) (ts : List Term) (t : Term) (out : List Entry) (n : ℕ) → Numbering side old ks ts out → new ≡ with_name ks t.literal.name → n ≡ number_in new t.literal.name → Numbering side old new (ts ++ t ∷ []) (out ++ entry_of n t.literal.negated (side_number side t.coefficient) ∷ [])
-Numbering-push side old ks new ts t out n h e p =
-    let last = ap (λ m. entry_of m t.literal.negated (side_number side t.coefficient)) p in
-    let before = h.entries ∙ sym (raw-with side t.literal.name ks ts h.named) ∙ ap (λ (us : List (List ℕ)). map (raw_of us) (side_terms side ts)) (sym e) in
-    record {
-      distinct = rw e (AreDistinct-with ks t.literal.name h.distinct);
-      named = rw (e, map-append) (HasNames-push ks (names_of ts) t.literal.name h.named);
-      names = rw map-append (e ∙ ap (λ (us : List (List ℕ)). with_name us t.literal.name) h.names ∙ sym (with_names-push old (names_of ts) t.literal.name));
-      entries = simp map-append (ap (λ (us : List Entry). us ++ entry_of n t.literal.negated (side_number side t.coefficient) ∷ []) before ∙ ap (λ (u : Entry). map (raw_of new) (side_terms side ts) ++ u ∷ []) last);
-    }
+Numbering-push side old ks new ts t out n h e p = record {
+  distinct = rw e (AreDistinct-with ks t.literal.name h.distinct);
+  named = rw (e, map-append) (HasNames-push ks (names_of ts) t.literal.name h.named);
+  names = grind (arith, map-append, with_names-push, h.names);
+  entries = grind (arith, map-append, raw-with side t.literal.name ks ts h.named, h.entries);
+}
 
 pub OnErr-always : {A E : Type 0} (r : Result A E) (P : Type 0) → P → OnErr r P
 OnErr-always (Ok _) P p = tt

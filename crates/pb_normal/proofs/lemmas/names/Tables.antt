@@ -126,14 +126,12 @@ IsTable-linked t alloc bytes entries heads es hs f g b e k chained sized o = rec
 pub IsTable-same : (t : NameTable) (alloc : Global) (bytes : Vec ℕ Global) (entries : Vec NameEntry Global) (heads : Vec ℕ Global) → bytes.items ≡ t.bytes.items → entries.items ≡ t.entries.items → heads.items ≡ t.heads.items → IsTable t → IsTable (made alloc t.hasher bytes entries heads)
 IsTable-same t alloc bytes entries heads b e k o = IsTable-linked t alloc bytes entries heads t.entries.items t.heads.items e k b refl refl o.chained o.sized o
 
-pub entries-more : (heads : List ℕ) (entries : List NameEntry) (e : NameEntry) → IsChained heads (hashes_of entries) (nexts_of entries) (length entries) → IsChained heads (hashes_of (entries ++ e ∷ [])) (nexts_of (entries ++ e ∷ [])) (length entries)
-entries-more heads entries e h = grind (arith, e.hash, map-append, e.next, chained-more, length-map)
-
-pub numbers_after : (part : NameEntry → ℕ) (xs entries : List NameEntry) (e : NameEntry) (n : ℕ) → xs ≡ entries ++ e ∷ [] → part e ≡ n → map part xs ≡ map part entries ++ n ∷ []
+pub numbers_after : (part : NameEntry → ℕ) (xs entries : List NameEntry) (e : NameEntry) (n : ℕ) → xs ≡ entries ++ e ∷ [] → part e ≡ n
+    → map part xs ≡ map part entries ++ n ∷ []
 numbers_after part xs entries e n is at = ap (map part) is ∙ map-append part entries (e ∷ []) ∙ ap (λ m. map part entries ++ m ∷ []) at
 
 pub entries_after : (heads : List ℕ) (xs entries : List NameEntry) (e : NameEntry) (n : ℕ) → xs ≡ entries ++ e ∷ [] → n ≡ length entries → IsChained heads (hashes_of entries) (nexts_of entries) (length entries) → IsChained heads (hashes_of xs) (nexts_of xs) n
-entries_after heads xs entries e n is number h = rw (is, number) (entries-more heads entries e h)
+entries_after heads xs entries e n is number h = rw (is, number) (grind (arith, h, e.hash, map-append, e.next, chained-more, length-map))
 
 -- the names after one more name was put at the end
 pub listed-push : (t : NameTable) (bytes name : List ℕ) (es : List NameEntry) → bytes ≡ t.bytes.items ++ name → ends_of es ≡ ends_of t.entries.items ++ (length t.bytes.items + length name) ∷ [] → IsTable t → names_in bytes es ≡ listed t ++ name ∷ []

@@ -4,11 +4,10 @@ use Rattle.pb_normal.proofs.Common.{FitsSigned, get_or, inl, inr, length, List, 
 use Rattle.pb_normal.proofs.Common.{unsigned_abs, cases_lt, nat_tests, ints, to_z-of_z, length-append, take-append-drop, All-cons, All-nil}
 use Rattle.pb_normal.proofs.Common.{get_or_from_slice_get, slice_get-get_or, bytes_eq-Decides, w128, All, bytes_eq, Linear, Term, drop_read, Entry, Side}
 use Rattle.pb_normal.proofs.Common.{AtLeast, AtMost, Adds, is_below_0, raw_of, shift, AreFormsOf, at_least_0, each, Form, Holds, IsNormal, IsRising, IsWithin}
-use Rattle.pb_normal.proofs.Common.{low, negated_of, negative, plain_of, total, true_at, AreDistinct, has_name, HasNames, number_in, by_number, IsFormOf}
-use Rattle.pb_normal.proofs.Common.{IsSideOf, linear_of, magnitude, names_of, on_negations, SameAsForm, SameAsForms, SameSolutions, side_number, side_terms}
-use Rattle.pb_normal.proofs.Common.{term_of, true_sum, written_on, map-append, take_more}
+use Rattle.pb_normal.proofs.Common.{negated_of, negative, plain_of, total, true_at, AreDistinct, has_name, HasNames, number_in, by_number, IsFormOf, IsSideOf}
+use Rattle.pb_normal.proofs.Common.{linear_of, magnitude, names_of, on_negations, SameAsForm, SameAsForms, SameSolutions, side_number, side_terms, term_of}
+use Rattle.pb_normal.proofs.Common.{true_sum, written_on, map-append, take_more}
 use Rattle.pb_sums.specs.declared.linear.Relation.TheVariants.{AtLeast as relation_least, Equal as relation_equal}
-use Rattle.pb_normal.proofs.lemmas.terms.Maps.{counted-le-all}
 use Rattle.pb_normal.proofs.lemmas.terms.Totals.{size-Adds}
 use Rattle.pb_normal.proofs.lemmas.rules.Sums.{at_least_0-is, turned}
 use Rattle.pb_normal.proofs.lemmas.rules.Unique.{Balanced, IsRising-same, same_form}
@@ -163,8 +162,7 @@ pub SameAsForm-from : (names : List (List ℕ)) (linear : Linear) (r : Form) →
 SameAsForm-from names linear r e h a = rw e ((h a).1, (h a).0)
 
 pub SameAsForms-from : (names : List (List ℕ)) (linear : Linear) (r s : Form) → linear.relation ≡ relation_equal → SameSolutions names AtLeast linear r → SameSolutions names AtMost linear s → SameAsForms names linear r s
-SameAsForms-from names linear r s e h k a =
-    rw e (λ w. ((h a).1 (omega (arith, ints)), (k a).1 (omega (arith, ints))), λ w. let low = (h a).0 w.0 in let high = (k a).0 w.1 in omega (arith, ints))
+SameAsForms-from names linear r s e h k a = grind (arith, ints, e, h a, k a)
 
 -- the magnitude of one term is at most that of the whole
 pub magnitude-append : (xs ys : List Term) → magnitude (xs ++ ys) ≡ magnitude xs + magnitude ys
@@ -176,7 +174,7 @@ magnitude-read ts i t lt e = grind (arith, magnitude-append (take i ts) (drop i 
 
 pub shift-le : (ts : List Term) → shift ts ≤ magnitude ts
 shift-le [] = omega arith
-shift-le (t ∷ ts) = omega (arith, shift-le ts, counted-le-all (is_below_0 t.coefficient) (unsigned_abs t.coefficient))
+shift-le (t ∷ ts) = grind (arith, shift-le ts)
 
 pub shift-side-le : (side : Side) (ts : List Term) → shift (side_terms side ts) ≤ magnitude ts
 shift-side-le side ts = omega (arith, shift-le (side_terms side ts), magnitude-side side ts)
@@ -205,10 +203,8 @@ IsNormal-Collected names side linear rs up down gone limit room k =
     grind (arith, k.rising, k.small, k.parts, size-Collected names side linear rs up down gone limit k, shift-side-le side linear.terms)
 
 pub IsWithin-Collected : (names : List (List ℕ)) (side : Side) (linear : Linear) (rs : List Entry) (up down gone limit : ℕ) → Collected names side linear rs up down gone limit → IsWithin limit record { terms = rs; degree = up + shift (side_terms side linear.terms) - (down + gone) }
-IsWithin-Collected names side linear rs up down gone limit k = record {
-  size_in = omega (arith, k.small, size-Collected names side linear rs up down gone limit k);
-  degree_in = omega (arith, k.small, k.parts, shift-side-le side linear.terms);
-}
+IsWithin-Collected names side linear rs up down gone limit k =
+    grind (arith, k.small, k.parts, size-Collected names side linear rs up down gone limit k, shift-side-le side linear.terms)
 
 pub IsSideOf-Collected : (names : List (List ℕ)) (side : Side) (linear : Linear) (rs : List Entry) (up down gone limit : ℕ) → Collected names side linear rs up down gone limit → IsSideOf names side linear record { terms = rs; degree = up + shift (side_terms side linear.terms) - (down + gone) }
 IsSideOf-Collected names side linear rs up down gone limit k =

@@ -1,7 +1,7 @@
 -- The size and the degree of a sum, by what cancels and by those of both forms, and which fault a result has.
-use Rattle.pb_normal.proofs.Common.{ℕ, ◌*◌, ◌+◌, ◌-◌, ◌<◌, ◌↔◌, ◌∙◌, ◌≡◌, ◌≤◌, ap, arith, List, refl, sym, Entry, Adds, Cancels, each, Form, IsRising, size}
-use Rattle.pb_normal.proofs.Common.{total, IsSum, SumIsContradiction, SumMeasures, SumPasses, nat_tests, ◌∷◌, ◌⊎◌, [], Bool, false, inl, inr, IsTrue, ltb, max}
-use Rattle.pb_normal.proofs.Common.{not, rules, suc, tests, zero, ints, negated_of, negative, plain_of, Err, Ok, Result, NormalFault, Memory, Overflow}
+use Rattle.pb_normal.proofs.Common.{ℕ, ◌*◌, ◌+◌, ◌-◌, ◌<◌, ◌↔◌, ◌≡◌, ◌≤◌, arith, List, refl, Entry, Adds, Cancels, each, Form, IsRising, size, total, IsSum}
+use Rattle.pb_normal.proofs.Common.{SumIsContradiction, SumMeasures, SumPasses, nat_tests, ◌∷◌, ◌⊎◌, [], Bool, false, inl, inr, IsTrue, ltb, max, not, rules}
+use Rattle.pb_normal.proofs.Common.{suc, tests, zero, ints, negated_of, negative, plain_of, Err, Ok, Result, NormalFault, Memory, Overflow}
 use Rattle.pb_normal.proofs.lemmas.terms.Totals.{size-Adds}
 use Rattle.pb_normal.proofs.lemmas.rules.Sums.{IsSum-from, at_least_0-le, IsSum-swap}
 use Rattle.pb_normal.proofs.lemmas.rules.Unique.{IsSum-unique, none_below}
@@ -22,9 +22,7 @@ pub IsSum-measured : (f g : Form) (s d : ℕ) (rs : List Entry) (c : ℕ) → Su
 IsSum-measured f g s d rs c m rising adds =
     let sum = IsSum-from f g rs c rising adds in
     let same = IsSum-unique f g _ _ m.1 sum in
-    let sizes : size m.0 ≡ total each rs = ap size same in
-    let degrees : d ≡ f.degree + g.degree - c = sym m.3 ∙ ap (λ (r : Form). r.degree) same in
-    (rw degrees sum, sym sizes ∙ m.2)
+    grind (arith, sum, same, m.2, m.3)
 
 one_side : (n x : ℕ) (ts : List Entry) → IsRising n ts → (total (plain_of x) ts ≡ 0) ⊎ (total (negated_of x) ts ≡ 0)
 one_side n x [] h = inl refl

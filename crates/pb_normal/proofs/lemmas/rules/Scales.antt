@@ -21,11 +21,8 @@ pub total-multiplied : (p : ℕ → Bool → Bool) (k : ℕ) (ts : List Entry) �
 total-multiplied p k [] = omega arith
 total-multiplied p k (t ∷ ts) = omega (arith, total-multiplied p k ts, counted-times (p t.variable t.negated) t.coefficient k)
 
-times_pos : (n k : ℕ) → 0 < n → 0 < k → 0 < n * k
-times_pos n k h p = grind arith
-
 pub IsRising-multiplied : (k n : ℕ) (ts : List Entry) → 0 < k → IsRising n ts → IsRising n (map (λ t. with_coefficient t (t.coefficient * k)) ts)
-IsRising-multiplied k n ts h r = IsRising-map _ n ts (λ t. refl) (λ t p. times_pos t.coefficient k p h) r
+IsRising-multiplied k n ts h r = IsRising-map _ n ts (λ t. refl) (λ t p. grind arith) r
 
 -- each product is at most m if the product of the total is
 pub All-multiplied : (k m : ℕ) (ts : List Entry) → total each ts * k ≤ m → All (λ t. t.coefficient * k < m + 1) ts
@@ -64,11 +61,7 @@ Holds-saturated a f h =
     omega (arith, total-capped (true_at a) f.degree f.terms, total-positive (true_at a) (map (λ t. with_coefficient t (min t.coefficient f.degree)) f.terms))
 
 pub IsNormal-saturated : (f : Form) → IsNormal f → IsNormal (saturated f)
-IsNormal-saturated f n = record {
-  ordered = IsRising-saturated f.degree 0 f.terms n.ordered;
-  size_in = omega (arith, n.size_in, total-saturated-le each f.degree f.terms);
-  degree_in = n.degree_in;
-}
+IsNormal-saturated f n = grind (arith, n.ordered, n.size_in, n.degree_in, IsRising-saturated f.degree 0 f.terms, total-saturated-le each f.degree f.terms)
 
 -- a product exceeds the limit if and only if the form exceeds the quotient
 pub Passes-size : (limit k : ℕ) (f : Form) → 0 < k → limit / k < size f → Passes limit (multiplied k f)

@@ -1,6 +1,6 @@
 -- Terms in a map by their variables: what an insertion and a removal change.
-use Rattle.pb_normal.proofs.Common.{cond_both, ℕ, ◌++◌, ◌+◌, ◌<◌, ◌∙◌, ◌∷◌, ◌≡◌, ◌≤◌, [], arith, Bool, get_or, length, Less, List, None, Option, refl, Some}
-use Rattle.pb_normal.proofs.Common.{sym, take, nat_cmp_total, ranked, All-cons, All-head, All-tail, sum_by-insert_entry, sum_by-remove_entry, BTreeMap, get}
+use Rattle.pb_normal.proofs.Common.{cond_both, ℕ, ◌++◌, ◌+◌, ◌<◌, ◌∷◌, ◌≡◌, ◌≤◌, [], arith, Bool, get_or, length, Less, List, None, Option, refl, Some, sym}
+use Rattle.pb_normal.proofs.Common.{take, nat_cmp_total, ranked, All-cons, All-head, All-tail, sum_by-insert_entry, sum_by-remove_entry, BTreeMap, get}
 use Rattle.pb_normal.proofs.Common.{insert_entry, is_at, values, All, AllByRecursion, keys_of, lookup, remove_entry, values_of, option_map, option_to_list}
 use Rattle.pb_normal.proofs.Common.{unwrap_or, nat_cmp, take_read, Entry, Adds, IsAtItsKey, IsKeyed, counted, each, IsRising, plain_of, total, eqb, not}
 use Rattle.pb_normal.proofs.Common.{nat_tests, filter, of_variable}
@@ -42,10 +42,9 @@ above k (y ∷ ks) h = grind (arith, ranked k y Less, above k ks)
 IsRising-sorted : (n : ℕ) (es : List (ℕ × Entry)) → AllByRecursion (λ y. n ≤ y) (keys_of es) → IsStrictlySortedBy nat_cmp (keys_of es) → All IsAtItsKey es → IsRising n (values_of es)
 IsRising-sorted n [] low sorted h = tt
 IsRising-sorted n (e ∷ es) low sorted h =
-    let here = All-head IsAtItsKey e es h in
     let more = above e.0 (keys_of es) (sorted_head nat_cmp e.0 (keys_of es) sorted) in
     let rest = IsRising-sorted (e.0 + 1) es more (sorted_tail nat_cmp e.0 (keys_of es) sorted) (All-tail IsAtItsKey e es h) in
-    (omega (arith, low.0, here.0), here.1, rw (← here.0) rest)
+    grind (arith, rest, All-head IsAtItsKey e es h)
 
 from_0 : (ks : List ℕ) → AllByRecursion (λ y. 0 ≤ y) ks
 from_0 [] = tt
@@ -73,9 +72,6 @@ Replaces-drop es k p = grind (arith, sum_by-remove_entry, total-sum, counted-opt
 pub Replaces-remove : (m n : BTreeMap ℕ Entry) (k : ℕ) → n.entries ≡ remove_entry (is_at (nat_cmp k)) m.entries → Replaces (values m) (values n) (option_to_list (get nat_cmp m k)) []
 Replaces-remove m n k e = rw e (Replaces-drop m.entries k)
 
-pub Replaces-then : (xs ys zs o i n : List Entry) → Replaces xs ys o i → Replaces ys zs i n → Replaces xs zs o n
-Replaces-then xs ys zs o i n h k p = omega (arith, h p, k p)
-
 -- the sum with one term, from the sum with the term of its variable
 pub Adds-replaced : (xs ys o n : List Entry) (t : Entry) (g : ℕ) → Replaces xs ys o n → Adds o (t ∷ []) n g → Adds xs (t ∷ []) ys g
 Adds-replaced xs ys o n t g h a = grind (arith, a.signed, a.lows)
@@ -86,15 +82,13 @@ Adds-then xs ts ys zs t c g h k = grind (arith, total-append, h.signed, k.signed
 
 -- the lookup and the change, by what was found
 pub Adds-absent : (m n : BTreeMap ℕ Entry) (t : Entry) (o : Option Entry) → IsOrdered nat_cmp m → o ≡ get nat_cmp m t.variable → o ≡ None → n.entries ≡ insert_entry nat_cmp m.entries t.variable t → Adds (values m) (t ∷ []) (values n) 0
-Adds-absent m n t o sorted found none e =
-    let nothing : get nat_cmp m t.variable ≡ None = sym found ∙ none in
-    Adds-replaced (values m) (values n) [] (t ∷ []) t 0 (rw nothing at (Replaces-insert m n t.variable t sorted e)) (Adds-apart [] (t ∷ []))
+Adds-absent m n t o sorted found none e = grind (arith, Adds-apart [] (t ∷ []), Replaces-insert m n t.variable t sorted e)
 
 -- the term t was inserted where x was, and then o instead of t
 pub Adds-present : (m i n : BTreeMap ℕ Entry) (x t : Entry) (o : Option Entry) (g : ℕ) → IsOrdered nat_cmp m → Some x ≡ get nat_cmp m t.variable → i.entries ≡ insert_entry nat_cmp m.entries t.variable t → Replaces (values i) (values n) (t ∷ []) (option_to_list o) → Adds (x ∷ []) (t ∷ []) (option_to_list o) g → Adds (values m) (t ∷ []) (values n) g
 Adds-present m i n x t o g sorted found e second a =
     let first : Replaces (values m) (values i) (x ∷ []) (t ∷ []) = rw (← found) at (Replaces-insert m i t.variable t sorted e) in
-    Adds-replaced (values m) (values n) (x ∷ []) (option_to_list o) t g (Replaces-then (values m) (values i) (values n) (x ∷ []) (t ∷ []) (option_to_list o) first second) a
+    grind (arith, first, second, a.signed, a.lows)
 
 -- a coefficient is within the size
 pub get-le-total : (m : BTreeMap ℕ Entry) (k : ℕ) (x : Entry) → Some x ≡ get nat_cmp m k → x.coefficient ≤ total each (values m)

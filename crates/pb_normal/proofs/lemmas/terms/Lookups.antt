@@ -98,9 +98,7 @@ pub TermCancels-absent : (m : BTreeMap ℕ Entry) (t : Entry) → 0 < t.coeffici
 TermCancels-absent m t positive found = (Some t, rw (← found) (Adds-apart [] (t ∷ [])), (refl, positive), omega arith)
 
 pub TermCancels-present : (m : BTreeMap ℕ Entry) (t x : Entry) (o : Option Entry) (g : ℕ) → IsKeyed m → Some x ≡ get nat_cmp m t.variable → Adds (x ∷ []) (t ∷ []) (option_to_list o) g → IfSome o (λ s. (s.variable ≡ x.variable) × (0 < s.coefficient)) → g ≤ t.coefficient → TermCancels m t g
-TermCancels-present m t x (Some s) g keyed found adds entry le =
-    let here = IsKeyed-get m t.variable x keyed found in
-    (Some s, rw (← found) adds, (entry.0 ∙ sym here.0, entry.1), le)
+TermCancels-present m t x (Some s) g keyed found adds entry le = (Some s, rw (← found) adds, grind (arith, IsKeyed-get m t.variable x keyed found, entry), le)
 TermCancels-present m t x None g keyed found adds entry le = (None, rw (← found) adds, tt, le)
 
 -- one more term of a list

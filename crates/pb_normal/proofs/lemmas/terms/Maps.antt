@@ -1,5 +1,5 @@
 -- What a change of every term and a filter preserve. Offered to other crates.
-use Rattle.pb_normal.proofs.Common.{cond_both, ℕ, ◌%◌, ◌*◌, ◌+◌, ◌/◌, ◌<◌, ◌∷◌, ◌≡◌, ◌≤◌, ◌⊎◌, [], arith, Bool, cond, eqb, inl, inr, List, map, min, not, refl}
+use Rattle.pb_normal.proofs.Common.{ℕ, ◌%◌, ◌*◌, ◌+◌, ◌/◌, ◌<◌, ◌∷◌, ◌≡◌, ◌≤◌, ◌⊎◌, [], arith, Bool, cond, eqb, inl, inr, List, map, min, not, refl}
 use Rattle.pb_normal.proofs.Common.{mul-le-mul_left, div-add-mod', mod_below, div_ceil, filter, Entry, counted, each, Form, Holds, IsNormal, IsRising, total}
 use Rattle.pb_normal.proofs.Common.{true_at, divided, negation_of, of_variable, opposite, weakened, with_coefficient}
 use Rattle.pb_normal.proofs.lemmas.terms.Totals.{IsRising-from}
@@ -19,7 +19,7 @@ total-map-same g p q (t ∷ ts) h = omega (arith, h t, total-map-same g p q ts h
 
 pub IsRising-filter : (p : Entry → Bool) (n : ℕ) (ts : List Entry) → IsRising n ts → IsRising n (filter p ts)
 IsRising-filter p n [] h = tt
-IsRising-filter p n (t ∷ ts) h = cond_both (p t) _ _ (IsRising n) (λ e. (h.0, h.1, IsRising-filter p (t.variable + 1) ts h.2)) (λ e. IsRising-from n (t.variable + 1) _ (omega (arith, h.0)) (IsRising-filter p (t.variable + 1) ts h.2))
+IsRising-filter p n (t ∷ ts) h = grind (arith, IsRising-from n (t.variable + 1), IsRising-filter p (t.variable + 1) ts h.2)
 
 pub total-filter-le : (q : Entry → Bool) (p : ℕ → Bool → Bool) (ts : List Entry) → total p (filter q ts) ≤ total p ts
 total-filter-le q p [] = omega arith
@@ -50,9 +50,6 @@ div_ceil-le n k h = div_ceil-least n k n h (omega (arith, mul-le-mul_left n h))
 
 pub counted-le : (b : Bool) (m n : ℕ) → m ≤ n → cond b m 0 ≤ cond b n 0
 counted-le b m n h = grind arith
-
-pub counted-le-all : (b : Bool) (n : ℕ) → cond b n 0 ≤ n
-counted-le-all b n = grind arith
 
 pub IsRising-divided : (k n : ℕ) (ts : List Entry) → 0 < k → IsRising n ts → IsRising n (map (λ t. with_coefficient t (div_ceil t.coefficient k)) ts)
 IsRising-divided k n ts h r = IsRising-map _ n ts (λ t. refl) (λ t p. div_ceil-pos t.coefficient k p) r

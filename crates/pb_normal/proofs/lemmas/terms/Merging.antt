@@ -1,7 +1,7 @@
 -- What the merge of two lists preserves, and its steps. Offered to other crates.
 use Rattle.pb_normal.proofs.Common.{ℕ, ◌++◌, ◌+◌, ◌<◌, ◌∷◌, ◌≡◌, ◌≤◌, ◌⊎◌, [], add-zero, append-nil, append_assoc, arith, drop, false, get_or, IfSome, ap, Bool}
-use Rattle.pb_normal.proofs.Common.{inl, inr, length, List, None, Option, Some, take, drop_all, take-append-drop, option_to_list, drop_read, take_read, Entry}
-use Rattle.pb_normal.proofs.Common.{Adds, each, IsRising, total, counted}
+use Rattle.pb_normal.proofs.Common.{length, List, None, Option, Some, take, drop_all, take-append-drop, option_to_list, drop_read, take_read, Entry, Adds, each}
+use Rattle.pb_normal.proofs.Common.{IsRising, total, counted}
 use Rattle.pb_normal.proofs.lemmas.terms.Totals.{Adds-append, Adds-apart, IsRising-between, IsRising-without, IsRising-instead, size-Adds, IsRising-positive}
 use Rattle.pb_normal.proofs.lemmas.terms.Totals.{total-prefix}
 
@@ -39,8 +39,7 @@ Merging-end left right i j out c m =
     simp (take-append-drop, add-zero, ← append_assoc) at a
 
 pub Merging-end_rising : (left right : List Entry) (i j : ℕ) (out : List Entry) (c : ℕ) → Merging left right i j out c → (length left ≤ i) ⊎ (length right ≤ j) → IsRising 0 ((out ++ drop i left) ++ drop j right)
-Merging-end_rising left right i j out c m h =
-    elim h [ inl p ↦ rw (drop_all i left p, append-nil) m.right_rising | inr p ↦ rw (drop_all j right p, append-nil) m.left_rising ]
+Merging-end_rising left right i j out c m h = grind (arith, drop_all, append-nil, m.right_rising, m.left_rising)
 
 -- what cancelled so far is within both sizes
 pub Merging-fits : (left right : List Entry) (i j : ℕ) (out : List Entry) (c n : ℕ) → Merging left right i j out c → total each left < n → total each right < n → c < n

@@ -1,7 +1,6 @@
 -- Totals of lists of terms, lists with rising variables, and what is collected from two halves.
 use Rattle.pb_normal.proofs.Common.{drop, drop_read, get_or, length, take, take-append-drop, ℕ, ◌*◌, ◌++◌, ◌+◌, ◌<◌, ◌∷◌, ◌≡◌, ◌≤◌, [], arith, Bool, List, refl}
-use Rattle.pb_normal.proofs.Common.{Entry, Adds, flip, each, IsRising, negative, total, ◌-◌, ◌∙◌, ap, IsPermutation, sym, drop_more, sum_by, counted, map}
-use Rattle.pb_normal.proofs.Common.{decoded}
+use Rattle.pb_normal.proofs.Common.{Entry, Adds, flip, each, IsRising, negative, total, ◌-◌, ◌∙◌, IsPermutation, sym, drop_more, sum_by, counted, map, decoded}
 use Rattle.std.proofs.lemmas.List.Sorted.{sum_by-IsPermutation}
 use Rattle.std.proofs.lemmas.List.Sums.{sum_by-cons}
 
@@ -52,7 +51,7 @@ pub Adds-halves : (xs ys ps qs rs : List Entry) (c d e : ℕ) → Adds xs [] ps 
 Adds-halves xs ys ps qs rs c d e h k m = grind (arith, total-append, h.signed, k.signed, m.signed, h.lows, k.lows, m.lows)
 
 pub total-halves : (xs : List Entry) (n : ℕ) → total each (take n xs) + total each (drop n xs) ≡ total each xs
-total-halves xs n = sym (total-append each (take n xs) (drop n xs)) ∙ ap (total each) (take-append-drop n xs)
+total-halves xs n = grind (arith, total-append each (take n xs) (drop n xs), take-append-drop)
 
 -- a sum does not depend on the order of its terms
 pub total-sum : (p : ℕ → Bool → Bool) (xs : List Entry) → total p xs ≡ sum_by (counted p) xs

@@ -51,12 +51,9 @@ share_of-other p t x ne = grind (arith, ne_eqb, nat_tests)
 share_of-self : (p : ℕ → Bool → Bool) (t : Entry) → share_of p t t.variable ≡ counted p t
 share_of-self p t = grind (arith, nat_tests)
 
-cond_plus : (b c : Bool) (k l m n : ℕ) → cond b (k + l) 0 + cond c (m + n) 0 ≡ (cond b k 0 + cond c m 0) + (cond b l 0 + cond c n 0)
-cond_plus b c k l m n = grind arith
-
 pub total-by_variable : (p : ℕ → Bool → Bool) (ts : List Entry) (n : ℕ) → top ts ≤ n → total p ts ≡ up_to (share p ts) n
 total-by_variable p [] n le = sym (up_to-zero (share p []) n (λ x lt. grind arith))
 total-by_variable p (t ∷ ts) n le =
-    let both = up_to-add (share p (t ∷ ts)) (share_of p t) (share p ts) n (λ x. cond_plus (p x false) (p x true) _ _ _ _) in
+    let both = up_to-add (share p (t ∷ ts)) (share_of p t) (share p ts) n (λ x. grind arith) in
     let one = up_to-one (share_of p t) t.variable n (omega arith) (share_of-other p t) in
     omega (arith, both, one, share_of-self p t, total-by_variable p ts n (omega arith))

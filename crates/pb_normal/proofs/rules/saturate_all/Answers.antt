@@ -4,8 +4,7 @@ use Rattle.pb_normal.proofs.rules.saturate_all.Goals as goal
 
 pub returns-then-degree-eq0 : goal.returns-then-degree-eq0
 returns-then-degree-eq0 c =
-    let nothing : c.args.degree ≡ 0 = omega arith in
-    rw (c.clear.ensures.items, nothing, saturated_nothing c.args.terms.now.items) refl
+    let nothing : c.args.degree ≡ 0 = omega arith in rw (c.clear.ensures.items, nothing, saturated_nothing c.args.terms.now.items) refl
 
 pub terms-preserved : goal.terms-preserved
 terms-preserved c =

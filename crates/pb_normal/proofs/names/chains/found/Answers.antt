@@ -9,10 +9,7 @@ unlike : {P : Type 0} (b : Bool) → b ≡ false → (IsTrue b ↔ P) → P → 
 unlike b differs says p = let yes : b ≡ true = says.1 p in absurd cc
 
 pub chain-smaller : goal.chain-smaller
-chain-smaller c =
-    let number = inside c.chain.at (length c.args.entries.now) c.chain-test.true c.chain.invariant.within in
-    let last = c.requires.chained.next (c.chain.at - 1) number in
-    omega (arith, last.within, next_at c.args.entries.now (c.chain.at - 1) number, c.chain-test.true)
+chain-smaller c = grind (arith, c.requires.chained.next (c.chain.at - 1), next_at c.args.entries.now (c.chain.at - 1), c.chain.invariant.within)
 
 pub chain-preserved : goal.chain-preserved
 chain-preserved c =
