@@ -15,6 +15,3 @@ returns-clause-app c =
     let one = added_app _ _ _ (new_app c.args.name.now) instance_rule c.in_ok-arg.ensures first c.instance.ensures.rule c.instance.ensures.local in
     let two = added_app _ _ _ _ (value_rule (codes "proof")) c.in_ok-command.ensures one c.value_argument.ensures.rule c.value_argument.ensures.local in
     if_added _ _ (λ d. app_of d ≡ checker_command c.args.name.now) (λ d is. is ∙ ap with_shared two) c.with_shared.ensures.app
-
-pub returns-clause-local : goal.returns-clause-local
-returns-clause-local c = c.with_shared.ensures.local

@@ -7,8 +7,3 @@ returns-clause-rule c =
     ap rule_of c.help.ensures
     ∙ (ap rule_of c.action.ensures
     ∙ (ap (λ (a : Arg). rule_of (record a { action = Some SetTrue })) c.long.ensures ∙ ap (λ (r : Rule). record r { long = Some c.args.name.now; action = Some SetTrue }) c.new.ensures.rule))
-
-pub returns-clause-local : goal.returns-clause-local
-returns-clause-local c =
-    ap (λ (a : Arg). a.global) c.help.ensures
-    ∙ (ap (λ (a : Arg). a.global) c.action.ensures ∙ (ap (λ (a : Arg). a.global) c.long.ensures ∙ c.new.ensures.optional.1))
