@@ -1,6 +1,6 @@
 -- A total over a list of terms, as a sum over the variables
-use Rattle.pb_normal.proofs.Common.{ℕ, ◌&&◌, ◌+◌, ◌<◌, ◌∷◌, ◌≡◌, ◌≢◌, ◌≤◌, [], ap, arith, Bool, cond, eqb, false, List, max, refl, nat_tests, suc, sym, true}
-use Rattle.pb_normal.proofs.Common.{zero, cases_eq, ne_eqb, Entry, counted, negated_of, plain_of, total}
+use Rattle.pb_normal.proofs.Common.{ℕ, ◌+◌, ◌<◌, ◌∷◌, ◌≡◌, ◌≢◌, ◌≤◌, [], arith, Bool, cond, false, List, max, refl, nat_tests, suc, sym, true, zero, cases_eq}
+use Rattle.pb_normal.proofs.Common.{ne_eqb, Entry, counted, negated_of, plain_of, total}
 
 pub total-same : (p q : ℕ → Bool → Bool) → ((v : ℕ) (n : Bool) → p v n ≡ q v n) → (ts : List Entry) → total p ts ≡ total q ts
 total-same p q h [] = refl
@@ -36,10 +36,6 @@ share p ts x = cond (p x false) (total (plain_of x) ts) 0 + cond (p x true) (tot
 abbrev pub top : List Entry → ℕ
 top [] = 0
 top (t ∷ ts) = max (t.variable + 1) (top ts)
-
--- what a coefficient counts for on another variable
-pub counted-other : (v x : ℕ) (b : Bool) (c : ℕ) → v ≢ x → cond (eqb v x && b) c 0 ≡ 0
-counted-other v x b c ne = ap (λ (e : Bool). cond (e && b) c 0) (ne_eqb v x ne)
 
 -- what one term contributes on the variable x
 abbrev share_of : (ℕ → Bool → Bool) → Entry → ℕ → ℕ
