@@ -18,7 +18,3 @@ added_local old new a adds none local = adds.globals ∙ (ap (λ b. b || a.globa
 pub if_added : (r : Result Command AllocError) (P Q : Command → Type 0) → ((c : Command) → P c → Q c) → IfOk r P → IfOk r Q
 if_added (Ok c) P Q step held = step c held
 if_added (Err e) P Q step held = tt
-
-pub if_local : (r : Result Command AllocError) (old : Command) (a : Arg) → IfOk r (AddsArg old a) → (fields_of old).has_globals ≡ false → a.global ≡ false
-    → IfOk r (λ c. (fields_of c).has_globals ≡ false)
-if_local r old a adds none local = if_added r _ (λ c. (fields_of c).has_globals ≡ false) (λ c one. added_local old c a one none local) adds
