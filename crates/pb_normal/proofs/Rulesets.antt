@@ -9,7 +9,7 @@ use Rattle.pb_normal.proofs.lemmas.rules.Scales.{IfOk-multiplied-one, divided-on
 use Rattle.pb_normal.proofs.lemmas.rules.Scales.{Passes-degree, Passes-not, Passes-size, total-multiplied, within_quotient}
 use Rattle.pb_normal.proofs.lemmas.rules.Sums.{Holds-sum, IsSum-swapped}
 use Rattle.pb_normal.proofs.lemmas.rules.Unique.{IsSum-unique, form-unique}
-use Rattle.pb_normal.proofs.lemmas.terms.Totals.{IsRising-read, total-reordered, IsRising-from}
+use Rattle.pb_normal.proofs.lemmas.terms.Totals.{IsRising-read, total-permutation, IsRising-from}
 use Rattle.pb_normal.proofs.lemmas.terms.KeyedTerms.{IsKeyed-get, IsKeyed-remove, get-le-total, dropped-none, size-some}
 use Rattle.pb_normal.proofs.lemmas.terms.Lookups.{Cancels-AllCancel, TermCancels-absent, TermCancels-present}
 use Rattle.pb_normal.proofs.lemmas.terms.Maps.{Holds-divided, Holds-negation, Holds-negation_back, Holds-weakened, total-le-each}
@@ -21,7 +21,7 @@ pub ruleset multiply = (All-multiplied, IsWithin-multiplied, Passes-degree, Pass
 
 pub ruleset scaled = (All-multiplied, total-multiplied)
 
-pub ruleset collected = (IsRising-from, IsRising-read, total-reordered)
+pub ruleset collected = (IsRising-from, IsRising-read, total-permutation)
 
 pub ruleset total_in = (total-drop, total-le-each)
 

@@ -58,7 +58,7 @@ pub total-sum : (p : ℕ → Bool → Bool) (xs : List Entry) → total p xs ≡
 total-sum p [] = refl
 total-sum p (x ∷ xs) = rw (sum_by-cons (counted p) x xs, total-sum p xs) refl
 
-total-permutation : (p : ℕ → Bool → Bool) (xs ys : List Entry) → IsPermutation xs ys → total p ys ≡ total p xs
+pub total-permutation : (p : ℕ → Bool → Bool) (xs ys : List Entry) → IsPermutation xs ys → total p ys ≡ total p xs
 total-permutation p xs ys h = total-sum p ys ∙ sum_by-IsPermutation (counted p) xs ys h ∙ sym (total-sum p xs)
 
 -- what is collected from the terms in another order is collected from these terms
@@ -67,9 +67,6 @@ Adds-permutation xs ys rs c h k = grind (arith, k.signed, total-permutation, k.l
 
 pub Adds-self : (xs : List Entry) → Adds xs [] xs 0
 Adds-self xs = grind (arith)
-
-pub total-reordered : (xs ys : List Entry) → IsPermutation xs ys → total each ys ≡ total each xs
-total-reordered xs ys h = total-permutation each xs ys h
 
 -- a list that rises from `above` on also rises with x before it, if x is below `above`
 pub IsRising-read : (xs : List Entry) (i above : ℕ) (d x : Entry) → 0 < i → i ≤ length xs → IsRising above (drop i xs) → x ≡ get_or xs (i - 1) d → x.variable < above → 0 < x.coefficient

@@ -7,7 +7,8 @@ returns-in-Some-clause-weakened c = values-remove c.args.terms.now c.remove.new.
 
 pub returns-in-Some-clause-dropped : goal.returns-in-Some-clause-dropped
 returns-in-Some-clause-dropped c =
-    dropped-some c.args.terms.now c.remove.new.self c.args.variable c.in-Some.t c.requires.rising c.requires.keyed (sym c.in-Some.is ∙ c.remove.ensures.value) c.remove.ensures.entries
+    dropped-some c.args.terms.now c.remove.new.self c.args.variable c.in-Some.t c.requires.rising c.requires.keyed
+    (sym c.in-Some.is ∙ c.remove.ensures.value) c.remove.ensures.entries
 
 pub returns-in-None-clause-weakened : goal.returns-in-None-clause-weakened
 returns-in-None-clause-weakened c = values-remove c.args.terms.now c.remove.new.self c.args.variable c.requires.rising c.requires.keyed c.remove.ensures.entries

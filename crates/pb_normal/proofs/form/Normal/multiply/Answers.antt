@@ -17,4 +17,5 @@ returns-clause-within c =
 
 pub returns-clause-sound : goal.returns-clause-sound
 returns-clause-sound c =
-    rw (c.wide.ensures.same, c.in_ok-terms.ensures, ← c.self.view_is) (λ a. Holds-multiplied a c.unsigned_abs-k.result record { terms = c.self.inside.terms; degree = c.self.inside.degree })
+    rw (c.wide.ensures.same, c.in_ok-terms.ensures, ← c.self.view_is)
+    (λ a. Holds-multiplied a c.unsigned_abs-k.result record { terms = c.self.inside.terms; degree = c.self.inside.degree })
