@@ -1,4 +1,5 @@
 //! One term for each variable.
+#![tactic(auto, using(crate::proofs::Rulesets::collected))]
 
 ghost use Rattle.std.specs.Prelude.{◌<◌, ◌^◌, [], IfOk, IsTrue};
 ghost use Rattle.pb_normal.specs.engine.Adds.{Adds};

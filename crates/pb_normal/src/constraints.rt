@@ -18,6 +18,7 @@ use pb_text::Limits;
 use std::alloc::Global;
 
 // Adds the form of one side of a constraint.
+#[tactic(auto, using(crate::proofs::Rulesets::side_terms_in))]
 fn add_side(
     alloc: Global,
     names: &mut Names,
@@ -41,6 +42,7 @@ fn add_side(
 }
 
 // Adds the forms of a constraint.
+#[tactic(auto, using(crate::proofs::lemmas::names::Loaded::second_after, crate::proofs::lemmas::names::Loaded::second_names))]
 fn add(
     alloc: Global,
     names: &mut Names,

@@ -12,6 +12,7 @@ ghost use Rattle.pb_normal.specs.meaning.Written.{names_of, IsFormOf, IsSideOf, 
 
 /// If its operands hold, the result of a rule holds. A negation holds if and only if the form, of
 /// degree at least 1, does not. A contradiction holds nowhere.
+#[tactic(auto, using(crate::proofs::Rulesets::sound))]
 pub fn rules_are_sound()
     ensures sum { (f g r : Form) → IsSum f g r → FollowsBoth f g r }
     ensures product { (k : ℕ) (f : Form) → Follows f (multiplied k f) }
@@ -25,6 +26,7 @@ pub fn rules_are_sound()
 
 /// A form is determined by its coefficients and its degree. Two forms have only one sum, and a
 /// written sum with a degree has only one form.
+#[tactic(auto, using(crate::proofs::Rulesets::forms))]
 pub fn forms_are_unique()
     ensures coefficients { (r s : Form) → IsOrdered r → IsOrdered s →
         ((x : ℕ) → coefficient r x ≡ coefficient s x) → r.degree ≡ s.degree → r ≡ s }
@@ -62,6 +64,7 @@ pub fn written_forms_are_exact()
 /// After other names appear, the names before them have the same numbers, and each of the others
 /// has a number. If the names were distinct, they still are. If each of the others had a number, no
 /// name is new.
+#[tactic(auto, using(crate::proofs::Rulesets::numbers))]
 pub fn names_keep_their_numbers()
     ensures prefix { (names others : List (List ℕ)) → (more : List (List ℕ)) ×
         (with_names names others ≡ names ++ more) }
@@ -89,6 +92,7 @@ pub fn rules_keep_variables()
 
 /// Whether a form holds depends on the values of its variables only. The coefficients of any choice
 /// of literals add up to at most those of all literals.
+#[tactic(auto, using(crate::proofs::Rulesets::forms))]
 pub fn forms_hold_by_their_variables()
     ensures alike { (a b : ℕ → Bool) (f : Form) → AgreeOn a b f → Holds a f ↔ Holds b f }
     ensures part { (p : ℕ → Bool → Bool) (f : Form) → total p f.terms ≤ size f }
@@ -96,6 +100,7 @@ pub fn forms_hold_by_their_variables()
 
 /// A name's number is its position, and the only one if the names are distinct. It is the same if
 /// more names follow.
+#[tactic(auto, using(crate::proofs::Rulesets::places))]
 pub fn numbers_are_places()
     ensures found { (names : List (List ℕ)) (name : List ℕ) → has_name names name ≡ true →
         slice_get names (number_in names name) ≡ Some name }

@@ -140,6 +140,7 @@ fn side_terms(
 }
 
 // The same with a buffer for as many terms.
+#[tactic(auto, using(crate::proofs::Rulesets::side_terms_in))]
 fn side_terms_in(
     alloc: Global,
     names: &mut Names,
@@ -201,6 +202,7 @@ fn raw(variable: usize, negated: bool, coefficient: i128) -> Entry
 }
 
 // What the negative coefficients of that side add to the degree.
+#[tactic(auto, using(crate::proofs::Rulesets::shift_of))]
 fn shift_of(terms: &[Term], side: Side) -> u128
     requires { magnitude terms.now < 2 ^ 127 }
     ensures { result ≡ shift (side_terms side terms.now) }

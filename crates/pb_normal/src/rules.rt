@@ -60,6 +60,7 @@ impl Normal {
 
     /// The form with all coefficients and the degree multiplied. `Overflow` comes if and only if
     /// the sum of the coefficients or the degree of the result exceeds the limit.
+    #[tactic(auto, using(crate::proofs::Rulesets::multiply))]
     pub fn multiply(&self, factor: i128, limits: Limits) -> Result<Normal, NormalFault>
         requires { pos 1 ≤ℤ factor }
         ensures product { IfOk result (λ r. r ≡ multiplied (unsigned_abs factor) self.now) }
@@ -83,6 +84,7 @@ impl Normal {
     }
 
     // The form with all coefficients and the degree multiplied, which is normal.
+    #[tactic(auto, using(crate::proofs::Rulesets::scaled))]
     pub(crate) fn scaled(&self, k: u128) -> Result<Normal, AllocError>
         requires fits { IsNormal (multiplied k self.now) }
         ensures product { IfOk result (λ r. r ≡ multiplied k self.now) }
@@ -96,6 +98,7 @@ impl Normal {
     }
 
     /// The form with all coefficients and the degree divided and rounded up.
+    #[tactic(auto, using(crate::proofs::Rulesets::steps))]
     pub fn divide(&self, divisor: i128) -> Result<Normal, NormalFault>
         requires { pos 1 ≤ℤ divisor }
         ensures quotient { IfOk result (λ r. r ≡ divided (unsigned_abs divisor) self.now) }
@@ -125,6 +128,7 @@ impl Normal {
     }
 
     /// The form with every coefficient reduced to at most the degree.
+    #[tactic(auto, using(crate::proofs::Rulesets::steps))]
     pub fn saturate(&self) -> Result<Normal, NormalFault>
         ensures saturated { IfOk result (λ r. r ≡ saturated self.now) }
         ensures normal { IfOk result (λ r. IsNormal r) }

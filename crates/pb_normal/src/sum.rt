@@ -84,6 +84,7 @@ impl<'a> Sum<'a> {
 
     /// The sum of both. `Overflow` comes if and only if the sum of its coefficients or its degree
     /// exceeds the limit.
+    #[tactic(auto, using(crate::proofs::Rulesets::steps))]
     pub fn add(self, alloc: Global, other: Sum<'a>, limits: Limits) -> Result<Sum<'a>, NormalFault>
         ensures sum { IfOk result (λ r. IsSum self.entry other.entry r) }
         ensures within { IfOk result (λ r. IsWithin (largest limits) r) }
@@ -135,6 +136,7 @@ impl<'a> Sum<'a> {
 
     /// All coefficients and the degree multiplied. `Overflow` comes if and only if the sum of the
     /// coefficients or the degree of the result exceeds the limit.
+    #[tactic(auto, using(crate::proofs::Rulesets::multiply))]
     pub fn multiply(
         self,
         alloc: Global,
@@ -158,6 +160,7 @@ impl<'a> Sum<'a> {
 
     // All coefficients and the degree multiplied; the result is normal. A factor of 1 is a small
     // change.
+    #[tactic(auto, using(crate::proofs::Rulesets::steps))]
     fn scaled(self, alloc: Global, k: u128) -> Result<Sum<'a>, AllocError>
         requires fits { IsNormal (multiplied k self) }
         ensures product { IfOk result (λ r. r ≡ multiplied k self.entry) }
@@ -184,6 +187,7 @@ impl<'a> Sum<'a> {
     }
 
     /// All coefficients and the degree divided and rounded up. A divisor of 1 costs nothing.
+    #[tactic(auto, using(crate::proofs::Rulesets::steps))]
     pub fn divide(self, alloc: Global, divisor: i128) -> Result<Sum<'a>, NormalFault>
         requires { pos 1 ≤ℤ divisor }
         ensures quotient { IfOk result (λ r. r ≡ divided (unsigned_abs divisor) self.entry) }

@@ -136,6 +136,7 @@ impl Tree {
 }
 
 // Removes the term on a variable, and returns its coefficient.
+#[tactic(auto, using(crate::proofs::Rulesets::take_out))]
 fn take_out(terms: &mut BTreeMap<usize, Entry>, variable: usize) -> u128
     requires keyed { IsKeyed terms.old }
     requires rising { IsRising 0 (values terms.old) }
@@ -152,6 +153,7 @@ fn take_out(terms: &mut BTreeMap<usize, Entry>, variable: usize) -> u128
 }
 
 // How much of a term cancels in the sum with the one on its variable.
+#[tactic(auto, using(crate::proofs::Rulesets::cancelled_by))]
 fn cancelled_by(terms: &BTreeMap<usize, Entry>, term: Entry) -> u128
     requires keyed { IsKeyed terms.now }
     requires positive { 0 < term.coefficient }
@@ -166,6 +168,7 @@ fn cancelled_by(terms: &BTreeMap<usize, Entry>, term: Entry) -> u128
 }
 
 // How much cancels in the sum with a list.
+#[tactic(auto, using(crate::proofs::Rulesets::cancelled))]
 fn cancelled_by_list(terms: &BTreeMap<usize, Entry>, list: &Terms) -> u128
     requires keyed { IsKeyed terms.now }
     requires rising { IsRising 0 (values terms.now) }
@@ -182,6 +185,7 @@ fn cancelled_by_list(terms: &BTreeMap<usize, Entry>, list: &Terms) -> u128
 }
 
 // How much cancels in the sum with another map.
+#[tactic(auto, using(crate::proofs::Rulesets::cancelled))]
 fn cancelled_by_tree(terms: &BTreeMap<usize, Entry>, others: &BTreeMap<usize, Entry>) -> u128
     requires keyed { IsKeyed terms.now }
     requires rising { IsRising 0 (values terms.now) }
@@ -197,6 +201,7 @@ fn cancelled_by_tree(terms: &BTreeMap<usize, Entry>, others: &BTreeMap<usize, En
 }
 
 // Adds a term, and returns how much of it cancels.
+#[tactic(auto, using(crate::proofs::Rulesets::cancelled_by))]
 fn put(terms: &mut BTreeMap<usize, Entry>, term: Entry) -> Result<u128, AllocError>
     requires keyed { IsKeyed terms.old }
     requires positive { 0 < term.coefficient }

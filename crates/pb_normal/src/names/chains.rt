@@ -9,6 +9,7 @@ use std::alloc::{AllocError, Global};
 
 // The chain of a hash, among this many.
 #[inline(always)]
+#[tactic(auto, using(std::proofs::lemmas::Nat::and_le_r), unfolding(crate::specs::engine::NameTable::chain_of))]
 fn chain_of(hash: u32, count: usize) -> usize
     requires { 0 < count }
     ensures value { result ≡ chain_of count hash }
@@ -61,6 +62,7 @@ pub(crate) fn found(
 }
 
 // Puts a name at the head of its chain.
+#[tactic(auto, using(crate::proofs::Rulesets::link))]
 pub(crate) fn link(heads: &mut [u32], entries: &mut [NameEntry], number: usize)
     requires within { number < length entries.old }
     requires small { number + 1 < 2 ^ 32 }

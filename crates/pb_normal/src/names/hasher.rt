@@ -20,6 +20,7 @@ pub struct NameHasher {
 
 impl NameHasher {
     // The hasher whose secret words are two hashes of another hasher.
+    #[tactic(auto, unfolding(crate::specs::contract::NameHasher::keyed))]
     pub(crate) fn keyed_by(sip: DefaultHasher) -> NameHasher
         ensures { result ≡ keyed sip }
     {
@@ -89,6 +90,7 @@ fn word(bytes: &[u8], at: usize) -> u64
 
 // The state after all blocks of 16 bytes that end before the last byte.
 #[inline(always)]
+#[tactic(auto, unfolding(crate::specs::contract::NameHasher::mixed))]
 fn after_blocks(bytes: &[u8], start: u64, key: u64) -> u64
     ensures { result ≡ mixed bytes.now key start ((length bytes.now - 1) / 16) }
 {
@@ -104,6 +106,7 @@ fn after_blocks(bytes: &[u8], start: u64, key: u64) -> u64
 // Two words that have the last 16 bytes, or all bytes if there are fewer. They may have some bytes
 // twice.
 #[inline(always)]
+#[tactic(auto, using(crate::proofs::Rulesets::ends), unfolding(crate::specs::contract::NameHasher::ends_of))]
 fn ends(bytes: &[u8]) -> (u64, u64)
     ensures { result ≡ ends_of bytes.now }
 {

@@ -8,6 +8,7 @@ use crate::names::entry::NameEntry;
 
 // Where the name with a number begins and ends.
 #[inline(always)]
+#[tactic(auto, using(crate::proofs::lemmas::names::Tables::span_text))]
 fn span_of(entries: &[NameEntry], number: usize) -> (usize, usize)
     requires { number < length entries.now }
     ensures within { (count : ℕ) → AreEnds 0 (ends_of entries.now) count →

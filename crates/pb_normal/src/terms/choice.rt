@@ -95,6 +95,7 @@ pub(crate) fn total_of<C: Choice>(terms: &Terms, choice: &C) -> u128
 }
 
 // The same where it is known how the terms are stored.
+#[tactic(auto, using(crate::proofs::Rulesets::total_in))]
 fn total_in<L: Listed, C: Choice>(terms: &L, choice: &C) -> u128
     requires covered { All (C.covers choice.now) (L.entries terms.now) }
     requires small { total each (L.entries terms.now) < 2 ^ 128 }

@@ -1,7 +1,7 @@
 -- The number of a flag, from its text.
-use Rattle.pb_words.proofs.Common.{◌≡◌, ◌↔◌, ℕ, Bool, true, false, List, Option, Some, None, IsTrue, codes, ap, sym, ◌∙◌, subst, refl, inl, inr}
-use Rattle.pb_words.proofs.Common.{IsSomeAnd, bytes_eq, bytes_eq-Decides, IsUnsignedIn, Row, WordsFault, IsChecker, IsEntryFault, IsFlag}
-use Rattle.pb_words.proofs.Common.{IsInstanceFault, IsNumberFault, IsSelectionFault, IsSwitch}
+use Rattle.pb_words.proofs.Common.{◌≡◌, ◌↔◌, ℕ, Bool, true, false, List, Option, Some, None, IsTrue, codes, ap, sym, ◌∙◌, subst, refl, inl, inr, IsSomeAnd}
+use Rattle.pb_words.proofs.Common.{bytes_eq, bytes_eq-Decides, IsUnsignedIn, Row, WordsFault, IsChecker, IsEntryFault, IsFlag, IsInstanceFault, IsNumberFault}
+use Rattle.pb_words.proofs.Common.{IsSelectionFault, IsSwitch}
 use Rattle.std.specs.Str.Parse.{digits_value, without_leading_plus}
 
 pub absent : (low high : ℕ) (found : Option (List ℕ)) → None ≡ found → IsFlag low high found None

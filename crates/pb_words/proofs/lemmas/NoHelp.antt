@@ -1,11 +1,10 @@
 -- Valid arguments do not name a subcommand `help`.
-use Rattle.pb_words.proofs.Common.{◌≡◌, ℕ, Bool, true, false, cond, List, [], ◌∷◌, ◌++◌, Option, Some, None, refl, sym, ap, ◌∙◌, subst, codes}
-use Rattle.pb_words.proofs.Common.{is_some, inl, inr, ⊎_elim, get_or, fold, find, ◌⊎◌, bytes_eq, bytes_eq-Decides, Row, answers_to, Held, Names}
-use Rattle.pb_words.proofs.Common.{Outcome, Rule, Step, Text, Waiting, Walk, after_flag, after_step, arg_by_index, done, idle, long_met}
-use Rattle.pb_words.proofs.Common.{long_or_other, next, nothing_held, option, plain, plain_word, positional, refused, short_or_plain, subcommand}
-use Rattle.pb_words.proofs.Common.{subcommand_met, subcommand_or_other, to_positional, trailing, value, waits, walk, walk_from, walked_from}
-use Rattle.pb_words.proofs.Common.{word_met, bundle, arg_by_long, App, Shape, argument_words, built, entered, label_of, names_of, rows_at}
-use Rattle.pb_words.proofs.Common.{subcommand_of, IsReader, pb_command}
+use Rattle.pb_words.proofs.Common.{◌≡◌, ℕ, Bool, true, false, cond, List, [], ◌∷◌, ◌++◌, Option, Some, None, refl, sym, ap, ◌∙◌, subst, codes, is_some, inl}
+use Rattle.pb_words.proofs.Common.{inr, ⊎_elim, get_or, fold, find, ◌⊎◌, bytes_eq, bytes_eq-Decides, Row, answers_to, Held, Names, Outcome, Rule, Step, Text}
+use Rattle.pb_words.proofs.Common.{Waiting, Walk, after_flag, after_step, arg_by_index, done, idle, long_met, long_or_other, next, nothing_held, option, plain}
+use Rattle.pb_words.proofs.Common.{plain_word, positional, refused, short_or_plain, subcommand, subcommand_met, subcommand_or_other, to_positional, trailing}
+use Rattle.pb_words.proofs.Common.{value, waits, walk, walk_from, walked_from, word_met, bundle, arg_by_long, App, Shape, argument_words, built, entered}
+use Rattle.pb_words.proofs.Common.{label_of, names_of, rows_at, subcommand_of, IsReader, pb_command}
 use Rattle.clap.specs.Walk.{walked}
 use Rattle.std.specs.Prelude.{option_map}
 use Rattle.std.proofs.lemmas.Bool.{false≢true, or_cases}

@@ -1,7 +1,7 @@
 -- What a parse of the command says of the arguments.
-use Rattle.pb_words.proofs.Common.{◌≡◌, List, [], Option, Some, None, Result, Ok, Err, IfErr, IfOk, true, option_map, sym, ap, ◌∙◌, subst, inl, inr}
-use Rattle.pb_words.proofs.Common.{IsErrAnd, IsSomeAnd, HasKind, fault_of, is_simple, is_simple_and_free, kind_of, WordsFault, AsksFor, ExplainsWords}
-use Rattle.pb_words.proofs.Common.{IsEntryFault, pb_command}
+use Rattle.pb_words.proofs.Common.{◌≡◌, List, [], Option, Some, None, Result, Ok, Err, IfErr, IfOk, true, option_map, sym, ap, ◌∙◌, subst, inl, inr, IsErrAnd}
+use Rattle.pb_words.proofs.Common.{IsSomeAnd, HasKind, fault_of, is_simple, is_simple_and_free, kind_of, WordsFault, AsksFor, ExplainsWords, IsEntryFault}
+use Rattle.pb_words.proofs.Common.{pb_command}
 use Rattle.clap.specs.declared.Error.{Error}
 use Rattle.clap.specs.Words.{App, Row, Text, subcommand_of}
 use Rattle.clap.specs.declared.error.ErrorKind.TheVariants.{OutOfMemory}

@@ -183,6 +183,7 @@ fn show<'a>(alloc: Global) -> Result<Command<'a>, AllocError>
     )
 }
 
+#[tactic(auto, using(crate::proofs::lemmas::Added::added_app, crate::proofs::lemmas::Added::added_local))]
 fn tidy<'a>(alloc: Global) -> Result<Command<'a>, AllocError>
     ensures app { IfOk result (λ c. app_of c ≡ tidy_command) }
     ensures local { IfOk result (λ c. (fields_of c).has_globals ≡ false) }
@@ -200,6 +201,7 @@ fn tidy<'a>(alloc: Global) -> Result<Command<'a>, AllocError>
     ))
 }
 
+#[tactic(auto, using(crate::proofs::lemmas::Added::added_local))]
 fn check<'a>(alloc: Global) -> Result<Command<'a>, AllocError>
     ensures app { IfOk result (λ c. app_of c ≡ check_command) }
     ensures local { IfOk result (λ c. (fields_of c).has_globals ≡ false) }
@@ -227,6 +229,7 @@ fn check<'a>(alloc: Global) -> Result<Command<'a>, AllocError>
     ))
 }
 
+#[tactic(auto, using(crate::proofs::lemmas::Added::added_app, crate::proofs::lemmas::Added::added_local))]
 fn trace<'a>(alloc: Global) -> Result<Command<'a>, AllocError>
     ensures app { IfOk result (λ c. app_of c ≡ trace_command) }
     ensures local { IfOk result (λ c. (fields_of c).has_globals ≡ false) }
@@ -245,6 +248,7 @@ fn trace<'a>(alloc: Global) -> Result<Command<'a>, AllocError>
 }
 
 /// A subcommand with the flags that select what a trace prints, after its other arguments.
+#[tactic(auto, using(crate::proofs::lemmas::Added::added_local))]
 fn with_selection<'a>(alloc: Global, command: Command<'a>) -> Result<Command<'a>, AllocError>
     requires { (fields_of command).has_globals ≡ false }
     ensures app { IfOk result (λ c. app_of c ≡ with_selection_rules (app_of command.entry)) }
@@ -277,6 +281,7 @@ fn with_selection<'a>(alloc: Global, command: Command<'a>) -> Result<Command<'a>
 }
 
 /// A subcommand that checks a proof of an instance.
+#[tactic(auto, using(crate::proofs::lemmas::Added::added_local))]
 fn checker<'a>(
     alloc: Global,
     name: &'a str,
@@ -300,6 +305,7 @@ fn checker<'a>(
 }
 
 /// A subcommand that reads one file.
+#[tactic(auto, using(crate::proofs::lemmas::Added::added_local))]
 fn reader<'a>(
     alloc: Global,
     name: &'a str,
@@ -322,6 +328,7 @@ fn reader<'a>(
 }
 
 /// A subcommand with the flags that each of the four takes, after its other arguments.
+#[tactic(auto, using(crate::proofs::lemmas::Added::added_local))]
 fn with_shared<'a>(alloc: Global, command: Command<'a>) -> Result<Command<'a>, AllocError>
     requires { (fields_of command).has_globals ≡ false }
     ensures app { IfOk result (λ c. app_of c ≡ with_shared_rules (app_of command.entry)) }

@@ -1,12 +1,9 @@
-use Rattle.pb_normal.proofs.lemmas.terms.Collecting.{Adds-permutation, Adds-self, total-reordered}
+use Rattle.pb_normal.proofs.lemmas.terms.Totals.{Adds-permutation, Adds-self}
 use Rattle.pb_normal.proofs.collect.collected.Goals as goal
 
 pub returns-then-is_rising-2-clause-adds : goal.returns-then-is_rising-2-clause-adds
 returns-then-is_rising-2-clause-adds c =
     rw c.in_ok-of-2.ensures.same (Adds-permutation _ _ _ _ c.sort_unstable_by_key.ensures.permutation (Adds-self c.sort_unstable_by_key.new.self))
-
-pub added_up-requires : goal.added_up-requires
-added_up-requires c = rw (total-reordered _ _ c.sort_unstable_by_key.ensures.permutation) c.requires
 
 pub returns-clause-adds : goal.returns-clause-adds
 returns-clause-adds c =

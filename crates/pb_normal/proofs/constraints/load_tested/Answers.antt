@@ -1,5 +1,4 @@
-use Rattle.pb_normal.proofs.Common.{ap, arith, Err, largest, NormalFault, Fits}
-use Rattle.std.proofs.lemmas.Result.{err_from_is_err_and}
+use Rattle.pb_normal.proofs.Common.{ap, arith, Err, largest, NormalFault, Fits, err_from_is_err_and}
 use Rattle.pb_normal.proofs.lemmas.names.Loaded.{after_at, all_read, loaded_at, loaded_none, memory_alone}
 use Rattle.pb_normal.proofs.constraints.load_tested.Goals as goal
 

@@ -1,5 +1,4 @@
-use Rattle.pb_normal.proofs.Common.{arith, List, subst, take_all, All-nil, All-push, Linear, take_read, largest, Fits}
-use Rattle.std.proofs.Common.{All}
+use Rattle.pb_normal.proofs.Common.{arith, List, subst, take_all, All-nil, All-push, Linear, take_read, largest, Fits, All}
 use Rattle.pb_normal.proofs.constraints.test.Goals as goal
 
 pub loop-tested-init : goal.loop-tested-init

@@ -1,5 +1,4 @@
-use Rattle.pb_normal.proofs.Common.{take, largest, Fits}
-use Rattle.std.proofs.Common.{All}
+use Rattle.pb_normal.proofs.Common.{take, largest, Fits, All}
 use Rattle.pb_normal.proofs.constraints.test.Given as goal
 
 -- the constraints so far fit

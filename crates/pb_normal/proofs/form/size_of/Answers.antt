@@ -1,7 +1,6 @@
 use Rattle.pb_normal.proofs.Common.{refl}
-use Rattle.pb_normal.proofs.lemmas.terms.Entries.{total-decoded}
+use Rattle.pb_normal.proofs.lemmas.terms.Totals.{total-decoded}
 use Rattle.pb_normal.proofs.form.size_of.Goals as goal
 
 pub returns-in-Codes : goal.returns-in-Codes
-returns-in-Codes c =
-    rw (← c.reading.ensures.same, c.in-Codes.is, total-decoded c.in-Codes.codes.now) refl
+returns-in-Codes c = rw (← c.reading.ensures.same, c.in-Codes.is, total-decoded c.in-Codes.codes.now) refl

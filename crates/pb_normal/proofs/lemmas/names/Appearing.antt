@@ -1,8 +1,7 @@
 -- Names that appear one after another. Offered to other crates.
-use Rattle.std.proofs.lemmas.Bool.{cond_both}
-use Rattle.pb_normal.proofs.Common.{ℕ, ◌++◌, ◌<◌, ◌∙◌, ◌∷◌, ◌≡◌, [], ap, append-nil, append_assoc, length, List, map, pos, refl}
-use Rattle.pb_normal.proofs.Common.{sym, get_or_append_left, All-head, All-tail, All, Term, Entry, Form, AreDistinct, has_name, HasNames}
-use Rattle.pb_normal.proofs.Common.{with_name, with_names, linear_of, term_of}
+use Rattle.pb_normal.proofs.Common.{cond_both, ℕ, ◌++◌, ◌<◌, ◌∙◌, ◌∷◌, ◌≡◌, [], ap, append-nil, append_assoc, length, List, map, pos, refl, sym}
+use Rattle.pb_normal.proofs.Common.{get_or_append_left, All-head, All-tail, All, Term, Entry, Form, AreDistinct, has_name, HasNames, with_name, with_names}
+use Rattle.pb_normal.proofs.Common.{linear_of, term_of}
 use Rattle.pb_sums.specs.declared.linear.Relation.TheVariants.{AtLeast}
 use Rattle.pb_normal.proofs.lemmas.names.Numbering.{has_name-append, with_name-has, AreDistinct-with}
 

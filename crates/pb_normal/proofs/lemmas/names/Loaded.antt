@@ -1,9 +1,8 @@
 -- The forms that constraints load as, over the names so far. Offered to other crates.
-use Rattle.std.proofs.Math.Seq.{take-append-add}
-use Rattle.pb_normal.proofs.Common.{ℕ, ◌++◌, ◌+◌, ◌<◌, ◌∙◌, ◌∷◌, ◌≡◌, [], ap, append-nil, append_assoc, arith, Err, get_or, length, List, Ok, OnErr}
-use Rattle.pb_normal.proofs.Common.{take_all, OnOk, refl, Result, subst, suc, sym, take, zero, flat_map-append, All, AllByRecursion, Linear, take_read}
-use Rattle.pb_normal.proofs.Common.{NormalFault, Memory, Overflow, Side, AreFormsOf, constraint_names, sides_in, with_sides, Form, AfterPrefix}
-use Rattle.pb_normal.proofs.Common.{AreDistinct, HasNames, with_names, names_of}
+use Rattle.pb_normal.proofs.Common.{take-append-add, ℕ, ◌++◌, ◌+◌, ◌<◌, ◌∙◌, ◌∷◌, ◌≡◌, [], ap, append-nil, append_assoc, arith, Err, get_or, length, List, Ok}
+use Rattle.pb_normal.proofs.Common.{OnErr, take_all, OnOk, refl, Result, subst, suc, sym, take, zero, flat_map-append, All, AllByRecursion, Linear, take_read}
+use Rattle.pb_normal.proofs.Common.{NormalFault, Memory, Overflow, Side, AreFormsOf, constraint_names, sides_in, with_sides, Form, AfterPrefix, AreDistinct}
+use Rattle.pb_normal.proofs.Common.{HasNames, with_names, names_of}
 use Rattle.pb_sums.specs.declared.linear.Relation.{Relation}
 use Rattle.pb_sums.specs.declared.linear.Relation.TheVariants.{AtLeast, Equal}
 use Rattle.pb_normal.specs.declared.side.Side.TheVariants.{AtLeast as least, AtMost as most}
@@ -44,12 +43,6 @@ forms_then names [] ts [] gs h k = k
 forms_then names (s ∷ ss) ts (f ∷ fs) gs h k = (h.0, forms_then names ss ts fs gs h.1 k)
 forms_then names _ ts _ gs h k = absurd h
 
--- if a constraint's names have numbers already, its second side is loaded over the same names
-pub loaded_twice : (old names new : List (List ℕ)) (c : Linear) (l m : Form) → names ≡ with_names old (names_of c.terms) → HasNames names (names_of c.terms) → new ≡ with_names names (names_of c.terms)
-    → AreFormsOf names ((least, c) ∷ []) (l ∷ []) → AreFormsOf new ((most, c) ∷ []) (m ∷ [])
-    → AreFormsOf new ((least, c) ∷ (most, c) ∷ []) (l ∷ m ∷ []) × (new ≡ with_names old (names_of c.terms))
-loaded_twice old names new c l m e h k first second = grind (arith, present, forms_then)
-
 -- the second form of an equality after its first
 pub second_loaded : {E : Type 0} (result : Result Unit E) (old names new : List (List ℕ)) (c : Linear) (before middle after : List Form) → c.relation ≡ Equal → names ≡ with_names old (names_of c.terms)
     → HasNames names (names_of c.terms)
@@ -59,8 +52,7 @@ pub second_loaded : {E : Type 0} (result : Result Unit E) (old names new : List 
     → OnOk result ((added : List Form) × AreFormsOf new (with_sides c.relation c) added × (after ≡ before ++ added))
 second_loaded (Err f) old names new c before middle after r e h first second k = tt
 second_loaded (Ok u) old names new c before middle after r e h (x, one, was) (y, other, is) k =
-    let both = loaded_twice old names new c x y e h k one other in
-    (x ∷ y ∷ [], rw r both.0, is ∙ ap (λ (ls : List Form). ls ++ y ∷ []) was ∙ append_assoc before (x ∷ []) (y ∷ []))
+    (x ∷ y ∷ [], grind (arith, present, forms_then, r), is ∙ ap (λ (ls : List Form). ls ++ y ∷ []) was ∙ append_assoc before (x ∷ []) (y ∷ []))
 
 pub second_names : {E : Type 0} (result : Result Unit E) (old names new : List (List ℕ)) (ns : List (List ℕ)) → names ≡ with_names old ns → HasNames names ns → OnOk result (new ≡ with_names names ns)
     → OnOk result (new ≡ with_names old ns)

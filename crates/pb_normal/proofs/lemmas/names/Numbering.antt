@@ -1,9 +1,8 @@
 -- A name keeps its number, and names appear one by one. Offered to other crates.
-use Rattle.pb_normal.proofs.Common.{ℕ, ◌++◌, ◌<◌, ◌∙◌, ◌∷◌, ◌≡◌, [], ap, arith, Bool, Err, false, length, List, map}
-use Rattle.pb_normal.proofs.Common.{Ok, OnErr, refl, Result, slice_get, Some, suc, sym, take, true, zero, or_from}
-use Rattle.pb_normal.proofs.Common.{or_right, map-append, take-map, slice_get_within, bytes_eq-Decides, list_any}
-use Rattle.pb_normal.proofs.Common.{position_or_len, bytes_eq, Term, Entry, Side, entry_of, raw_of, AfterPrefix, AreDistinct, has_name, HasNames}
-use Rattle.pb_normal.proofs.Common.{number_in, with_name, with_names, names_of, side_number, side_terms}
+use Rattle.pb_normal.proofs.Common.{ℕ, ◌++◌, ◌<◌, ◌∙◌, ◌∷◌, ◌≡◌, [], ap, arith, Bool, Err, false, length, List, map, Ok, OnErr, refl, Result, slice_get, Some}
+use Rattle.pb_normal.proofs.Common.{suc, sym, take, true, zero, or_from, or_right, map-append, take-map, slice_get_within, bytes_eq-Decides, list_any}
+use Rattle.pb_normal.proofs.Common.{position_or_len, bytes_eq, Term, Entry, Side, entry_of, raw_of, AfterPrefix, AreDistinct, has_name, HasNames, number_in}
+use Rattle.pb_normal.proofs.Common.{with_name, with_names, names_of, side_number, side_terms}
 
 -- a position that was found is the same if more elements follow
 position_or_len-found : {A : Type 0} (p : A → Bool) (xs ys : List A) → list_any p xs ≡ true → position_or_len p (xs ++ ys) ≡ position_or_len p xs
@@ -87,15 +86,12 @@ pub record Numbering (side : Side) (old new : List (List ℕ)) (ts : List Term) 
 
 -- one more term
 pub Numbering-push : (side : Side) (old ks new : List (List ℕ)) (ts : List Term) (t : Term) (out : List Entry) (n : ℕ) → Numbering side old ks ts out → new ≡ with_name ks t.literal.name → n ≡ number_in new t.literal.name → Numbering side old new (ts ++ t ∷ []) (out ++ entry_of n t.literal.negated (side_number side t.coefficient) ∷ [])
-Numbering-push side old ks new ts t out n h e p =
-    let last = ap (λ m. entry_of m t.literal.negated (side_number side t.coefficient)) p in
-    let before = h.entries ∙ sym (raw-with side t.literal.name ks ts h.named) ∙ ap (λ (us : List (List ℕ)). map (raw_of us) (side_terms side ts)) (sym e) in
-    record {
-      distinct = rw e (AreDistinct-with ks t.literal.name h.distinct);
-      named = rw (e, map-append) (HasNames-push ks (names_of ts) t.literal.name h.named);
-      names = rw map-append (e ∙ ap (λ (us : List (List ℕ)). with_name us t.literal.name) h.names ∙ sym (with_names-push old (names_of ts) t.literal.name));
-      entries = simp map-append (ap (λ (us : List Entry). us ++ entry_of n t.literal.negated (side_number side t.coefficient) ∷ []) before ∙ ap (λ (u : Entry). map (raw_of new) (side_terms side ts) ++ u ∷ []) last);
-    }
+Numbering-push side old ks new ts t out n h e p = record {
+  distinct = rw e (AreDistinct-with ks t.literal.name h.distinct);
+  named = rw (e, map-append) (HasNames-push ks (names_of ts) t.literal.name h.named);
+  names = grind (arith, map-append, with_names-push, h.names);
+  entries = grind (arith, map-append, raw-with side t.literal.name ks ts h.named, h.entries);
+}
 
 pub OnErr-always : {A E : Type 0} (r : Result A E) (P : Type 0) → P → OnErr r P
 OnErr-always (Ok _) P p = tt

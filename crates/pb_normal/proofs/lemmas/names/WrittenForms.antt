@@ -1,18 +1,17 @@
 -- The form of a written constraint. Offered to other crates.
-use Rattle.pb_normal.proofs.Common.{ℕ, ℤ, ◌&&◌, ◌*◌, ◌++◌, ◌+ℤ◌, ◌+◌, ◌-ℤ◌, ◌-◌, ◌<◌, ◌^◌, ◌↔◌, ◌∙◌, ◌∷◌, ◌≡◌, ◌≤ℤ◌, ◌≤◌, [], ap, arith, Bool, cond}
-use Rattle.pb_normal.proofs.Common.{drop, eqb, FitsSigned, get_or, inl, inr, length, List, map, neg_ℤ, not, of_z, pos, refl, slice_get}
-use Rattle.pb_normal.proofs.Common.{Some, sym, take, to_z, true, unsigned_abs, cases_lt, nat_tests, ints, to_z-of_z, length-append, take-append-drop}
-use Rattle.pb_normal.proofs.Common.{All-cons, All-nil, get_or_from_slice_get, slice_get-get_or, bytes_eq-Decides, w128, All, bytes_eq, Linear, Term}
-use Rattle.pb_normal.proofs.Common.{drop_read, Entry, Side, AtLeast, AtMost, Adds, is_below_0, raw_of, shift, AreFormsOf, at_least_0}
-use Rattle.pb_normal.proofs.Common.{each, Form, Holds, IsNormal, IsRising, IsWithin, low, negated_of, negative, plain_of, total, true_at, AreDistinct}
-use Rattle.pb_normal.proofs.Common.{has_name, HasNames, number_in, by_number, IsFormOf, IsSideOf, linear_of, magnitude, names_of, on_negations}
-use Rattle.pb_normal.proofs.Common.{SameAsForm, SameAsForms, SameSolutions, side_number, side_terms, term_of, true_sum, written_on}
+use Rattle.pb_normal.proofs.Common.{ℕ, ℤ, ◌&&◌, ◌*◌, ◌++◌, ◌+ℤ◌, ◌+◌, ◌-ℤ◌, ◌-◌, ◌<◌, ◌^◌, ◌↔◌, ◌∙◌, ◌∷◌, ◌≡◌, ◌≤ℤ◌, ◌≤◌, [], ap, arith, Bool, cond, drop, eqb}
+use Rattle.pb_normal.proofs.Common.{FitsSigned, get_or, inl, inr, length, List, map, neg_ℤ, not, of_z, pos, refl, slice_get, Some, sym, take, to_z, true}
+use Rattle.pb_normal.proofs.Common.{unsigned_abs, cases_lt, nat_tests, ints, to_z-of_z, length-append, take-append-drop, All-cons, All-nil}
+use Rattle.pb_normal.proofs.Common.{get_or_from_slice_get, slice_get-get_or, bytes_eq-Decides, w128, All, bytes_eq, Linear, Term, drop_read, Entry, Side}
+use Rattle.pb_normal.proofs.Common.{AtLeast, AtMost, Adds, is_below_0, raw_of, shift, AreFormsOf, at_least_0, each, Form, Holds, IsNormal, IsRising, IsWithin}
+use Rattle.pb_normal.proofs.Common.{negated_of, negative, plain_of, total, true_at, AreDistinct, has_name, HasNames, number_in, by_number, IsFormOf, IsSideOf}
+use Rattle.pb_normal.proofs.Common.{linear_of, magnitude, names_of, on_negations, SameAsForm, SameAsForms, SameSolutions, side_number, side_terms, term_of}
+use Rattle.pb_normal.proofs.Common.{true_sum, written_on, map-append, take_more}
 use Rattle.pb_sums.specs.declared.linear.Relation.TheVariants.{AtLeast as relation_least, Equal as relation_equal}
-use Rattle.pb_normal.proofs.lemmas.terms.Maps.{counted-le-all}
 use Rattle.pb_normal.proofs.lemmas.terms.Totals.{size-Adds}
 use Rattle.pb_normal.proofs.lemmas.rules.Sums.{at_least_0-is, turned}
 use Rattle.pb_normal.proofs.lemmas.rules.Unique.{Balanced, IsRising-same, same_form}
-use Rattle.pb_normal.proofs.lemmas.terms.Balance.{total-balanced, total-past, All-below}
+use Rattle.pb_normal.proofs.lemmas.rules.Keeps.{total-balanced, total-past, All-below}
 use Rattle.pb_normal.proofs.lemmas.names.Numbering.{slice_get-number, number_in-below, number_in-get, number_in-append, has_name-append, AreDistinct-prefix}
 
 pub total-raw : (names : List (List ℕ)) (ts : List Term) → total each (map (raw_of names) ts) ≡ magnitude ts
@@ -82,10 +81,8 @@ at_least_0-below z n = grind (arith, ints)
 -- a form of the terms holds if and only if their sum is at least the degree
 pub Holds-form : (names : List (List ℕ)) (ts : List Term) (d : ℤ) (r : Form) → AreDistinct names → HasNames names (names_of ts) → IsFormOf names ts d r → (a : List ℕ → Bool) → Holds (by_number names a) r ↔ (d ≤ℤ true_sum a ts)
 Holds-form names ts d r distinct has f a =
-    let raw = map (raw_of names) ts in
-    let kept = total-balanced (by_number names a) r.terms raw (Balanced-raw names ts d r distinct has f) in
-    let whole = at_least_0-below ((d -ℤ on_negations ts) +ℤ pos (low r)) (total (true_at (by_number names a)) r.terms) in
-    (λ holds. omega (arith, ints, kept, whole.0 (rw f.degree at holds), true-raw names a ts has, low-raw names ts), λ le. rw f.degree (whole.1 (omega (arith, ints, kept, true-raw names a ts has, low-raw names ts))))
+    let kept = total-balanced (by_number names a) r.terms (map (raw_of names) ts) (Balanced-raw names ts d r distinct has f) in
+    grind (arith, ints, kept, f.degree, at_least_0-below, true-raw names a ts has, low-raw names ts)
 
 pub IsFormOf-unique : (names : List (List ℕ)) (ts : List Term) (d : ℤ) (r s : Form) → IsFormOf names ts d r → IsFormOf names ts d s → r ≡ s
 IsFormOf-unique names ts d r s p q =
@@ -132,12 +129,9 @@ HasNames-side names side ts h = rw (names_of-side side ts) h
 
 -- the form of a side holds if and only if the side does
 pub SameSolutions-side : (names : List (List ℕ)) (side : Side) (linear : Linear) (r : Form) → AreDistinct names → HasNames names (names_of linear.terms) → IsSideOf names side linear r → SameSolutions names side linear r
-SameSolutions-side names AtLeast linear r distinct has f a =
-    let whole = Holds-form names _ _ r distinct (HasNames-side names AtLeast linear.terms has) f a in
-    rw (true_sum-least a linear.terms) at whole
-SameSolutions-side names AtMost linear r distinct has f a =
-    let whole = Holds-form names _ _ r distinct (HasNames-side names AtMost linear.terms has) f a in
-    (λ holds. omega (arith, ints, whole.0 holds, true_sum-most a linear.terms), λ le. whole.1 (omega (arith, ints, true_sum-most a linear.terms)))
+SameSolutions-side names side linear r distinct has f a =
+    let whole = Holds-form names _ _ r distinct (HasNames-side names side linear.terms has) f a in
+    grind (arith, ints, whole, side, true_sum-least a linear.terms, true_sum-most a linear.terms)
 
 raw-append : (names more : List (List ℕ)) (ts : List Term) → HasNames names (names_of ts) → map (raw_of (names ++ more)) ts ≡ map (raw_of names) ts
 raw-append names more [] h = refl
@@ -161,16 +155,14 @@ IsFormOf-append names more ts d r distinct has f =
     }
 
 pub IsSideOf-append : (names more : List (List ℕ)) (side : Side) (linear : Linear) (r : Form) → AreDistinct (names ++ more) → HasNames names (names_of linear.terms) → IsSideOf names side linear r → IsSideOf (names ++ more) side linear r
-IsSideOf-append names more side linear r distinct has f =
-    IsFormOf-append names more _ _ r distinct (HasNames-side names side linear.terms has) f
+IsSideOf-append names more side linear r distinct has f = IsFormOf-append names more _ _ r distinct (HasNames-side names side linear.terms has) f
 
 -- a constraint, by its relation
 pub SameAsForm-from : (names : List (List ℕ)) (linear : Linear) (r : Form) → linear.relation ≡ relation_least → SameSolutions names AtLeast linear r → SameAsForm names linear r
 SameAsForm-from names linear r e h a = rw e ((h a).1, (h a).0)
 
 pub SameAsForms-from : (names : List (List ℕ)) (linear : Linear) (r s : Form) → linear.relation ≡ relation_equal → SameSolutions names AtLeast linear r → SameSolutions names AtMost linear s → SameAsForms names linear r s
-SameAsForms-from names linear r s e h k a =
-    rw e (λ w. ((h a).1 (omega (arith, ints)), (k a).1 (omega (arith, ints))), λ w. let low = (h a).0 w.0 in let high = (k a).0 w.1 in omega (arith, ints))
+SameAsForms-from names linear r s e h k a = grind (arith, ints, e, h a, k a)
 
 -- the magnitude of one term is at most that of the whole
 pub magnitude-append : (xs ys : List Term) → magnitude (xs ++ ys) ≡ magnitude xs + magnitude ys
@@ -178,14 +170,11 @@ magnitude-append [] ys = omega arith
 magnitude-append (x ∷ xs) ys = omega (arith, magnitude-append xs ys)
 
 pub magnitude-read : (ts : List Term) (i : ℕ) (t : Term) → i < length ts → t ≡ get_or ts i t → unsigned_abs t.coefficient ≤ magnitude ts
-magnitude-read ts i t lt e =
-    let s = magnitude-append (take i ts) (drop i ts) in
-    let w = rw (take-append-drop, drop_read ts i t t lt e) at s in
-    omega arith
+magnitude-read ts i t lt e = grind (arith, magnitude-append (take i ts) (drop i ts), take-append-drop, drop_read)
 
 pub shift-le : (ts : List Term) → shift ts ≤ magnitude ts
 shift-le [] = omega arith
-shift-le (t ∷ ts) = omega (arith, shift-le ts, counted-le-all (is_below_0 t.coefficient) (unsigned_abs t.coefficient))
+shift-le (t ∷ ts) = grind (arith, shift-le ts)
 
 pub shift-side-le : (side : Side) (ts : List Term) → shift (side_terms side ts) ≤ magnitude ts
 shift-side-le side ts = omega (arith, shift-le (side_terms side ts), magnitude-side side ts)
@@ -210,17 +199,12 @@ size-Collected names side linear rs up down gone limit k =
     omega (arith, size-Adds _ _ _ _ k.adds, total-raw names (side_terms side linear.terms), magnitude-side side linear.terms)
 
 pub IsNormal-Collected : (names : List (List ℕ)) (side : Side) (linear : Linear) (rs : List Entry) (up down gone limit : ℕ) → limit < 2 ^ 127 → Collected names side linear rs up down gone limit → IsNormal record { terms = rs; degree = up + shift (side_terms side linear.terms) - (down + gone) }
-IsNormal-Collected names side linear rs up down gone limit room k = record {
-  ordered = k.rising;
-  size_in = omega (arith, k.small, size-Collected names side linear rs up down gone limit k);
-  degree_in = omega (arith, k.small, k.parts, shift-side-le side linear.terms);
-}
+IsNormal-Collected names side linear rs up down gone limit room k =
+    grind (arith, k.rising, k.small, k.parts, size-Collected names side linear rs up down gone limit k, shift-side-le side linear.terms)
 
 pub IsWithin-Collected : (names : List (List ℕ)) (side : Side) (linear : Linear) (rs : List Entry) (up down gone limit : ℕ) → Collected names side linear rs up down gone limit → IsWithin limit record { terms = rs; degree = up + shift (side_terms side linear.terms) - (down + gone) }
-IsWithin-Collected names side linear rs up down gone limit k = record {
-  size_in = omega (arith, k.small, size-Collected names side linear rs up down gone limit k);
-  degree_in = omega (arith, k.small, k.parts, shift-side-le side linear.terms);
-}
+IsWithin-Collected names side linear rs up down gone limit k =
+    grind (arith, k.small, k.parts, size-Collected names side linear rs up down gone limit k, shift-side-le side linear.terms)
 
 pub IsSideOf-Collected : (names : List (List ℕ)) (side : Side) (linear : Linear) (rs : List Entry) (up down gone limit : ℕ) → Collected names side linear rs up down gone limit → IsSideOf names side linear record { terms = rs; degree = up + shift (side_terms side linear.terms) - (down + gone) }
 IsSideOf-Collected names side linear rs up down gone limit k =
@@ -233,3 +217,15 @@ true_sum-terms names a (t ∷ ts) = grind (arith, ints, true_sum-terms names a t
 
 pub SameAsForm-linear_of : (names : List (List ℕ)) (f : Form) → SameAsForm names (linear_of names f) f
 SameAsForm-linear_of names f a = grind (arith, true_sum-terms, f.terms)
+
+-- the term of an entry whose variable has this name
+abbrev pub term_named : List ℕ → Entry → Term
+term_named name t = record { coefficient = pos t.coefficient; literal = record { name = name; negated = t.negated } }
+
+-- one more term
+pub terms_push : (names : List (List ℕ)) (ts : List Entry) (i : ℕ) (d : Entry) (out : List Term) (name : List ℕ) → i < length ts → slice_get names (get_or ts i d).variable ≡ Some name → out ≡ map (term_of names) (take i ts) → out ++ term_named name (get_or ts i d) ∷ [] ≡ map (term_of names) (take (i + 1) ts)
+terms_push names ts i d out name lt get e =
+    let t = get_or ts i d in
+    let same = get_or_from_slice_get names t.variable name [] get in
+    let last = ap (λ n. term_named n t) (sym same) in
+    rw (take_more ts i d lt, map-append, e, last) refl

@@ -1,11 +1,28 @@
--- The size and the degree of a sum are at most those of both forms together.
-use Rattle.pb_normal.proofs.Common.{nat_tests, ℕ, ◌+ℤ◌, ◌+◌, ◌<◌, ◌↔◌, ◌∷◌, ◌≡◌, ◌≤◌, ◌⊎◌, [], arith, Bool, false, inl, inr, IsTrue, List, ltb, max, not}
-use Rattle.pb_normal.proofs.Common.{pos, refl, rules, suc, tests, zero, ints, Entry, bound, each, Form, IsRising, low}
-use Rattle.pb_normal.proofs.Common.{negated_of, negative, plain_of, size, total, IsSum, SumMeasures, SumPasses}
-use Rattle.pb_normal.proofs.lemmas.rules.Measures.{SumPasses-not}
-use Rattle.pb_normal.proofs.lemmas.rules.Sums.{at_least_0-le, IsSum-swap}
-use Rattle.pb_normal.proofs.lemmas.rules.Unique.{none_below}
+-- The size and the degree of a sum, by what cancels and by those of both forms, and which fault a result has.
+use Rattle.pb_normal.proofs.Common.{ℕ, ◌*◌, ◌+◌, ◌-◌, ◌<◌, ◌↔◌, ◌≡◌, ◌≤◌, arith, List, refl, Entry, Adds, Cancels, each, Form, IsRising, size, total, IsSum}
+use Rattle.pb_normal.proofs.Common.{SumIsContradiction, SumMeasures, SumPasses, nat_tests, ◌∷◌, ◌⊎◌, [], Bool, false, inl, inr, IsTrue, ltb, max, not, rules}
+use Rattle.pb_normal.proofs.Common.{suc, tests, zero, ints, negated_of, negative, plain_of, Err, Ok, Result, NormalFault, Memory, Overflow}
+use Rattle.pb_normal.proofs.lemmas.terms.Totals.{size-Adds}
+use Rattle.pb_normal.proofs.lemmas.rules.Sums.{IsSum-from, at_least_0-le, IsSum-swap}
+use Rattle.pb_normal.proofs.lemmas.rules.Unique.{IsSum-unique, none_below}
 use Rattle.pb_normal.proofs.lemmas.terms.Variables.{share, top, total-by_variable, up_to}
+use Rattle.std.specs.Result.{IsErrAnd}
+
+pub SumMeasures-from : (f g : Form) (c : ℕ) → Cancels f.terms g.terms c → SumMeasures f g (size f + size g - 2 * c) (f.degree + g.degree - c)
+SumMeasures-from f g c (rs, rising, adds) = (_, IsSum-from f g rs c rising adds, omega (arith, size-Adds f.terms g.terms rs c adds), refl)
+
+pub SumPasses-not : (limit : ℕ) (f g : Form) (s d : ℕ) → SumMeasures f g s d → s ≤ limit → d ≤ limit → SumPasses limit f g → ⊥
+SumPasses-not limit f g s d m p q w = grind (arith, IsSum-unique f g _ _ m.1 w.1, m.2, m.3, w.2)
+
+pub SumIsContradiction-measured : (f g : Form) (s d : ℕ) → SumMeasures f g s d → (s < d) ↔ SumIsContradiction f g
+SumIsContradiction-measured f g s d m = (λ lt. (m.0, m.1, omega (arith, m.2, m.3)), λ w. grind (arith, IsSum-unique f g _ _ m.1 w.1, m.2, m.3, w.2))
+
+-- the merged list with the measured degree is the sum
+pub IsSum-measured : (f g : Form) (s d : ℕ) (rs : List Entry) (c : ℕ) → SumMeasures f g s d → IsRising 0 rs → Adds f.terms g.terms rs c → IsSum f g record { terms = rs; degree = d } × (total each rs ≡ s)
+IsSum-measured f g s d rs c m rising adds =
+    let sum = IsSum-from f g rs c rising adds in
+    let same = IsSum-unique f g _ _ m.1 sum in
+    grind (arith, sum, same, m.2, m.3)
 
 one_side : (n x : ℕ) (ts : List Entry) → IsRising n ts → (total (plain_of x) ts ≡ 0) ⊎ (total (negated_of x) ts ≡ 0)
 one_side n x [] h = inl refl
@@ -28,11 +45,7 @@ total-sum-le p f g r s =
     omega (arith, up_to-le _ _ _ n each_one, total-by_variable p r.terms n (omega arith), total-by_variable p f.terms n (omega arith), total-by_variable p g.terms n (omega arith))
 
 degree-sum-le : (f g r : Form) → IsSum f g r → r.degree ≤ f.degree + g.degree
-degree-sum-le f g r s =
-    let lows = total-sum-le negative f g r s in
-    let z = (bound f +ℤ bound g) +ℤ pos (low r) in
-    let le = at_least_0-le z (f.degree + g.degree + low r) (low f + low g) (f.degree + g.degree) (omega (arith, ints)) (omega arith) in
-    omega (arith, s.degree)
+degree-sum-le f g r s = grind (arith, ints, s.degree, at_least_0-le, total-sum-le negative f g r s)
 
 -- so a sum fits where both together do
 pub SumPasses-small : (limit : ℕ) (f g : Form) → size f + size g ≤ limit → f.degree + g.degree ≤ limit → SumPasses limit f g → ⊥
@@ -40,8 +53,7 @@ SumPasses-small limit f g p q w = grind (arith, total-sum-le each f g w.0 w.1, d
 
 -- the measures of the sum decide
 pub SumPasses-measured : (limit : ℕ) (f g : Form) (s d : ℕ) → SumMeasures f g s d → (limit < s) ⊎ (limit < d) → SumPasses limit f g
-SumPasses-measured limit f g s d m h =
-    (m.0, m.1, elim h [ inl p ↦ inl (omega (arith, m.2)) | inr p ↦ inr (omega (arith, m.3)) ])
+SumPasses-measured limit f g s d m h = (m.0, m.1, elim h [ inl p ↦ inl (omega (arith, m.2)) | inr p ↦ inr (omega (arith, m.3)) ])
 
 pub SumPasses-swap : (limit : ℕ) (f g : Form) → SumPasses limit f g → SumPasses limit g f
 SumPasses-swap limit f g w = (w.0, IsSum-swap f g w.0 w.1, w.2)
@@ -56,3 +68,12 @@ reports_none P never = (λ h. absurd (let lt : 0 < 0 = (reports 0 0).0 h in omeg
 -- the degree decides, if the size is within the limit
 pub SumPasses-by_degree : (limit : ℕ) (f g : Form) (s d : ℕ) → SumMeasures f g s d → s ≤ limit → IsTrue (ltb limit d) ↔ SumPasses limit f g
 SumPasses-by_degree limit f g s d m le = grind (arith, tests, SumPasses-measured limit f g s d m, SumPasses-not limit f g s d m)
+
+-- `Memory` is not `Overflow`
+pub overflow-Memory : {A : Type 0} (r : Result A NormalFault) (P : Type 0) → IsErrAnd r (λ e. e ≡ Memory) → (P → ⊥) → (r ≡ Err Overflow) ↔ P
+overflow-Memory (Ok x) P h n = (λ e. absurd cc, λ p. absurd (n p))
+overflow-Memory (Err f) P h n = (λ e. let g : f ≡ Memory = h in absurd cc, λ p. absurd (n p))
+
+-- a form is not `Overflow`
+pub overflow-Ok : {A : Type 0} (x : A) (P : Type 0) → (P → ⊥) → (let r : Result A NormalFault = Ok x in r ≡ Err Overflow) ↔ P
+overflow-Ok x P n = (λ e. absurd cc, λ p. absurd (n p))

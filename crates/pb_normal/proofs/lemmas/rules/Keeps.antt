@@ -1,10 +1,11 @@
 -- The result of a rule has no other variables than its operands. Whether a form holds depends on the values of its
 -- variables only. Offered to other crates.
 use Rattle.pb_normal.proofs.Common.{nat_tests, ℕ, ◌&&◌, ◌+◌, ◌<◌, ◌↔◌, ◌∷◌, ◌≡◌, [], ap, arith, Bool, cond, eqb, false, List, map, nat_lt, not, refl, true}
-use Rattle.pb_normal.proofs.Common.{lt-ltb, ltb-true, ints, All-cons, All-filter, All-head, All-map, All-nil, All-tail, Entry, AgreeOn, counted, Form}
-use Rattle.pb_normal.proofs.Common.{Holds, IsOver, IsRising, negated_of, plain_of, total, true_at, IsSum, opposite, with_coefficient}
-use Rattle.std.proofs.Common.{All, filter}
-use Rattle.pb_normal.proofs.lemmas.rules.Unique.{none_below}
+use Rattle.pb_normal.proofs.Common.{lt-ltb, ltb-true, ints, All-cons, All-filter, All-head, All-map, All-nil, All-tail, Entry, AgreeOn, counted, Form, Holds}
+use Rattle.pb_normal.proofs.Common.{IsOver, IsRising, negated_of, plain_of, total, true_at, IsSum, opposite, with_coefficient, ◌≤◌, le-ltb, ltb-false, All}
+use Rattle.pb_normal.proofs.Common.{negative, filter}
+use Rattle.pb_normal.proofs.lemmas.rules.Unique.{none_below, Balanced}
+use Rattle.pb_normal.proofs.lemmas.rules.Sums.{total-sum}
 
 abbrev pub AreIn : (ℕ → Bool) → List Entry → Type 0
 AreIn p ts = All (λ t. p t.variable ≡ true) ts
@@ -61,3 +62,15 @@ total-alike a b (t ∷ ts) h =
 
 pub Holds-alike : (a b : ℕ → Bool) (f : Form) → AgreeOn a b f → Holds a f ↔ Holds b f
 Holds-alike a b f h = let same = total-alike a b f.terms h in (λ k. omega (arith, k, same), λ k. omega (arith, k, same))
+
+-- their true literals at an assignment have the same sum, up to the coefficients on negations
+pub total-balanced : (a : ℕ → Bool) (xs ys : List Entry) → Balanced xs ys → total (true_at a) xs + total negative ys ≡ total negative xs + total (true_at a) ys
+total-balanced a xs ys h = omega (arith, total-sum a ys [] xs (λ x. omega (arith, h x)))
+
+-- a variable above all others has no coefficient
+pub total-past : (e : Bool → Bool) (x n : ℕ) (ts : List Entry) → All (λ t. t.variable < n) ts → n ≤ x → total (λ v m. eqb v x && e m) ts ≡ 0
+total-past e x n ts h le = none_outside e (λ v. nat_lt v n) x ts ((AreIn-below n ts).1 h) (le-ltb x n le)
+
+-- if rising terms balance on all variables from n on, they contain none of these variables
+pub All-below : (n m : ℕ) (ts : List Entry) → IsRising m ts → ((x : ℕ) → n ≤ x → total (plain_of x) ts ≡ total (negated_of x) ts) → All (λ t. t.variable < n) ts
+All-below n m ts h e = (AreIn-below n ts).0 (balanced_outside (λ v. nat_lt v n) m ts h (λ x out. e x (ltb-false x n out)))

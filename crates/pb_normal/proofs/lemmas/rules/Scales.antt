@@ -1,11 +1,11 @@
 -- Multiplication and saturation. Offered to other crates.
-use Rattle.pb_normal.proofs.Common.{ℕ, ◌*◌, ◌+◌, ◌/◌, ◌<◌, ◌^◌, ◌∷◌, ◌≡◌, ◌≤◌, [], arith, Bool, cond, get_or, inl, inr, List, ltb, map, min}
-use Rattle.pb_normal.proofs.Common.{refl, mul-le-mul_left, nat_tests, div-add-mod', le-div, All, filter, Entry}
-use Rattle.pb_normal.proofs.Common.{each, Form, Holds, IsNormal, IsRising, IsWithin, size, total, true_at, multiplied, Passes, saturated}
-use Rattle.pb_normal.proofs.Common.{with_coefficient}
-use Rattle.pb_normal.proofs.lemmas.terms.Maps.{IsRising-map, total-filter-le, total-map-le, counted-le}
+use Rattle.pb_normal.proofs.Common.{ℕ, ◌*◌, ◌+◌, ◌/◌, ◌<◌, ◌^◌, ◌∷◌, ◌≡◌, ◌≤◌, [], arith, Bool, cond, get_or, inl, inr, List, ltb, map, min, refl}
+use Rattle.pb_normal.proofs.Common.{mul-le-mul_left, nat_tests, div-add-mod', le-div, All, filter, Entry, each, Form, Holds, IsNormal, IsRising, IsWithin, size}
+use Rattle.pb_normal.proofs.Common.{total, true_at, multiplied, Passes, saturated, with_coefficient, ◌∙◌, Err, IfOk, Ok, Result, sym, div_ceil, divided}
+use Rattle.pb_normal.proofs.lemmas.terms.Maps.{IsRising-map, total-filter-le, total-map-le, counted-le, le-div_ceil, div_ceil-le}
 use Rattle.pb_normal.proofs.lemmas.terms.Merging.{total-read}
 use Rattle.pb_normal.proofs.lemmas.terms.Totals.{IsRising-from}
+use Rattle.pb_normal.proofs.lemmas.rules.Unique.{same_entry, same_form}
 
 -- comparing a quotient and a product
 pub past_quotient : (m n k : ℕ) → 0 < k → n / k < m → n < m * k
@@ -21,16 +21,12 @@ pub total-multiplied : (p : ℕ → Bool → Bool) (k : ℕ) (ts : List Entry) �
 total-multiplied p k [] = omega arith
 total-multiplied p k (t ∷ ts) = omega (arith, total-multiplied p k ts, counted-times (p t.variable t.negated) t.coefficient k)
 
-times_pos : (n k : ℕ) → 0 < n → 0 < k → 0 < n * k
-times_pos n k h p = grind arith
-
 pub IsRising-multiplied : (k n : ℕ) (ts : List Entry) → 0 < k → IsRising n ts → IsRising n (map (λ t. with_coefficient t (t.coefficient * k)) ts)
-IsRising-multiplied k n ts h r = IsRising-map _ n ts (λ t. refl) (λ t p. times_pos t.coefficient k p h) r
+IsRising-multiplied k n ts h r = IsRising-map _ n ts (λ t. refl) (λ t p. grind arith) r
 
 -- each product is at most m if the product of the total is
 pub All-multiplied : (k m : ℕ) (ts : List Entry) → total each ts * k ≤ m → All (λ t. t.coefficient * k < m + 1) ts
-All-multiplied k m ts le i d lt =
-    omega (arith, mul-le-mul_left k (total-read ts i d (get_or ts i d) lt refl))
+All-multiplied k m ts le i d lt = omega (arith, mul-le-mul_left k (total-read ts i d (get_or ts i d) lt refl))
 
 pub Holds-multiplied : (a : ℕ → Bool) (k : ℕ) (f : Form) → Holds a f → Holds a (multiplied k f)
 Holds-multiplied a k f h = omega (arith, total-multiplied (true_at a) k f.terms, mul-le-mul_left k h)
@@ -65,11 +61,7 @@ Holds-saturated a f h =
     omega (arith, total-capped (true_at a) f.degree f.terms, total-positive (true_at a) (map (λ t. with_coefficient t (min t.coefficient f.degree)) f.terms))
 
 pub IsNormal-saturated : (f : Form) → IsNormal f → IsNormal (saturated f)
-IsNormal-saturated f n = record {
-  ordered = IsRising-saturated f.degree 0 f.terms n.ordered;
-  size_in = omega (arith, n.size_in, total-saturated-le each f.degree f.terms);
-  degree_in = n.degree_in;
-}
+IsNormal-saturated f n = grind (arith, n.ordered, n.size_in, n.degree_in, IsRising-saturated f.degree 0 f.terms, total-saturated-le each f.degree f.terms)
 
 -- a product exceeds the limit if and only if the form exceeds the quotient
 pub Passes-size : (limit k : ℕ) (f : Form) → 0 < k → limit / k < size f → Passes limit (multiplied k f)
@@ -85,8 +77,24 @@ pub Passes-not : (limit : ℕ) (f : Form) → IsWithin limit f → Passes limit 
 Passes-not limit f w p = elim p [ inl h ↦ omega (arith, w.size_in) | inr h ↦ omega (arith, w.degree_in) ]
 
 pub IsNormal-multiplied : (limit k : ℕ) (f : Form) → 0 < k → limit < 2 ^ 127 → IsNormal f → IsWithin limit (multiplied k f) → IsNormal (multiplied k f)
-IsNormal-multiplied limit k f h room n w = record {
-  ordered = IsRising-multiplied k 0 f.terms h n.ordered;
-  size_in = omega (arith, w.size_in);
-  degree_in = omega (arith, w.degree_in);
-}
+IsNormal-multiplied limit k f h room n w = grind (arith, w.size_in, w.degree_in, n.ordered, IsRising-multiplied)
+
+map-same : (g : Entry → Entry) (ts : List Entry) → ((t : Entry) → g t ≡ t) → map g ts ≡ ts
+map-same g [] h = refl
+map-same g (t ∷ ts) h = cc (h t, map-same g ts h)
+
+pub multiplied-one : (f : Form) → multiplied 1 f ≡ f
+multiplied-one f =
+    same_form _ f.terms _ f.degree (map-same (λ t. with_coefficient t (t.coefficient * 1)) f.terms (λ t. same_entry _ _ _ _ _ _ refl refl (omega arith))) (omega arith)
+
+div_ceil-one : (n : ℕ) → div_ceil n 1 ≡ n
+div_ceil-one n = omega (arith, le-div_ceil n 1 (omega arith), div_ceil-le n 1 (omega arith))
+
+pub divided-one : (f : Form) → divided 1 f ≡ f
+divided-one f =
+    same_form _ f.terms _ f.degree (map-same (λ t. with_coefficient t (div_ceil t.coefficient 1)) f.terms (λ t. same_entry _ _ _ _ _ _ refl refl (div_ceil-one t.coefficient))) (div_ceil-one f.degree)
+
+-- a result that is the form is the form times 1
+pub IfOk-multiplied-one : {E : Type 0} (r : Result Form E) (k : ℕ) (f : Form) → k ≡ 1 → IfOk r (λ x. x ≡ f) → IfOk r (λ x. x ≡ multiplied k f)
+IfOk-multiplied-one (Ok x) k f is h = h ∙ sym (rw is (multiplied-one f))
+IfOk-multiplied-one (Err e) k f is h = h

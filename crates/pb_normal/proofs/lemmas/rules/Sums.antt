@@ -1,7 +1,6 @@
 -- The sum of two forms: a merge computes it, and it holds if both forms hold. Offered to other crates.
-use Rattle.pb_normal.proofs.Common.{ℕ, ℤ, ◌+ℤ◌, ◌+◌, ◌-◌, ◌≡◌, ◌≤◌, arith, Bool, Err, IfOk, List, max, Ok, pos}
-use Rattle.pb_normal.proofs.Common.{Result, sym, ints, Entry, Adds, flip, at_least_0, bound, Form, Holds, IsRising, low, negated_of}
-use Rattle.pb_normal.proofs.Common.{negative, plain_of, total, true_at, IsSum}
+use Rattle.pb_normal.proofs.Common.{ℕ, ℤ, ◌+ℤ◌, ◌+◌, ◌-◌, ◌≡◌, ◌≤◌, arith, Bool, Err, IfOk, List, max, Ok, pos, Result, sym, ints, Entry, Adds, flip}
+use Rattle.pb_normal.proofs.Common.{at_least_0, bound, Form, Holds, IsRising, negated_of, negative, plain_of, total, true_at, IsSum}
 use Rattle.pb_normal.proofs.lemmas.terms.Variables.{total-same, total-by_variable, up_to-balance, share, top}
 
 pub at_least_0-is : (z : ℤ) (m k : ℕ) → (z +ℤ pos k) ≡ pos m → at_least_0 z ≡ m - k
@@ -31,9 +30,7 @@ at_least_0-le z m k n e le = grind (arith, ints)
 pub Holds-sum : (a : ℕ → Bool) (f g r : Form) → IsSum f g r → Holds a f → Holds a g → Holds a r
 Holds-sum a f g r s hf hg =
     let t = total-sum a f.terms g.terms r.terms (λ x. omega (arith, ints, s.coefficients x)) in
-    let z = (bound f +ℤ bound g) +ℤ pos (low r) in
-    let le = at_least_0-le z (f.degree + g.degree + low r) (low f + low g) (total (true_at a) r.terms) (omega (arith, ints)) (omega arith) in
-    omega (arith, s.degree)
+    grind (arith, ints, t, s.degree, at_least_0-le)
 
 -- the order of the two does not matter
 pub IsSum-swap : (f g r : Form) → IsSum f g r → IsSum g f r

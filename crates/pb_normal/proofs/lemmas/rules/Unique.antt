@@ -1,14 +1,11 @@
 -- A form is determined by its coefficients and its degree. Offered to other crates.
-use Rattle.pb_normal.proofs.Common.{nat_tests, ℕ, ◌&&◌, ◌+◌, ◌<◌, ◌∙◌, ◌∷◌, ◌≡◌, [], ap, arith, Bool, eqb, inl, inr, List, not, refl, sym}
-use Rattle.pb_normal.proofs.Common.{cases_order, ints, Entry, coefficient, counted, Form, IsOrdered, IsRising, negated_of, plain_of}
-use Rattle.pb_normal.proofs.Common.{total, IsSum}
-use Rattle.pb_normal.proofs.lemmas.terms.Variables.{counted-other}
+use Rattle.pb_normal.proofs.Common.{nat_tests, ℕ, ◌&&◌, ◌+◌, ◌<◌, ◌∷◌, ◌≡◌, [], ap, arith, Bool, eqb, inl, inr, List, not, refl, cases_order, ints, Entry}
+use Rattle.pb_normal.proofs.Common.{coefficient, counted, Form, IsOrdered, IsRising, negated_of, plain_of, total, IsSum}
 
 -- a variable below all others has no coefficient
 pub none_below : (e : Bool → Bool) (x n : ℕ) (ts : List Entry) → IsRising n ts → x < n → total (λ v m. eqb v x && e m) ts ≡ 0
 none_below e x n [] h lt = refl
-none_below e x n (t ∷ ts) h lt =
-    omega (arith, none_below e x (t.variable + 1) ts h.2 (omega (arith, h.0)), counted-other t.variable x (e t.negated) t.coefficient (λ same. omega (arith, h.0)))
+none_below e x n (t ∷ ts) h lt = grind (arith, nat_tests, none_below e x (t.variable + 1) ts h.2)
 
 pub same_entry : (v v' : ℕ) (b b' : Bool) (c c' : ℕ) → v ≡ v' → b ≡ b' → c ≡ c' → (let r : Entry = record { variable = v; negated = b; coefficient = c } in r) ≡ record { variable = v'; negated = b'; coefficient = c' }
 same_entry v v' b b' c c' e f g = rw (e, f, g) refl
@@ -44,5 +41,4 @@ form-unique r s p q e d = same_form r.terms s.terms r.degree s.degree (IsRising-
 -- two sums of the same forms are equal
 pub IsSum-unique : (f g r s : Form) → IsSum f g r → IsSum f g s → r ≡ s
 IsSum-unique f g r s p q =
-    let terms = IsRising-same 0 r.terms s.terms p.ordered q.ordered (λ z. omega (arith, ints, p.coefficients z, q.coefficients z)) in
-    same_form r.terms s.terms r.degree s.degree terms (p.degree ∙ rw terms (sym q.degree))
+    grind (arith, IsRising-same 0 r.terms s.terms p.ordered q.ordered (λ z. omega (arith, ints, p.coefficients z, q.coefficients z)), p.degree, q.degree)

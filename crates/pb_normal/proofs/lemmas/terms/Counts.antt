@@ -1,7 +1,6 @@
 -- Literals that count once each.
-use Rattle.pb_normal.proofs.Common.{nat_tests, ℕ, ◌+◌, ◌<◌, ◌^◌, ◌∷◌, ◌≡◌, [], arith, Bool, cond, false, length, List}
-use Rattle.pb_normal.proofs.Common.{map, not, refl, true, Entry, Adds}
-use Rattle.pb_normal.proofs.Common.{flip, each, IsNormal, IsRising, total, IsCountOf, on, only, unit_of, with_coefficient}
+use Rattle.pb_normal.proofs.Common.{nat_tests, ℕ, ◌+◌, ◌<◌, ◌^◌, ◌∷◌, ◌≡◌, [], arith, Bool, cond, false, length, List, map, not, refl, true, Entry, Adds, flip}
+use Rattle.pb_normal.proofs.Common.{each, IsNormal, IsRising, total, IsCountOf, on, only, unit_of, with_coefficient}
 use Rattle.pb_normal.specs.declared.numbered.NumberedLiteral.{NumberedLiteral}
 use Rattle.pb_normal.proofs.lemmas.rules.Unique.{none_below}
 use Rattle.pb_normal.proofs.lemmas.terms.Maps.{IsRising-map}
@@ -57,8 +56,4 @@ IsCountOf-ones ls d gone rs ts apart h adds e = rw e record {
 }
 
 pub IsNormal-ones : (d : ℕ) (rs ts : List Entry) → IsRising 0 rs → ts ≡ ones rs → length rs < 2 ^ 64 → d < 2 ^ 127 → IsNormal record { terms = ts; degree = d }
-IsNormal-ones d rs ts h e few small = rw e record {
-  ordered = IsRising-ones 0 rs h;
-  size_in = omega (arith, total-ones rs);
-  degree_in = small;
-}
+IsNormal-ones d rs ts h e few small = grind (arith, IsRising-ones, total-ones)

@@ -1,17 +1,14 @@
 -- Terms in a map by their variables: what an insertion and a removal change.
-use Rattle.std.proofs.lemmas.Bool.{cond_both}
-use Rattle.pb_normal.proofs.Common.{ℕ, ◌++◌, ◌+◌, ◌<◌, ◌∙◌, ◌∷◌, ◌≡◌, ◌≤◌, [], arith, Bool, get_or}
-use Rattle.pb_normal.proofs.Common.{length, Less, List, None, Option, refl, Some, sym, take, nat_cmp_total, ranked}
-use Rattle.pb_normal.proofs.Common.{All-cons, All-head, All-tail, sum_by-insert_entry, sum_by-remove_entry, BTreeMap, get, insert_entry, is_at}
-use Rattle.pb_normal.proofs.Common.{values, All, AllByRecursion, keys_of, lookup, remove_entry, values_of, option_map, option_to_list, unwrap_or}
-use Rattle.pb_normal.proofs.Common.{nat_cmp, take_read, Entry, Adds, IsAtItsKey, IsKeyed, counted, each}
-use Rattle.pb_normal.proofs.Common.{IsRising, plain_of, total}
+use Rattle.pb_normal.proofs.Common.{cond_both, ℕ, ◌++◌, ◌+◌, ◌<◌, ◌∷◌, ◌≡◌, ◌≤◌, [], arith, Bool, get_or, length, Less, List, None, Option, refl, Some, sym}
+use Rattle.pb_normal.proofs.Common.{take, nat_cmp_total, ranked, All-cons, All-head, All-tail, sum_by-insert_entry, sum_by-remove_entry, BTreeMap, get}
+use Rattle.pb_normal.proofs.Common.{insert_entry, is_at, values, All, AllByRecursion, keys_of, lookup, remove_entry, values_of, option_map, option_to_list}
+use Rattle.pb_normal.proofs.Common.{unwrap_or, nat_cmp, take_read, Entry, Adds, IsAtItsKey, IsKeyed, counted, each, IsRising, plain_of, total, eqb, not}
+use Rattle.pb_normal.proofs.Common.{nat_tests, filter, of_variable}
 use Rattle.std.specs.List.Sorted.{IsStrictlySortedBy}
 use Rattle.std.specs.BTreeMap.{IsOrdered}
 use Rattle.std.proofs.lemmas.Map.Keys.{sorted_head, sorted_tail}
-use Rattle.pb_normal.proofs.lemmas.terms.Collecting.{total-sum}
+use Rattle.pb_normal.proofs.lemmas.terms.Totals.{total-sum, total-prefix, total-append, Adds-apart, size-Adds}
 use Rattle.pb_normal.proofs.lemmas.rules.Sums.{turned}
-use Rattle.pb_normal.proofs.lemmas.terms.Totals.{total-prefix, total-append, Adds-apart, size-Adds}
 use Rattle.pb_normal.proofs.lemmas.rules.Unique.{IsRising-same}
 
 pub All-insert : (k : ℕ) (t : Entry) (es : List (ℕ × Entry)) → IsAtItsKey (k, t) → All IsAtItsKey es → All IsAtItsKey (insert_entry nat_cmp es k t)
@@ -24,12 +21,8 @@ All-remove test [] h = h
 All-remove test (e ∷ es) h =
     cond_both (test e.0) _ _ (All IsAtItsKey) (λ same. All-tail IsAtItsKey e es h) (λ apart. All-cons IsAtItsKey e _ (All-head IsAtItsKey e es h) (All-remove test es (All-tail IsAtItsKey e es h)))
 
-pub IsKeyed-insert : (m n : BTreeMap ℕ Entry) (t : Entry) → IsKeyed m → 0 < t.coefficient → n.entries ≡ insert_entry nat_cmp m.entries t.variable t → IsKeyed n
-IsKeyed-insert m n t h p e = rw e (All-insert t.variable t m.entries (refl, p) h)
-
--- the same, where the key is that of an equal variable
-pub IsKeyed-insert_at : (m n : BTreeMap ℕ Entry) (k : ℕ) (t : Entry) → IsKeyed m → k ≡ t.variable → 0 < t.coefficient → n.entries ≡ insert_entry nat_cmp m.entries k t → IsKeyed n
-IsKeyed-insert_at m n k t h same p e = rw e (All-insert k t m.entries (same, p) h)
+pub IsKeyed-insert : (m n : BTreeMap ℕ Entry) (k : ℕ) (t : Entry) → IsKeyed m → k ≡ t.variable → 0 < t.coefficient → n.entries ≡ insert_entry nat_cmp m.entries k t → IsKeyed n
+IsKeyed-insert m n k t h same p e = rw e (All-insert k t m.entries (same, p) h)
 
 pub IsKeyed-remove : (m n : BTreeMap ℕ Entry) (k : ℕ) → IsKeyed m → n.entries ≡ remove_entry (is_at (nat_cmp k)) m.entries → IsKeyed n
 IsKeyed-remove m n k h e = rw e (All-remove (is_at (nat_cmp k)) m.entries h)
@@ -49,10 +42,9 @@ above k (y ∷ ks) h = grind (arith, ranked k y Less, above k ks)
 IsRising-sorted : (n : ℕ) (es : List (ℕ × Entry)) → AllByRecursion (λ y. n ≤ y) (keys_of es) → IsStrictlySortedBy nat_cmp (keys_of es) → All IsAtItsKey es → IsRising n (values_of es)
 IsRising-sorted n [] low sorted h = tt
 IsRising-sorted n (e ∷ es) low sorted h =
-    let here = All-head IsAtItsKey e es h in
     let more = above e.0 (keys_of es) (sorted_head nat_cmp e.0 (keys_of es) sorted) in
     let rest = IsRising-sorted (e.0 + 1) es more (sorted_tail nat_cmp e.0 (keys_of es) sorted) (All-tail IsAtItsKey e es h) in
-    (omega (arith, low.0, here.0), here.1, rw (← here.0) rest)
+    grind (arith, rest, All-head IsAtItsKey e es h)
 
 from_0 : (ks : List ℕ) → AllByRecursion (λ y. 0 ≤ y) ks
 from_0 [] = tt
@@ -69,9 +61,7 @@ counted-option : (p : ℕ → Bool → Bool) (o : Option Entry) → unwrap_or (o
 counted-option p o = grind arith
 
 pub Replaces-put : (es : List (ℕ × Entry)) (k : ℕ) (t : Entry) → IsStrictlySortedBy nat_cmp (keys_of es) → Replaces (values_of es) (values_of (insert_entry nat_cmp es k t)) (option_to_list (lookup (is_at (nat_cmp k)) es)) (t ∷ [])
-Replaces-put es k t sorted p =
-    let sums = sum_by-insert_entry (counted p) nat_cmp_total es k t sorted in
-    omega (arith, sums, total-sum p (values_of (insert_entry nat_cmp es k t)), total-sum p (values_of es), counted-option p (lookup (is_at (nat_cmp k)) es))
+Replaces-put es k t sorted p = grind (arith, sum_by-insert_entry (counted p) nat_cmp_total es k t sorted, total-sum, counted-option)
 
 pub Replaces-insert : (m n : BTreeMap ℕ Entry) (k : ℕ) (t : Entry) → IsOrdered nat_cmp m → n.entries ≡ insert_entry nat_cmp m.entries k t → Replaces (values m) (values n) (option_to_list (get nat_cmp m k)) (t ∷ [])
 Replaces-insert m n k t sorted e = rw e (Replaces-put m.entries k t sorted)
@@ -81,9 +71,6 @@ Replaces-drop es k p = grind (arith, sum_by-remove_entry, total-sum, counted-opt
 
 pub Replaces-remove : (m n : BTreeMap ℕ Entry) (k : ℕ) → n.entries ≡ remove_entry (is_at (nat_cmp k)) m.entries → Replaces (values m) (values n) (option_to_list (get nat_cmp m k)) []
 Replaces-remove m n k e = rw e (Replaces-drop m.entries k)
-
-pub Replaces-then : (xs ys zs o i n : List Entry) → Replaces xs ys o i → Replaces ys zs i n → Replaces xs zs o n
-Replaces-then xs ys zs o i n h k p = omega (arith, h p, k p)
 
 -- the sum with one term, from the sum with the term of its variable
 pub Adds-replaced : (xs ys o n : List Entry) (t : Entry) (g : ℕ) → Replaces xs ys o n → Adds o (t ∷ []) n g → Adds xs (t ∷ []) ys g
@@ -95,22 +82,17 @@ Adds-then xs ts ys zs t c g h k = grind (arith, total-append, h.signed, k.signed
 
 -- the lookup and the change, by what was found
 pub Adds-absent : (m n : BTreeMap ℕ Entry) (t : Entry) (o : Option Entry) → IsOrdered nat_cmp m → o ≡ get nat_cmp m t.variable → o ≡ None → n.entries ≡ insert_entry nat_cmp m.entries t.variable t → Adds (values m) (t ∷ []) (values n) 0
-Adds-absent m n t o sorted found none e =
-    let nothing : get nat_cmp m t.variable ≡ None = sym found ∙ none in
-    Adds-replaced (values m) (values n) [] (t ∷ []) t 0 (rw nothing at (Replaces-insert m n t.variable t sorted e)) (Adds-apart [] (t ∷ []))
+Adds-absent m n t o sorted found none e = grind (arith, Adds-apart [] (t ∷ []), Replaces-insert m n t.variable t sorted e)
 
 -- the term t was inserted where x was, and then o instead of t
 pub Adds-present : (m i n : BTreeMap ℕ Entry) (x t : Entry) (o : Option Entry) (g : ℕ) → IsOrdered nat_cmp m → Some x ≡ get nat_cmp m t.variable → i.entries ≡ insert_entry nat_cmp m.entries t.variable t → Replaces (values i) (values n) (t ∷ []) (option_to_list o) → Adds (x ∷ []) (t ∷ []) (option_to_list o) g → Adds (values m) (t ∷ []) (values n) g
 Adds-present m i n x t o g sorted found e second a =
     let first : Replaces (values m) (values i) (x ∷ []) (t ∷ []) = rw (← found) at (Replaces-insert m i t.variable t sorted e) in
-    Adds-replaced (values m) (values n) (x ∷ []) (option_to_list o) t g (Replaces-then (values m) (values i) (values n) (x ∷ []) (t ∷ []) (option_to_list o) first second) a
+    grind (arith, first, second, a.signed, a.lows)
 
 -- a coefficient is within the size
 pub get-le-total : (m : BTreeMap ℕ Entry) (k : ℕ) (x : Entry) → Some x ≡ get nat_cmp m k → x.coefficient ≤ total each (values m)
-get-le-total m k x found =
-    let sums = sum_by-remove_entry (counted each) (is_at (nat_cmp k)) m.entries in
-    let here = rw (← found) at sums in
-    omega (arith, here, total-sum each (values m))
+get-le-total m k x found = grind (arith, sum_by-remove_entry (counted each) (is_at (nat_cmp k)) m.entries, total-sum)
 
 pub Putting-fits : (xs list ys : List Entry) (i c n : ℕ) (d x : Entry) → Adds xs (take i list) ys c → i < length list → x ≡ get_or list i d → total each xs + total each list < n → total each ys + x.coefficient < n
 Putting-fits xs list ys i c n d x h lt e fits = omega (arith, size-Adds xs (take i list) ys c h, total-prefix list i d x lt e)
@@ -125,3 +107,34 @@ Putting-cancels xs list ys zs i c g n d x h lt e k fits =
 -- what is added to nothing is the list
 pub Adds-from_none : (ys rs : List Entry) (c : ℕ) → IsRising 0 ys → IsRising 0 rs → Adds [] ys rs c → rs ≡ ys
 Adds-from_none ys rs c p q h = IsRising-same 0 rs ys q p (λ x. omega (arith, h.signed (plain_of x), turned x ys, turned x rs))
+
+-- the terms on other variables
+abbrev without : ℕ → List Entry → List Entry
+without k ts = filter (λ t. not (eqb t.variable k)) ts
+
+without-below : (k n : ℕ) (ts : List Entry) → IsRising n ts → k < n → without k ts ≡ ts
+without-below k n [] h lt = refl
+without-below k n (t ∷ ts) h lt = grind (arith, nat_tests, without-below k (t.variable + 1) ts h.2)
+
+pub values-removed : (k n : ℕ) (es : List (ℕ × Entry)) → IsRising n (values_of es) → All IsAtItsKey es → values_of (remove_entry (is_at (nat_cmp k)) es) ≡ without k (values_of es)
+values-removed k n [] rising h = refl
+values-removed k n (e ∷ es) rising h =
+    grind (arith, nat_tests, ranked k e.0, All-head IsAtItsKey e es h, without-below k (e.1.variable + 1) (values_of es) rising.2, values-removed k (e.1.variable + 1) es rising.2 (All-tail IsAtItsKey e es h))
+
+pub values-remove : (m n : BTreeMap ℕ Entry) (k : ℕ) → IsRising 0 (values m) → IsKeyed m → n.entries ≡ remove_entry (is_at (nat_cmp k)) m.entries → values n ≡ filter (λ t. not (eqb t.variable k)) (values m)
+values-remove m n k rising h e = rw e (values-removed k 0 m.entries rising h)
+
+none_left : (k : ℕ) (ts : List Entry) → total (of_variable k) (without k ts) ≡ 0
+none_left k [] = refl
+none_left k (t ∷ ts) = grind (arith, nat_tests, none_left k ts)
+
+-- the coefficient on the variable, by what was found
+pub dropped-none : (m n : BTreeMap ℕ Entry) (k : ℕ) → IsRising 0 (values m) → IsKeyed m → None ≡ get nat_cmp m k → n.entries ≡ remove_entry (is_at (nat_cmp k)) m.entries → 0 ≡ total (of_variable k) (values m)
+dropped-none m n k rising h found e = grind (arith, Replaces-remove m n k e (of_variable k), values-remove m n k rising h e, none_left k (values m))
+
+pub dropped-some : (m n : BTreeMap ℕ Entry) (k : ℕ) (x : Entry) → IsRising 0 (values m) → IsKeyed m → Some x ≡ get nat_cmp m k → n.entries ≡ remove_entry (is_at (nat_cmp k)) m.entries → x.coefficient ≡ total (of_variable k) (values m)
+dropped-some m n k x rising h found e =
+    grind (arith, nat_tests, Replaces-remove m n k e (of_variable k), values-remove m n k rising h e, none_left k (values m), IsKeyed-get m k x h found)
+
+pub size-some : (m n : BTreeMap ℕ Entry) (k : ℕ) (x : Entry) → Some x ≡ get nat_cmp m k → n.entries ≡ remove_entry (is_at (nat_cmp k)) m.entries → total each (values n) + x.coefficient ≡ total each (values m)
+size-some m n k x found e = let changes = rw (← found) at (Replaces-remove m n k e each) in omega (arith, changes)

@@ -1,13 +1,11 @@
 -- What cancels in the sum of a map and a list, from lookups in the map alone.
-use Rattle.pb_normal.proofs.Common.{ℕ, ◌++◌, ◌+◌, ◌<◌, ◌∙◌, ◌∷◌, ◌≡◌, ◌≤◌, [], ap, append_assoc, arith, false, get_or, Greater, IfSome}
-use Rattle.pb_normal.proofs.Common.{length, Less, List, None, Option, refl, Some, sym, take, ranked, All-head, All-tail, lookup_tail}
-use Rattle.pb_normal.proofs.Common.{BTreeMap, get, insert_entry, is_at, values, nat_cmp_is, All, AllByRecursion, keys_of, lookup, remove_entry}
-use Rattle.pb_normal.proofs.Common.{values_of, option_to_list, is_eq, nat_cmp, take_read, Entry, Adds, Cancels, IsAtItsKey, IsKeyed}
-use Rattle.pb_normal.proofs.Common.{TermCancels, each, IsRising, total}
+use Rattle.pb_normal.proofs.Common.{ℕ, ◌++◌, ◌+◌, ◌<◌, ◌∙◌, ◌∷◌, ◌≡◌, ◌≤◌, [], ap, append_assoc, arith, false, get_or, Greater, IfSome, length, Less, List}
+use Rattle.pb_normal.proofs.Common.{None, Option, refl, Some, sym, take, ranked, All-head, All-tail, lookup_tail, BTreeMap, get, insert_entry, is_at, values}
+use Rattle.pb_normal.proofs.Common.{nat_cmp_is, All, AllByRecursion, keys_of, lookup, remove_entry, values_of, option_to_list, is_eq, nat_cmp, take_read, Entry}
+use Rattle.pb_normal.proofs.Common.{Adds, Cancels, IsAtItsKey, IsKeyed, TermCancels, each, IsRising, total}
 use Rattle.std.specs.List.Sorted.{IsStrictlySortedBy}
-use Rattle.pb_normal.proofs.lemmas.terms.KeyedTerms.{All-insert, All-remove, IsKeyed-get, Replaces-put, Replaces-drop, Adds-replaced}
+use Rattle.pb_normal.proofs.lemmas.terms.KeyedTerms.{All-insert, All-remove, IsKeyed-get, Replaces-put, Replaces-drop, Adds-replaced, values-removed}
 use Rattle.pb_normal.proofs.lemmas.terms.Maps.{IsRising-filter}
-use Rattle.pb_normal.proofs.lemmas.terms.Removals.{values-removed}
 use Rattle.pb_normal.proofs.lemmas.terms.Totals.{Adds-apart, IsRising-from, IsRising-positive, total-append, total-prefix}
 
 -- a change at one key leaves the lookups of larger ones
@@ -100,9 +98,7 @@ pub TermCancels-absent : (m : BTreeMap ℕ Entry) (t : Entry) → 0 < t.coeffici
 TermCancels-absent m t positive found = (Some t, rw (← found) (Adds-apart [] (t ∷ [])), (refl, positive), omega arith)
 
 pub TermCancels-present : (m : BTreeMap ℕ Entry) (t x : Entry) (o : Option Entry) (g : ℕ) → IsKeyed m → Some x ≡ get nat_cmp m t.variable → Adds (x ∷ []) (t ∷ []) (option_to_list o) g → IfSome o (λ s. (s.variable ≡ x.variable) × (0 < s.coefficient)) → g ≤ t.coefficient → TermCancels m t g
-TermCancels-present m t x (Some s) g keyed found adds entry le =
-    let here = IsKeyed-get m t.variable x keyed found in
-    (Some s, rw (← found) adds, (entry.0 ∙ sym here.0, entry.1), le)
+TermCancels-present m t x (Some s) g keyed found adds entry le = (Some s, rw (← found) adds, grind (arith, IsKeyed-get m t.variable x keyed found, entry), le)
 TermCancels-present m t x None g keyed found adds entry le = (None, rw (← found) adds, tt, le)
 
 -- one more term of a list

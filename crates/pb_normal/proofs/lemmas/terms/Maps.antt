@@ -1,9 +1,7 @@
 -- What a change of every term and a filter preserve. Offered to other crates.
-use Rattle.std.proofs.lemmas.Bool.{cond_both}
-use Rattle.pb_normal.proofs.Common.{ℕ, ◌%◌, ◌*◌, ◌+◌, ◌/◌, ◌<◌, ◌∷◌, ◌≡◌, ◌≤◌, ◌⊎◌, [], arith, Bool, cond, eqb, inl, inr, List, map, min, not}
-use Rattle.pb_normal.proofs.Common.{refl, mul-le-mul_left, div-add-mod', mod_below, div_ceil, filter, Entry, counted, each}
-use Rattle.pb_normal.proofs.Common.{Form, Holds, IsNormal, IsRising, total, true_at, divided, negation_of, of_variable, opposite, weakened}
-use Rattle.pb_normal.proofs.Common.{with_coefficient}
+use Rattle.pb_normal.proofs.Common.{ℕ, ◌%◌, ◌*◌, ◌+◌, ◌/◌, ◌<◌, ◌∷◌, ◌≡◌, ◌≤◌, ◌⊎◌, [], arith, Bool, cond, eqb, inl, inr, List, map, min, not, refl}
+use Rattle.pb_normal.proofs.Common.{mul-le-mul_left, div-add-mod', mod_below, div_ceil, filter, Entry, counted, each, Form, Holds, IsNormal, IsRising, total}
+use Rattle.pb_normal.proofs.Common.{true_at, divided, negation_of, of_variable, opposite, weakened, with_coefficient}
 use Rattle.pb_normal.proofs.lemmas.terms.Totals.{IsRising-from}
 
 pub IsRising-map : (g : Entry → Entry) (n : ℕ) (ts : List Entry) → ((t : Entry) → (g t).variable ≡ t.variable) → ((t : Entry) → 0 < t.coefficient → 0 < (g t).coefficient) → IsRising n ts → IsRising n (map g ts)
@@ -21,7 +19,7 @@ total-map-same g p q (t ∷ ts) h = omega (arith, h t, total-map-same g p q ts h
 
 pub IsRising-filter : (p : Entry → Bool) (n : ℕ) (ts : List Entry) → IsRising n ts → IsRising n (filter p ts)
 IsRising-filter p n [] h = tt
-IsRising-filter p n (t ∷ ts) h = cond_both (p t) _ _ (IsRising n) (λ e. (h.0, h.1, IsRising-filter p (t.variable + 1) ts h.2)) (λ e. IsRising-from n (t.variable + 1) _ (omega (arith, h.0)) (IsRising-filter p (t.variable + 1) ts h.2))
+IsRising-filter p n (t ∷ ts) h = grind (arith, IsRising-from n (t.variable + 1), IsRising-filter p (t.variable + 1) ts h.2)
 
 pub total-filter-le : (q : Entry → Bool) (p : ℕ → Bool → Bool) (ts : List Entry) → total p (filter q ts) ≤ total p ts
 total-filter-le q p [] = omega arith
@@ -53,9 +51,6 @@ div_ceil-le n k h = div_ceil-least n k n h (omega (arith, mul-le-mul_left n h))
 pub counted-le : (b : Bool) (m n : ℕ) → m ≤ n → cond b m 0 ≤ cond b n 0
 counted-le b m n h = grind arith
 
-pub counted-le-all : (b : Bool) (n : ℕ) → cond b n 0 ≤ n
-counted-le-all b n = grind arith
-
 pub IsRising-divided : (k n : ℕ) (ts : List Entry) → 0 < k → IsRising n ts → IsRising n (map (λ t. with_coefficient t (div_ceil t.coefficient k)) ts)
 IsRising-divided k n ts h r = IsRising-map _ n ts (λ t. refl) (λ t p. div_ceil-pos t.coefficient k p) r
 
@@ -78,8 +73,7 @@ total-divided p k (t ∷ ts) h = grind (arith, total-divided p k ts h, le-div_ce
 
 -- if a form holds, its quotient holds
 pub Holds-divided : (a : ℕ → Bool) (k : ℕ) (f : Form) → 0 < k → Holds a f → Holds a (divided k f)
-Holds-divided a k f h holds =
-    div_ceil-least f.degree k _ h (omega (arith, total-divided (true_at a) k f.terms h))
+Holds-divided a k f h holds = div_ceil-least f.degree k _ h (omega (arith, total-divided (true_at a) k f.terms h))
 
 -- weakening: what is dropped counts for at most its coefficient
 total-without : (p : ℕ → Bool → Bool) (x : ℕ) (ts : List Entry) → total p ts ≤ total p (filter (λ t. not (eqb t.variable x)) ts) + total (of_variable x) ts
@@ -102,22 +96,10 @@ Holds-negation_back a f h n = grind (arith, total-opposite a f.terms)
 
 -- what stays normal
 pub IsNormal-divided : (k : ℕ) (f : Form) → 0 < k → IsNormal f → IsNormal (divided k f)
-IsNormal-divided k f h n = record {
-  ordered = IsRising-divided k 0 f.terms h n.ordered;
-  size_in = omega (arith, n.size_in, total-divided-le each k f.terms h);
-  degree_in = omega (arith, n.degree_in, div_ceil-le f.degree k h);
-}
+IsNormal-divided k f h n = grind (arith, n.ordered, n.size_in, n.degree_in, IsRising-divided, total-divided-le, div_ceil-le)
 
 pub IsNormal-weakened : (x : ℕ) (f : Form) → IsNormal f → IsNormal (weakened x f)
-IsNormal-weakened x f n = record {
-  ordered = IsRising-filter (λ t. not (eqb t.variable x)) 0 f.terms n.ordered;
-  size_in = omega (arith, n.size_in, total-filter-le (λ t. not (eqb t.variable x)) each f.terms);
-  degree_in = omega (arith, n.degree_in);
-}
+IsNormal-weakened x f n = grind (arith, n.ordered, n.size_in, n.degree_in, IsRising-filter, total-filter-le)
 
 pub IsNormal-negation : (f : Form) → 1 ≤ f.degree → IsNormal f → IsNormal (negation_of f)
-IsNormal-negation f h n = record {
-  ordered = IsRising-opposite 0 f.terms n.ordered;
-  size_in = omega (arith, n.size_in, total-each-opposite f.terms);
-  degree_in = omega (arith, n.size_in);
-}
+IsNormal-negation f h n = grind (arith, n.ordered, n.size_in, n.degree_in, IsRising-opposite, total-each-opposite)

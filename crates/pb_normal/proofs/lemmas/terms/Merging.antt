@@ -1,9 +1,9 @@
 -- What the merge of two lists preserves, and its steps. Offered to other crates.
-use Rattle.pb_normal.proofs.Common.{ℕ, ◌++◌, ◌+◌, ◌<◌, ◌∷◌, ◌≡◌, ◌≤◌, ◌⊎◌, [], add-zero, append-nil, append_assoc, arith, drop, false, get_or, IfSome}
-use Rattle.pb_normal.proofs.Common.{ap, Bool, inl, inr, length, List, None, Option, Some, take, drop_all, take-append-drop, option_to_list, drop_read}
-use Rattle.pb_normal.proofs.Common.{take_read, Entry, Adds, each, IsRising, total}
-use Rattle.pb_normal.specs.meaning.Form.{counted}
-use Rattle.pb_normal.proofs.lemmas.terms.Totals.{Adds-append, Adds-apart, IsRising-between, IsRising-without, IsRising-instead, size-Adds, IsRising-positive, total-prefix}
+use Rattle.pb_normal.proofs.Common.{ℕ, ◌++◌, ◌+◌, ◌<◌, ◌∷◌, ◌≡◌, ◌≤◌, ◌⊎◌, [], add-zero, append-nil, append_assoc, arith, drop, false, get_or, IfSome, ap, Bool}
+use Rattle.pb_normal.proofs.Common.{length, List, None, Option, Some, take, drop_all, take-append-drop, option_to_list, drop_read, take_read, Entry, Adds, each}
+use Rattle.pb_normal.proofs.Common.{IsRising, total, counted}
+use Rattle.pb_normal.proofs.lemmas.terms.Totals.{Adds-append, Adds-apart, IsRising-between, IsRising-without, IsRising-instead, size-Adds, IsRising-positive}
+use Rattle.pb_normal.proofs.lemmas.terms.Totals.{total-prefix}
 
 pub record Merging (left right : List Entry) (i j : ℕ) (out : List Entry) (c : ℕ) : Type 0 where
   pub in_left : i ≤ length left
@@ -12,8 +12,9 @@ pub record Merging (left right : List Entry) (i j : ℕ) (out : List Entry) (c :
   pub left_rising : IsRising 0 (out ++ drop i left)
   pub right_rising : IsRising 0 (out ++ drop j right)
 
-one_more : (out : List Entry) (x : Entry) (xs : List Entry) → out ++ x ∷ xs ≡ (out ++ x ∷ []) ++ xs
-one_more out x xs = simp append_assoc
+-- the two lists change places
+Merging-swap : (left right : List Entry) (i j : ℕ) (out : List Entry) (c : ℕ) → Merging left right i j out c → Merging right left j i out c
+Merging-swap left right i j out c m = grind (arith, m.in_left, m.in_right, m.adds.signed, m.adds.lows, m.left_rising, m.right_rising)
 
 pub Merging-left : (left right : List Entry) (i j : ℕ) (out : List Entry) (c : ℕ) (d x y : Entry) → Merging left right i j out c → i < length left → j < length right → x ≡ get_or left i d → y ≡ get_or right j d → x.variable < y.variable → Merging left right (i + 1) j (out ++ x ∷ []) c
 Merging-left left right i j out c d x y m ilt jlt xe ye lt =
@@ -29,15 +30,7 @@ Merging-left left right i j out c d x y m ilt jlt xe ye lt =
 
 pub Merging-right : (left right : List Entry) (i j : ℕ) (out : List Entry) (c : ℕ) (d x y : Entry) → Merging left right i j out c → i < length left → j < length right → x ≡ get_or left i d → y ≡ get_or right j d → y.variable < x.variable → Merging left right i (j + 1) (out ++ y ∷ []) c
 Merging-right left right i j out c d x y m ilt jlt xe ye lt =
-    let a = Adds-append _ _ _ _ _ _ _ _ m.adds (Adds-apart [] (y ∷ [])) in
-    let rises = rw (drop_read right j d y jlt ye) at m.right_rising in
-    record {
-      in_left = m.in_left;
-      in_right = omega arith;
-      adds = rw (take_read right j d y jlt ye) (simp (append-nil, add-zero) at a);
-      left_rising = rw (append_assoc, drop_read left i d x ilt xe) (IsRising-between 0 out y x _ _ rises (rw (drop_read left i d x ilt xe) at m.left_rising) lt);
-      right_rising = rw (append_assoc) rises;
-    }
+    Merging-swap _ _ _ _ _ _ (Merging-left right left j i out c d y x (Merging-swap _ _ _ _ _ _ m) jlt ilt ye xe lt)
 
 -- if one list is at its end, the rests of both follow
 pub Merging-end : (left right : List Entry) (i j : ℕ) (out : List Entry) (c : ℕ) → Merging left right i j out c → Adds left right ((out ++ drop i left) ++ drop j right) c
@@ -46,13 +39,11 @@ Merging-end left right i j out c m =
     simp (take-append-drop, add-zero, ← append_assoc) at a
 
 pub Merging-end_rising : (left right : List Entry) (i j : ℕ) (out : List Entry) (c : ℕ) → Merging left right i j out c → (length left ≤ i) ⊎ (length right ≤ j) → IsRising 0 ((out ++ drop i left) ++ drop j right)
-Merging-end_rising left right i j out c m h =
-    elim h [ inl p ↦ rw (drop_all i left p, append-nil) m.right_rising | inr p ↦ rw (drop_all j right p, append-nil) m.left_rising ]
+Merging-end_rising left right i j out c m h = grind (arith, drop_all, append-nil, m.right_rising, m.left_rising)
 
 -- what cancelled so far is within both sizes
 pub Merging-fits : (left right : List Entry) (i j : ℕ) (out : List Entry) (c n : ℕ) → Merging left right i j out c → total each left < n → total each right < n → c < n
-Merging-fits left right i j out c n m p q =
-    omega (arith, size-Adds _ _ _ _ (Merging-end left right i j out c m))
+Merging-fits left right i j out c n m p q = omega (arith, size-Adds _ _ _ _ (Merging-end left right i j out c m))
 
 pub total-read : (xs : List Entry) (i : ℕ) (d x : Entry) → i < length xs → x ≡ get_or xs i d → x.coefficient ≤ total each xs
 total-read xs i d x lt e = omega (arith, total-prefix xs i d x lt e)

@@ -1,6 +1,8 @@
--- Lemmas on totals and on lists with rising variables
-use Rattle.pb_normal.proofs.Common.{drop, drop_read, get_or, length, take, take-append-drop, ℕ, ◌*◌, ◌++◌, ◌+◌, ◌<◌, ◌∷◌, ◌≡◌, ◌≤◌, [], arith, Bool, List, refl, Entry, Adds, flip}
-use Rattle.pb_normal.proofs.Common.{each, IsRising, negative, total}
+-- Totals of lists of terms, lists with rising variables, and what is collected from two halves.
+use Rattle.pb_normal.proofs.Common.{drop, drop_read, get_or, length, take, take-append-drop, ℕ, ◌*◌, ◌++◌, ◌+◌, ◌<◌, ◌∷◌, ◌≡◌, ◌≤◌, [], arith, Bool, List, refl}
+use Rattle.pb_normal.proofs.Common.{Entry, Adds, flip, each, IsRising, negative, total, ◌-◌, ◌∙◌, IsPermutation, sym, drop_more, sum_by, counted, map, decoded}
+use Rattle.std.proofs.lemmas.List.Sorted.{sum_by-IsPermutation}
+use Rattle.std.proofs.lemmas.List.Sums.{sum_by-cons}
 
 pub total-append : (p : ℕ → Bool → Bool) (xs ys : List Entry) → total p (xs ++ ys) ≡ total p xs + total p ys
 total-append p [] ys = omega arith
@@ -23,10 +25,7 @@ size-Adds a b r c h = omega (arith, h.signed negative, h.lows, total-each a, tot
 
 -- a coefficient and those before it are within the whole
 pub total-prefix : (list : List Entry) (i : ℕ) (d x : Entry) → i < length list → x ≡ get_or list i d → total each (take i list) + x.coefficient ≤ total each list
-total-prefix list i d x lt e =
-    let s = total-append each (take i list) (drop i list) in
-    let t = rw (take-append-drop, drop_read list i d x lt e) at s in
-    omega arith
+total-prefix list i d x lt e = grind (arith, total-append each (take i list) (drop i list), take-append-drop, drop_read)
 
 pub IsRising-from : (m n : ℕ) (xs : List Entry) → m ≤ n → IsRising n xs → IsRising m xs
 IsRising-from m n [] le h = tt
@@ -47,3 +46,34 @@ IsRising-instead n (s ∷ out) x t xs h e p = (h.0, h.1, IsRising-instead (s.var
 pub IsRising-positive : (n : ℕ) (out : List Entry) (x : Entry) (xs : List Entry) → IsRising n (out ++ x ∷ xs) → 0 < x.coefficient
 IsRising-positive n [] x xs h = h.1
 IsRising-positive n (t ∷ out) x xs h = IsRising-positive (t.variable + 1) out x xs h.2
+
+pub Adds-halves : (xs ys ps qs rs : List Entry) (c d e : ℕ) → Adds xs [] ps c → Adds ys [] qs d → Adds ps qs rs e → Adds (xs ++ ys) [] rs (c + d + e)
+Adds-halves xs ys ps qs rs c d e h k m = grind (arith, total-append, h.signed, k.signed, m.signed, h.lows, k.lows, m.lows)
+
+pub total-halves : (xs : List Entry) (n : ℕ) → total each (take n xs) + total each (drop n xs) ≡ total each xs
+total-halves xs n = grind (arith, total-append each (take n xs) (drop n xs), take-append-drop)
+
+-- a sum does not depend on the order of its terms
+pub total-sum : (p : ℕ → Bool → Bool) (xs : List Entry) → total p xs ≡ sum_by (counted p) xs
+total-sum p [] = refl
+total-sum p (x ∷ xs) = rw (sum_by-cons (counted p) x xs, total-sum p xs) refl
+
+pub total-permutation : (p : ℕ → Bool → Bool) (xs ys : List Entry) → IsPermutation xs ys → total p ys ≡ total p xs
+total-permutation p xs ys h = total-sum p ys ∙ sum_by-IsPermutation (counted p) xs ys h ∙ sym (total-sum p xs)
+
+-- what is collected from the terms in another order is collected from these terms
+pub Adds-permutation : (xs ys rs : List Entry) (c : ℕ) → IsPermutation xs ys → Adds ys [] rs c → Adds xs [] rs c
+Adds-permutation xs ys rs c h k = grind (arith, k.signed, total-permutation, k.lows)
+
+pub Adds-self : (xs : List Entry) → Adds xs [] xs 0
+Adds-self xs = grind (arith)
+
+-- a list that rises from `above` on also rises with x before it, if x is below `above`
+pub IsRising-read : (xs : List Entry) (i above : ℕ) (d x : Entry) → 0 < i → i ≤ length xs → IsRising above (drop i xs) → x ≡ get_or xs (i - 1) d → x.variable < above → 0 < x.coefficient
+    → IsRising x.variable (drop (i - 1) xs)
+IsRising-read xs i above d x some inside rest is below positive = grind (arith, drop_more xs (i - 1) d, IsRising-from)
+
+-- each code counts 1
+pub total-decoded : (codes : List ℕ) → total each (map decoded codes) ≡ length codes
+total-decoded [] = refl
+total-decoded (x ∷ xs) = omega (arith, total-decoded xs)

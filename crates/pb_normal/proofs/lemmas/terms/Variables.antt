@@ -1,6 +1,6 @@
 -- A total over a list of terms, as a sum over the variables
-use Rattle.pb_normal.proofs.Common.{ℕ, ◌&&◌, ◌+◌, ◌<◌, ◌∷◌, ◌≡◌, ◌≢◌, ◌≤◌, [], ap, arith, Bool, cond, eqb, false, inl, inr, List, max, refl}
-use Rattle.pb_normal.proofs.Common.{nat_tests, suc, sym, true, zero, cases_eq, ne_eqb, Entry, counted, negated_of, plain_of, total}
+use Rattle.pb_normal.proofs.Common.{ℕ, ◌+◌, ◌<◌, ◌∷◌, ◌≡◌, ◌≢◌, ◌≤◌, [], arith, Bool, cond, false, List, max, refl, nat_tests, suc, sym, true, zero, cases_eq}
+use Rattle.pb_normal.proofs.Common.{ne_eqb, Entry, counted, negated_of, plain_of, total}
 
 pub total-same : (p q : ℕ → Bool → Bool) → ((v : ℕ) (n : Bool) → p v n ≡ q v n) → (ts : List Entry) → total p ts ≡ total q ts
 total-same p q h [] = refl
@@ -21,11 +21,7 @@ up_to-add g h k (suc n) e = omega (arith, up_to-add g h k n e, e n)
 
 up_to-one : (g : ℕ → ℕ) (v n : ℕ) → v < n → ((x : ℕ) → x ≢ v → g x ≡ 0) → up_to g n ≡ g v
 up_to-one g v zero lt h = absurd (omega arith)
-up_to-one g v (suc n) lt h =
-    elim (cases_eq v n) [
-      | inl e ↦ omega (arith, up_to-zero g n (λ x xlt. h x (omega arith)), ap g e)
-      | inr ne ↦ omega (arith, up_to-one g v n (omega arith) h, h n (omega arith))
-    ]
+up_to-one g v (suc n) lt h = grind (arith, cases_eq v n, up_to-zero g n, up_to-one g v n, h)
 
 -- six sums that balance at each variable balance as a whole
 pub up_to-balance : (a b c d e f : ℕ → ℕ) (n : ℕ) → ((x : ℕ) → a x + b x + c x ≡ d x + e x + f x) → up_to a n + up_to b n + up_to c n ≡ up_to d n + up_to e n + up_to f n
@@ -41,10 +37,6 @@ abbrev pub top : List Entry → ℕ
 top [] = 0
 top (t ∷ ts) = max (t.variable + 1) (top ts)
 
--- what a coefficient counts for on another variable
-pub counted-other : (v x : ℕ) (b : Bool) (c : ℕ) → v ≢ x → cond (eqb v x && b) c 0 ≡ 0
-counted-other v x b c ne = ap (λ (e : Bool). cond (e && b) c 0) (ne_eqb v x ne)
-
 -- what one term contributes on the variable x
 abbrev share_of : (ℕ → Bool → Bool) → Entry → ℕ → ℕ
 share_of p t x = cond (p x false) (counted (plain_of x) t) 0 + cond (p x true) (counted (negated_of x) t) 0
@@ -55,12 +47,9 @@ share_of-other p t x ne = grind (arith, ne_eqb, nat_tests)
 share_of-self : (p : ℕ → Bool → Bool) (t : Entry) → share_of p t t.variable ≡ counted p t
 share_of-self p t = grind (arith, nat_tests)
 
-cond_plus : (b c : Bool) (k l m n : ℕ) → cond b (k + l) 0 + cond c (m + n) 0 ≡ (cond b k 0 + cond c m 0) + (cond b l 0 + cond c n 0)
-cond_plus b c k l m n = grind arith
-
 pub total-by_variable : (p : ℕ → Bool → Bool) (ts : List Entry) (n : ℕ) → top ts ≤ n → total p ts ≡ up_to (share p ts) n
 total-by_variable p [] n le = sym (up_to-zero (share p []) n (λ x lt. grind arith))
 total-by_variable p (t ∷ ts) n le =
-    let both = up_to-add (share p (t ∷ ts)) (share_of p t) (share p ts) n (λ x. cond_plus (p x false) (p x true) _ _ _ _) in
+    let both = up_to-add (share p (t ∷ ts)) (share_of p t) (share p ts) n (λ x. grind arith) in
     let one = up_to-one (share_of p t) t.variable n (omega arith) (share_of-other p t) in
     omega (arith, both, one, share_of-self p t, total-by_variable p ts n (omega arith))

@@ -1,5 +1,4 @@
-use Rattle.pb_normal.proofs.Common.{◌<◌, ◌∙◌, arith, length, rules, to_z-of_z, w128, take, take_read, AfterPrefix, names_of}
-use Rattle.std.proofs.lemmas.List.{take_more_set}
+use Rattle.pb_normal.proofs.Common.{◌<◌, ◌∙◌, arith, length, rules, to_z-of_z, w128, take, take_read, AfterPrefix, names_of, take_more_set}
 use Rattle.pb_normal.proofs.lemmas.names.Numbering.{Numbering-push, AfterPrefix-from, OnErr-always}
 use Rattle.pb_normal.proofs.lemmas.names.WrittenForms.{magnitude-read}
 use Rattle.pb_normal.proofs.linear.number.Goals as goal

@@ -1,6 +1,7 @@
 use Rattle.pb_normal.proofs.Common.{arith, inl, inr}
 use Rattle.pb_normal.proofs.lemmas.terms.Totals.{size-Adds}
-use Rattle.pb_normal.proofs.lemmas.terms.Merging.{Merging-left, Merging-right, Merging-combined, Merging-end, Merging-end_rising, Merging-fits, total-read, positive-read, no_entry}
+use Rattle.pb_normal.proofs.lemmas.terms.Merging.{Merging-left, Merging-right, Merging-combined, Merging-end, Merging-end_rising, Merging-fits, total-read}
+use Rattle.pb_normal.proofs.lemmas.terms.Merging.{positive-read, no_entry}
 use Rattle.pb_normal.proofs.merge.cancelled_in_lists.Goals as goal
 
 pub merge-preserved-then-l-r : goal.merge-preserved-then-l-r
@@ -29,9 +30,7 @@ merge-preserved g c =
     (_, Merging-combined _ _ _ _ _ _ no_entry c.at-l.result c.at-r.result _ _ c.merge.invariant.1 (omega arith) (omega arith) (c.at-l.ensures no_entry) (c.at-r.ensures no_entry) (omega arith) c.combined-gone.ensures.adds c.combined-gone.ensures.entry)
 
 pub returns-else-j-count : goal.returns-else-j-count
-returns-else-j-count g c =
-    (_, Merging-end_rising _ _ _ _ _ _ c.merge.invariant.1 (inr (omega arith)), Merging-end _ _ _ _ _ _ c.merge.invariant.1)
+returns-else-j-count g c = (_, Merging-end_rising _ _ _ _ _ _ c.merge.invariant.1 (inr (omega arith)), Merging-end _ _ _ _ _ _ c.merge.invariant.1)
 
 pub returns-after-merge : goal.returns-after-merge
-returns-after-merge g c =
-    (_, Merging-end_rising _ _ _ _ _ _ c.merge.invariant.1 (inl (omega arith)), Merging-end _ _ _ _ _ _ c.merge.invariant.1)
+returns-after-merge g c = (_, Merging-end_rising _ _ _ _ _ _ c.merge.invariant.1 (inl (omega arith)), Merging-end _ _ _ _ _ _ c.merge.invariant.1)

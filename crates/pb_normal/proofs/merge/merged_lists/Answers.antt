@@ -1,8 +1,8 @@
 use Rattle.pb_normal.proofs.Common.{append-nil, arith}
 use Rattle.pb_normal.proofs.lemmas.terms.Merging.{Merging-left, Merging-right, Merging-combined, Merging-end, Merging-fits, total-read, positive-read, no_entry}
 use Rattle.pb_normal.proofs.lemmas.terms.Totals.{size-Adds}
-use Rattle.pb_normal.proofs.merge.merged_lists.Goals as goal
 use Rattle.pb_normal.proofs.merge.merged_lists.Goals.{in-Some+in_ok-push-3, in_default}
+use Rattle.pb_normal.proofs.merge.merged_lists.Goals as goal
 
 pub merge-preserved-then-x-y : goal.merge-preserved-then-x-y
 merge-preserved-then-x-y g c =
@@ -34,5 +34,4 @@ merge-preserved g c =
     ]
 
 pub returns-clause-adds : goal.returns-clause-adds
-returns-clause-adds g c =
-    simp (c.in_ok-append_rest-2.ensures, c.in_ok-append_rest.ensures) (Merging-end _ _ _ _ _ _ c.merge.invariant)
+returns-clause-adds g c = simp (c.in_ok-append_rest-2.ensures, c.in_ok-append_rest.ensures) (Merging-end _ _ _ _ _ _ c.merge.invariant)

@@ -1,5 +1,4 @@
-use Rattle.pb_normal.proofs.Common.{◌<◌, arith, div_ceil, length, Entry, with_coefficient}
-use Rattle.std.proofs.lemmas.List.Edits.{map_over_more}
+use Rattle.pb_normal.proofs.Common.{◌<◌, arith, div_ceil, length, Entry, with_coefficient, map_over_more}
 use Rattle.pb_normal.proofs.rules.divide_all.Goals as goal
 
 pub terms-preserved : goal.terms-preserved

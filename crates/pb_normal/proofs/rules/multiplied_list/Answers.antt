@@ -1,10 +1,6 @@
-use Rattle.pb_normal.proofs.Common.{◌*◌, arith, refl, Entry, with_coefficient}
-use Rattle.std.proofs.lemmas.List.{map_more}
+use Rattle.pb_normal.proofs.Common.{◌*◌, arith, refl, Entry, with_coefficient, map_more}
 use Rattle.pb_normal.proofs.lemmas.terms.Merging.{no_entry}
 use Rattle.pb_normal.proofs.rules.multiplied_list.Goals as goal
-
-pub overflow_mul-t : goal.overflow_mul-t
-overflow_mul-t g c = grind (arith, c.at-t.ensures, no_entry, c.requires)
 
 pub terms-preserved : goal.terms-preserved
 terms-preserved g c =

@@ -1,12 +1,10 @@
-use Rattle.pb_normal.proofs.Common.{◌<◌, ◌≡◌, ◌≤◌, append-nil, arith, drop_all, length, min, refl, take_all, Entry, with_coefficient}
-use Rattle.std.proofs.lemmas.List.Edits.{map_over_more}
+use Rattle.pb_normal.proofs.Common.{◌<◌, ◌≡◌, ◌≤◌, append-nil, arith, drop_all, length, min, refl, take_all, Entry, with_coefficient, map_over_more}
 use Rattle.pb_normal.proofs.lemmas.rules.Scales.{saturated_nothing, saturated_each}
 use Rattle.pb_normal.proofs.rules.saturate_all.Goals as goal
 
 pub returns-then-degree-eq0 : goal.returns-then-degree-eq0
 returns-then-degree-eq0 c =
-    let nothing : c.args.degree ≡ 0 = omega arith in
-    rw (c.clear.ensures.items, nothing, saturated_nothing c.args.terms.now.items) refl
+    let nothing : c.args.degree ≡ 0 = omega arith in rw (c.clear.ensures.items, nothing, saturated_nothing c.args.terms.now.items) refl
 
 pub terms-preserved : goal.terms-preserved
 terms-preserved c =

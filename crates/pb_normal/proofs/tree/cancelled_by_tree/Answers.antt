@@ -1,5 +1,5 @@
-use Rattle.pb_normal.proofs.Common.{◌++◌, ◌∷◌, ◌≡◌, [], append-nil, arith, rules, values}
-use Rattle.pb_normal.proofs.lemmas.terms.Lookups.{AllCancel-le, AllCancel-more, Cancels-AllCancel, split-positive, split-le, split-next}
+use Rattle.pb_normal.proofs.Common.{◌++◌, ◌∷◌, ◌≡◌, [], arith, rules}
+use Rattle.pb_normal.proofs.lemmas.terms.Lookups.{AllCancel-le, AllCancel-more, split-positive, split-le, split-next}
 use Rattle.pb_normal.proofs.tree.cancelled_by_tree.Goals as goal
 
 pub cancelled_by-cancelled-requires : goal.cancelled_by-cancelled-requires
@@ -23,9 +23,3 @@ loop-term-preserved c =
       split-next _ c.loop-term.invariant.0 _ _ c.in-Some.term.now c.loop-term.invariant.1 next,
       AllCancel-more c.args.terms.now c.loop-term.invariant.0 c.in-Some.term.now _ _ c.loop-term.invariant.2 c.cancelled_by-cancelled.ensures,
     )
-
-pub returns : goal.returns
-returns c =
-    let last : c.loop-term.term-iterator ≡ [] = search rules in
-    let whole : values c.args.others.now ≡ c.loop-term.invariant.0 = rw (last, append-nil) at c.loop-term.invariant.1 in
-    Cancels-AllCancel c.args.terms.now (values c.args.others.now) c.loop-term.cancelled c.requires.keyed c.requires.rising c.requires.others_rising (rw (← whole) at c.loop-term.invariant.2)

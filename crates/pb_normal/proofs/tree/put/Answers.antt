@@ -1,32 +1,23 @@
-use Rattle.pb_normal.proofs.Common.{◌∙◌, ◌∷◌, [], arith, None, Some, sym, values}
-use Rattle.pb_normal.proofs.lemmas.terms.KeyedTerms.{IsKeyed-insert, IsKeyed-insert_at, IsKeyed-remove, IsKeyed-get, IsKeyed-rising, Replaces, Replaces-insert, Replaces-remove, Adds-absent, Adds-present, get-le-total}
+use Rattle.pb_normal.proofs.Common.{◌∙◌, ◌∷◌, [], None, refl, Some, sym, values}
+use Rattle.pb_normal.proofs.lemmas.terms.KeyedTerms.{IsKeyed-insert, IsKeyed-remove, IsKeyed-get, IsKeyed-rising, Replaces, Replaces-insert, Replaces-remove}
+use Rattle.pb_normal.proofs.lemmas.terms.KeyedTerms.{Adds-absent, Adds-present}
 use Rattle.pb_normal.proofs.tree.put.Goals as goal
 
 pub returns-in_default : goal.returns-in_default
 returns-in_default c =
-    let keyed = IsKeyed-insert c.args.terms.now c.insert.new.self c.args.term c.requires.keyed c.requires.positive c.in_ok-before.ensures.entries in
+    let keyed = IsKeyed-insert c.args.terms.now c.insert.new.self _ c.args.term c.requires.keyed refl c.requires.positive c.in_ok-before.ensures.entries in
     record {
       keyed = keyed;
       rising = IsKeyed-rising c.insert.new.self c.in_ok-before.ensures.ordered keyed;
       adds = Adds-absent c.args.terms.now c.insert.new.self c.args.term c.in_ok-before.field-0 c.in_ok-before.ensures.was_ordered c.in_ok-before.ensures.old c.in_default.is c.in_ok-before.ensures.entries;
     }
 
-pub combined-sum-requires : goal.combined-sum-requires
-combined-sum-requires c =
-    let found = sym c.in-Some.is ∙ c.in_ok-before.ensures.old in
-    let here = IsKeyed-get c.args.terms.now c.args.term.variable c.in-Some.before c.requires.keyed found in
-    record {
-      same_variable = sym here.0;
-      left_positive = here.1;
-      fits = omega (arith, c.requires.fits, get-le-total c.args.terms.now c.args.term.variable c.in-Some.before found);
-    }
-
 pub returns-in_ok-insert-in-Some-sum : goal.returns-in_ok-insert-in-Some-sum
 returns-in_ok-insert-in-Some-sum c =
     let entry = rw c.in-Some-sum.is at c.combined-sum.ensures.entry in
     let here = IsKeyed-get c.args.terms.now c.args.term.variable c.in-Some.before c.requires.keyed (sym c.in-Some.is ∙ c.in_ok-before.ensures.old) in
-    let between = IsKeyed-insert c.args.terms.now c.insert.new.self c.args.term c.requires.keyed c.requires.positive c.in_ok-before.ensures.entries in
-    let keyed = IsKeyed-insert_at c.insert.new.self c.insert-in-Some-sum.new.self c.args.term.variable c.in-Some-sum.t between (here.0 ∙ sym entry.0) entry.1 c.in_ok-insert-in-Some-sum.ensures.entries in
+    let between = IsKeyed-insert c.args.terms.now c.insert.new.self _ c.args.term c.requires.keyed refl c.requires.positive c.in_ok-before.ensures.entries in
+    let keyed = IsKeyed-insert c.insert.new.self c.insert-in-Some-sum.new.self c.args.term.variable c.in-Some-sum.t between (here.0 ∙ sym entry.0) entry.1 c.in_ok-insert-in-Some-sum.ensures.entries in
     let adds = rw c.in-Some-sum.is at c.combined-sum.ensures.adds in
     let second : Replaces (values c.insert.new.self) (values c.insert-in-Some-sum.new.self) (c.args.term ∷ []) (c.in-Some-sum.t ∷ []) =
     rw c.in_ok-before.ensures.updates.1 at (Replaces-insert c.insert.new.self c.insert-in-Some-sum.new.self c.args.term.variable c.in-Some-sum.t c.in_ok-before.ensures.ordered c.in_ok-insert-in-Some-sum.ensures.entries) in
@@ -38,7 +29,7 @@ returns-in_ok-insert-in-Some-sum c =
 
 pub returns-in-None : goal.returns-in-None
 returns-in-None c =
-    let between = IsKeyed-insert c.args.terms.now c.insert.new.self c.args.term c.requires.keyed c.requires.positive c.in_ok-before.ensures.entries in
+    let between = IsKeyed-insert c.args.terms.now c.insert.new.self _ c.args.term c.requires.keyed refl c.requires.positive c.in_ok-before.ensures.entries in
     let keyed = IsKeyed-remove c.insert.new.self c.remove.new.self c.args.term.variable between c.remove.ensures.entries in
     let adds = rw c.in-None.is at c.combined-sum.ensures.adds in
     let second : Replaces (values c.insert.new.self) (values c.remove.new.self) (c.args.term ∷ []) [] =

@@ -29,8 +29,5 @@ returns-clause-job c =
     (named_entry _ _ _ (texts c.args.words.now) c.in-Some.name.now (rows_of (found_of c.in-Some.given.now)) c.in_ok-command.ensures.ok c.in_ok-matches.ensures.matches c.in-Some.ensures.name c.in-Some.ensures.rows)
     c.job_of.ensures.ok
 
-pub returns-clause-ranges : goal.returns-clause-ranges
-returns-clause-ranges c = c.job_of.ensures.ranges
-
 pub returns-in_err-command-clause-fault : goal.returns-in_err-command-clause-fault
 returns-in_err-command-clause-fault c = explained_by_memory (texts c.args.words.now) c.in_err-command.field-0.0 _ c.in_err-command.ensures.err c.from_residual.ensures.1

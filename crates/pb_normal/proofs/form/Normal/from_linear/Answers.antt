@@ -1,5 +1,6 @@
 use Rattle.pb_normal.proofs.Common.{arith, refl, rules}
-use Rattle.pb_normal.proofs.lemmas.names.WrittenForms.{shift-side-le, Collected, Collected-from, size-Collected, IsNormal-Collected, IsWithin-Collected, IsSideOf-Collected, SameSolutions-side}
+use Rattle.pb_normal.proofs.lemmas.names.WrittenForms.{shift-side-le, Collected, Collected-from, size-Collected, IsNormal-Collected, IsWithin-Collected}
+use Rattle.pb_normal.proofs.lemmas.names.WrittenForms.{IsSideOf-Collected, SameSolutions-side}
 use Rattle.pb_normal.proofs.form.Normal.from_linear.Goals as goal
 
 -- all that holds before the degree is computed and from then on

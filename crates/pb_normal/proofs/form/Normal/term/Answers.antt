@@ -1,5 +1,4 @@
-use Rattle.pb_normal.proofs.Common.{◌<◌, ◌≡◌, arith, length, pos, to_z, fits_signed_from_abs, ints, to_z_pos, take-append-drop, slice_get-get_or}
-use Rattle.pb_normal.proofs.Common.{w128}
+use Rattle.pb_normal.proofs.Common.{◌<◌, ◌≡◌, arith, length, pos, to_z, fits_signed_from_abs, ints, to_z_pos, take-append-drop, slice_get-get_or, w128}
 use Rattle.pb_normal.proofs.lemmas.terms.Merging.{total-read, positive-read}
 use Rattle.pb_normal.proofs.form.Normal.term.Goals as goal
 

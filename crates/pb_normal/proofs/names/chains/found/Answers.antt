@@ -1,6 +1,5 @@
 use Rattle.pb_normal.proofs.Common.{ℕ, ◌-◌, ◌<◌, ◌≡◌, ◌≤◌, ◌↔◌, arith, Bool, false, IsTrue, length, true, hashes_of, names_in, nexts_of}
-use Rattle.pb_normal.proofs.lemmas.names.Chains.{search-goes}
-use Rattle.pb_normal.proofs.lemmas.names.Texts.{next_at}
+use Rattle.pb_normal.proofs.lemmas.names.Tables.{search-goes, next_at}
 use Rattle.pb_normal.proofs.names.chains.found.Goals as goal
 
 inside : (at n : ℕ) → 0 < at → at ≤ n → at - 1 < n
@@ -10,10 +9,7 @@ unlike : {P : Type 0} (b : Bool) → b ≡ false → (IsTrue b ↔ P) → P → 
 unlike b differs says p = let yes : b ≡ true = says.1 p in absurd cc
 
 pub chain-smaller : goal.chain-smaller
-chain-smaller c =
-    let number = inside c.chain.at (length c.args.entries.now) c.chain-test.true c.chain.invariant.within in
-    let last = c.requires.chained.next (c.chain.at - 1) number in
-    omega (arith, last.within, next_at c.args.entries.now (c.chain.at - 1) number, c.chain-test.true)
+chain-smaller c = grind (arith, c.requires.chained.next (c.chain.at - 1), next_at c.args.entries.now (c.chain.at - 1), c.chain.invariant.within)
 
 pub chain-preserved : goal.chain-preserved
 chain-preserved c =

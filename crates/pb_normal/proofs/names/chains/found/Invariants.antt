@@ -1,5 +1,5 @@
 use Rattle.pb_normal.proofs.Common.{length, hashes_of, names_in}
-use Rattle.pb_normal.proofs.lemmas.names.Chains.{IsSearched}
+use Rattle.pb_normal.proofs.lemmas.names.Tables.{IsSearched}
 use Rattle.pb_normal.proofs.names.chains.found.Given as goal
 
 -- the name was not found from here on

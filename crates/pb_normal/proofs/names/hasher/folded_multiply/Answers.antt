@@ -1,4 +1,4 @@
-use mathlib.Core.Path.{refl}
+use Rattle.pb_normal.proofs.Common.{refl}
 use Rattle.std.specs.Hash.FoldHasher.{folded_multiply}
 use Rattle.pb_normal.proofs.names.hasher.folded_multiply.Goals as goal
 

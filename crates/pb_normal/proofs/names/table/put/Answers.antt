@@ -1,6 +1,5 @@
-use Rattle.pb_normal.proofs.Common.{◌+◌, ◌∙◌, ◌≡◌, ◌≤◌, ap, arith, length, refl, ends_of, hashes_of, IsChained, nexts_of}
-use Rattle.std.proofs.lemmas.List.{with_items_is}
-use Rattle.pb_normal.proofs.lemmas.names.Tables.{ends_after, entries_after, hashes_after, IsTable-push, IsTable-same, listed-push}
+use Rattle.pb_normal.proofs.Common.{◌+◌, ◌∙◌, ◌≡◌, ◌≤◌, ap, arith, length, refl, ends_of, hashes_of, IsChained, nexts_of, with_items_is, NameEntry}
+use Rattle.pb_normal.proofs.lemmas.names.Tables.{entries_after, numbers_after, IsTable-push, IsTable-same, listed-push}
 use Rattle.pb_normal.proofs.names.table.put.Goals as goal
 
 pub returns-in_err-extend_from_slice-clause-table : goal.returns-in_err-extend_from_slice-clause-table
@@ -19,8 +18,8 @@ returns c =
     let sized : length c.link.new.entries ≤ length c.link.new.heads = omega (arith, number, c.link.ensures.heads, ap length c.as_mut_slice.ensures.value, c.requires.heads, c.len-number.ensures, t.entries.ok.0) in
     let written = with_items_is c.push_reserved.new.self c.link.new.entries (c.link.ensures.entries ∙ c.as_mut_slice-2.ensures.len) in
     let linked = with_items_is t.heads c.link.new.heads (c.link.ensures.heads ∙ c.as_mut_slice.ensures.len) in
-    let ends = c.link.ensures.ends ∙ ends_after _ t.entries.items _ _ pushed end in
-    let hashes = c.link.ensures.hashes ∙ hashes_after _ t.entries.items _ _ pushed c.requires.hash in
+    let ends = c.link.ensures.ends ∙ numbers_after (λ (x : NameEntry). x.end) _ t.entries.items _ _ pushed end in
+    let hashes = c.link.ensures.hashes ∙ numbers_after (λ (x : NameEntry). x.hash) _ t.entries.items _ _ pushed c.requires.hash in
     let chained : IsChained c.link.new.heads (hashes_of c.link.new.entries) (nexts_of c.link.new.entries) (length c.link.new.entries) = rw number c.link.ensures.chained in
     record {
       table = IsTable-push t c.args.name.now _ _ _ _ c.link.new.entries c.link.new.heads written linked bytes ends hashes chained sized c.utf8.name c.requires.absent c.requires.table;

@@ -1,5 +1,4 @@
-use Rattle.pb_normal.proofs.Common.{◌∙◌, ◌≡◌, ◌≤◌, ap, arith, ends_of, hashes_of, IsChained, length, nexts_of, refl}
-use Rattle.std.proofs.lemmas.List.{with_items_is}
+use Rattle.pb_normal.proofs.Common.{◌∙◌, ◌≡◌, ◌≤◌, ap, arith, ends_of, hashes_of, IsChained, length, nexts_of, refl, with_items_is}
 use Rattle.pb_normal.proofs.lemmas.names.Tables.{IsTable-linked, IsTable-same}
 use Rattle.pb_normal.proofs.names.table.reserve.Goals as goal
 

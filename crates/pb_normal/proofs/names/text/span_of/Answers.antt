@@ -1,9 +1,6 @@
 use Rattle.pb_normal.proofs.Common.{arith}
-use Rattle.pb_normal.proofs.lemmas.names.Texts.{span_text, span_within}
+use Rattle.pb_normal.proofs.lemmas.names.Tables.{span_within}
 use Rattle.pb_normal.proofs.names.text.span_of.Goals as goal
 
 pub returns-clause-within : goal.returns-clause-within
 returns-clause-within c = λ count h. span_within c.args.entries.now c.args.number count c.requires (omega (arith, c.if-number-eq0.false)) h
-
-pub returns-clause-text : goal.returns-clause-text
-returns-clause-text c = λ bytes. span_text c.args.entries.now c.args.number bytes c.requires (omega (arith, c.if-number-eq0.false))

@@ -1,5 +1,4 @@
-use Rattle.pb_normal.proofs.Common.{◌∙◌, ◌≡◌, ap, arith, false, get_or, List, sym, Entry}
-use Rattle.std.proofs.lemmas.List.{ext_get_or}
+use Rattle.pb_normal.proofs.Common.{◌∙◌, ◌≡◌, ap, arith, false, get_or, List, sym, Entry, ext_get_or}
 use Rattle.pb_normal.proofs.lemmas.terms.Merging.{no_entry}
 use Rattle.pb_normal.proofs.terms.Terms.is_same.Goals as goal
 

@@ -14,7 +14,7 @@ whole : (c : goal.After-saturating_sub-degree) → IsSum c.args.self c.args.othe
 whole c = rw (← c.self.view_is, ← c.other.view_is) (IsSum-from _ _ (values c.put_all.new.terms) c.in_ok-gone.gone c.in_ok-gone.ensures.rising c.in_ok-gone.ensures.adds)
 
 pub returns : goal.returns
-returns c = record { sum = rw c.saturating_sub-degree.ensures (whole c) }
+returns c = grind (arith, c.saturating_sub-degree.ensures, whole c)
 
 pub invariant_of-result : goal.invariant_of-result
 invariant_of-result c = record {

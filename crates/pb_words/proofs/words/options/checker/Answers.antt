@@ -1,5 +1,5 @@
-use Rattle.pb_words.proofs.Common.{◌≡◌, ◌∙◌, ap, codes, app_of_fields, app_of, new_app, Command, Command-F, checker_command, instance_rule}
-use Rattle.pb_words.proofs.Common.{value_rule, with_shared}
+use Rattle.pb_words.proofs.Common.{◌≡◌, ◌∙◌, ap, codes, app_of_fields, app_of, new_app, Command, Command-F, checker_command, instance_rule, value_rule}
+use Rattle.pb_words.proofs.Common.{with_shared}
 use Rattle.pb_words.proofs.lemmas.Added.{added_app, added_local, if_added}
 use Rattle.pb_words.proofs.words.options.checker.Goals as goal
 
@@ -15,6 +15,3 @@ returns-clause-app c =
     let one = added_app _ _ _ (new_app c.args.name.now) instance_rule c.in_ok-arg.ensures first c.instance.ensures.rule c.instance.ensures.local in
     let two = added_app _ _ _ _ (value_rule (codes "proof")) c.in_ok-command.ensures one c.value_argument.ensures.rule c.value_argument.ensures.local in
     if_added _ _ (λ d. app_of d ≡ checker_command c.args.name.now) (λ d is. is ∙ ap with_shared two) c.with_shared.ensures.app
-
-pub returns-clause-local : goal.returns-clause-local
-returns-clause-local c = c.with_shared.ensures.local

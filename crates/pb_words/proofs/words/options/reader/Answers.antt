@@ -12,6 +12,3 @@ returns-clause-app c =
     let first = ap app_of_fields c.after_help.ensures ∙ (ap app_of_fields c.about.ensures ∙ c.new.ensures.app) in
     let one = added_app _ _ _ (new_app c.args.name.now) (value_rule (codes "file")) c.in_ok-command.ensures first c.value_argument.ensures.rule c.value_argument.ensures.local in
     if_added _ _ (λ d. app_of d ≡ reader_command c.args.name.now) (λ d is. is ∙ ap with_shared one) c.with_shared.ensures.app
-
-pub returns-clause-local : goal.returns-clause-local
-returns-clause-local c = c.with_shared.ensures.local

@@ -1,6 +1,5 @@
-use Rattle.pb_words.proofs.Common.{◌≡◌, refl, codes, false, app_of, flag_rule, switch_rule, with_selection}
-use Rattle.clap.specs.declared.builder.Command.TheViews.{out-Command as fields_of}
-use Rattle.pb_words.proofs.lemmas.Added.{added_app, added_local, if_added}
+use Rattle.pb_words.proofs.Common.{◌≡◌, refl, codes, app_of, flag_rule, switch_rule, with_selection}
+use Rattle.pb_words.proofs.lemmas.Added.{added_app, if_added}
 use Rattle.pb_words.proofs.words.options.with_selection.Goals as goal
 
 pub returns-clause-app : goal.returns-clause-app
@@ -9,10 +8,3 @@ returns-clause-app c =
     let two = added_app _ _ _ _ (flag_rule (codes "from")) c.in_ok-arg-2.ensures one c.flag-2.ensures.rule c.flag-2.ensures.local in
     let three = added_app _ _ _ _ (flag_rule (codes "to")) c.in_ok-arg-3.ensures two c.flag-3.ensures.rule c.flag-3.ensures.local in
     if_added _ _ (λ d. app_of d ≡ with_selection (app_of c.args.command)) (λ d adds. added_app _ d _ _ (switch_rule (codes "ids")) adds three c.switch.ensures.rule c.switch.ensures.local) c.arg-4.ensures
-
-pub returns-clause-local : goal.returns-clause-local
-returns-clause-local c =
-    let one = added_local _ _ _ c.in_ok-arg.ensures c.requires c.flag.ensures.local in
-    let two = added_local _ _ _ c.in_ok-arg-2.ensures one c.flag-2.ensures.local in
-    let three = added_local _ _ _ c.in_ok-arg-3.ensures two c.flag-3.ensures.local in
-    if_added _ _ (λ d. (fields_of d).has_globals ≡ false) (λ d adds. added_local _ d _ adds three c.switch.ensures.local) c.arg-4.ensures

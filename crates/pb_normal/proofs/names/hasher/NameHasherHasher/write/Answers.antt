@@ -1,4 +1,4 @@
-use mathlib.Core.Path.{refl}
+use Rattle.pb_normal.proofs.Common.{refl}
 use Rattle.pb_normal.specs.contract.NameHasher.{write}
 use Rattle.pb_normal.proofs.names.hasher.NameHasherHasher.write.Goals as goal
 

@@ -1,6 +1,4 @@
-use Rattle.pb_normal.proofs.Common.{◌<◌, arith, length, map-append, refl, rules, take_all}
-use Rattle.std.proofs.lemmas.List.{take_more, take_more_set}
-use Rattle.pb_normal.specs.engine.Codes.{decoded}
+use Rattle.pb_normal.proofs.Common.{◌<◌, arith, length, map-append, refl, rules, take_all, take_more, take_more_set, decoded}
 use Rattle.pb_normal.proofs.lemmas.terms.Merging.{no_entry}
 use Rattle.pb_normal.proofs.terms.few_codes.FewCodes.of.Goals as goal
 

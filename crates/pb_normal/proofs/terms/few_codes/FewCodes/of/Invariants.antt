@@ -1,5 +1,4 @@
-use Rattle.pb_normal.proofs.Common.{◌≡◌, length, map, take}
-use Rattle.pb_normal.specs.engine.Codes.{decoded}
+use Rattle.pb_normal.proofs.Common.{◌≡◌, length, map, take, decoded}
 use Rattle.pb_normal.proofs.terms.few_codes.FewCodes.of.Given as goal
 
 -- the terms so far are stored

@@ -1,5 +1,4 @@
-use Rattle.pb_normal.proofs.Common.{take_rest, arith}
-use Rattle.std.proofs.lemmas.List.{drop-map}
+use Rattle.pb_normal.proofs.Common.{take_rest, arith, drop-map}
 use Rattle.pb_normal.proofs.terms.listed.RefSliceListed.append_rest.Goals as goal
 
 pub returns : goal.returns
