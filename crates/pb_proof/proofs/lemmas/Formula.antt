@@ -109,11 +109,8 @@ module _ (limit top : ℕ) where
 
 -- The laws of the count machine.
 
-after_fits : (top : ℕ) (count : Option ℕ) (gap : FormulaPhase) (k : NumberByte) → PhaseFits top gap → is_midway gap ≡ true → ActionFits top (next_action count gap k)
-after_fits top count gap k f h = grind arith
-
 pub transition_fits : (top : ℕ) (ph : FormulaPhase) (k : NumberByte) → ActionFits top (transition top ph k)
-transition_fits top ph k = grind (arith, after_fits, nat_le, leb-true)
+transition_fits top ph k = grind (arith, nat_le, leb-true)
 
 -- What holds after a step that continues.
 record Steps (top : ℕ) (next : FormulaState) : Type 0 where

@@ -9,8 +9,7 @@ use Rattle.pb_proof.specs.engine.line.Ended.{ended_lines}
 module _ {A : Type 0} (piece : A → List ℕ) (joined : List A → List ℕ) (none : joined [] ≡ []) (cons : (x : A) (xs : List A) → joined (x ∷ xs) ≡ piece x ++ joined xs) where
   joined-append : (xs ys : List A) → joined (xs ++ ys) ≡ joined xs ++ joined ys
   joined-append [] ys = ap (λ z. z ++ joined ys) (sym none)
-  joined-append (x ∷ xs) ys =
-      cons x (xs ++ ys) ∙ (ap (λ z. piece x ++ z) (joined-append xs ys) ∙ (sym (append_assoc (piece x) (joined xs) (joined ys)) ∙ ap (λ z. z ++ joined ys) (sym (cons x xs))))
+  joined-append (x ∷ xs) ys = grind (arith, append_assoc, joined-append xs ys)
 
   joined_more : (xs : List A) (i : ℕ) (d : A) → i < length xs → joined (take (i + 1) xs) ≡ joined (take i xs) ++ piece (get_or xs i d)
   joined_more xs i d h =

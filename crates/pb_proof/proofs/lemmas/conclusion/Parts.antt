@@ -117,9 +117,6 @@ module _ (limit top : ℕ) where
   act_after : (p q : Phase) (b : ℕ) (c : Concluding) → act (at p) b (next_action c b) ≡ act (at q) b (next_action c b)
   act_after p q b c = act_same p q (Phase.AfterValue c) b (next_action c b) (on_transition (at p) (Phase.AfterValue c) b) (λ x e. cc)
 
-  pub number_follows : (x : Side) (negative : Bool) (n : ℕ) → Follows (phase_after_bound x (Finite (signed negative n))) (at (Phase.Digits x negative n))
-  number_follows x negative n b e = grind (arith, digits, act_same, between, on_transition, act_after)
-
   pub id_steps : (x : Owner) (negative : Bool) (n b : ℕ) → 0 < n → is_digit b ≡ false
       → conclusion_automaton.step (at (Phase.IdDigits x negative n)) b ≡ act (at (Phase.IdDigits x negative n)) b (after_id x (signed negative n) b)
   id_steps x negative n b z e = rw (e, not_zero n z) refl
@@ -169,17 +166,14 @@ module _ (limit top : ℕ) where
   pub signed_step : (x : Side) (negative : Bool) → conclusion_automaton.step (here (Phase.Signed x negative)) 48 ≡ Go (here (Phase.Digits x negative 0))
   signed_step x negative = ap (λ y. act (here (Phase.Signed x negative)) 48 y) (digits_first x negative 0 (omega arith) (omega arith))
 
-  signed_lead : (x : Side) (negative : Bool) (n : ℕ) → n ≤ limit → Leads conclusion_automaton (here (Phase.Signed x negative)) (Digits n) (here (Phase.Digits x negative n))
-  signed_lead x negative n l = grind (arith, number_lead, digits_first)
-
   -- a sign, and the digits after it
   signed_walk : (x : Side) (negative : Bool) (b n : ℕ) (s : ConclusionState) (t u v : List Letter) → conclusion_automaton.step s b ≡ Go (here (Phase.Signed x negative)) → t ≡ u ++ v → u ≡ unmarked b ∷ []
       → n ≤ limit → Digits n v → Walks conclusion_automaton s t (here (Phase.Digits x negative n))
-  signed_walk x negative b n s t u v g f e l ds = grind (arith, signed_lead)
+  signed_walk x negative b n s t u v g f e l ds = grind (arith, number_lead, digits_first)
 
   number_read : (x : Side) (negative : Bool) (n : ℕ) (z : ℤ) (s : ConclusionState) (t : List Letter) → z ≡ signed negative n → Walks conclusion_automaton s t (here (Phase.Digits x negative n))
       → (new : ConclusionState) × Walks conclusion_automaton s t new × Follows limit top (phase_after_bound x (Finite z)) new
-  number_read x negative n z s t e w = grind (arith, number_follows)
+  number_read x negative n z s t e w = grind (arith, digits, act_same, between, on_transition, act_after)
 
   number_carries : (x : Side) (z : ℤ) → Carries limit top (Opens x) (Number limit z) (Follows limit top (phase_after_bound x (Finite z)))
   number_carries x z s t o (true, n, l, e, (u, v, f, sign, ds)) = number_read x true n z s t e (signed_walk x true 45 n s t u v o.minus f sign l ds)

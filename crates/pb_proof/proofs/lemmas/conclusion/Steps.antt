@@ -34,13 +34,6 @@ module _ (s : ConclusionState) (p : Phase) where
   on_id_digits : (x : Owner) (negative : Bool) (n b : ℕ) → On (id_digits s.top x negative n b)
   on_id_digits x negative n b = grind (arith, nat_le, leb-true, and_parts)
 
-  -- a byte of a word
-  on_spell : (w : List ℕ) (k b : ℕ) (more whole : Phase) → IsNext s p whole → (nat_eq (k + 1) (length w) ≡ false → IsNext s p more) → On (spell w k b more whole)
-  on_spell w k b more whole h i = grind (arith, on_cond, nat_eq, slice_index, length)
-
-  on_begin : (x : Side) (b : ℕ) → On (begin_bound s.limit x b)
-  on_begin x b = grind (arith, on_cond, nat_eq, on_digits)
-
   on_after : (c : Concluding) (b : ℕ) → On (next_action c b)
   on_after c b = grind (arith, on_cond, nat_eq)
 
@@ -67,16 +60,16 @@ module _ (s : ConclusionState) where
   pub on_transition : (p : Phase) (b : ℕ) → OnAction s p (transition s.limit s.top p b)
   on_transition Phase.Start b = on_cond s Phase.Start (is_blank b) (To Phase.Before) Stop (refl, λ f. tt) tt
   on_transition Phase.Before b = on_cond s Phase.Before (is_blank b) (To Phase.Before) _ (refl, λ f. tt) (on_first s Phase.Before b)
-  on_transition (Phase.Word w k) b = grind (arith, on_spell, further, length)
+  on_transition (Phase.Word w k) b = grind (arith, on_cond, nat_eq, slice_index, further, length)
   on_transition (Phase.AfterValue c) b = on_after s (Phase.AfterValue c) c b
   on_transition (Phase.Semicolon c) b = grind (arith, on_cond, nat_eq)
   on_transition Phase.Bounded b = on_cond s Phase.Bounded (is_blank b) (To (Phase.BeforeBound Side.Lower)) Stop (refl, λ f. tt) tt
-  on_transition (Phase.BeforeBound x) b = grind (arith, on_cond, on_begin)
+  on_transition (Phase.BeforeBound x) b = grind (arith, on_cond, nat_eq, on_digits)
   on_transition (Phase.Signed x negative) b = on_digits s (Phase.Signed x negative) x negative 0 b
   on_transition (Phase.Digits x negative n) b = grind (arith, on_cond, on_digits, on_after_bound)
-  on_transition (Phase.Infinity x k) b = grind (arith, on_spell, next_bound, further, length)
+  on_transition (Phase.Infinity x k) b = grind (arith, on_cond, nat_eq, slice_index, next_bound, further, length)
   on_transition (Phase.Between x) b = on_between s (Phase.Between x) x b
-  on_transition (Phase.Spaced x) b = grind (arith, on_cond, nat_eq, on_begin)
+  on_transition (Phase.Spaced x) b = grind (arith, on_cond, nat_eq, on_digits)
   on_transition (Phase.BeforeId x) b = grind (arith, on_cond, nat_eq, on_id_digits)
   on_transition (Phase.IdSigned x) b = on_id_digits s (Phase.IdSigned x) x true 0 b
   on_transition (Phase.IdDigits x negative n) b = grind (arith, on_cond, on_id_digits, nat_eq, on_after_id)
@@ -118,18 +111,12 @@ module _ (s : ConclusionState) (shows : Showing) (p : s.phase ≡ Phase.Shown sh
 idle_holds : (limit top : ℕ) (p : Phase) → Holds (conclusion_at limit top p) p
 idle_holds limit top p = grind arith
 
-idle_spent : (limit top : ℕ) (p : Phase) → spent (conclusion_at limit top p) p ≤ 1
-idle_spent limit top p = grind arith
-
 -- a state in which no literal is read
 pub idle_order : (limit top : ℕ) (p : Phase) → limit < 2 ^ 127 → top < 2 ^ 63 → 0 < top → PhaseFits limit top p → IsConclusionInOrder (conclusion_at limit top p)
 idle_order limit top p l t z f = record { limit = l; top = t; some = z; fits = f; holds = idle_holds limit top p; literals = λ i. (refl, refl) }
 
 acted : (s : ConclusionState) (b : ℕ) (m : Action) → OnAction s s.phase m → Stepped s (act s b m)
-acted s b (To p) h = grind (arith, idle_order, idle_spent)
-acted s b (Finish c) h = refl
-acted s b (Action.Give shows) h = given s shows h b (solution_automaton.step s.literals b) refl
-acted s b Stop h = tt
+acted s b m h = grind (arith, idle_order, given)
 
 pub stepped : (s : ConclusionState) (b : ℕ) → Stepped s (conclusion_automaton.step s b)
 stepped s b = acted s b (transition s.limit s.top s.phase b) (on_transition s s.phase b)

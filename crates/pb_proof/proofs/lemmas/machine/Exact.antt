@@ -80,20 +80,9 @@ module _ (limit top : ℕ) where
   abbrev Spelled : Item Statement → Type 0
   Spelled i = IsGap i.gap × SpellsStatement limit top i.event i.text
 
-  gap_is : (at : Stage) (gap : List ℕ) → GapAt at gap → IsGap gap
-  gap_is at gap h = grind (arith, no_gap)
-
   spelled_only : (items : List (Item Statement)) (at : Stage) → IsStaged limit top at items → InOrder at (events_of items) × AreSpelled limit top items
   spelled_only [] at h = (h, All-nil Spelled)
-  spelled_only (i ∷ rest) at (g, s, t, h) =
-      let k = spelled_only rest (stage_after i.event) h in
-      ((s, k.0), All-cons Spelled i rest (gap_is at i.gap g, t) k.1)
-
-  at_once : (items : List (Item Statement)) → IsStaged limit top Opening items → BeginsAtOnce limit top items
-  at_once items h = grind arith
-
-  pub proof_only : (items : List (Item Statement)) → IsStaged limit top Opening items → IsProof limit top items
-  proof_only items h = grind (arith, spelled_only, at_opening, at_once)
+  spelled_only (i ∷ rest) at (g, s, t, h) = grind (arith, All-cons, no_gap, spelled_only rest (stage_after i.event) h)
 
   -- after the first statement, white space and comments may come
   gap_later : (e : Statement) (gap : List ℕ) → IsGap gap → GapAt (stage_after e) gap
@@ -114,7 +103,7 @@ module _ (limit top : ℕ) where
 
   -- A new machine accepts exactly the proofs.
   pub reads_proofs : (items : List (Item Statement)) → AcceptsItems proofs (begin limit top) items ↔ IsProof limit top items
-  reads_proofs items = grind (arith, proof_only, ordered_only, ordered_each, proof_each)
+  reads_proofs items = grind (arith, spelled_only, at_opening, ordered_only, ordered_each, proof_each)
 
 -- No byte is taken after a complete proof.
 pub done_stops : (s : ProofState) (p : Phase) (b : ℕ) → is_done p ≡ true → act s b (transition p b) ≡ Refuse

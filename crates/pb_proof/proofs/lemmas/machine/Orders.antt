@@ -9,18 +9,12 @@ use Rattle.pb_text.proofs.lemmas.text.Blanks.{blank_passes, in_comment-snoc, IsB
 use Rattle.pb_proof.proofs.lemmas.machine.Complete.{statement_each}
 use Rattle.pb_proof.proofs.lemmas.machine.Sound.{statement_only}
 
-passing : (s : Stage) (b : ℕ) → HasGaps s → between s b ≡ pass s b
-passing s b h = grind arith
-
 abbrev pub Inside : Action → Type 0
 Inside (Action.To p) = is_within p ≡ true
 Inside _ = Unit {0}
 
-pub spell_inside : (f : Keyword) (k b : ℕ) (other : Action) → Inside other → Inside (spell f k b other)
-spell_inside f k b other h = grind (arith, slice_index, nat_eq, length)
-
 pub enter_inside : (s : Stage) (b : ℕ) → Inside (enter s b)
-enter_inside s b = grind (arith, spell_inside)
+enter_inside s b = grind (arith, slice_index, nat_eq, length)
 
 -- no statement begins in a comment
 pub comment_reads : (limit top : ℕ) (s : Stage) (t : List Letter) (e : Statement) (after : ProofState) → ReadsStatement proofs (at limit top (Phase.Comment s)) t e after → ⊥
@@ -39,9 +33,6 @@ module _ (limit top : ℕ) (s : Stage) (gaps : HasGaps s) where
   InGap P (End e after) = Unit {0}
   InGap P Refuse = Unit {0}
 
-  entered : (P : ProofState → Type 0) (b : ℕ) (m : Action) → Inside m → InGap P (act (idle limit top s) b m)
-  entered P b m h = grind (arith, never)
-
   abbrev next_mode : ℕ → Bool → Bool
   next_mode b commented = not (nat_eq b 10) && (nat_eq b 42 || commented)
 
@@ -58,10 +49,10 @@ module _ (limit top : ℕ) (s : Stage) (gaps : HasGaps s) where
   star_mode b h = subst (λ x. next_mode x false ≡ true) (sym (eqb-true b 42 h)) refl
 
   gap_step : (commented : Bool) (b : ℕ) → passed b commented ≡ true → proofs.step (gap_state commented) b ≡ Go (gap_state (next_mode b commented))
-  gap_step commented b h = grind (arith, nat_eq, not, or-true, passing, white_mode, star_mode, never)
+  gap_step commented b h = grind (arith, nat_eq, not, or-true, white_mode, star_mode, never)
 
   gap_byte : (commented : Bool) (b : ℕ) → InGap (Leads b commented) (proofs.step (gap_state commented) b)
-  gap_byte commented b = grind (arith, or-true, nat_eq, gap_step, passing, white_mode, star_mode, entered, enter_inside)
+  gap_byte commented b = grind (arith, or-true, nat_eq, gap_step, white_mode, star_mode, never, enter_inside)
 
   mode_after : (before : List ℕ) (b : ℕ) → next_mode b (in_comment before) ≡ in_comment (before ++ b ∷ [])
   mode_after before b = sym (in_comment-snoc before b)

@@ -105,11 +105,8 @@ steps s h b = on_act s h b (transition s.phase b) (on_transition s.phase b h.fit
 continues : (s next : ProofState) (b : ℕ) → IsInOrder s → proofs.step s b ≡ Go next → Continues s next
 continues s next b h e = subst (On s) e (steps s h b)
 
-kept_within : (s : ProofState) (p : Phase) → Holds s p → proofs.kept s ≤ proofs.spent s
-kept_within s p h = grind arith
-
 pub is_state : (s : ProofState) → IsInOrder s → IsState proofs s
-is_state s h = grind (arith, live, finishes, continues, steps, plain_holds, s.phase, h.holds, kept_within, never)
+is_state s h = grind (arith, live, finishes, continues, steps, plain_holds, s.phase, h.holds, never)
 
 -- What holds of the machine after a byte.
 module _ (s : ProofState) (h : IsInOrder s) (b : ℕ) where

@@ -57,9 +57,6 @@ module _ (limit top : ℕ) (e : List PolWord) (after : PolState) where
       (ends ws d name (Phase.Name false) (Change.Axiom false) (held_name false d) (gap ws d) (plain name) u (free_name false d) refl
       (name_walk limit top ws d Held.Nothing tt [] name h) r)
 
-  add_run : (ws : List PolWord) (d : ℕ) (t u : List Letter) → Byte 43 t → R (done (ws ++ PolWord.Add ∷ []) (suc d)) u → R (gap ws (suc (suc d))) (t ++ u)
-  add_run ws d t u f r = grind (arith, nat_le, le-leb, longer)
-
   saturate_run : (ws : List PolWord) (d : ℕ) (t u : List Letter) → Byte 115 t → R (done (ws ++ PolWord.Saturate ∷ []) (suc d)) u → R (gap ws (suc d)) (t ++ u)
   saturate_run ws d t u f r =
       let test : nat_le 1 (suc d) ≡ true = le-leb 1 (suc d) (omega arith) in
@@ -174,7 +171,7 @@ module _ (limit top : ℕ) (e : List PolWord) (after : PolState) where
   -- a word, if the words after it are read
   word_run : (vs : List PolWord) (d : ℕ) (w : PolWord) (ws : List PolWord) (t u : List Letter) → Counts d (w ∷ ws) → SpellsWord limit top w t
       → ((next : ℕ) → Counts next ws → R (done (vs ++ w ∷ []) next) u) → R (gap vs d) (t ++ u)
-  word_run vs d w ws t u c h f = search (rules, id_run, literal_run, add_run, multiply_run, divide_run, saturate_run, weaken_run)
+  word_run vs d w ws t u c h f = search (rules, id_run, literal_run, nat_le, le-leb, longer, multiply_run, divide_run, saturate_run, weaken_run)
 
 module _ (limit top : ℕ) where
   -- the end of the line after the words of one expression

@@ -56,19 +56,7 @@ module _ (limit top : ℕ) (e : List PolWord) (after : PolState) where
   as_letter : (r : Role) → may_be_name r ≡ true → (ws : List PolWord) (d : ℕ) (name : List ℕ) (t : List Letter)
       → R (st ws d name (Phase.Lone Role.Name)) t → R (st ws d name (Phase.Lone r)) t
   as_letter r h ws d name [] x = absurd x
-  as_letter r h ws d name (l ∷ t) x = at_kind (st ws d name (Phase.Lone Role.Name)) (st ws d name (Phase.Lone r)) l t go x
-    where
-      further : (b : Bool) → C t (by (st ws d name (Phase.Lone Role.Name)) l.byte (cond b (Action.Add (Phase.Name false)) Action.Stop))
-          (by (st ws d name (Phase.Lone r)) l.byte (cond (may_be_name r && b) (Action.Add (Phase.Name false))
-          Action.Stop))
-      further b = rw h (same t (st ws d name (Phase.Lone r)) l.byte (cond b (Action.Add (Phase.Name false)) Action.Stop))
-
-      go : (k : Kind) → C t (by (st ws d name (Phase.Lone Role.Name)) l.byte (transition limit top d (Phase.Lone Role.Name) k))
-          (by (st ws d name (Phase.Lone r)) l.byte (transition limit top d (Phase.Lone r) k))
-      go Kind.Blank = tt
-      go Kind.Semicolon = tt
-      go Kind.Feed = tt
-      go k = further (is_name_kind k)
+  as_letter r h ws d name (l ∷ t) x = grind (arith, at_kind, same)
 
   -- after a word that may still change, everything is read that is read after one that may not
   pub as_gap : (h : Held) → IsFree h → (ws : List PolWord) (d : ℕ) (t : List Letter) → R (st ws d [] (Phase.Gap Held.Nothing)) t → R (st ws d [] (Phase.Gap h)) t

@@ -19,11 +19,8 @@ Says Minus b = b ≡ 45
 Says Tilde b = b ≡ 126
 Says Other b = Unit {0}
 
-symbol_says : (b : ℕ) → Says (symbol b) b
-symbol_says b = grind (arith, eqb-true)
-
 pub kind_says : (b : ℕ) → Says (kind_of b) b
-kind_says b = search (rules, digit_of, symbol_says, eqb-true)
+kind_says b = search (rules, digit_of, eqb-true)
 
 -- what the kinds of letters, and of name bytes, say
 pub letter_kind : (k : Kind) (b : ℕ) → Says k b → is_letter_kind k ≡ true → IsTrue (is_letter b)
@@ -42,8 +39,5 @@ of_blank b h = grind (arith, nat_tests)
 pub of_letter : (b : ℕ) → IsTrue (is_letter b) → is_letter_kind (kind_of b) ≡ true
 of_letter b h = grind (arith, nat_tests)
 
-pub letter_is_name : (k : Kind) → is_letter_kind k ≡ true → is_name_kind k ≡ true
-letter_is_name k e = grind arith
-
 pub of_name : (b : ℕ) → IsTrue (is_name_byte b) → is_name_kind (kind_of b) ≡ true
-of_name b h = grind (arith, letter_is_name, of_letter)
+of_name b h = grind (arith, of_letter)

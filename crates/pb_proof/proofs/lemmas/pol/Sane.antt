@@ -36,11 +36,8 @@ module _ (limit top d : ℕ) where
   number-sane : (ph : Phase) (n k : ℕ) → IsSane ph (number limit top d n k)
   number-sane ph n k = test ph (nat_le (10 * n + k) (bound limit top d)) (Action.To (Phase.Number (10 * n + k))) (refl, refl)
 
-  next-sane : (h : Held) (k : Kind) → IsSane (Phase.Gap h) (next limit top d h k)
-  next-sane h k = grind (arith, false≢true, number-sane, test, nat_le)
-
   read-sane : (ph : Phase) (k : Kind) → IsSane ph (read limit top d ph k)
-  read-sane ph k = grind (arith, next-sane, number-sane, test, nat_le)
+  read-sane ph k = grind (arith, false≢true, number-sane, test, nat_le)
 
   late-sane : (k : Kind) → IsSane Phase.Ending (late k)
   late-sane k = grind arith
@@ -65,25 +62,19 @@ units_last f h [] = omega arith
 units_last f h (w ∷ []) = let i = h w in omega (arith, i)
 units_last f h (w ∷ v ∷ ws) = let i = units_last f h (v ∷ ws) in omega (arith, i)
 
-added_units : (c : Change) (ws : List PolWord) (name : List ℕ) → adds c ≡ true → units (changed c ws name) ≤ units ws + 1 + length name
-added_units c ws name h = grind (arith, units_append, false≢true)
-
-ready_once : (ph : Phase) → ready ph ≤ 1
-ready_once ph = grind arith
-
 abbrev pub potential : Work → ℕ
 potential w = all_units w + ready w.phase
 
 turn_grows : (c : Change) (ws : List PolWord) (name : List ℕ) (ph q : Phase) (b : Bool) → adds c ≡ b → in_hand q ≡ 0 → (adds c ≡ true → in_hand ph + ready ph ≡ 1)
     → units (changed c ws name) + in_hand q + 0 + ready q ≤ units ws + in_hand ph + length name + ready ph + 1
-turn_grows c ws name ph q b e f g = grind (arith, ready_once, added_units, units_last, true≢false)
+turn_grows c ws name ph q b e f g = grind (arith, units_append, false≢true, units_last, true≢false)
 
 -- after a byte: within a line, and at most one unit more
 abbrev pub IsNext : Work → Work → Type 0
 IsNext w v = (is_midway v.phase ≡ true) × (potential v ≤ potential w + 1)
 
 pub continues : (w v : Work) (b : ℕ) (m : Action) → IsSane w.phase m → act w b m ≡ Go v → IsNext w v
-continues w v b (Action.To q) h e = grind (arith, one_state, ready_once)
+continues w v b (Action.To q) h e = grind (arith, one_state)
 continues w v b (Action.Begin q) h e = grind (arith, one_state)
 continues w v b (Action.Add q) h e = grind (arith, one_state, length-append)
 continues w v b (Action.Turn c q) h e =
@@ -97,6 +88,4 @@ ends w v b m e h = grind (arith, one_end, go_or_end, refuse_or_end)
 
 -- after the end of the line no byte is taken
 pub stops : (limit top d : ℕ) (ph : Phase) (k : Kind) → is_done ph ≡ true → transition limit top d ph k ≡ Action.Stop
-stops limit top d Phase.Done Kind.Blank h = refl
-stops limit top d Phase.Done _ h = refl
-stops limit top d _ k h = absurd (false≢true h)
+stops limit top d ph k h = grind (arith, false≢true)

@@ -60,10 +60,6 @@ module _ (limit top : ℕ) (ws : List PolWord) (d : ℕ) where
       tested (st [] Phase.Minus) k top (10 * 0 + k) (Phase.Signed (10 * 0 + k)) (of_digit k i) refl (omega arith) ∙ ap (λ x. Go (st [] (Phase.Signed x))) e)
       n l t h
 
-  -- names
-  pub transition_name : (negated : Bool) (k : Kind) → is_name_kind k ≡ true → transition limit top d (Phase.Name negated) k ≡ Action.Add (Phase.Name negated)
-  transition_name negated k e = grind (arith, false≢true)
-
   pub transition_second : (r : Role) → may_be_name r ≡ true → (k : Kind) → is_name_kind k ≡ true → transition limit top d (Phase.Lone r) k ≡ Action.Add (Phase.Name false)
   transition_second r h k e = grind (arith, false≢true)
 
@@ -76,14 +72,7 @@ module _ (limit top : ℕ) (ws : List PolWord) (d : ℕ) where
   more_walk : (negated : Bool) (bs name : List ℕ) → Each (λ e. IsTrue (is_name_byte e)) bs
       → Walks pol_automaton (st name (Phase.Name negated)) (plain bs) (st (name ++ bs) (Phase.Name negated))
   more_walk negated [] name h = ap (λ x. st x (Phase.Name negated)) (append-nil name)
-  more_walk negated (b ∷ bs) name h = (
-    st (name ++ b ∷ []) (Phase.Name negated),
-    moves (st name (Phase.Name negated)) b (Action.Add (Phase.Name negated)) (transition_name negated (kind_of b) (of_name b h.0)),
-    refl,
-    refl,
-    subst (λ x. Walks pol_automaton (st (name ++ b ∷ []) (Phase.Name negated)) (plain bs) (st x (Phase.Name negated))) (append_assoc name (b ∷ []) bs)
-        (more_walk negated bs (name ++ b ∷ []) h.1),
-  )
+  more_walk negated (b ∷ bs) name h = grind (arith, moves, false≢true, of_name, append_assoc, more_walk negated bs (name ++ b ∷ []) h.1)
 
   pub name_walk : (h : Held) → IsFree h → (from name : List ℕ) → IsName name → Walks pol_automaton (st from (Phase.Gap h)) (plain name) (st name (Phase.Name false))
   name_walk h f from (b ∷ c ∷ bs) i =

@@ -37,9 +37,6 @@ Before false ls = Listed SpellsLiteral ls ⋅ Blanks1
 Before true [] = Blanks0
 Before true (l ∷ ls) = Row true (l ∷ ls) ⋅ Blanks1
 
-row_empty : (joined : Bool) (p : List Letter) → Empty p → Row joined [] p
-row_empty joined p h = grind arith
-
 row_append : (joined : Bool) (ls : List Literal) (l : Literal) (p : List Letter) → (Before joined ls ⋅ SpellsLiteral l) p → Row joined (ls ++ l ∷ []) p
 row_append false ls l p h = ends.listed_append SpellsLiteral ls l p h
 row_append true [] l p h = none_yet (Blanks0 ⋅ SpellsLiteral l) Empty p refl h
@@ -91,7 +88,7 @@ module _ (joined : Bool) where
 
 start_sound : (joined : Bool) (ls : List Literal) (name : List ℕ) (k : NameByte) (l : Letter) (p : List Letter) → NameMeans k l.byte → ls ≡ [] → Empty p
     → OnNext (act joined ls ls name (cond joined (before k) (next_action k))) l (p ++ l ∷ [])
-start_sound joined ls name k l p m e h = grind (arith, before_sound, ends.gapped, ends.blanks_begin, after_sound, row_empty)
+start_sound joined ls name k l p m e h = grind (arith, before_sound, ends.gapped, ends.blanks_begin, after_sound)
 
 module _ (joined : Bool) where
   sound : (ph : SolutionPhase) (ls : List Literal) (name : List ℕ) (k : NameByte) (l : Letter) (p : List Letter) → NameMeans k l.byte → prefix joined ph ls name p

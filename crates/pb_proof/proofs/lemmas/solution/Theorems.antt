@@ -16,14 +16,8 @@ IsSane joined ph (SolutionAction.Begin q b) = (is_midway q ≡ true) × (in_hand
 IsSane joined ph (SolutionAction.Add q b) = (is_midway q ≡ true) × (in_hand q + ready joined q ≡ 1) × (in_hand ph ≡ 1)
 IsSane joined ph _ = Unit {0}
 
-after_sane : (joined : Bool) (ph : SolutionPhase) (k : NameByte) → IsSane joined ph (next_action k)
-after_sane joined ph k = grind arith
-
-before_sane : (joined : Bool) (ph : SolutionPhase) (k : NameByte) → ready joined ph ≡ 1 → IsSane joined ph (before k)
-before_sane joined ph k h = grind (arith, after_sane)
-
 transition_sane : (joined : Bool) (ph : SolutionPhase) (k : NameByte) → IsSane joined ph (transition joined ph k)
-transition_sane joined ph k = grind (arith, before_sane, after_sane)
+transition_sane joined ph k = grind arith
 
 midway_begun : (joined : Bool) (ph : SolutionPhase) → is_midway ph ≡ true → is_begun joined ph ≡ true
 midway_begun joined ph h = grind arith
@@ -32,9 +26,6 @@ midway_begun joined ph h = grind arith
 pub units_append : (ls : List Literal) (l : Literal) → units (ls ++ l ∷ []) ≡ units ls + (1 + length l.name)
 units_append [] l = omega arith
 units_append (x ∷ ls) l = omega (arith, units_append ls l)
-
-ready_one : (joined : Bool) (ph : SolutionPhase) → ready joined ph ≤ 1
-ready_one joined ph = grind arith
 
 abbrev spent : SolutionState → ℕ
 spent s = all_units s + ready s.joined s.phase
@@ -49,14 +40,11 @@ module _ (joined : Bool) (ls : List Literal) (name : List ℕ) (ph : SolutionPha
   abbrev here : SolutionState
   here = solution_at joined ls name ph
 
-  begin_steps : (q : SolutionPhase) (b : ℕ) → is_midway q ≡ true → in_hand q + ready joined q ≡ 1 → ready joined ph ≡ 1 → Steps here (solution_at joined ls (b ∷ []) q)
-  begin_steps q b m h r = grind (arith, begin-grows, length)
-
   add_steps : (q : SolutionPhase) (b : ℕ) → is_midway q ≡ true → in_hand q + ready joined q ≡ 1 → in_hand ph ≡ 1 → Steps here (solution_at joined ls (name ++ b ∷ []) q)
   add_steps q b m h r = grind (arith, add-grows, length, length-append)
 
   acted : (m : SolutionAction) (next : SolutionState) → IsSane joined ph m → act joined (flushed ph ls name) ls name m ≡ Go next → Steps here next
-  acted m next h e = grind (arith, one_state, begin_steps, add_steps, to-grows, length, ready_one, units_append)
+  acted m next h e = grind (arith, one_state, begin-grows, add_steps, to-grows, length, units_append)
 
   ended : (m : SolutionAction) (next : SolutionState) (e : List Literal) → act joined (flushed ph ls name) ls name m ≡ End e next → next ≡ solution_last joined
   ended m next e i = grind arith
