@@ -1,7 +1,7 @@
 -- What is written, in parts.
-use Rattle.pb_proof.proofs.Common.{bounds_word, conclusion_word, ℕ, ◌++◌, ◌+◌, ◌-◌, ◌<◌, ◌∙◌, ◌∷◌, ◌≡◌, ◌≤◌, [], ap, append-nil, append_assoc, arith, drop, get_or}
-use Rattle.pb_proof.proofs.Common.{length, List, refl, suc, sym, take, take-append-drop, drop-cons, drop_all, take_more, Proof, Statement, Conclude, F, Header}
-use Rattle.pb_proof.proofs.Common.{Output, lines, proof_bytes, statement_bytes}
+use Rattle.pb_proof.proofs.Common.{bounds_word, conclusion_word, ℕ, ◌++◌, ◌+◌, ◌-◌, ◌<◌, ◌∙◌, ◌∷◌, ◌≡◌, ◌≤◌, [], ap, append-nil, append_assoc, arith, drop}
+use Rattle.pb_proof.proofs.Common.{get_or, length, List, refl, suc, sym, take, take-append-drop, drop-cons, drop_all, take_more, Proof, Statement, Conclude, F}
+use Rattle.pb_proof.proofs.Common.{Header, Output, lines, proof_bytes, statement_bytes}
 use Rattle.pb_proof.specs.meaning.Canonical.{listed_bytes}
 use Rattle.pb_proof.specs.engine.line.Ended.{ended_lines}
 

@@ -9,7 +9,7 @@ pub fn canonical_proof_spells()
 {}
 
 /// A statement or a proof that is read meets the rules.
-#[tactic(auto, using(crate::proofs::lemmas::proofs::Values::statement_values))]
+#[tactic(auto, using(crate::proofs::lemmas::Proofs::statement_values))]
 pub fn proofs_are_values()
     ensures statements { StatementValues }
     ensures proofs { ProofValues }
@@ -30,7 +30,7 @@ pub fn postfix_words()
 {}
 
 /// The statements of a proof determine its value.
-#[tactic(auto, using(crate::proofs::lemmas::proofs::Values::one_value))]
+#[tactic(auto, using(crate::proofs::lemmas::Proofs::one_value))]
 pub fn one_value()
     ensures { OneValue }
 {}

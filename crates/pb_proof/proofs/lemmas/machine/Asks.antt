@@ -3,7 +3,7 @@ use Rattle.pb_proof.proofs.Common.{ℕ, ◌++◌, ◌∙◌, ◌∷◌, ◌≡�
 use Rattle.pb_proof.proofs.Common.{reads_after, Walks, never, bytes-append, End, Go, MayAsk, Next, ReadsStatement, Refuse, bytes, Letter, LineMachine, LineKind}
 use Rattle.pb_proof.proofs.Common.{Stage, Opening, Statement, conclusion_first, formula_first, delete_first, solution_first, line_automaton, line_first, SpellsRest}
 use Rattle.pb_proof.proofs.Common.{pol_first, rup_first, at, begin, idle, proofs, ProofState, Asks, AsksAfter, FirstWord, stage_after, IsProof, Automaton}
-use Rattle.pb_proof.proofs.Common.{proof_transition as transition, proof_within as is_within, ProofAction as Action, ProofPhase as Phase}
+use Rattle.pb_proof.proofs.Common.{proof_transition as transition, proof_within as is_within, ProofAction as Action, ProofPhase as Phase, rules}
 use Rattle.pb_text.specs.meaning.Asking.{AsksOnly}
 use Rattle.pb_text.proofs.lemmas.machine.Asked as asked
 use Rattle.pb_proof.specs.engine.machine.State as state
@@ -14,9 +14,8 @@ use Rattle.pb_proof.proofs.lemmas.conclusion.Asks.{conclusion_asked}
 use Rattle.pb_proof.proofs.lemmas.line.Laws.{formula_carries, pol_carries, rup_carries, soli_carries, solx_carries, delete_carries, conclusion_carries, line_only}
 use Rattle.pb_proof.proofs.lemmas.line.Asks.{delete_asked, solution_asked, rup_asked}
 use Rattle.pb_proof.proofs.lemmas.pol.Asks.{pol_asked}
-use Rattle.pb_proof.proofs.lemmas.machine.Exact.{reads_proofs}
+use Rattle.pb_proof.proofs.lemmas.machine.Exact.{reads_proofs, comment_reads}
 use Rattle.pb_proof.proofs.lemmas.machine.Sound as sound
-use Rattle.pb_proof.proofs.lemmas.machine.Orders.{comment_reads}
 
 module _ (limit top : ℕ) where
   -- what the line machine asks for, the machine of the line asks for

@@ -1,14 +1,14 @@
 -- Where the `pol` machine may allocate.
 use Rattle.pb_proof.proofs.Common.{ℕ, ◌&&◌, ◌*◌, ◌+◌, ◌∙◌, ◌∷◌, ◌≡◌, [], ap, arith, Bool, cond, false, inl, inr, IsTrue, List, nat_eq, nat_le, None, refl, Some}
-use Rattle.pb_proof.proofs.Common.{subst, true, and_parts, cond_both, false≢true, nat_tests, at_name, ends_nothing, first_further, name_further, FirstOf, LiteralOf}
-use Rattle.pb_proof.proofs.Common.{EndsIn, prefixes_of, Walks, is_blank, is_digit, is_letter, is_name_byte, ◌⋅◌, Blanks1, Language, bytes, Letter, Action, Change}
-use Rattle.pb_proof.proofs.Common.{Held, Kind, Phase, PolWord, blank, bound, close, counted, feed, is_letter_kind, is_name_kind, kind_of, late, may_be_name}
-use Rattle.pb_proof.proofs.Common.{next_large, next_word, number, read, role_of, semicolon, star, transition, wants, pol_automaton, pol_first, PolState, AsksWord}
-use Rattle.pb_proof.proofs.Common.{pol_next as next, pol_signed as signed, Role}
+use Rattle.pb_proof.proofs.Common.{subst, true, and_parts, cond_both, false≢true, nat_tests, at_name, ends_nothing, first_further, name_further, FirstOf, rules}
+use Rattle.pb_proof.proofs.Common.{LiteralOf, EndsIn, prefixes_of, Walks, is_blank, is_digit, is_letter, is_name_byte, ◌⋅◌, Blanks1, Language, bytes, Letter}
+use Rattle.pb_proof.proofs.Common.{Action, Change, Held, Kind, Phase, PolWord, blank, bound, close, counted, feed, is_letter_kind, is_name_kind, kind_of, late}
+use Rattle.pb_proof.proofs.Common.{may_be_name, next_large, next_word, number, read, role_of, semicolon, star, transition, wants, pol_automaton, pol_first}
+use Rattle.pb_proof.proofs.Common.{PolState, AsksWord, pol_next as next, pol_signed as signed, Role}
 use Rattle.pb_proof.specs.engine.line.Pol.{adds, Closing}
 use Rattle.pb_proof.proofs.lemmas.line.Asks.{number_end, literal_end}
 use Rattle.pb_proof.proofs.lemmas.pol.Prefixes.{Settled, Before, prefix, Prefix, Whole}
-use Rattle.pb_proof.proofs.lemmas.pol.Kinds.{Says, kind_says, letter_kind, name_kind}
+use Rattle.pb_proof.proofs.lemmas.pol.Sane.{Says, kind_says, letter_kind, name_kind}
 use Rattle.pb_proof.proofs.lemmas.pol.Sound as sound
 
 blank_dark : (b : ℕ) → is_blank b ≡ true → (is_digit b ≡ false) × (is_name_byte b ≡ false)

@@ -1,15 +1,14 @@
 -- The `pol` machine reads each line of postfix words: one lemma for each word.
-use Rattle.pb_proof.proofs.Common.{ℕ, ℤ, ◌++◌, ◌-◌, ◌<◌, ◌∙◌, ◌∷◌, ◌≡◌, ◌≤◌, [], ap, append-nil, append_assoc, arith, Bool, cond, false, List, nat_le, rules, pos}
-use Rattle.pb_proof.proofs.Common.{refl, Some, subst, suc, sym, true, neg_ℤ, le-leb, IsName, SpellsLiteral, longer, reads_after, Walks, walks_then, Go}
-use Rattle.pb_proof.proofs.Common.{ReadsStatement, ◌⋅◌, Blanks1, Byte, Bytes, unmarked, Digits, Letter, plain, Change, Held, Phase, Role, PolWord, changed, close}
-use Rattle.pb_proof.proofs.Common.{counted, held_name, held_number, turned, with_last, over, pol_automaton, pol_first, pol_last, PolState, Factor, LineEnd, Listed}
-use Rattle.pb_proof.proofs.Common.{SpellsId, SpellsWord, SpellsWords, IsFree, pol_act as act, Action}
-use Rattle.pb_proof.proofs.lemmas.line.Ends.{MayEnd, blanks1_lead, line_reads}
-use Rattle.pb_proof.proofs.lemmas.pol.Covers.{state, as_after, free_name, free_number}
+use Rattle.pb_proof.proofs.Common.{ℕ, ℤ, ◌++◌, ◌-◌, ◌<◌, ◌∙◌, ◌∷◌, ◌≡◌, ◌≤◌, [], ap, append-nil, append_assoc, arith, Bool, cond, false, List, nat_le, rules}
+use Rattle.pb_proof.proofs.Common.{pos, refl, Some, subst, suc, sym, true, neg_ℤ, le-leb, IsName, SpellsLiteral, longer, reads_after, Walks, walks_then, Go}
+use Rattle.pb_proof.proofs.Common.{ReadsStatement, ◌⋅◌, Blanks1, Byte, Bytes, unmarked, Digits, Letter, plain, Change, Held, Phase, Role, PolWord, changed}
+use Rattle.pb_proof.proofs.Common.{close, counted, held_name, held_number, turned, with_last, over, pol_automaton, pol_first, pol_last, PolState, Factor}
+use Rattle.pb_proof.proofs.Common.{LineEnd, Listed, SpellsId, SpellsWord, SpellsWords, IsFree, pol_act as act, Action}
+use Rattle.pb_proof.proofs.lemmas.line.Ends.{MayEnd, blanks1_lead, line_reads, not_zero}
+use Rattle.pb_proof.proofs.lemmas.pol.Walks.{state, as_after, free_name, free_number, unsigned_walk, signed_walk, name_walk, negated_walk, takes_blanks}
+use Rattle.pb_proof.proofs.lemmas.pol.Walks.{late_blanks}
 use Rattle.pb_proof.proofs.lemmas.pol.Prefixes.{with_last_append, bound_of_id, bound_of_factor}
 use Rattle.pb_proof.proofs.lemmas.pol.Postfix.{Counts, postfix_counts}
-use Rattle.pb_proof.proofs.lemmas.pol.Walks.{unsigned_walk, signed_walk, name_walk, negated_walk, takes_blanks, late_blanks}
-use Rattle.pb_proof.proofs.lemmas.line.ByteKinds.{not_zero}
 
 -- a number that may be the operand of an operator
 abbrev IsOperand : Held → Type 0
