@@ -92,8 +92,8 @@ module _ (limit top : ℕ) where
   abbrev at : List ℤ → DeletePhase → S
   at ids p = delete_at top ids p
 
-  abbrev closed : S
-  closed = delete_last top
+  abbrev past : S
+  past = delete_last top
 
   by_kind : (s : S) (b : ℕ) (k : NumberByte) → number_byte b ≡ k → delete_automaton.step s b ≡ step s k
   by_kind s b k e = ap (λ x. step s x) e
@@ -108,7 +108,7 @@ module _ (limit top : ℕ) where
   pub record IsAfter (ids : List ℤ) (s : S) : Type 0 where
     pub blank : (b : ℕ) → IsTrue (is_blank b) → delete_automaton.step s b ≡ Go (at ids Between)
     pub semicolon : delete_automaton.step s 59 ≡ Go (at ids DeletePhase.Closing)
-    pub feed : delete_automaton.step s 10 ≡ End ids closed
+    pub feed : delete_automaton.step s 10 ≡ End ids past
 
   whole_id : (ids : List ℤ) (negative : Bool) (n : ℕ) (k : NumberByte) (m : DeleteAction) → 0 < n → m ≡ cond (nat_eq n 0) DeleteAction.Stop (next_action (signed negative n) k)
       → act top ids m ≡ act top ids (next_action (signed negative n) k)
@@ -120,7 +120,7 @@ module _ (limit top : ℕ) where
   takes_blanks : (ids : List ℤ) (s : S) → IsAfter ids s → TakesBlanks delete_automaton s (at ids Between)
   takes_blanks ids s h = record { enters = h.blank; stays = λ b i. by_blank (at ids Between) b i; begun = refl; plain = refl }
 
-  may_end : (ids : List ℤ) (s : S) → IsAfter ids s → MayEnd delete_automaton s (at ids Between) (at ids DeletePhase.Closing) ids closed
+  may_end : (ids : List ℤ) (s : S) → IsAfter ids s → MayEnd delete_automaton s (at ids Between) (at ids DeletePhase.Closing) ids past
   may_end ids s h = grind (arith, takes_blanks, closing_feeds, by_blank)
 
   digit_fits : (ids : List ℤ) (negative : Bool) (n d v : ℕ) → 10 * n + d ≡ v → v ≤ top → act top ids (digits top negative n d) ≡ Go (at ids (DeletePhase.Digits negative v))
@@ -176,21 +176,21 @@ module _ (limit top : ℕ) where
       )
 
   -- further ids, and the end of the line
-  row_reads : (ids more : List ℤ) (s : S) (t : List Letter) → IsAfter ids s → (Listed (SpellsId top) more ⋅ LineEnd) t → ReadsStatement delete_automaton s t (ids ++ more) closed
+  row_reads : (ids more : List ℤ) (s : S) (t : List Letter) → IsAfter ids s → (Listed (SpellsId top) more ⋅ LineEnd) t → ReadsStatement delete_automaton s t (ids ++ more) past
   row_reads ids more s t h (a, b, e, i, k) =
       let (mid, w, g) = listed_walks (SpellsId top) delete_automaton IsAfter (λ xs x r u g. blank_walks xs x r (at xs Between) u (takes_blanks xs r g) (between_opens xs)) ids more s a h i in
-      rw e (reads_after delete_automaton a b s mid closed (ids ++ more) w
-      (line_reads delete_automaton mid (at (ids ++ more) Between) (at (ids ++ more) DeletePhase.Closing) closed (ids ++ more) (may_end (ids ++ more) mid g) b k))
+      rw e (reads_after delete_automaton a b s mid past (ids ++ more) w
+      (line_reads delete_automaton mid (at (ids ++ more) Between) (at (ids ++ more) DeletePhase.Closing) past (ids ++ more) (may_end (ids ++ more) mid g) b k))
 
   in_gap : TakesBlanks delete_automaton (delete_first top) (at [] Gap)
   in_gap = record { enters = λ b h. by_blank (delete_first top) b h; stays = λ b h. by_blank (at [] Gap) b h; begun = refl; plain = refl }
 
-  pub reads_each : (ids : List ℤ) (t : List Letter) → SpellsIds limit top ids t → ReadsStatement delete_automaton (delete_first top) t ids closed
+  pub reads_each : (ids : List ℤ) (t : List Letter) → SpellsIds limit top ids t → ReadsStatement delete_automaton (delete_first top) t ids past
   reads_each [] t h = absurd (omega (arith, h.0))
   reads_each (id ∷ ids) t (z, (abc, d, e, (ab, c, f, h, i), k)) =
       let g : t ≡ ab ++ (c ++ d) = e ∙ (ap (λ x. x ++ d) f ∙ append_assoc ab c d) in
       let (mid, w, j) = blank_walks [] id (delete_first top) (at [] Gap) ab in_gap (gap_opens []) h in
-      rw g (reads_after delete_automaton ab (c ++ d) (delete_first top) mid closed (id ∷ ids) w (row_reads (id ∷ []) ids mid (c ++ d) j (c, d, refl, i, k)))
+      rw g (reads_after delete_automaton ab (c ++ d) (delete_first top) mid past (id ∷ ids) w (row_reads (id ∷ []) ids mid (c ++ d) j (c, d, refl, i, k)))
 
 -- The laws of the ids machine.
 
@@ -210,11 +210,8 @@ OnAction top ph k m = ActionFits top m
 on_digits : (top : ℕ) (ph : DeletePhase) (k : NumberByte) (negative : Bool) (n d : ℕ) → OnAction top ph k (digits top negative n d)
 on_digits top ph k negative n d = cond_both (nat_le (10 * n + d) top) _ _ (OnAction top ph k) (λ e. (leb-true (10 * n + d) top e, refl)) (λ _. tt)
 
-on_after : (top : ℕ) (negative : Bool) (n : ℕ) (id : ℤ) (k : NumberByte) → OnAction top (DeletePhase.Digits negative n) k (next_action id k)
-on_after top negative n id k = grind arith
-
 pub on_transition : (top : ℕ) (ph : DeletePhase) (k : NumberByte) → OnAction top ph k (transition top ph k)
-on_transition top ph k = grind (arith, on_digits, nat_eq, on_after)
+on_transition top ph k = grind (arith, on_digits, nat_eq)
 
 -- What holds after a step that continues.
 record Steps (top : ℕ) (ids : List ℤ) (next : DeleteState) : Type 0 where

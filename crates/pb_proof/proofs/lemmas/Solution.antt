@@ -1,6 +1,6 @@
 -- What the literals machine reads, and its laws.
 use Rattle.pb_proof.proofs.Common.{ℕ, ◌++◌, ◌∷◌, ◌≡◌, [], Bool, IsTrue, List, first-append, FirstOf, LiteralOf, name-append, name-bytes, grown, is_name_byte}
-use Rattle.pb_proof.proofs.Common.{arith, rules, ◌⋅◌, Language, unmarked, Letter, ◌∙◌, ap, cond, false, refl, subst, true, Literal, SpellsLiteral, Keeps, On}
+use Rattle.pb_proof.proofs.Common.{arith, rules, ◌⋅◌, Language, unmarked, Letter, ◌∙◌, ap, cond, false, refl, true, Literal, SpellsLiteral, Keeps, On}
 use Rattle.pb_proof.proofs.Common.{letter_name, after_it, next, nil_first, none_yet, regroup3, as_unmarked, Next, is_blank, Blanks0, Blanks1, Byte, Empty}
 use Rattle.pb_proof.proofs.Common.{NameByte, SolutionPhase, First, More, Negation, name_byte, flushed, literal, solution_automaton, SolutionState, SpellsJoined}
 use Rattle.pb_proof.proofs.Common.{LineEnd, Listed, append-nil, append_assoc, map, reads_after, Walks, walks_then, End, Go, ReadsStatement, is_letter, Each}
@@ -250,11 +250,8 @@ module _ (joined : Bool) (ls : List Literal) (name : List ℕ) (ph : SolutionPha
   abbrev here : SolutionState
   here = solution_at joined ls name ph
 
-  add_steps : (q : SolutionPhase) (b : ℕ) → is_midway q ≡ true → in_hand q + ready joined q ≡ 1 → in_hand ph ≡ 1 → Steps here (solution_at joined ls (name ++ b ∷ []) q)
-  add_steps q b m h r = grind (arith, add-grows, length, length-append)
-
   acted : (m : SolutionAction) (next : SolutionState) → IsSane joined ph m → act joined (flushed ph ls name) ls name m ≡ Go next → Steps here next
-  acted m next h e = grind (arith, one_state, begin-grows, add_steps, to-grows, length, units_append)
+  acted m next h e = grind (arith, one_state, begin-grows, add-grows, length-append, to-grows, length, units_append)
 
   ended : (m : SolutionAction) (next : SolutionState) (e : List Literal) → act joined (flushed ph ls name) ls name m ≡ End e next → next ≡ solution_last joined
   ended m next e i = grind arith

@@ -2,7 +2,7 @@
 use Rattle.pb_proof.proofs.Common.{ℕ, ℤ, ◌+◌, ◌<◌, ◌^◌, ◌≡◌, ◌≤◌, arith, Bool, cond, false, length, List, nat_eq, nat_le, refl, subst, sym, true, slice_index}
 use Rattle.pb_proof.proofs.Common.{and_parts, leb-true, Literal, further, End, Go, Next, Refuse, is_blank, Bound, Infinite, Conclusion, Stop, To, Concluding}
 use Rattle.pb_proof.proofs.Common.{Owner, Showing, Side, Word, after_bound, after_id, between, digits, first_word, id_digits, is_within, phase_after_bound}
-use Rattle.pb_proof.proofs.Common.{phase_after_word, PhaseFits, spell, conclusion_at, conclusion_automaton, conclusion_last, ConclusionState, rules}
+use Rattle.pb_proof.proofs.Common.{phase_after_word, PhaseFits, spell, conclusion_at, conclusion_automaton, conclusion_last, ConclusionState}
 use Rattle.pb_proof.proofs.Common.{IsConclusionInOrder, spent, solution_automaton, SolutionState, conclusion_next as next_action}
 use Rattle.pb_proof.proofs.Common.{conclusion_transition as transition, conclusion_giving as giving, conclusion_act as act, conclusion_over as over}
 use Rattle.pb_proof.proofs.Common.{ConclusionPhase as Phase, ConclusionAction as Action, ◌++◌, ◌∙◌, ◌∷◌, [], ap, append-nil, append_assoc, drop, length-append}
@@ -44,9 +44,6 @@ module _ (s : ConclusionState) (p : Phase) where
   on_between : (x : Bound) (b : ℕ) → On (between x b)
   on_between x b = grind (arith, on_cond, nat_eq)
 
-  on_after_bound : (x : Side) (y : Bound) (b : ℕ) → On (after_bound x y b)
-  on_after_bound x y b = grind (arith, on_between, on_after)
-
   on_after_id : (x : Owner) (id : ℤ) (b : ℕ) → On (after_id x id b)
   on_after_id x id b = grind (arith, on_after, on_cond)
 
@@ -70,7 +67,7 @@ module _ (s : ConclusionState) where
   on_transition Phase.Bounded b = on_cond s Phase.Bounded (is_blank b) (To (Phase.BeforeBound Side.Lower)) Stop (refl, λ f. tt) tt
   on_transition (Phase.BeforeBound x) b = grind (arith, on_cond, nat_eq, on_digits)
   on_transition (Phase.Signed x negative) b = on_digits s (Phase.Signed x negative) x negative 0 b
-  on_transition (Phase.Digits x negative n) b = grind (arith, on_cond, on_digits, on_after_bound)
+  on_transition (Phase.Digits x negative n) b = grind (arith, on_cond, on_digits, on_between, on_after)
   on_transition (Phase.Infinity x k) b = grind (arith, on_cond, nat_eq, slice_index, next_bound, further, length)
   on_transition (Phase.Between x) b = on_between s (Phase.Between x) x b
   on_transition (Phase.Spaced x) b = grind (arith, on_cond, nat_eq, on_digits)

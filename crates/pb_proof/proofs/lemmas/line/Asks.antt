@@ -1,7 +1,7 @@
 -- Where the machines of ids, literals and linear texts may allocate.
 use Rattle.pb_proof.proofs.Common.{ℕ, ℤ, ◌++◌, ◌+◌, ◌<◌, ◌||◌, ◌∙◌, ◌∷◌, ◌≡◌, [], ap, Bool, false, inl, IsTrue, List, map, nat_eq, refl, subst, sym, true}
 use Rattle.pb_proof.proofs.Common.{arith, cond_both, false≢true, asks_after, at_name, ends_after, ends_nothing, first_asks_nothing, first_further, sums_asked}
-use Rattle.pb_proof.proofs.Common.{Literal, AsksLiteral, EndsIn, literal_bytes, prefixes_of, Walks, blank_digit, digit_byte, letter_name, bytes-append, rules}
+use Rattle.pb_proof.proofs.Common.{Literal, AsksLiteral, EndsIn, literal_bytes, prefixes_of, Walks, blank_digit, digit_byte, letter_name, bytes-append}
 use Rattle.pb_proof.proofs.Common.{bytes-plain, is_blank, is_digit, is_letter, is_name_byte, ◌⋅◌, Bytes, digit, Each, Language, bytes, Letter, NameByte}
 use Rattle.pb_proof.proofs.Common.{NumberByte, DeletePhase, RupPhase, SolutionPhase, name_byte, number_byte, delete_automaton, delete_first, DeleteState, keeps}
 use Rattle.pb_proof.proofs.Common.{adds, is_more, solution_automaton, solution_first, SolutionState, rup_asks, rup_automaton, rup_first, rup_transition}

@@ -3,7 +3,7 @@ use Rattle.pb_proof.proofs.Common.{ℕ, ◌++◌, ◌∙◌, ◌∷◌, ◌≡�
 use Rattle.pb_proof.proofs.Common.{reads_after, Walks, never, bytes-append, End, Go, MayAsk, Next, ReadsStatement, Refuse, bytes, Letter, LineMachine, LineKind}
 use Rattle.pb_proof.proofs.Common.{Stage, Opening, Statement, conclusion_first, formula_first, delete_first, solution_first, line_automaton, line_first, SpellsRest}
 use Rattle.pb_proof.proofs.Common.{pol_first, rup_first, at, begin, idle, proofs, ProofState, Asks, AsksAfter, FirstWord, stage_after, IsProof, Automaton}
-use Rattle.pb_proof.proofs.Common.{proof_transition as transition, proof_within as is_within, ProofAction as Action, ProofPhase as Phase, rules}
+use Rattle.pb_proof.proofs.Common.{proof_transition as transition, proof_within as is_within, ProofAction as Action, ProofPhase as Phase}
 use Rattle.pb_text.specs.meaning.Asking.{AsksOnly}
 use Rattle.pb_text.proofs.lemmas.machine.Asked as asked
 use Rattle.pb_proof.specs.engine.machine.State as state

@@ -1,7 +1,7 @@
 -- What the proof machine accepts from a stage is the statements in order.
 use Rattle.pb_proof.proofs.Common.{ℕ, ◌&&◌, ◌++◌, ◌||◌, ◌∙◌, ◌∷◌, ◌≡◌, [], ap, append-nil, append_assoc, Bool, cond, false, length, List, arith, nat_eq, not}
 use Rattle.pb_proof.proofs.Common.{refl, subst, sym, true, slice_index, or-true, eqb-true, never, white_each, End, Go, Next, ReadsStatement, Refuse, SkipsGap}
-use Rattle.pb_proof.proofs.Common.{in_comment, IsBlank, Nothing, is_white, Letter, Stage, Complete, Opening, Statement, act, at, HasGaps, idle, proofs, rules}
+use Rattle.pb_proof.proofs.Common.{in_comment, IsBlank, Nothing, is_white, Letter, Stage, Complete, Opening, Statement, act, at, HasGaps, idle, proofs}
 use Rattle.pb_proof.proofs.Common.{ProofState, enter, IsGap, go_or_end, one_state, refuse_or_end, refuse_or_go, AcceptsItems, Item, is_complete, GapAt}
 use Rattle.pb_proof.proofs.Common.{IsStaged, stage_after, stage_of, proof_within as is_within, ProofAction as Action, ProofPhase as Phase, ◌↔◌, All, IsTrue}
 use Rattle.pb_proof.proofs.Common.{All-cons, All-head, All-nil, All-tail, one_spelling, events_of, Conclusion, Closing, Formula, Steps, Proof, Conclude, Delete}

@@ -3,7 +3,7 @@ use Rattle.pb_proof.proofs.Common.{ℕ, ◌++◌, ◌+◌, ◌<◌, ◌^◌, ◌
 use Rattle.pb_proof.proofs.Common.{subst, suc, sym, take, true, slice_index, split_at, eqb-true, length-take-le, accepted, final, IsAlive, reads_on, ReadsOn}
 use Rattle.pb_proof.proofs.Common.{AcceptsItems, IsState, unmarked, Item, Letter, plain, NoClaim, LineMachine, Keyword, LineKind, Stage, Closing, Complete}
 use Rattle.pb_proof.proofs.Common.{Formula, Opening, Steps, Statement, line_automaton, line_first, act, at, giving, HasGaps, Holds, idle, IsInOrder, next_stage}
-use Rattle.pb_proof.proofs.Common.{proofs, ProofState, next_action, words_of, conclusion_word, f_word, none_word, IsStaged, ProofPhaseFits as PhaseFits, rules}
+use Rattle.pb_proof.proofs.Common.{proofs, ProofState, next_action, words_of, conclusion_word, f_word, none_word, IsStaged, ProofPhaseFits as PhaseFits}
 use Rattle.pb_proof.proofs.Common.{ProofPhase as Phase, ◌&&◌, ◌-◌, ◌≤◌, ap, IsTrue, nat_eq, Option, Some, cond_both, same_Some, admits_before, admits_final}
 use Rattle.pb_proof.proofs.Common.{admitted_on, refuses, never, further, Admits, End, Go, Next, Refuse, is_blank, asked, is_complete, step_line, enter, meets}
 use Rattle.pb_proof.proofs.Common.{pass, step_keyword, proof_spell as spell, proof_between as between, proof_transition as transition, proof_over as over}

@@ -2,7 +2,7 @@
 use Rattle.pb_proof.proofs.Common.{ℕ, ◌<◌, ◌∙◌, ◌∷◌, ◌≡◌, ◌≤◌, [], ap, ap₂, arith, false, get_or, length, List, Option, refl, Some, subst, suc, sym, take, zero}
 use Rattle.pb_proof.proofs.Common.{Linear, SumEvent, sums, SumState, End, Go, Next, Runs, is_blank, LineMachine, Give, LineKind, line_automaton, IsRupInOrder}
 use Rattle.pb_proof.proofs.Common.{rup_act, rup_automaton, rup_over, rup_transition, RupState, giving, Holds, IsInOrder, proofs, ProofState, ◌++◌, ◌+◌, ◌-◌}
-use Rattle.pb_proof.proofs.Common.{◌==◌, append_assoc, drop, length-append, length-drop, None, take-append-drop, drop-cons, take-length, length-take-le, rules}
+use Rattle.pb_proof.proofs.Common.{◌==◌, append_assoc, drop, length-append, length-drop, None, take-append-drop, drop-cons, take-length, length-take-le}
 use Rattle.pb_proof.proofs.Common.{bytes_decides, pointwise, never, IsState, Keyword, line_first, act, at, next_action, words_of, IsRest, LacksRest}
 use Rattle.pb_proof.proofs.Common.{proof_over as over, ProofPhaseFits as PhaseFits, ProofPhase as Phase, ProofAction as Action, RupPhase, take_more}
 use Rattle.pb_proof.proofs.Common.{first_is_state, Blank, runs_more, all_rest, TakesStatement, Inside, rup_first, sum_first, sum_last, idle, PolWord, pol_first}

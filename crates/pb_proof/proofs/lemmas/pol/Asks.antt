@@ -1,6 +1,6 @@
 -- Where the `pol` machine may allocate.
 use Rattle.pb_proof.proofs.Common.{ℕ, ◌&&◌, ◌*◌, ◌+◌, ◌∙◌, ◌∷◌, ◌≡◌, [], ap, arith, Bool, cond, false, inl, inr, IsTrue, List, nat_eq, nat_le, None, refl, Some}
-use Rattle.pb_proof.proofs.Common.{subst, true, and_parts, cond_both, false≢true, nat_tests, at_name, ends_nothing, first_further, name_further, FirstOf, rules}
+use Rattle.pb_proof.proofs.Common.{subst, true, and_parts, cond_both, false≢true, nat_tests, at_name, ends_nothing, first_further, name_further, FirstOf}
 use Rattle.pb_proof.proofs.Common.{LiteralOf, EndsIn, prefixes_of, Walks, is_blank, is_digit, is_letter, is_name_byte, ◌⋅◌, Blanks1, Language, bytes, Letter}
 use Rattle.pb_proof.proofs.Common.{Action, Change, Held, Kind, Phase, PolWord, blank, bound, close, counted, feed, is_letter_kind, is_name_kind, kind_of, late}
 use Rattle.pb_proof.proofs.Common.{may_be_name, next_large, next_word, number, read, role_of, semicolon, star, transition, wants, pol_automaton, pol_first}

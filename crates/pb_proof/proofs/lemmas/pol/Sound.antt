@@ -1,8 +1,8 @@
 -- The `pol` machine has read a prefix of a line of postfix words: one lemma for each step that continues.
 use Rattle.pb_proof.proofs.Common.{cond_both, ℕ, ◌&&◌, ◌++◌, ◌+◌, ◌-◌, ◌<◌, ◌∙◌, ◌∷◌, ◌≡◌, ◌≤◌, [], ap, append-nil, arith, Bool, cond, false, IsTrue, List, nat_eq, rules}
 use Rattle.pb_proof.proofs.Common.{nat_le, None, pos, refl, Some, subst, suc, sym, true, zero, neg_ℤ, and_parts, eqb-true, false≢true, leb-true, nat_tests}
-use Rattle.pb_proof.proofs.Common.{FirstOf, LiteralOf, Keeps, On, reported, digits-grown, digits-one, grown, inside, regroup, regroup3, as_digit, as_unmarked}
-use Rattle.pb_proof.proofs.Common.{Next, ReadsStatement, is_blank, is_name_byte, ◌⋅◌, Blanks0, Blanks1, Byte, Bytes, Language, unmarked, Digits, Letter}
+use Rattle.pb_proof.proofs.Common.{FirstOf, LiteralOf, Keeps, On, digits-grown, digits-one, grown, inside, regroup, regroup3, as_digit, as_unmarked}
+use Rattle.pb_proof.proofs.Common.{Next, is_blank, is_name_byte, ◌⋅◌, Blanks0, Blanks1, Byte, Bytes, Language, unmarked, Digits, Letter}
 use Rattle.pb_proof.proofs.Common.{plain, Action, Held, Kind, Phase, Role, PolWord, blank, bound, changed, close, close_lone, close_number, counted, feed}
 use Rattle.pb_proof.proofs.Common.{held_name, held_number, is_letter_kind, is_name_kind, kind_of, late, may_be_name, next_large, next_word, number, read}
 use Rattle.pb_proof.proofs.Common.{role_of, semicolon, star, transition, turned, with_last, work, over, pol_automaton, pol_first, PolState, LineEnd}

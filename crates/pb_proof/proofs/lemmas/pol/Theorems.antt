@@ -106,9 +106,7 @@ midway_state limit top ws d name q h i = pol_is_state (state limit top ws d name
 
 pub count_more : (ws : List PolWord) (i : ℕ) (d : PolWord) (c m r : ℕ) → i < length ws → c ≡ min (units (take i ws)) (2 ^ 64 - 1) → m ≡ min (word_units (get_or ws i d)) (2 ^ 64 - 1)
     → r ≡ min (c + m) (2 ^ 64 - 1) → r ≡ min (units (take (i + 1) ws)) (2 ^ 64 - 1)
-count_more ws i d c m r h e f g =
-    let more : units (take (i + 1) ws) ≡ units (take i ws) + word_units (get_or ws i d) = ap units (take_more ws i d h) ∙ units_append (take i ws) (get_or ws i d) in
-    omega (arith, more, e, f, g)
+count_more ws i d c m r h e f g = omega (arith, ap units (take_more ws i d h) ∙ units_append (take i ws) (get_or ws i d), e, f, g)
 
 -- Postfix words that are taken in one call are a run of the automaton.
 
