@@ -112,11 +112,7 @@ module _ (limit limit' top top' : ℕ) (h : limit ≤ limit') (j : top ≤ top')
 
   statement_grows : (e : Statement) → Within (SpellsStatement limit top e) (SpellsStatement limit' top' e)
   statement_grows (F c) t (a, b, e, w, k) = (a, b, e, w, spelt_count c b k)
-  statement_grows (Pol ws) t (a, b, e, w, (p, (c, d, f, k, l))) = grind (arith, listed_grows, word_grows)
-  statement_grows (Rup c) t (a, b, e, w, (r, (xy, f, g, (x, y, h, s, k), l))) = (a, b, e, w, (r, (xy, f, g, (x, y, h, s, linear_grows c y k), l)))
-  statement_grows (Delete ids) t (a, b, e, w, (p, (c, d, f, k, l))) = (a, b, e, w, (p, (c, d, f, listed_grows (SpellsId top) (SpellsId top') id_grows ids c k, l)))
-  statement_grows (Conclude c) t (a, b, e, w, (xy, f, g, (x, y, h, s, k), l)) = (a, b, e, w, (xy, f, g, (x, y, h, s, conclusion_grows c y k), l))
-  statement_grows _ t k = k
+  statement_grows e t k = grind (arith, listed_grows, word_grows, linear_grows, id_grows, conclusion_grows)
 
   all_grow : (items : List (Item Statement)) → AreSpelled limit top items → AreSpelled limit' top' items
   all_grow items k = grind (arith, statement_grows)

@@ -44,9 +44,6 @@ module _ (s : ConclusionState) (p : Phase) where
   on_between : (x : Bound) (b : ℕ) → On (between x b)
   on_between x b = grind (arith, on_cond, nat_eq)
 
-  on_after_id : (x : Owner) (id : ℤ) (b : ℕ) → On (after_id x id b)
-  on_after_id x id b = grind (arith, on_after, on_cond)
-
   on_first : (b : ℕ) → On (first_word b)
   on_first b = grind (arith, on_cond, nat_eq)
 
@@ -73,7 +70,7 @@ module _ (s : ConclusionState) where
   on_transition (Phase.Spaced x) b = grind (arith, on_cond, nat_eq, on_digits)
   on_transition (Phase.BeforeId x) b = grind (arith, on_cond, nat_eq, on_id_digits)
   on_transition (Phase.IdSigned x) b = on_id_digits s (Phase.IdSigned x) x true 0 b
-  on_transition (Phase.IdDigits x negative n) b = grind (arith, on_cond, on_id_digits, nat_eq, on_after_id)
+  on_transition (Phase.IdDigits x negative n) b = grind (arith, on_cond, on_id_digits, nat_eq, on_after)
   on_transition (Phase.Shown shows) b = refl
   on_transition Phase.Done b = tt
 

@@ -93,10 +93,7 @@ word_leaves d w ws = grind arith
 
 counts_leave : (d : ℕ) (ws : List PolWord) → Counts d ws ↔ Leaves d ws
 counts_leave d [] = ((λ h. h), (λ h. h))
-counts_leave d (w ∷ ws) =
-    let (f, g) = word_leaves d w ws in
-    let (i, j) = counts_leave (d + 1 - takes w) ws in
-    ((λ h. ((f h).0, i (f h).1)), (λ h. g (h.0, j h.1)))
+counts_leave d (w ∷ ws) = grind (arith, word_leaves, counts_leave (d + 1 - takes w) ws)
 
 pub words_leave_one : WordsLeaveOne
 words_leave_one ws = ((λ h. (counts_leave 0 ws).0 (postfix_counts ws h)), (λ h. counts_postfix ws ((counts_leave 0 ws).1 h)))

@@ -90,10 +90,7 @@ module _ (limit top d : ℕ) where
 
 pub transition-sane : (limit top d : ℕ) (ph : Phase) (k : Kind) → IsSane ph (transition limit top d ph k)
 transition-sane limit top d Phase.Ending k = late-sane limit top d k
-transition-sane limit top d ph Kind.Blank = blank-sane limit top d ph (close limit top d ph) (close-sane limit top d ph)
-transition-sane limit top d ph Kind.Semicolon = semicolon-sane limit top d ph (close limit top d ph) (close-sane limit top d ph)
-transition-sane limit top d ph Kind.Feed = feed-sane limit top d ph (close limit top d ph)
-transition-sane limit top d ph k = read-sane limit top d ph k
+transition-sane limit top d ph k = grind (arith, blank-sane, close-sane, semicolon-sane, feed-sane, read-sane)
 
 -- What is stored grows by at most one unit per byte.
 pub units_append : (ws : List PolWord) (w : PolWord) → units (ws ++ w ∷ []) ≡ units ws + word_units w
