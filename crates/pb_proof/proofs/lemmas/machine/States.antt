@@ -204,7 +204,7 @@ on_spell p o f k b other h i = cond_both (meets (slice_index (words_of f) k) b) 
 
 on_enter : (p : Phase) → IsPlain p → (s : Stage) (b : ℕ) → OnAction p (enter s b)
 on_enter p o Opening b = on_spell p o Keyword.Header 0 b Action.Stop (some_byte Keyword.Header) o
-on_enter p o b b' = grind (arith, on_spell, some_byte)
+on_enter p o s b = grind (arith, on_spell, some_byte)
 
 gaps_incomplete : (s : Stage) → HasGaps s → is_complete s ≡ false
 gaps_incomplete s h = grind arith
