@@ -133,7 +133,7 @@ module _ (limit top : ℕ) (here : Stage) where
 
     enters : (at : Stage) → at ≡ here → p ≡ [] → s.line ≡ None → After (enter at l.byte)
     enters Opening at e o = first o e Keyword.Header at
-    enters at at' e o = grind (arith, first, step_stage)
+    enters at same e o = grind (arith, first, step_stage)
 
     between_two : (at : Stage) → at ≡ here → p ≡ [] → s.line ≡ None → After (between at l.byte)
     between_two Opening at e o = enters Opening at e o
