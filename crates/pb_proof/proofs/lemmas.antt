@@ -1,13 +1,12 @@
 pub mod Carried
 pub mod conclusion
 pub mod Formula
-pub mod delete
 pub mod line
-pub mod solution
 pub mod machine
 pub mod pol
-pub mod proofs
-pub mod ReadsBack
-pub mod rup
 pub mod Spaced
 pub mod Written
+pub mod Delete
+pub mod Solution
+pub mod Rup
+pub mod Proofs

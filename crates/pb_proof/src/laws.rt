@@ -8,6 +8,7 @@ ghost use Rattle.pb_proof.specs.contract.Formats.{ReadsProofs, OneProof, FixedSp
 pub mod values;
 
 /// A new machine accepts exactly the proofs.
+#[tactic(auto, using(crate::proofs::lemmas::machine::Exact::reads_proofs))]
 pub fn proofs_are_exact()
     ensures { ReadsProofs }
 {}

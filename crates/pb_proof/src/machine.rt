@@ -67,6 +67,7 @@ fn start_line(line: &mut Option<LineMachine>, alloc: Global, limits: Limits, kin
 impl ProofMachine {
     /// A machine at the start of a proof. It accepts exactly the proofs under the limits.
     /// Creating it does not allocate.
+    #[tactic(auto, using(crate::proofs::lemmas::machine::Exact::reads_proofs))]
     pub fn new(alloc: Global, limits: Limits) -> Self
         ensures accepts { (items : List (Item Statement)) →
             AcceptsItems proofs result items ↔ IsProof (largest limits) (top_of limits) items }

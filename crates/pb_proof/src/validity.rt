@@ -83,6 +83,7 @@ fn finished_with(finished: usize, word: &PolWord) -> Option<usize>
 }
 
 /// Whether the words are the postfix words of one expression.
+#[tactic(auto, using(crate::proofs::lemmas::pol::Postfix::postfix_leads))]
 fn is_postfix(words: &[PolWord]) -> bool
     ensures { IsTrue result ↔ IsPostfix words.now }
 {

@@ -1,6 +1,6 @@
 -- An automaton within another one.
-use Rattle.pb_proof.proofs.Common.{ℕ, ◌++◌, ◌∙◌, ◌∷◌, ◌≡◌, [], ap, List, map, refl, subst, sym, true, Walks, AcceptsItems, arith, Automaton, End, Go, IsState, Next}
-use Rattle.pb_proof.proofs.Common.{Pushes, ReadsStatement, Runs, SkipsGap, Push, Item, Letter, letters_of, plain, IsCarried}
+use Rattle.pb_proof.proofs.Common.{ℕ, ◌++◌, ◌∙◌, ◌∷◌, ◌≡◌, [], ap, List, map, refl, subst, sym, true, Walks, AcceptsItems, arith, Automaton, End, Go, IsState}
+use Rattle.pb_proof.proofs.Common.{Next, Pushes, ReadsStatement, Runs, SkipsGap, Push, Item, Letter, letters_of, plain, IsCarried}
 use Rattle.pb_proof.specs.engine.line.Carried.{carried}
 
 -- where an outcome comes from

@@ -6,8 +6,8 @@ use Rattle.pb_proof.proofs.Common.{◌<◌, ap, arith, le-leb, Leads, leads_then
 use Rattle.pb_proof.proofs.Common.{◌↔◌, ReadsOn, is_state, IsOfOne, one_state, IsState, unmarked, ActionFits, IsFormulaInOrder, Digits as DigitsOf, FormulaAction}
 use Rattle.pb_proof.specs.declared.line.formula.phase.FormulaPhase.TheVariants.{Gap, Digits, Tail, Closing, Done}
 use Rattle.pb_proof.specs.engine.line.Formula.{act, transition, digits, next_action, is_in_number, at, is_midway, is_done, PhaseFits}
-use Rattle.pb_proof.proofs.lemmas.line.ByteKinds.{NumberMeans, number_means, number_blank, number_digit}
-use Rattle.pb_proof.proofs.lemmas.line.Ends.{TakesBlanks, Feeds, MayEnd, closing_feeds, blanks1_lead, line_reads, reads_exactly}
+use Rattle.pb_proof.proofs.lemmas.line.Ends.{NumberMeans, number_means, number_blank, number_digit, TakesBlanks, Feeds, MayEnd, closing_feeds, blanks1_lead}
+use Rattle.pb_proof.proofs.lemmas.line.Ends.{line_reads, reads_exactly}
 use Rattle.pb_proof.proofs.lemmas.line.Ends as ends
 
 module _ (top : ℕ) where
@@ -109,11 +109,8 @@ module _ (limit top : ℕ) where
 
 -- The laws of the count machine.
 
-after_fits : (top : ℕ) (count : Option ℕ) (gap : FormulaPhase) (k : NumberByte) → PhaseFits top gap → is_midway gap ≡ true → ActionFits top (next_action count gap k)
-after_fits top count gap k f h = grind arith
-
 pub transition_fits : (top : ℕ) (ph : FormulaPhase) (k : NumberByte) → ActionFits top (transition top ph k)
-transition_fits top ph k = grind (arith, after_fits, nat_le, leb-true)
+transition_fits top ph k = grind (arith, nat_le, leb-true)
 
 -- What holds after a step that continues.
 record Steps (top : ℕ) (next : FormulaState) : Type 0 where

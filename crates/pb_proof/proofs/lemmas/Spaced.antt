@@ -1,8 +1,8 @@
 -- Words with blanks between them, byte by byte.
-use Rattle.pb_proof.proofs.Common.{ℕ, ◌&&◌, ◌++◌, ◌<◌, ◌∙◌, ◌∷◌, ◌≡◌, [], ap, append-nil, append_assoc, arith, Bool, false, length, List, nat_eq, not, refl, subst}
-use Rattle.pb_proof.proofs.Common.{sym, true, and_parts, eqb-true, not-true, after_it, grown, none_yet, regroup, regroup⁻¹, is_blank, ◌⋅◌, Blanks1, Byte, Bytes}
-use Rattle.pb_proof.proofs.Common.{Empty, Language, unmarked, Letter, plain, Keyword, meets, sol_word, words_of, conclusion_word, del_word, end_word, f_word}
-use Rattle.pb_proof.proofs.Common.{id_word, none_word, output_word, pol_word, proof_word, pseudo_word, rup_word, two_word, version_word}
+use Rattle.pb_proof.proofs.Common.{ℕ, ◌&&◌, ◌++◌, ◌<◌, ◌∙◌, ◌∷◌, ◌≡◌, [], ap, append-nil, append_assoc, arith, Bool, false, length, List, nat_eq, not, refl}
+use Rattle.pb_proof.proofs.Common.{subst, sym, true, and_parts, eqb-true, not-true, after_it, grown, none_yet, regroup, regroup⁻¹, is_blank, ◌⋅◌, Blanks1, Byte}
+use Rattle.pb_proof.proofs.Common.{Bytes, Empty, Language, unmarked, Letter, plain, Keyword, meets, sol_word, words_of, conclusion_word, del_word, end_word}
+use Rattle.pb_proof.proofs.Common.{f_word, id_word, none_word, output_word, pol_word, proof_word, pseudo_word, rup_word, two_word, version_word}
 use Rattle.pb_proof.specs.declared.machine.phase.Keyword.TheVariants.{Header, Formula, Pol, Rup, Solution, Delete, Output, Conclusion, End}
 use Rattle.pb_proof.proofs.lemmas.line.Ends.{first_blank, further_blank, nil_last}
 

@@ -1,7 +1,7 @@
 -- What is written, in parts.
-use Rattle.pb_proof.proofs.Common.{bounds_word, conclusion_word, ℕ, ◌++◌, ◌+◌, ◌-◌, ◌<◌, ◌∙◌, ◌∷◌, ◌≡◌, ◌≤◌, [], ap, append-nil, append_assoc, arith, drop, get_or}
-use Rattle.pb_proof.proofs.Common.{length, List, refl, suc, sym, take, take-append-drop, drop-cons, drop_all, take_more, Proof, Statement, Conclude, F, Header}
-use Rattle.pb_proof.proofs.Common.{Output, lines, proof_bytes, statement_bytes}
+use Rattle.pb_proof.proofs.Common.{bounds_word, conclusion_word, ℕ, ◌++◌, ◌+◌, ◌-◌, ◌<◌, ◌∙◌, ◌∷◌, ◌≡◌, ◌≤◌, [], ap, append-nil, append_assoc, arith, drop}
+use Rattle.pb_proof.proofs.Common.{get_or, length, List, refl, suc, sym, take, take-append-drop, drop-cons, drop_all, take_more, Proof, Statement, Conclude, F}
+use Rattle.pb_proof.proofs.Common.{Header, Output, lines, proof_bytes, statement_bytes}
 use Rattle.pb_proof.specs.meaning.Canonical.{listed_bytes}
 use Rattle.pb_proof.specs.engine.line.Ended.{ended_lines}
 
@@ -9,8 +9,7 @@ use Rattle.pb_proof.specs.engine.line.Ended.{ended_lines}
 module _ {A : Type 0} (piece : A → List ℕ) (joined : List A → List ℕ) (none : joined [] ≡ []) (cons : (x : A) (xs : List A) → joined (x ∷ xs) ≡ piece x ++ joined xs) where
   joined-append : (xs ys : List A) → joined (xs ++ ys) ≡ joined xs ++ joined ys
   joined-append [] ys = ap (λ z. z ++ joined ys) (sym none)
-  joined-append (x ∷ xs) ys =
-      cons x (xs ++ ys) ∙ (ap (λ z. piece x ++ z) (joined-append xs ys) ∙ (sym (append_assoc (piece x) (joined xs) (joined ys)) ∙ ap (λ z. z ++ joined ys) (sym (cons x xs))))
+  joined-append (x ∷ xs) ys = grind (arith, append_assoc, joined-append xs ys)
 
   joined_more : (xs : List A) (i : ℕ) (d : A) → i < length xs → joined (take (i + 1) xs) ≡ joined (take i xs) ++ piece (get_or xs i d)
   joined_more xs i d h =

@@ -1,6 +1,5 @@
 -- Lemmas about the lines of statements, and about the machines that read them.
 pub mod Asks
-pub mod ByteKinds
-pub mod Ends
 pub mod Laws
 pub mod Texts
+pub mod Ends

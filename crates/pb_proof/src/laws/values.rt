@@ -9,6 +9,7 @@ pub fn canonical_proof_spells()
 {}
 
 /// A statement or a proof that is read meets the rules.
+#[tactic(auto, using(crate::proofs::lemmas::Proofs::statement_values))]
 pub fn proofs_are_values()
     ensures statements { StatementValues }
     ensures proofs { ProofValues }
@@ -22,12 +23,14 @@ pub fn reads_are_of_proofs()
 
 /// The postfix words of an expression determine it. Words form one expression if and only if each
 /// finds as many finished expressions as it takes, and one is left after the last.
+#[tactic(auto, using(crate::proofs::lemmas::pol::Postfix::words_report, crate::proofs::lemmas::pol::Postfix::words_leave_one))]
 pub fn postfix_words()
     ensures report { WordsReport }
     ensures leave { WordsLeaveOne }
 {}
 
 /// The statements of a proof determine its value.
+#[tactic(auto, using(crate::proofs::lemmas::Proofs::one_value))]
 pub fn one_value()
     ensures { OneValue }
 {}

@@ -67,6 +67,7 @@ fn conclusion_value(concluding: Concluding) -> Conclusion
 
 impl ConclusionMachine {
     /// A machine at the start of its text. Creating it does not allocate.
+    #[tactic(auto, using(crate::proofs::lemmas::conclusion::Theorems::first_order))]
     pub fn new(alloc: Global, limits: Limits) -> Self
         ensures begins { result ≡ conclusion_first (largest limits) (top_of limits) }
     {

@@ -134,6 +134,7 @@ impl DeleteMachine {
 
     /// Takes the digits of an id, if an id may begin here.
     #[inline(always)]
+    #[tactic(auto, using(crate::proofs::lemmas::Delete::id_runs))]
     fn take_digits(&mut self, text: &[u8]) -> usize
         ensures bound { result ≤ length text.now }
         ensures runs { Runs delete_automaton self.old (take result text.now) self.new }

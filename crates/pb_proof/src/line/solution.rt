@@ -155,6 +155,7 @@ fn finish(
 }
 
 /// The number of literals plus the number of bytes of their names. The sum saturates.
+#[tactic(auto, using(crate::proofs::lemmas::Solution::count_more))]
 fn count_units(literals: &[Literal]) -> usize
     ensures { result ≡ min (units literals.now) (2 ^ 64 - 1) }
 {

@@ -1,4 +1,4 @@
-use Rattle.pb_proof.proofs.lemmas.proofs.Larger.{proof_grows}
+use Rattle.pb_proof.proofs.lemmas.Proofs.{proof_grows}
 use Rattle.pb_proof.proofs.laws.larger_limits.Goals as goal
 
 pub returns : goal.returns

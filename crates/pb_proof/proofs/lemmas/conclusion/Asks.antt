@@ -1,12 +1,11 @@
 -- Where the conclusion machine may allocate.
-use Rattle.pb_proof.proofs.Common.{ℕ, ◌++◌, ◌∙◌, ◌∷◌, ◌≡◌, [], ap, append_assoc, List, refl, Some, subst, sym, true, false≢true, Literal, prefixes_of, arith, Walks}
-use Rattle.pb_proof.proofs.Common.{bytes-append, ReadsStatement, bytes, Letter, Conclusion, Showing, asks, conclusion_automaton, conclusion_first, ConclusionState}
-use Rattle.pb_proof.proofs.Common.{showing_value, solution_automaton, AsksConclusion, AsksShown, conclusion_transition as transition, ConclusionPhase as Phase}
-use Rattle.pb_proof.proofs.Common.{ConclusionAction as Action}
+use Rattle.pb_proof.proofs.Common.{ℕ, ◌++◌, ◌∙◌, ◌∷◌, ◌≡◌, [], ap, append_assoc, List, refl, Some, subst, sym, true, false≢true, Literal, prefixes_of, arith}
+use Rattle.pb_proof.proofs.Common.{Walks, bytes-append, ReadsStatement, bytes, Letter, Conclusion, Showing, asks, conclusion_automaton, conclusion_first}
+use Rattle.pb_proof.proofs.Common.{ConclusionState, showing_value, solution_automaton, AsksConclusion, AsksShown, conclusion_transition as transition}
+use Rattle.pb_proof.proofs.Common.{ConclusionPhase as Phase, ConclusionAction as Action}
 use Rattle.pb_proof.proofs.lemmas.conclusion.Prefix as conclusion_prefix
 use Rattle.pb_proof.proofs.lemmas.Carried.{reads_out}
-use Rattle.pb_proof.proofs.lemmas.conclusion.Each.{shown_nests}
-use Rattle.pb_proof.proofs.lemmas.conclusion.Theorems.{same_shown}
+use Rattle.pb_proof.proofs.lemmas.conclusion.Theorems.{shown_nests, same_shown}
 use Rattle.pb_proof.proofs.lemmas.conclusion.Steps.{OnAction, on_transition}
 use Rattle.pb_proof.proofs.lemmas.line.Asks.{solution_asked}
 

@@ -1,21 +1,104 @@
--- What the conclusion machine reads is a conclusion.
-use Rattle.pb_proof.proofs.Common.{ℕ, ℤ, ◌&&◌, ◌*◌, ◌++◌, ◌+◌, ◌-◌, ◌<◌, ◌∙◌, ◌∷◌, ◌≡◌, ◌≤◌, [], ap, Bool, false, inl, inr, length, List, nat_eq, arith, rules}
-use Rattle.pb_proof.proofs.Common.{nat_le, None, refl, Some, subst, sym, take, true, slice_index, and_parts, cond_both, eqb-true, Literal, ends_walk}
-use Rattle.pb_proof.proofs.Common.{Keeps, On, Walks, walks_more, digits-grown, digits-one, after_it, grown, inside, next, none_yet, regroup}
-use Rattle.pb_proof.proofs.Common.{as_unmarked, some_digit, word_grown, word_whole, End, Go, Next, Refuse, is_blank, is_digit, ◌⋅◌, Blanks0, Blanks1}
-use Rattle.pb_proof.proofs.Common.{Byte, Bytes, digit, Empty, Language, unmarked, Digits, Sign, signed, Letter, plain, Bound, Finite, Infinite, cond}
-use Rattle.pb_proof.proofs.Common.{Conclusion, Stop, To, Concluding, Owner, Showing, Side, Word, after_bound, after_id, begin_bound, between, colon}
-use Rattle.pb_proof.proofs.Common.{digits, first_word, id_digits, phase_after_bound, phase_after_word, PhaseFits, spell, word_of, conclusion_at}
-use Rattle.pb_proof.proofs.Common.{conclusion_automaton, ConclusionState, is_in_number, solution_automaton, solution_first, SolutionState}
-use Rattle.pb_proof.proofs.Common.{SpellsJoined, bounds_word, IdShown, inf_word, SpellsBound, SpellsConclusionLine}
-use Rattle.pb_proof.proofs.Common.{conclusion_next as next_action, conclusion_transition as transition, conclusion_giving as giving}
-use Rattle.pb_proof.proofs.Common.{conclusion_act as act, conclusion_over as over, ConclusionPhase as Phase, ConclusionAction as Action}
+-- What the conclusion machine has read in each of its states.
+use Rattle.pb_proof.proofs.Common.{ℕ, ℤ, ◌++◌, ◌∷◌, ◌≡◌, [], ap, append_assoc, List, None, Option, refl, Some, true, Literal, none_yet, arith, rules, ◌⋅◌}
+use Rattle.pb_proof.proofs.Common.{Blanks0, Blanks1, Byte, Bytes, Empty, Language, Letter, Bound, Concluding, Owner, Showing, Side, conclusion_value}
+use Rattle.pb_proof.proofs.Common.{showing_value, SpellsJoined, bounds_word, IdShown, LineEnd, none_word, sat_word, SpellsBound, SpellsConclusion}
+use Rattle.pb_proof.proofs.Common.{SpellsConclusionLine, SpellsId, SpellsShown, unsat_word, ◌&&◌, ◌*◌, ◌+◌, ◌-◌, ◌<◌, ◌∙◌, ◌≤◌, Bool, false, inl, inr, length}
+use Rattle.pb_proof.proofs.Common.{nat_eq, nat_le, subst, sym, take, slice_index, and_parts, cond_both, eqb-true, ends_walk, Keeps, On, Walks, walks_more}
+use Rattle.pb_proof.proofs.Common.{digits-grown, digits-one, after_it, grown, inside, next, regroup, as_unmarked, some_digit, word_grown, word_whole, End, Go}
+use Rattle.pb_proof.proofs.Common.{Next, Refuse, is_blank, is_digit, digit, unmarked, Digits, Sign, signed, plain, Finite, Infinite, cond, Conclusion, Stop, To}
+use Rattle.pb_proof.proofs.Common.{Word, after_bound, after_id, begin_bound, between, colon, digits, first_word, id_digits, phase_after_bound, phase_after_word}
+use Rattle.pb_proof.proofs.Common.{PhaseFits, spell, word_of, conclusion_at, conclusion_automaton, ConclusionState, is_in_number, solution_automaton}
+use Rattle.pb_proof.proofs.Common.{solution_first, SolutionState, inf_word, conclusion_next as next_action, conclusion_transition as transition}
+use Rattle.pb_proof.proofs.Common.{conclusion_giving as giving, conclusion_act as act, conclusion_over as over, ConclusionPhase as Phase}
+use Rattle.pb_proof.proofs.Common.{ConclusionAction as Action}
 use Rattle.pb_proof.specs.meaning.Lines.{Minus}
 use Rattle.pb_proof.proofs.lemmas.conclusion.Steps.{continues}
-use Rattle.pb_proof.proofs.lemmas.conclusion.Texts.{ConclusionRead, LowerRead, Lead, IdLead, Colon, BeforeIdRead, id_shown, bounds_body, conclusion_line, showing_line}
-use Rattle.pb_proof.proofs.lemmas.line.Ends.{Gapped, Closing, blank_more, blank_closing, semicolon_after_blanks, line_after_blanks, line_closing, gapped, gapped_some, first_blank, further_blank, blanks_begin, blanks_go_on}
-use Rattle.pb_proof.proofs.lemmas.solution.Theorems.{solution_reads, solution_of_one}
-use Rattle.pb_proof.proofs.lemmas.line.ByteKinds.{positive}
+use Rattle.pb_proof.proofs.lemmas.line.Ends.{Gapped, Closing, blank_more, blank_closing, semicolon_after_blanks, line_after_blanks, line_closing, gapped}
+use Rattle.pb_proof.proofs.lemmas.line.Ends.{gapped_some, first_blank, further_blank, blanks_begin, blanks_go_on, positive}
+use Rattle.pb_proof.proofs.lemmas.Solution.{solution_reads, solution_of_one}
+
+module _ (limit top : ℕ) where
+  -- a conclusion without literals, after the first blanks
+  abbrev pub Body : Showing → Language
+  Body Showing.Sat = Bytes sat_word
+  Body (Showing.Bounds lower id upper) =
+      Bytes bounds_word ⋅ Blanks1 ⋅ SpellsBound limit lower ⋅ IdShown limit top id ⋅ Blanks1 ⋅ SpellsBound limit upper
+
+  abbrev pub ConclusionBody : Concluding → Language
+  ConclusionBody Concluding.NoClaim = Bytes none_word
+  ConclusionBody (Concluding.Unsat None) = Bytes unsat_word
+  ConclusionBody (Concluding.Unsat (Some id)) = Bytes unsat_word ⋅ IdShown limit top (Some id)
+  ConclusionBody (Concluding.Shows shows) = Body shows
+
+  abbrev pub ConclusionRead : Concluding → Language
+  ConclusionRead c = Blanks1 ⋅ ConclusionBody c
+
+  -- the text through the lower bound
+  abbrev pub LowerRead : Bound → Language
+  LowerRead x = Blanks1 ⋅ Bytes bounds_word ⋅ Blanks1 ⋅ SpellsBound limit x
+
+  -- the text before the blanks before a bound
+  abbrev pub Lead : Side → Language
+  Lead Side.Lower = Blanks1 ⋅ Bytes bounds_word
+  Lead (Side.Upper x id) = LowerRead x ⋅ IdShown limit top id
+
+  -- the text before `:` and an id, and the text before that id
+  abbrev pub IdLead : Owner → Language
+  IdLead Owner.Unsat = Blanks1 ⋅ Bytes unsat_word
+  IdLead (Owner.Lower x) = LowerRead x
+
+  abbrev pub Colon : Language → Language
+  Colon P = P ⋅ Blanks0 ⋅ Byte 58
+
+  abbrev pub BeforeIdRead : Owner → Language
+  BeforeIdRead x = Colon (IdLead x) ⋅ Blanks0
+
+  -- an id after `:` is one that is shown
+  pub id_shown : (P : Language) (id : ℤ) (p : List Letter) → (Colon P ⋅ Blanks0 ⋅ SpellsId top id) p → (P ⋅ IdShown limit top (Some id)) p
+  id_shown P id p h = grind (arith, append_assoc)
+
+  -- both bounds
+  pub bounds_body : (x : Bound) (id : Option ℤ) (y : Bound) (p : List Letter) → (Lead (Side.Upper x id) ⋅ Blanks1 ⋅ SpellsBound limit y) p → ConclusionRead (Concluding.Shows (Showing.Bounds x id y)) p
+  bounds_body x id y p (u5, b, e5, (u4, s3, e4, (u3, i, e3, (u2, l, e2, (u1, s2, e1, (s1, w, e0, p1, pw), p2), pl), pi), p3), pb) =
+      let v2 : List Letter = (w ++ s2) ++ l in (
+        s1,
+        ((v2 ++ i) ++ s3) ++ b,
+        rw (e5, e4, e3, e2, e1, e0) (simp append_assoc),
+        p1,
+        ((v2 ++ i) ++ s3, b, refl, (v2 ++ i, s3, refl, (v2, i, refl, (w ++ s2, l, refl, (w, s2, refl, pw, p2), pl), pi), p3), pb),
+      )
+
+  -- nothing is shown
+  showing_none : (x : Showing) (q : List Letter) → Body x q → SpellsConclusion limit top (showing_value x None) q
+  showing_none Showing.Sat q h = none_yet (Body Showing.Sat) Empty q refl h
+  showing_none (Showing.Bounds lower id upper) q h = none_yet (Body (Showing.Bounds lower id upper)) Empty q refl h
+
+  conclusion_of : (c : Concluding) (q : List Letter) → ConclusionBody c q → SpellsConclusion limit top (conclusion_value c) q
+  conclusion_of c q h = grind (arith, none_yet, showing_none)
+
+  pub conclusion_line : (c : Concluding) (p : List Letter) → (ConclusionRead c ⋅ LineEnd) p → SpellsConclusionLine limit top (conclusion_value c) p
+  conclusion_line c p (ab, l, e, (s, a, f, p1, k), n) = (ab, l, e, (s, a, f, p1, conclusion_of c a k), n)
+
+  -- literals are shown
+  shown_line : (ls : List Literal) (p : List Letter) → (Byte 58 ⋅ SpellsJoined true ls) p → (SpellsShown ls ⋅ LineEnd) p
+  shown_line [] p h = h
+  shown_line (l ∷ ls) p (c, t, e, x, (blr, f, i, (bl, r, j, (b, s, k, y, z), u), v)) =
+      (((c ++ b) ++ s) ++ r, f, rw (e, i, j, k) (simp append_assoc), ((c ++ b) ++ s, r, refl, (c ++ b, s, refl, (c, b, refl, x, y), z), u), v)
+
+  pub line_shown : (ls : List Literal) (p : List Letter) → (SpellsShown ls ⋅ LineEnd) p → (Byte 58 ⋅ SpellsJoined true ls) p
+  line_shown ls p h = search (rules, append_assoc)
+
+  showing_some : (x : Showing) (ls : List Literal) (q : List Letter) → (Body x ⋅ (Blanks0 ⋅ SpellsShown ls)) q → SpellsConclusion limit top (showing_value x (Some ls)) q
+  showing_some x ls q h = grind arith
+
+  pub showing_line : (x : Showing) (ls : List Literal) (p : List Letter) → (Colon (ConclusionRead (Concluding.Shows x)) ⋅ SpellsJoined true ls) p
+      → SpellsConclusionLine limit top (showing_value x (Some ls)) p
+  showing_line x ls p (u, j, e, (v, c, f, (w, z, g, (s, a, h, p1, body), p0), colon), k) =
+      let (d, l, i, m, n) = shown_line ls (c ++ j) (c, j, refl, colon, k) in
+      let same : p ≡ (s ++ (a ++ (z ++ d))) ++ l = rw (e, f, g, h) (simp append_assoc (ap (λ y. s ++ (a ++ (z ++ y))) i)) in
+      (s ++ (a ++ (z ++ d)), l, same, (s, a ++ (z ++ d), refl, p1, showing_some x ls (a ++ (z ++ d)) (a, z ++ d, refl, body, (z, d, refl, p0, m))), n)
+
+-- What the conclusion machine reads is a conclusion.
 
 -- what the literals machine has read
 abbrev pub Walked : SolutionState → Language
@@ -88,15 +171,9 @@ module _ (s : ConclusionState) (l : Letter) (p : List Letter) where
       longer n e = grown P (Bytes (take j w)) (Bytes (take (j + 1) w)) p l (word_grown w j l i n (eqb-true l.byte (slice_index w j) e)) h
 
   in_word : (w : Word) (j : ℕ) → j < length (word_of w) → (Blanks1 ⋅ Bytes (take j (word_of w))) p → After (spell (word_of w) j l.byte (Phase.Word w (j + 1)) (phase_after_word w))
-  in_word Word.NoClaim j i h =
-      spelled Blanks1 (word_of Word.NoClaim) j (Phase.Word Word.NoClaim (j + 1)) (phase_after_word Word.NoClaim) (λ n. n) (λ n. n) (λ r. r)
-      (gapped (ConclusionOf Concluding.NoClaim) (p ++ l ∷ [])) i h
-  in_word Word.Unsat j i h =
-      spelled Blanks1 (word_of Word.Unsat) j (Phase.Word Word.Unsat (j + 1)) (phase_after_word Word.Unsat) (λ n. n) (λ n. n) (λ r. r)
-      (gapped (ConclusionOf (Concluding.Unsat None)) (p ++ l ∷ [])) i h
-  in_word Word.Sat j i h =
-      spelled Blanks1 (word_of Word.Sat) j (Phase.Word Word.Sat (j + 1)) (phase_after_word Word.Sat) (λ n. n) (λ n. n) (λ r. r)
-      (gapped (ConclusionOf (Concluding.Shows Showing.Sat)) (p ++ l ∷ [])) i h
+  in_word Word.NoClaim j i h = search (rules, spelled, gapped)
+  in_word Word.Unsat j i h = search (rules, spelled, gapped)
+  in_word Word.Sat j i h = search (rules, spelled, gapped)
   in_word Word.Bounds j i h =
       spelled Blanks1 (word_of Word.Bounds) j (Phase.Word Word.Bounds (j + 1)) (phase_after_word Word.Bounds) (λ n. n) (λ n. n) (λ r. r) (λ r. r) i h
 
@@ -106,13 +183,9 @@ module _ (s : ConclusionState) (l : Letter) (p : List Letter) where
   -- after a conclusion
   in_colon : (c : Concluding) → nat_eq l.byte 58 ≡ true → Gapped (ConclusionOf c) p → After (colon c)
   in_colon Concluding.NoClaim e h = tt
-  in_colon (Concluding.Unsat None) e h = λ u n.
-      let C : Language = ConclusionOf (Concluding.Unsat None) in
-      gapped (C ⋅ Blanks0 ⋅ Byte 58) (p ++ l ∷ []) (next (C ⋅ Blanks0) (Byte 58) p l h (byte 58 n e))
+  in_colon (Concluding.Unsat None) e h = search (rules, gapped, next, byte)
   in_colon (Concluding.Unsat (Some id)) e h = tt
-  in_colon (Concluding.Shows x) e h = λ u n.
-      let C : Language = ConclusionOf (Concluding.Shows x) in
-      none_yet (C ⋅ Blanks0 ⋅ Byte 58) (Walked (solution_first true)) (p ++ l ∷ []) refl (next (C ⋅ Blanks0) (Byte 58) p l h (byte 58 n e))
+  in_colon (Concluding.Shows x) e h = search (rules, none_yet, next, byte)
 
   in_after : (c : Concluding) → Gapped (ConclusionOf c) p → After (next_action c l.byte)
   in_after c h =
@@ -167,9 +240,7 @@ module _ (s : ConclusionState) (l : Letter) (p : List Letter) where
   in_infinity : (x : Side) (j : ℕ) → j < length inf_word → (LeadOf x ⋅ Blanks1 ⋅ Bytes (take j inf_word)) p
       → After (spell inf_word j l.byte (Phase.Infinity x (j + 1)) (phase_after_bound x Infinite))
   in_infinity Side.Lower j i h = spelled (LeadOf Side.Lower ⋅ Blanks1) inf_word j (Phase.Infinity Side.Lower (j + 1)) (phase_after_bound Side.Lower Infinite) (λ n. n) (λ n. n) (λ r. r) (λ r. r) i h
-  in_infinity (Side.Upper x id) j i h =
-      spelled (LeadOf (Side.Upper x id) ⋅ Blanks1) inf_word j (Phase.Infinity (Side.Upper x id) (j + 1)) (phase_after_bound (Side.Upper x id) Infinite) (λ n. n) (λ n. n) (λ r. r)
-      (λ r. gapped (ConclusionOf (Concluding.Shows (Showing.Bounds x id Infinite))) (p ++ l ∷ []) (bounds_body s.limit s.top x id Infinite (p ++ l ∷ []) r)) i h
+  in_infinity (Side.Upper x id) j i h = search (rules, spelled, gapped, bounds_body)
 
   -- blanks after the lower bound
   in_spaced : (x : Bound) → (Lower x ⋅ Blanks1) p → After (transition s.limit s.top (Phase.Spaced x) l.byte)

@@ -1,24 +1,209 @@
--- The laws of the conclusion machine.
-use Rattle.pb_proof.proofs.Common.{ℕ, ℤ, ◌++◌, ◌<◌, ◌↔◌, ◌∷◌, ◌≡◌, ◌≤◌, ◌⊎◌, [], ap, arith, Bool, drop, false, inl, inr, List, None, Option, refl, Some, subst, suc}
-use Rattle.pb_proof.proofs.Common.{sym, true, zero, false≢true, reads_before, ReadsOn, is_state, IsOfOne, reads_after, Walks, Go, IsState, ReadsStatement, unmarked}
-use Rattle.pb_proof.proofs.Common.{signed, Letter, plain, Bound, Infinite, Conclusion, Concluding, Owner, Showing, Side, Word, is_within, phase_after_bound}
-use Rattle.pb_proof.proofs.Common.{phase_after_word, PhaseFits, word_of, conclusion_at, conclusion_automaton, conclusion_first, conclusion_last, conclusion_value}
-use Rattle.pb_proof.proofs.Common.{ConclusionState, IsConclusionInOrder, kept, showing_value, spent, IsSolutionInOrder, solution_automaton, solution_first}
-use Rattle.pb_proof.proofs.Common.{SolutionState, inf_word, none_word, SpellsConclusionLine, ◌&&◌, ◌∙◌, IsTrue, Literal, admits, end_or_refuse, go_or_refuse}
-use Rattle.pb_proof.proofs.Common.{refuses, Admits, End, is_large, Next, Refuse, Limits, is_digit, largest, top_of, asks, is_in_number}
-use Rattle.pb_proof.proofs.Common.{conclusion_transition as transition, conclusion_act as act, conclusion_giving as giving, conclusion_over as over}
-use Rattle.pb_proof.proofs.Common.{ConclusionPhase as Phase, ConclusionAction as Action}
+-- The conclusion machine reads each conclusion, and its laws.
+use Rattle.pb_proof.proofs.Common.{ℕ, ℤ, ◌++◌, ◌∙◌, ◌∷◌, ◌≡◌, [], ap, append_assoc, List, None, Option, refl, Some, subst, sym, true, Literal, longer}
+use Rattle.pb_proof.proofs.Common.{reads_after, arith, rules, Walks, blank_digit, after_it, inside, Go, ReadsStatement, ◌⋅◌, Blanks0, Blanks1, Byte, Bytes}
+use Rattle.pb_proof.proofs.Common.{Empty, Language, unmarked, Letter, Bound, Conclusion, Bounds, NoClaim, Sat, Unsat, Concluding, Owner, Showing}
+use Rattle.pb_proof.proofs.Common.{phase_after_word, word_of, conclusion_automaton, conclusion_first, conclusion_last, conclusion_value, ConclusionState}
+use Rattle.pb_proof.proofs.Common.{showing_value, solution_automaton, solution_first, solution_last, SolutionState, SpellsJoined, bounds_word, IdShown, LineEnd}
+use Rattle.pb_proof.proofs.Common.{LiteralsShown, none_word, SpellsBound, SpellsConclusionLine, SpellsId, SpellsShown, unsat_word, conclusion_giving as giving}
+use Rattle.pb_proof.proofs.Common.{ConclusionPhase as Phase, Word, Side, ◌<◌, ◌↔◌, ◌≤◌, ◌⊎◌, Bool, drop, false, inl, inr, suc, zero, false≢true, reads_before}
+use Rattle.pb_proof.proofs.Common.{ReadsOn, is_state, IsOfOne, IsState, signed, plain, Infinite, is_within, phase_after_bound, PhaseFits, conclusion_at}
+use Rattle.pb_proof.proofs.Common.{IsConclusionInOrder, kept, spent, IsSolutionInOrder, inf_word, ◌&&◌, IsTrue, admits, end_or_refuse, go_or_refuse, refuses}
+use Rattle.pb_proof.proofs.Common.{Admits, End, is_large, Next, Refuse, Limits, is_digit, largest, top_of, asks, is_in_number}
+use Rattle.pb_proof.proofs.Common.{conclusion_transition as transition, conclusion_act as act, conclusion_over as over, ConclusionAction as Action}
+use Rattle.pb_proof.proofs.lemmas.conclusion.Steps.{Opens, before_opens, spaced_opens, bound_carries, AtId, id_carries, at, Carries, carries_then, Is}
+use Rattle.pb_proof.proofs.lemmas.conclusion.Steps.{leads_carry, word_leads, start_blanks, bounded_blanks, id_blanks, Follows, follows_blanks, after_blanks_of}
+use Rattle.pb_proof.proofs.lemmas.conclusion.Steps.{between_blanks, may_end, id_steps, id_follows, infinity_leads, infinity_left, signed_step, id_step}
+use Rattle.pb_proof.proofs.lemmas.conclusion.Steps.{first_id_step, signed_id_step, word_left, continues, ends, nothing_spent, give_phase, idle_order}
+use Rattle.pb_proof.proofs.lemmas.conclusion.Prefix.{Body, line_shown}
+use Rattle.pb_proof.proofs.lemmas.line.Ends.{TakesBlanks, blanks1_lead, blanks0_lead, after_blanks, line_reads, nil_last, reads_exactly}
+use Rattle.pb_proof.proofs.lemmas.Carried.{Nests, reads_in}
+use Rattle.pb_proof.proofs.lemmas.Solution.{solution_reads, solution_of_one}
 use Rattle.pb_proof.specs.engine.line.Conclusion.{is_done}
 use Rattle.pb_proof.specs.engine.line.ConclusionState.{Holds}
-use Rattle.pb_proof.proofs.lemmas.conclusion.Each.{conclusion_each, shown_at, shown_nests}
-use Rattle.pb_proof.proofs.lemmas.Carried.{reads_in}
-use Rattle.pb_proof.proofs.lemmas.conclusion.Parts.{before_opens, spaced_opens, infinity_leads, infinity_left, signed_step, id_step, first_id_step, signed_id_step}
-use Rattle.pb_proof.proofs.lemmas.conclusion.Parts.{at, word_left, word_leads, id_steps}
-use Rattle.pb_proof.proofs.lemmas.conclusion.Steps.{continues, ends, nothing_spent, give_phase, idle_order}
-use Rattle.pb_proof.proofs.lemmas.solution.Theorems.{solution_of_one}
-use Rattle.pb_proof.proofs.lemmas.line.Ends.{reads_exactly}
 use Rattle.std.proofs.Math.Pow.{pow_mono}
 use Rattle.pb_proof.proofs.lemmas.conclusion.Prefix as prefixes
+
+module _ (limit top : ℕ) where
+  abbrev here : Phase → ConclusionState
+  here p = at limit top p
+
+  -- the state with this state of the literals machine
+  abbrev pub shown_at : Showing → SolutionState → ConclusionState
+  shown_at x inner = giving (here (Phase.Shown x)) inner
+
+  -- What the literals machine reads is read as the shown literals.
+  pub shown_nests : (x : Showing) → Nests solution_automaton conclusion_automaton (shown_at x) (λ ls. showing_value x (Some ls)) (λ ls inner. conclusion_last limit top)
+  shown_nests x = record { step = λ s b. refl; begins = solution_of_one.begins; begun = λ s h. refl; in_number = λ s. refl }
+
+  itself : (p : Phase) → Follows limit top p (here p)
+  itself p b e = refl
+
+  ends_line : (c : Concluding) (P : Language) → Carries limit top (Is limit top Phase.Start) P (Follows limit top (Phase.AfterValue c))
+      → (t : List Letter) → (P ⋅ LineEnd) t → ReadsStatement conclusion_automaton (conclusion_first limit top) t (conclusion_value c) (conclusion_last limit top)
+  ends_line c P f t (a, b, e, h, k) =
+      let (mid, w, o) = f (conclusion_first limit top) a refl h in
+      subst (λ x. ReadsStatement conclusion_automaton (conclusion_first limit top) x (conclusion_value c)
+      (conclusion_last limit top)) (sym e)
+      (reads_after conclusion_automaton a b (conclusion_first limit top) mid (conclusion_last limit top)
+      (conclusion_value c) w
+      (line_reads conclusion_automaton mid (here (Phase.AfterValue c)) (here (Phase.Semicolon c)) (conclusion_last limit top) (conclusion_value c) (may_end limit top c mid o) b k))
+
+  -- shown literals, and the end of the line
+  colon_reads : (x : Showing) (ls : List Literal) (s : ConclusionState) → Follows limit top (Phase.AfterValue (Concluding.Shows x)) s
+      → (t : List Letter) → (Byte 58 ⋅ SpellsJoined true ls) t → ReadsStatement conclusion_automaton s t (showing_value x (Some ls)) (conclusion_last limit top)
+  colon_reads x ls s f t (a, b, e, h, k) =
+      subst (λ y. ReadsStatement conclusion_automaton s y (showing_value x (Some ls)) (conclusion_last limit top)) (sym (e ∙ ap (λ y. y ++ b) h))
+      (longer conclusion_automaton (unmarked 58) b s (here (Phase.Shown x)) (conclusion_last limit top) (showing_value x (Some ls)) (f 58 refl) refl refl
+      (reads_in _ _ _ _ _ (shown_nests x) b (solution_first true) ls (solution_last true) ((solution_reads true b ls (solution_last true)).1 (k, refl))))
+
+  some_shown : (x : Showing) (ls : List Literal) (s : ConclusionState) → Follows limit top (Phase.AfterValue (Concluding.Shows x)) s
+      → (t : List Letter) → (Blanks0 ⋅ (SpellsShown ls ⋅ LineEnd)) t → ReadsStatement conclusion_automaton s t (showing_value x (Some ls)) (conclusion_last limit top)
+  some_shown x ls s f t (a, b, e, h, k) =
+      let c : (Byte 58 ⋅ SpellsJoined true ls) b = line_shown limit top ls b k in
+      let gap : ConclusionState = here (Phase.AfterValue (Concluding.Shows x)) in
+      rw e (after_blanks conclusion_automaton s gap (conclusion_last limit top) (showing_value x (Some ls)) a b
+      (follows_blanks limit top (Phase.AfterValue (Concluding.Shows x)) (Phase.AfterValue (Concluding.Shows x)) s (after_blanks_of limit top (Concluding.Shows x)) f) h
+      (colon_reads x ls s f b c) (colon_reads x ls gap (itself (Phase.AfterValue (Concluding.Shows x))) b c))
+
+  start_carries : Carries limit top (Is limit top Phase.Start) Blanks1 (Is limit top Phase.Before)
+  start_carries = leads_carry limit top Phase.Start Phase.Before Blanks1 (blanks1_lead conclusion_automaton (here Phase.Start) (here Phase.Before) (start_blanks limit top))
+
+  -- the parts of a line with shown literals
+  shown_parts : (x : Showing) (ls : List Literal) (t : List Letter) → (Blanks1 ⋅ (Body limit top x ⋅ (Blanks0 ⋅ SpellsShown ls)) ⋅ LineEnd) t
+      → (Blanks1 ⋅ (Body limit top x ⋅ (Blanks0 ⋅ (SpellsShown ls ⋅ LineEnd)))) t
+  shown_parts x ls t (u, l, e, (s, w, f, p1, (a, v, g, body, (z, d, h, p0, m))), n) =
+      (s, a ++ (z ++ (d ++ l)), rw (e, f, g, h) (simp append_assoc), p1, (a, z ++ (d ++ l), refl, body, (z, d ++ l, refl, p0, (d, l, refl, m, n))))
+
+  -- a conclusion that may show literals
+  showing_reads : (x : Showing) (shown : Option (List Literal)) → Carries limit top (Is limit top Phase.Before) (Body limit top x) (Follows limit top (Phase.AfterValue (Concluding.Shows x)))
+      → (t : List Letter) → (Blanks1 ⋅ (Body limit top x ⋅ LiteralsShown shown) ⋅ LineEnd) t → ReadsStatement conclusion_automaton (conclusion_first limit top) t (showing_value x shown) (conclusion_last limit top)
+  showing_reads x None f t h =
+      ends_line (Concluding.Shows x) (Blanks1 ⋅ Body limit top x)
+      (carries_then limit top (Is limit top Phase.Start) (Is limit top Phase.Before) (Follows limit top (Phase.AfterValue (Concluding.Shows x))) Blanks1 (Body limit top x) start_carries f) t
+      (inside (Blanks1 ⋅ (Body limit top x ⋅ Empty)) (Blanks1 ⋅ Body limit top x) LineEnd t (λ q. after_it Blanks1 (Body limit top x ⋅ Empty) (Body limit top x) q (nil_last (Body limit top x))) h)
+  showing_reads x (Some ls) f t h =
+      let (a, b, e, k, (c, d, g, i, j)) = shown_parts x ls t h in
+      let (mid, w, m) = start_carries (conclusion_first limit top) a refl k in
+      let (new, v, o) = f mid c m i in
+      subst (λ y. ReadsStatement conclusion_automaton (conclusion_first limit top) y (showing_value x (Some ls)) (conclusion_last limit top)) (sym (e ∙ ap (λ y. a ++ y) g))
+      (reads_after conclusion_automaton a (c ++ d) (conclusion_first limit top) mid (conclusion_last limit top) (showing_value x (Some ls)) w
+      (reads_after conclusion_automaton c d mid new (conclusion_last limit top) (showing_value x (Some ls)) v (some_shown x ls new o d j)))
+
+  -- blank*, and what holds before and after it
+  blanks_carry : (A C : ConclusionState → Type 0) (gap : ConclusionState) → ((s : ConclusionState) → A s → TakesBlanks conclusion_automaton s gap × C s) → C gap → Carries limit top A Blanks0 C
+  blanks_carry A C gap f c s t i ([], k, e) = (s, subst (λ y. Walks conclusion_automaton s y s) (sym e) refl, (f s i).1)
+  blanks_carry A C gap f c s t i (b ∷ bs, k, e) = (gap, blanks1_lead conclusion_automaton s gap (f s i).0 t (b, bs, k.0, k.1, e), c)
+
+  -- a state that takes the `:` before an id
+  abbrev Colons : Owner → ConclusionState → Type 0
+  Colons x s = conclusion_automaton.step s 58 ≡ Go (here (Phase.BeforeId x))
+
+  colon_carries : (x : Owner) → Carries limit top (Colons x) (Byte 58) (Is limit top (Phase.BeforeId x))
+  colon_carries x s t i h = grind arith
+
+  id_shown_carries : (x : Owner) (id : ℤ) (A : ConclusionState → Type 0) → Carries limit top A Blanks0 (Colons x) → Carries limit top A (IdShown limit top (Some id)) (AtId limit top x id)
+  id_shown_carries x id A f =
+      let B : ConclusionState → Type 0 = Is limit top (Phase.BeforeId x) in
+      carries_then limit top A B (AtId limit top x id) (Blanks0 ⋅ Byte 58 ⋅ Blanks0) (SpellsId top id)
+      (carries_then limit top A B B (Blanks0 ⋅ Byte 58) Blanks0
+      (carries_then limit top A (Colons x) B Blanks0 (Byte 58) f (colon_carries x))
+      (leads_carry limit top (Phase.BeforeId x) (Phase.BeforeId x) Blanks0 (blanks0_lead conclusion_automaton (here (Phase.BeforeId x)) (id_blanks limit top x))))
+      (id_carries limit top x id)
+
+  -- the empty text
+  empty_carries : (A : ConclusionState → Type 0) → Carries limit top A Empty A
+  empty_carries A s t i h = (s, subst (λ y. Walks conclusion_automaton s y s) (sym h) refl, i)
+
+  -- a larger set of states after the text
+  carries_to : (A B C : ConclusionState → Type 0) (P : Language) → ((s : ConclusionState) → B s → C s) → Carries limit top A P B → Carries limit top A P C
+  carries_to A B C P g f s t i h = let (new, w, k) = f s t i h in (new, w, g new k)
+
+  word_carries : (w : Word) → Carries limit top (Is limit top Phase.Before) (Bytes (word_of w)) (Is limit top (phase_after_word w))
+  word_carries w = leads_carry limit top Phase.Before (phase_after_word w) (Bytes (word_of w)) (word_leads limit top w)
+
+  word_follows : (w : Word) (c : Concluding) → phase_after_word w ≡ Phase.AfterValue c → Carries limit top (Is limit top Phase.Before) (Bytes (word_of w)) (Follows limit top (Phase.AfterValue c))
+  word_follows w c e =
+      carries_to (Is limit top Phase.Before) (Is limit top (phase_after_word w)) (Follows limit top (Phase.AfterValue c)) (Bytes (word_of w))
+      (λ s i. subst (Follows limit top (Phase.AfterValue c)) (sym (i ∙ ap (λ q. here q) e)) (itself (Phase.AfterValue c))) (word_carries w)
+
+  -- `UNSAT`, and an id
+  unsat_gap : (s : ConclusionState) → s ≡ here (Phase.AfterValue (Concluding.Unsat None)) → TakesBlanks conclusion_automaton s (here (Phase.AfterValue (Concluding.Unsat None))) × Colons Owner.Unsat s
+  unsat_gap s e = grind (arith, after_blanks_of)
+
+  unsat_id : (id : ℤ) (s : ConclusionState) → AtId limit top Owner.Unsat id s → Follows limit top (Phase.AfterValue (Concluding.Unsat (Some id))) s
+  unsat_id id s h = grind (arith, id_follows)
+
+  unsat_carries : (id : Option ℤ) → Carries limit top (Is limit top Phase.Before) (Bytes unsat_word ⋅ IdShown limit top id) (Follows limit top (Phase.AfterValue (Concluding.Unsat id)))
+  unsat_carries None =
+      let F : ConclusionState → Type 0 = Follows limit top (Phase.AfterValue (Concluding.Unsat None)) in
+      carries_then limit top (Is limit top Phase.Before) F F (Bytes unsat_word) Empty (word_follows Word.Unsat (Concluding.Unsat None) refl) (empty_carries F)
+  unsat_carries (Some id) =
+      let A : ConclusionState → Type 0 = Is limit top (Phase.AfterValue (Concluding.Unsat None)) in
+      carries_then limit top (Is limit top Phase.Before) A (Follows limit top (Phase.AfterValue (Concluding.Unsat (Some id)))) (Bytes unsat_word) (IdShown limit top (Some id))
+      (word_carries Word.Unsat)
+      (carries_to A (AtId limit top Owner.Unsat id) (Follows limit top (Phase.AfterValue (Concluding.Unsat (Some id)))) (IdShown limit top (Some id)) (unsat_id id)
+      (id_shown_carries Owner.Unsat id A (blanks_carry A (Colons Owner.Unsat) (here (Phase.AfterValue (Concluding.Unsat None))) unsat_gap refl)))
+
+  -- the lower bound, and an id
+  abbrev Middle : Bound → Option ℤ → ConclusionState → Type 0
+  Middle x None = Follows limit top (Phase.Between x)
+  Middle x (Some id) = AtId limit top (Owner.Lower x) id
+
+  lower_gap : (x : Bound) (s : ConclusionState) → Follows limit top (Phase.Between x) s → TakesBlanks conclusion_automaton s (here (Phase.Spaced x)) × Colons (Owner.Lower x) s
+  lower_gap x s f = (follows_blanks limit top (Phase.Between x) (Phase.Spaced x) s (between_blanks limit top x) f, f 58 refl)
+
+  middle_carries : (x : Bound) (id : Option ℤ) → Carries limit top (Follows limit top (Phase.Between x)) (IdShown limit top id) (Middle x id)
+  middle_carries x None = empty_carries (Follows limit top (Phase.Between x))
+  middle_carries x (Some id) =
+      let A : ConclusionState → Type 0 = Follows limit top (Phase.Between x) in
+      id_shown_carries (Owner.Lower x) id A (blanks_carry A (Colons (Owner.Lower x)) (here (Phase.Spaced x)) (lower_gap x) refl)
+
+  before_upper : (x : Bound) (id : ℤ) (s : ConclusionState) → AtId limit top (Owner.Lower x) id s → TakesBlanks conclusion_automaton s (here (Phase.BeforeBound (Side.Upper x (Some id))))
+  before_upper x id s h = grind (arith, id_steps, blank_digit)
+
+  gap_carries : (x : Bound) (id : Option ℤ) → Carries limit top (Middle x id) Blanks1 (Opens limit top (Side.Upper x id))
+  gap_carries x None s t f h =
+      (here (Phase.Spaced x), blanks1_lead conclusion_automaton s (here (Phase.Spaced x)) (lower_gap x s f).0 t h, spaced_opens limit top x)
+  gap_carries x (Some id) s t f h = (
+    here (Phase.BeforeBound (Side.Upper x (Some id))),
+    blanks1_lead conclusion_automaton s (here (Phase.BeforeBound (Side.Upper x (Some id)))) (before_upper x id s f) t h,
+    before_opens limit top (Side.Upper x (Some id)),
+  )
+
+  lower_carries : (x : Bound) → Carries limit top (Is limit top Phase.Before) (Bytes bounds_word ⋅ Blanks1 ⋅ SpellsBound limit x) (Follows limit top (Phase.Between x))
+  lower_carries x =
+      let A : ConclusionState → Type 0 = Is limit top Phase.Before in
+      let B : ConclusionState → Type 0 = Is limit top (Phase.BeforeBound Side.Lower) in
+      let C : ConclusionState → Type 0 = Follows limit top (Phase.Between x) in
+      carries_then limit top A B C (Bytes bounds_word ⋅ Blanks1) (SpellsBound limit x)
+      (carries_then limit top A (Is limit top Phase.Bounded) B (Bytes bounds_word) Blanks1
+      (word_carries Word.Bounds)
+      (leads_carry limit top Phase.Bounded (Phase.BeforeBound Side.Lower) Blanks1 (blanks1_lead conclusion_automaton (here Phase.Bounded) (here (Phase.BeforeBound Side.Lower)) (bounded_blanks limit top))))
+      (λ s t i h. bound_carries limit top Side.Lower x s t (subst (Opens limit top Side.Lower) (sym i) (before_opens limit top Side.Lower)) h)
+
+  bounds_carries : (x : Bound) (id : Option ℤ) (y : Bound)
+      → Carries limit top (Is limit top Phase.Before) (Body limit top (Showing.Bounds x id y)) (Follows limit top (Phase.AfterValue (Concluding.Shows (Showing.Bounds x id y))))
+  bounds_carries x id y =
+      let A : ConclusionState → Type 0 = Is limit top Phase.Before in
+      let L : Language = Bytes bounds_word ⋅ Blanks1 ⋅ SpellsBound limit x in
+      carries_then limit top A (Opens limit top (Side.Upper x id)) (Follows limit top (Phase.AfterValue (Concluding.Shows (Showing.Bounds x id y)))) (L ⋅ IdShown limit top id ⋅ Blanks1) (SpellsBound limit y)
+      (carries_then limit top A (Middle x id) (Opens limit top (Side.Upper x id)) (L ⋅ IdShown limit top id) Blanks1
+      (carries_then limit top A (Follows limit top (Phase.Between x)) (Middle x id) L (IdShown limit top id) (lower_carries x) (middle_carries x id))
+      (gap_carries x id))
+      (bound_carries limit top (Side.Upper x id) y)
+
+  -- a conclusion without literals, after the first blanks
+  plain_reads : (c : Concluding) (P : Language) → Carries limit top (Is limit top Phase.Before) P (Follows limit top (Phase.AfterValue c))
+      → (t : List Letter) → (Blanks1 ⋅ P ⋅ LineEnd) t → ReadsStatement conclusion_automaton (conclusion_first limit top) t (conclusion_value c) (conclusion_last limit top)
+  plain_reads c P f t h = search (rules, ends_line, carries_then, start_carries)
+
+  pub conclusion_each : (c : Conclusion) (t : List Letter) → SpellsConclusionLine limit top c t → ReadsStatement conclusion_automaton (conclusion_first limit top) t c (conclusion_last limit top)
+  conclusion_each NoClaim t h = plain_reads Concluding.NoClaim (Bytes none_word) (word_follows Word.NoClaim Concluding.NoClaim refl) t h
+  conclusion_each (Unsat id) t h = plain_reads (Concluding.Unsat id) (Bytes unsat_word ⋅ IdShown limit top id) (unsat_carries id) t h
+  conclusion_each (Sat shown) t h = showing_reads Showing.Sat shown (word_follows Word.Sat (Concluding.Shows Showing.Sat) refl) t h
+  conclusion_each (Bounds x id y shown) t h = showing_reads (Showing.Bounds x id y) shown (bounds_carries x id y) t h
+
+-- The laws of the conclusion machine.
 
 abbrev last : ConclusionState → ConclusionState
 last s = conclusion_last s.limit s.top
@@ -27,60 +212,60 @@ abbrev SomeText : ConclusionState → Type 0
 SomeText s = ReadsOn conclusion_automaton s
 
 module _ (limit top : ℕ) where
-  abbrev here : Phase → ConclusionState
-  here p = at limit top p
+  abbrev when : Phase → ConclusionState
+  when p = at limit top p
 
   -- letters before a text
   in_prefix : (t : List Letter) (s new : ConclusionState) → Walks conclusion_automaton s t new → SomeText new → SomeText s
   in_prefix t s new w (u, e, after, r) = (t ++ u, e, after, reads_after conclusion_automaton t u s new after e w r)
 
-  only_prefix : (b : ℕ) (p q : Phase) → conclusion_automaton.step (here p) b ≡ Go (here q) → is_within q ≡ true → SomeText (here q) → SomeText (here p)
-  only_prefix b p q g i h = reads_before conclusion_automaton (here p) (here q) b g i h
+  only_prefix : (b : ℕ) (p q : Phase) → conclusion_automaton.step (when p) b ≡ Go (when q) → is_within q ≡ true → SomeText (when q) → SomeText (when p)
+  only_prefix b p q g i h = reads_before conclusion_automaton (when p) (when q) b g i h
 
-  after_text : (c : Concluding) → SomeText (here (Phase.AfterValue c))
+  after_text : (c : Concluding) → SomeText (when (Phase.AfterValue c))
   after_text c = (unmarked 10 ∷ [], conclusion_value c, conclusion_last limit top, (refl, refl))
 
-  upper_text : (x : Bound) (id : Option ℤ) → SomeText (here (Phase.BeforeBound (Side.Upper x id)))
+  upper_text : (x : Bound) (id : Option ℤ) → SomeText (when (Phase.BeforeBound (Side.Upper x id)))
   upper_text x id =
-      in_prefix (plain inf_word) (here (Phase.BeforeBound (Side.Upper x id))) (here (phase_after_bound (Side.Upper x id) Infinite))
-      (infinity_leads limit top (Side.Upper x id) (here (Phase.BeforeBound (Side.Upper x id))) (before_opens limit top (Side.Upper x id)))
+      in_prefix (plain inf_word) (when (Phase.BeforeBound (Side.Upper x id))) (when (phase_after_bound (Side.Upper x id) Infinite))
+      (infinity_leads limit top (Side.Upper x id) (when (Phase.BeforeBound (Side.Upper x id))) (before_opens limit top (Side.Upper x id)))
       (after_text (Concluding.Shows (Showing.Bounds x id Infinite)))
 
-  spaced_text : (x : Bound) → SomeText (here (Phase.Spaced x))
+  spaced_text : (x : Bound) → SomeText (when (Phase.Spaced x))
   spaced_text x =
-      in_prefix (plain inf_word) (here (Phase.Spaced x)) (here (phase_after_bound (Side.Upper x None) Infinite))
-      (infinity_leads limit top (Side.Upper x None) (here (Phase.Spaced x)) (spaced_opens limit top x)) (after_text (Concluding.Shows (Showing.Bounds x None Infinite)))
+      in_prefix (plain inf_word) (when (Phase.Spaced x)) (when (phase_after_bound (Side.Upper x None) Infinite))
+      (infinity_leads limit top (Side.Upper x None) (when (Phase.Spaced x)) (spaced_opens limit top x)) (after_text (Concluding.Shows (Showing.Bounds x None Infinite)))
 
-  between_text : (x : Bound) → SomeText (here (Phase.Between x))
+  between_text : (x : Bound) → SomeText (when (Phase.Between x))
   between_text x = only_prefix 32 (Phase.Between x) (Phase.Spaced x) refl refl (spaced_text x)
 
-  bound_text : (x : Side) (y : Bound) → SomeText (here (phase_after_bound x y))
+  bound_text : (x : Side) (y : Bound) → SomeText (when (phase_after_bound x y))
   bound_text Side.Lower y = between_text y
   bound_text (Side.Upper x id) y = after_text (Concluding.Shows (Showing.Bounds x id y))
 
-  before_text : (x : Side) → SomeText (here (Phase.BeforeBound x))
+  before_text : (x : Side) → SomeText (when (Phase.BeforeBound x))
   before_text x =
-      in_prefix (plain inf_word) (here (Phase.BeforeBound x)) (here (phase_after_bound x Infinite)) (infinity_leads limit top x (here (Phase.BeforeBound x)) (before_opens limit top x)) (bound_text x Infinite)
+      in_prefix (plain inf_word) (when (Phase.BeforeBound x)) (when (phase_after_bound x Infinite)) (infinity_leads limit top x (when (Phase.BeforeBound x)) (before_opens limit top x)) (bound_text x Infinite)
 
-  word_text : (w : Word) → SomeText (here (phase_after_word w))
+  word_text : (w : Word) → SomeText (when (phase_after_word w))
   word_text Word.NoClaim = after_text Concluding.NoClaim
   word_text Word.Unsat = after_text (Concluding.Unsat None)
   word_text Word.Sat = after_text (Concluding.Shows Showing.Sat)
   word_text Word.Bounds = only_prefix 32 Phase.Bounded (Phase.BeforeBound Side.Lower) refl refl (before_text Side.Lower)
 
-  digits_text : (x : Side) (negative : Bool) (n : ℕ) → SomeText (here (Phase.Digits x negative n))
+  digits_text : (x : Side) (negative : Bool) (n : ℕ) → SomeText (when (Phase.Digits x negative n))
   digits_text Side.Lower negative n = only_prefix 32 (Phase.Digits Side.Lower negative n) _ refl refl (spaced_text _)
   digits_text (Side.Upper x id) negative n = (unmarked 10 ∷ [], _, conclusion_last limit top, (refl, refl))
 
   -- an id that is not 0
-  id_text : (x : Owner) (negative : Bool) (n : ℕ) → 0 < n → SomeText (here (Phase.IdDigits x negative n))
+  id_text : (x : Owner) (negative : Bool) (n : ℕ) → 0 < n → SomeText (when (Phase.IdDigits x negative n))
   id_text Owner.Unsat negative n z = (unmarked 10 ∷ [], conclusion_value (Concluding.Unsat (Some (signed negative n))), conclusion_last limit top, (id_steps limit top Owner.Unsat negative n 10 z refl, refl))
   id_text (Owner.Lower x) negative n z =
       only_prefix 32 (Phase.IdDigits (Owner.Lower x) negative n) (Phase.BeforeBound (Side.Upper x (Some (signed negative n)))) (id_steps limit top (Owner.Lower x) negative n 32 z refl) refl
       (upper_text x (Some (signed negative n)))
 
   -- a further digit
-  more_id : (x : Owner) (negative : Bool) (n : ℕ) → 0 < top → SomeText (here (Phase.IdDigits x negative n))
+  more_id : (x : Owner) (negative : Bool) (n : ℕ) → 0 < top → SomeText (when (Phase.IdDigits x negative n))
   more_id x negative zero h = only_prefix 49 (Phase.IdDigits x negative 0) (Phase.IdDigits x negative 1) (id_step limit top x negative 0 1 (omega arith) (omega arith)) refl (id_text x negative 1 (omega arith))
   more_id x negative (suc n) h = id_text x negative (suc n) (omega arith)
 
@@ -89,18 +274,18 @@ module _ (limit top : ℕ) where
       let (text, ls, after, r) = solution_of_one.goes_on inner h d in
       (text, showing_value x (Some ls), conclusion_last limit top, reads_in solution_automaton conclusion_automaton _ _ _ (shown_nests limit top x) text inner ls after r)
 
-  some_text : (p : Phase) → 0 < top → PhaseFits limit top p → is_done p ≡ false → SomeText (here p)
+  some_text : (p : Phase) → 0 < top → PhaseFits limit top p → is_done p ≡ false → SomeText (when p)
   some_text Phase.Start z f d =
-      only_prefix 32 Phase.Start Phase.Before refl refl (in_prefix (plain none_word) (here Phase.Before) (here (Phase.AfterValue Concluding.NoClaim)) (word_leads limit top Word.NoClaim (plain none_word) refl) (after_text Concluding.NoClaim))
-  some_text Phase.Before z f d = in_prefix (plain none_word) (here Phase.Before) (here (Phase.AfterValue Concluding.NoClaim)) (word_leads limit top Word.NoClaim (plain none_word) refl) (after_text Concluding.NoClaim)
-  some_text (Phase.Word w k) z f d = in_prefix (plain (drop k (word_of w))) (here (Phase.Word w k)) (here (phase_after_word w)) (word_left limit top w k f) (word_text w)
+      only_prefix 32 Phase.Start Phase.Before refl refl (in_prefix (plain none_word) (when Phase.Before) (when (Phase.AfterValue Concluding.NoClaim)) (word_leads limit top Word.NoClaim (plain none_word) refl) (after_text Concluding.NoClaim))
+  some_text Phase.Before z f d = in_prefix (plain none_word) (when Phase.Before) (when (Phase.AfterValue Concluding.NoClaim)) (word_leads limit top Word.NoClaim (plain none_word) refl) (after_text Concluding.NoClaim)
+  some_text (Phase.Word w k) z f d = in_prefix (plain (drop k (word_of w))) (when (Phase.Word w k)) (when (phase_after_word w)) (word_left limit top w k f) (word_text w)
   some_text (Phase.AfterValue c) z f d = after_text c
   some_text (Phase.Semicolon c) z f d = (unmarked 10 ∷ [], conclusion_value c, conclusion_last limit top, (refl, refl))
   some_text Phase.Bounded z f d = word_text Word.Bounds
   some_text (Phase.BeforeBound x) z f d = before_text x
   some_text (Phase.Signed x negative) z f d = only_prefix 48 (Phase.Signed x negative) (Phase.Digits x negative 0) (signed_step limit top x negative) refl (digits_text x negative 0)
   some_text (Phase.Digits x negative n) z f d = digits_text x negative n
-  some_text (Phase.Infinity x k) z f d = in_prefix (plain (drop k inf_word)) (here (Phase.Infinity x k)) (here (phase_after_bound x Infinite)) (infinity_left limit top x k f) (bound_text x Infinite)
+  some_text (Phase.Infinity x k) z f d = in_prefix (plain (drop k inf_word)) (when (Phase.Infinity x k)) (when (phase_after_bound x Infinite)) (infinity_left limit top x k f) (bound_text x Infinite)
   some_text (Phase.Between x) z f d = between_text x
   some_text (Phase.Spaced x) z f d = spaced_text x
   some_text (Phase.BeforeId x) z f d = only_prefix 49 (Phase.BeforeId x) (Phase.IdDigits x false 1) (first_id_step limit top x 1 (omega arith) (omega arith)) refl (id_text x false 1 (omega arith))

@@ -1,17 +1,16 @@
 -- Where the machines of ids, literals and linear texts may allocate.
-use Rattle.pb_proof.proofs.Common.{ℕ, ℤ, ◌++◌, ◌+◌, ◌<◌, ◌||◌, ◌∙◌, ◌∷◌, ◌≡◌, [], ap, Bool, false, inl, IsTrue, List, map, nat_eq, refl, subst, sym, true, arith}
-use Rattle.pb_proof.proofs.Common.{cond_both, false≢true, asks_after, at_name, ends_after, ends_nothing, first_asks_nothing, first_further, sums_asked, Literal}
-use Rattle.pb_proof.proofs.Common.{AsksLiteral, EndsIn, literal_bytes, prefixes_of, Walks, blank_digit, digit_byte, letter_name, bytes-append, bytes-plain}
-use Rattle.pb_proof.proofs.Common.{is_blank, is_digit, is_letter, is_name_byte, ◌⋅◌, Bytes, digit, Each, Language, bytes, Letter, NameByte, NumberByte, DeletePhase}
-use Rattle.pb_proof.proofs.Common.{RupPhase, SolutionPhase, name_byte, number_byte, delete_automaton, delete_first, DeleteState, keeps, adds, is_more}
-use Rattle.pb_proof.proofs.Common.{solution_automaton, solution_first, SolutionState, rup_asks, rup_automaton, rup_first, rup_transition, RupState, EndsNumber}
-use Rattle.pb_proof.proofs.Common.{DeleteAction, Digits as DigitsOf, delete_transition as transition, Part, Spaces}
+use Rattle.pb_proof.proofs.Common.{ℕ, ℤ, ◌++◌, ◌+◌, ◌<◌, ◌||◌, ◌∙◌, ◌∷◌, ◌≡◌, [], ap, Bool, false, inl, IsTrue, List, map, nat_eq, refl, subst, sym, true}
+use Rattle.pb_proof.proofs.Common.{arith, cond_both, false≢true, asks_after, at_name, ends_after, ends_nothing, first_asks_nothing, first_further, sums_asked}
+use Rattle.pb_proof.proofs.Common.{Literal, AsksLiteral, EndsIn, literal_bytes, prefixes_of, Walks, blank_digit, digit_byte, letter_name, bytes-append}
+use Rattle.pb_proof.proofs.Common.{bytes-plain, is_blank, is_digit, is_letter, is_name_byte, ◌⋅◌, Bytes, digit, Each, Language, bytes, Letter, NameByte}
+use Rattle.pb_proof.proofs.Common.{NumberByte, DeletePhase, RupPhase, SolutionPhase, name_byte, number_byte, delete_automaton, delete_first, DeleteState, keeps}
+use Rattle.pb_proof.proofs.Common.{adds, is_more, solution_automaton, solution_first, SolutionState, rup_asks, rup_automaton, rup_first, rup_transition}
+use Rattle.pb_proof.proofs.Common.{RupState, EndsNumber, DeleteAction, Digits as DigitsOf, delete_transition as transition, Part, Spaces}
 use Rattle.pb_proof.specs.engine.line.Solution as solution
-use Rattle.pb_proof.proofs.lemmas.rup.Reads as reads
-use Rattle.pb_proof.proofs.lemmas.delete.Texts as ids
-use Rattle.pb_proof.proofs.lemmas.solution.Texts as sound
-use Rattle.pb_proof.proofs.lemmas.line.ByteKinds.{NameMeans, name_means, NumberMeans, number_means}
-use Rattle.pb_proof.proofs.lemmas.delete.Theorems as theorems
+use Rattle.pb_proof.proofs.lemmas.Rup as reads
+use Rattle.pb_proof.proofs.lemmas.Delete as ids
+use Rattle.pb_proof.proofs.lemmas.Solution as sound
+use Rattle.pb_proof.proofs.lemmas.line.Ends.{NameMeans, name_means, NumberMeans, number_means}
 
 -- ---- ends of texts
 pub joined_end : (a c t : List Letter) (end : List ℕ) → t ≡ a ++ c → EndsIn (bytes c) end → EndsIn (bytes t) end
@@ -42,11 +41,11 @@ literal_end P negated bs t (a, c, e, h, k) =
 
 -- ---- ids
 
-ends_id : (top : ℕ) (ph : DeletePhase) (k : NumberByte) (m : DeleteAction) → theorems.OnAction top ph k m → keeps m ≡ true → theorems.EndsId ph k
+ends_id : (top : ℕ) (ph : DeletePhase) (k : NumberByte) (m : DeleteAction) → ids.OnAction top ph k m → keeps m ≡ true → ids.EndsId ph k
 ends_id top ph k m f h = grind (arith, false≢true)
 
 module _ (limit : ℕ) where
-  delete_at : (ph : DeletePhase) (k : NumberByte) (top : ℕ) (held : List ℤ) (t : List Letter) (b : ℕ) → ids.prefix top ph held t → NumberMeans k b → theorems.EndsId ph k → EndsNumber (bytes t) b
+  delete_at : (ph : DeletePhase) (k : NumberByte) (top : ℕ) (held : List ℤ) (t : List Letter) (b : ℕ) → ids.prefix top ph held t → NumberMeans k b → ids.EndsId ph k → EndsNumber (bytes t) b
   delete_at (DeletePhase.Digits negative n) NumberByte.Blank top held t b h m e = number_end _ n t b h.1 (blank_digit b m)
   delete_at (DeletePhase.Digits negative n) NumberByte.Semicolon top held t b h m e = number_end _ n t b h.1 (ap is_digit m)
   delete_at (DeletePhase.Digits negative n) NumberByte.Feed top held t b h m e = number_end _ n t b h.1 (ap is_digit m)
@@ -55,7 +54,7 @@ module _ (limit : ℕ) where
   pub delete_asked : (top : ℕ) (t : List Letter) (s : DeleteState) (b : ℕ) → Walks delete_automaton (delete_first top) t s → delete_automaton.asks s b ≡ true → EndsNumber (bytes t) b
   delete_asked top t s b w h =
       delete_at s.phase (number_byte b) s.top s.ids t b (prefixes_of delete_automaton ids.Prefix (ids.Whole limit) (ids.keeps_prefix limit) t (delete_first top) [] s w (refl, refl)) (number_means b)
-      (ends_id s.top s.phase (number_byte b) (transition s.top s.phase (number_byte b)) (theorems.on_transition s.top s.phase (number_byte b)) h)
+      (ends_id s.top s.phase (number_byte b) (transition s.top s.phase (number_byte b)) (ids.on_transition s.top s.phase (number_byte b)) h)
 
 -- ---- literals
 -- the byte that may allocate: one that may be the next of the name, or any after a complete one

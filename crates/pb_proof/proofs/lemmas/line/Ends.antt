@@ -1,9 +1,61 @@
+-- Bytes of lines, and the ends of lines.
+use Rattle.pb_proof.proofs.Common.{ℕ, ◌+◌, ◌<◌, ◌≡◌, ◌≤◌, ◌⊎◌, arith, false, IsTrue, refl, eqb-true, rules, nat_tests, letter_name, name_high, is_blank}
+use Rattle.pb_proof.proofs.Common.{is_letter, is_name_byte, NameByte, NumberByte, name_byte, number_byte, nat_eq, ◌++◌, ◌∙◌, ◌∷◌, [], ap, append-nil}
+use Rattle.pb_proof.proofs.Common.{append_assoc, inl, inr, List, subst, sym, true, Leads, longer, reads_after, Walks, walks_then, after_it, grown, many-grown}
+use Rattle.pb_proof.proofs.Common.{next, none_yet, regroup, regroup3, some-grown, some-many, some-one, as_unmarked, Automaton, End, Go, ReadsStatement, ◌⋅◌}
+use Rattle.pb_proof.proofs.Common.{Blanks0, Blanks1, Byte, Bytes, Each, Empty, Language, unmarked, Letter, Feed, LineEnd, Listed, ◌↔◌, IsOfOne, reads_last}
+use Rattle.pb_proof.proofs.Common.{Keeps, reported, ◌*◌, ◌-◌, Digits, AreDigits, value_from, bytes, bytes-append, digit, digit_of, digits-grown, digits-one}
+use Rattle.pb_proof.proofs.Common.{is_state, never, Runs}
+
+abbrev pub NumberMeans : NumberByte → ℕ → Type 0
+NumberMeans NumberByte.Blank b = IsTrue (is_blank b)
+NumberMeans (NumberByte.Digit d) b = (b ≡ 48 + d) × (d < 10)
+NumberMeans NumberByte.Minus b = b ≡ 45
+NumberMeans NumberByte.Semicolon b = b ≡ 59
+NumberMeans NumberByte.Feed b = b ≡ 10
+NumberMeans NumberByte.Other b = Unit {0}
+
+abbrev pub NameMeans : NameByte → ℕ → Type 0
+NameMeans NameByte.Blank b = IsTrue (is_blank b)
+NameMeans (NameByte.Letter c) b = (b ≡ c) × IsTrue (is_letter c)
+NameMeans (NameByte.Inner c) b = (b ≡ c) × IsTrue (is_name_byte c)
+NameMeans NameByte.Tilde b = b ≡ 126
+NameMeans NameByte.Semicolon b = b ≡ 59
+NameMeans NameByte.Feed b = b ≡ 10
+NameMeans NameByte.Other b = Unit {0}
+
+pub number_means : (b : ℕ) → NumberMeans (number_byte b) b
+number_means b = grind (arith, eqb-true)
+
+pub name_means : (b : ℕ) → NameMeans (name_byte b) b
+name_means b = grind (arith, eqb-true)
+
+pub number_blank : (b : ℕ) → IsTrue (is_blank b) → number_byte b ≡ NumberByte.Blank
+number_blank b e = rw e refl
+
+pub number_digit : (d : ℕ) → d < 10 → number_byte (48 + d) ≡ NumberByte.Digit d
+number_digit d h = grind (arith)
+
+pub name_blank : (b : ℕ) → IsTrue (is_blank b) → name_byte b ≡ NameByte.Blank
+name_blank b e = rw e refl
+
+low : (b : ℕ) → 33 ≤ b → is_blank b ≡ false
+low b h = grind (arith, nat_tests)
+
+pub name_letter : (b : ℕ) → IsTrue (is_letter b) → name_byte b ≡ NameByte.Letter b
+name_letter b e = rw (low b (name_high b (letter_name b e)), e) refl
+
+pub name_inner : (b : ℕ) → IsTrue (is_name_byte b) → (name_byte b ≡ NameByte.Letter b) ⊎ (name_byte b ≡ NameByte.Inner b)
+name_inner b e = search (rules, name_letter, name_high)
+
+-- tests of numbers
+pub positive : (n : ℕ) → nat_eq n 0 ≡ false → 0 < n
+positive n e = grind (arith, nat_tests)
+
+pub not_zero : (n : ℕ) → 0 < n → nat_eq n 0 ≡ false
+not_zero n h = grind (arith, nat_tests)
+
 -- How a machine reads the end of a line, and what it has read at a position where a line may end.
-use Rattle.pb_proof.proofs.Common.{ℕ, ◌++◌, ◌∙◌, ◌∷◌, ◌≡◌, [], ap, append-nil, append_assoc, false, inl, inr, IsTrue, List, refl, subst, sym, true, Leads, arith}
-use Rattle.pb_proof.proofs.Common.{rules, longer, reads_after, Walks, walks_then, after_it, grown, many-grown, next, none_yet, regroup, regroup3, some-grown}
-use Rattle.pb_proof.proofs.Common.{some-many, some-one, as_unmarked, Automaton, End, Go, ReadsStatement, is_blank, ◌⋅◌, Blanks0, Blanks1, Byte, Bytes, Each, Empty}
-use Rattle.pb_proof.proofs.Common.{Language, unmarked, Letter, Feed, LineEnd, Listed, ◌↔◌, IsOfOne, reads_last, Keeps, reported, ◌*◌, ◌+◌, ◌-◌, Digits, AreDigits}
-use Rattle.pb_proof.proofs.Common.{value_from, bytes, bytes-append, digit, digit_of, digits-grown, digits-one, is_state, never, Runs}
 
 module _ {S E : Type 0} (m : Automaton S E) where
   -- A blank leads from `s` to `gap`, and further blanks stay there.
@@ -140,10 +192,7 @@ module _ {A : Type 0} (P : A → Language) where
   pub listed_append : (xs : List A) (x : A) (p : List Letter) → (Listed P xs ⋅ Blanks1 ⋅ P x) p → Listed P (xs ++ x ∷ []) p
   listed_append [] x p (ab, c, e, (a, b, f, h, i), k) =
       none_yet (Blanks1 ⋅ P x) Empty p refl (b, c, e ∙ ap (λ y. y ++ c) (f ∙ ap (λ y. y ++ b) h), i, k)
-  listed_append (y ∷ xs) x p h =
-      let B : Language = Blanks1 ⋅ P y in
-      let L : Language = Listed P xs in
-      after_it B (L ⋅ Blanks1 ⋅ P x) (Listed P (xs ++ x ∷ [])) p (listed_append xs x) (regroup3 B L Blanks1 (P x) p h)
+  listed_append (y ∷ xs) x p h = search (rules, after_it, regroup3, listed_append xs x)
 
   -- If each further item leads on, a state after a part of a list leads to a state after the whole list.
   pub listed_walks : {S E : Type 0} (m : Automaton S E) (At : List A → S → Type 0)

@@ -6,11 +6,10 @@ use Rattle.pb_proof.proofs.Common.{SpellsRest, rules, pol_automaton, pol_first, 
 use Rattle.pb_proof.specs.declared.machine.phase.LineKind.TheVariants.{Formula, Pol, Rup, Soli, Solx, Delete, Conclusion}
 use Rattle.pb_proof.proofs.lemmas.Carried.{Carries, reads_in, reads_out, state_in, begins_in}
 use Rattle.pb_proof.proofs.lemmas.Formula.{formula_reads, formula_is_state, formula_of_one}
-use Rattle.pb_proof.proofs.lemmas.rup.Reads.{rup_reads}
-use Rattle.pb_proof.proofs.lemmas.rup.States.{rup_is_state, rup_begins, rup_first_in_order}
+use Rattle.pb_proof.proofs.lemmas.Rup.{rup_reads, rup_is_state, rup_begins, rup_first_in_order}
 use Rattle.pb_proof.proofs.lemmas.pol.Theorems.{pol_reads, pol_is_state, pol_first_in_order, of_one}
-use Rattle.pb_proof.proofs.lemmas.solution.Theorems.{solution_of_one, solution_reads, solution_is_state}
-use Rattle.pb_proof.proofs.lemmas.delete.Theorems.{delete_of_one, delete_reads, delete_is_state}
+use Rattle.pb_proof.proofs.lemmas.Solution.{solution_of_one, solution_reads, solution_is_state}
+use Rattle.pb_proof.proofs.lemmas.Delete.{delete_of_one, delete_reads, delete_is_state}
 use Rattle.pb_proof.proofs.lemmas.conclusion.Theorems.{conclusion_of_one, conclusion_reads, conclusion_is_state}
 use Rattle.pb_text.proofs.lemmas.machine.Living.{BeginsAtOnce}
 

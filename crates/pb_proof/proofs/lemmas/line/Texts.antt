@@ -1,16 +1,16 @@
 -- Each statement that meets the rules has a text with its canonical bytes.
 use Rattle.pb_proof.proofs.Common.{ℕ, ℤ, ◌++◌, ◌∙◌, ◌∷◌, ◌≡◌, [], ap₂, append_assoc, List, None, Option, refl, Some, sym, subst, decimal, signed_decimal}
-use Rattle.pb_proof.proofs.Common.{bytes-degree, bytes-linear, degree_text, linear_bytes, linear_text, literal_text, space, Literal, literal_bytes, bytes-append}
-use Rattle.pb_proof.proofs.Common.{bytes-digits, bytes-plain, unmarked, bytes, digits_of, Letter, plain, Bound, Finite, Infinite, Conclusion, Bounds, NoClaim, Sat}
-use Rattle.pb_proof.proofs.Common.{Unsat, Statement, Conclude, Delete, F, Header, Output, Pol, Rup, Soli, Solx, PolWord, Add, Axiom, Divide, Id, Multiply, Saturate}
-use Rattle.pb_proof.proofs.Common.{Weaken, bound_bytes, conclusion_bytes, id_shown_bytes, listed_bytes, literal_line, shown_bytes, statement_bytes, word_bytes}
-use Rattle.pb_proof.proofs.Common.{bounds_word, conclusion_word, del_word, end_word, f_word, id_word, inf_word, none_word, output_word, pol_word, proof_word}
-use Rattle.pb_proof.proofs.Common.{pseudo_word, rup_word, sat_word, soli_word, solx_word, two_word, unsat_word, version_word, ◌<◌, ◌^◌, ◌≤◌, All, arith, false, pos}
-use Rattle.pb_proof.proofs.Common.{suc, true, negsuc, ints, All-head, All-tail, degree, linear-spelled, Blank, IsName, SpellsLinear, SpellsLiteral, decimal-digits}
-use Rattle.pb_proof.proofs.Common.{◌⋅◌, Blanks0, Blanks1, Byte, Bytes, Language, Count, AreLiterals, IfGiven, IsBound, IsConclusion, IsFactor, IsId}
-use Rattle.pb_proof.proofs.Common.{IsStatementValue, IsWord, Factor, Feed, IdShown, LineEnd, Listed, LiteralsShown, SpellsBound, SpellsConclusion}
-use Rattle.pb_proof.proofs.Common.{SpellsConclusionLine, SpellsCount, SpellsId, SpellsIds, SpellsLiterals, SpellsRup, SpellsShown, SpellsStatement, SpellsWord}
-use Rattle.pb_proof.proofs.Common.{SpellsWords}
+use Rattle.pb_proof.proofs.Common.{bytes-degree, bytes-linear, degree_text, linear_bytes, linear_text, literal_text, space, Literal, literal_bytes}
+use Rattle.pb_proof.proofs.Common.{bytes-append, bytes-digits, bytes-plain, unmarked, bytes, digits_of, Letter, plain, Bound, Finite, Infinite, Conclusion}
+use Rattle.pb_proof.proofs.Common.{Bounds, NoClaim, Sat, Unsat, Statement, Conclude, Delete, F, Header, Output, Pol, Rup, Soli, Solx, PolWord, Add, Axiom}
+use Rattle.pb_proof.proofs.Common.{Divide, Id, Multiply, Saturate, Weaken, bound_bytes, conclusion_bytes, id_shown_bytes, listed_bytes, literal_line}
+use Rattle.pb_proof.proofs.Common.{shown_bytes, statement_bytes, word_bytes, bounds_word, conclusion_word, del_word, end_word, f_word, id_word, inf_word}
+use Rattle.pb_proof.proofs.Common.{none_word, output_word, pol_word, proof_word, pseudo_word, rup_word, sat_word, soli_word, solx_word, two_word, unsat_word}
+use Rattle.pb_proof.proofs.Common.{version_word, ◌<◌, ◌^◌, ◌≤◌, All, arith, false, pos, suc, true, negsuc, ints, All-head, All-tail, degree, linear-spelled}
+use Rattle.pb_proof.proofs.Common.{Blank, IsName, SpellsLinear, SpellsLiteral, decimal-digits, ◌⋅◌, Blanks0, Blanks1, Byte, Bytes, Language, Count, AreLiterals}
+use Rattle.pb_proof.proofs.Common.{IfGiven, IsBound, IsConclusion, IsFactor, IsId, IsStatementValue, IsWord, Factor, Feed, IdShown, LineEnd, Listed}
+use Rattle.pb_proof.proofs.Common.{LiteralsShown, SpellsBound, SpellsConclusion, SpellsConclusionLine, SpellsCount, SpellsId, SpellsIds, SpellsLiterals}
+use Rattle.pb_proof.proofs.Common.{SpellsRup, SpellsShown, SpellsStatement, SpellsWord, SpellsWords}
 use Rattle.pb_proof.specs.meaning.Canonical.{count_bytes}
 use Rattle.pb_proof.proofs.lemmas.Written.{listed_none, listed-cons}
 use Rattle.pb_proof.proofs.lemmas.line.Ends.{fed, ended}

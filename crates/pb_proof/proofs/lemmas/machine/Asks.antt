@@ -14,9 +14,8 @@ use Rattle.pb_proof.proofs.lemmas.conclusion.Asks.{conclusion_asked}
 use Rattle.pb_proof.proofs.lemmas.line.Laws.{formula_carries, pol_carries, rup_carries, soli_carries, solx_carries, delete_carries, conclusion_carries, line_only}
 use Rattle.pb_proof.proofs.lemmas.line.Asks.{delete_asked, solution_asked, rup_asked}
 use Rattle.pb_proof.proofs.lemmas.pol.Asks.{pol_asked}
-use Rattle.pb_proof.proofs.lemmas.machine.Exact.{reads_proofs}
+use Rattle.pb_proof.proofs.lemmas.machine.Exact.{reads_proofs, comment_reads}
 use Rattle.pb_proof.proofs.lemmas.machine.Sound as sound
-use Rattle.pb_proof.proofs.lemmas.machine.Orders.{comment_reads}
 
 module _ (limit top : ℕ) where
   -- what the line machine asks for, the machine of the line asks for

@@ -1,11 +1,11 @@
 -- The proof machine reads each statement from its stage.
-use Rattle.pb_proof.proofs.Common.{or-false, ℕ, ◌&&◌, ◌++◌, ◌+◌, ◌-◌, ◌||◌, ◌∙◌, ◌∷◌, ◌≡◌, [], ap, append-nil, append_assoc, ap₂, arith, Bool, cond, false, Some}
-use Rattle.pb_proof.proofs.Common.{IsTrue, length, length-append, List, nat_eq, not, refl, subst, sym, true, slice_index, get_or-append_seam, and_parts, eq-eqb}
-use Rattle.pb_proof.proofs.Common.{eqb-true, not-true, nat_tests, ends_walk, longer, reads_after, same_first, Walks, walks_more, walks_then, Go, ReadsStatement}
-use Rattle.pb_proof.proofs.Common.{is_blank, ◌⋅◌, Blanks1, Byte, Each, Language, unmarked, Bytes, Letter, plain, LineMachine, Keyword, LineKind, Closing, Complete}
-use Rattle.pb_proof.proofs.Common.{Formula, Opening, Steps, Statement, line_automaton, line_first, SpellsRest, act, at, giving, idle, next_stage, proofs, ProofState}
-use Rattle.pb_proof.proofs.Common.{meets, next_action, sol_word, words_of, Feed, LineEnd, SpellsStatement, stage_after, stage_of, proof_spell as spell}
-use Rattle.pb_proof.proofs.Common.{proof_transition as transition, ProofAction as Action, ProofPhase as Phase, Stage}
+use Rattle.pb_proof.proofs.Common.{or-false, ℕ, ◌&&◌, ◌++◌, ◌+◌, ◌-◌, ◌||◌, ◌∙◌, ◌∷◌, ◌≡◌, [], ap, append-nil, append_assoc, ap₂, arith, Bool, cond, false}
+use Rattle.pb_proof.proofs.Common.{Some, IsTrue, length, length-append, List, nat_eq, not, refl, subst, sym, true, slice_index, get_or-append_seam, and_parts}
+use Rattle.pb_proof.proofs.Common.{eq-eqb, eqb-true, not-true, nat_tests, ends_walk, longer, reads_after, same_first, Walks, walks_more, walks_then, Go}
+use Rattle.pb_proof.proofs.Common.{ReadsStatement, is_blank, ◌⋅◌, Blanks1, Byte, Each, Language, unmarked, Bytes, Letter, plain, LineMachine, Keyword, LineKind}
+use Rattle.pb_proof.proofs.Common.{Closing, Complete, Formula, Opening, Steps, Statement, line_automaton, line_first, SpellsRest, act, at, giving, idle}
+use Rattle.pb_proof.proofs.Common.{next_stage, proofs, ProofState, meets, next_action, sol_word, words_of, Feed, LineEnd, SpellsStatement, stage_after}
+use Rattle.pb_proof.proofs.Common.{stage_of, proof_spell as spell, proof_transition as transition, ProofAction as Action, ProofPhase as Phase, Stage}
 use Rattle.pb_proof.proofs.lemmas.Carried.{Nests, reads_in}
 use Rattle.pb_proof.proofs.lemmas.line.Laws.{line_begins, line_each, line_fresh}
 use Rattle.pb_proof.proofs.lemmas.line.Ends.{Feeds, feed_reads, MayEnd, line_reads}

@@ -133,11 +133,7 @@ module _ (limit top : ℕ) (here : Stage) where
 
     enters : (at : Stage) → at ≡ here → p ≡ [] → s.line ≡ None → After (enter at l.byte)
     enters Opening at e o = first o e Keyword.Header at
-    enters Formula at e o = first o e Keyword.Formula at
-    enters Steps at e o = first o e (step_keyword l.byte) (step_stage l.byte ∙ at)
-    enters Stage.Concluding at e o = first o e Keyword.Conclusion at
-    enters Closing at e o = first o e Keyword.End at
-    enters Complete at e o = tt
+    enters at same e o = grind (arith, first, step_stage)
 
     between_two : (at : Stage) → at ≡ here → p ≡ [] → s.line ≡ None → After (between at l.byte)
     between_two Opening at e o = enters Opening at e o

@@ -1,27 +1,18 @@
 -- Where the `pol` machine may allocate.
 use Rattle.pb_proof.proofs.Common.{ℕ, ◌&&◌, ◌*◌, ◌+◌, ◌∙◌, ◌∷◌, ◌≡◌, [], ap, arith, Bool, cond, false, inl, inr, IsTrue, List, nat_eq, nat_le, None, refl, Some}
-use Rattle.pb_proof.proofs.Common.{subst, true, and_parts, cond_both, false≢true, nat_tests, at_name, ends_nothing, first_further, name_further, FirstOf, LiteralOf}
-use Rattle.pb_proof.proofs.Common.{EndsIn, prefixes_of, Walks, is_blank, is_digit, is_letter, is_name_byte, ◌⋅◌, Blanks1, Language, bytes, Letter, Action, Change}
-use Rattle.pb_proof.proofs.Common.{Held, Kind, Phase, PolWord, blank, bound, close, counted, feed, is_letter_kind, is_name_kind, kind_of, late, may_be_name}
-use Rattle.pb_proof.proofs.Common.{next_large, next_word, number, read, role_of, semicolon, star, transition, wants, pol_automaton, pol_first, PolState, AsksWord}
-use Rattle.pb_proof.proofs.Common.{pol_next as next, pol_signed as signed, Role}
+use Rattle.pb_proof.proofs.Common.{subst, true, and_parts, cond_both, false≢true, nat_tests, at_name, ends_nothing, first_further, name_further, FirstOf}
+use Rattle.pb_proof.proofs.Common.{LiteralOf, EndsIn, prefixes_of, Walks, is_blank, is_digit, is_letter, is_name_byte, ◌⋅◌, Blanks1, Language, bytes, Letter}
+use Rattle.pb_proof.proofs.Common.{Action, Change, Held, Kind, Phase, PolWord, blank, bound, close, counted, feed, is_letter_kind, is_name_kind, kind_of, late}
+use Rattle.pb_proof.proofs.Common.{may_be_name, next_large, next_word, number, read, role_of, semicolon, star, transition, wants, pol_automaton, pol_first}
+use Rattle.pb_proof.proofs.Common.{PolState, AsksWord, pol_next as next, pol_signed as signed, Role}
 use Rattle.pb_proof.specs.engine.line.Pol.{adds, Closing}
 use Rattle.pb_proof.proofs.lemmas.line.Asks.{number_end, literal_end}
 use Rattle.pb_proof.proofs.lemmas.pol.Prefixes.{Settled, Before, prefix, Prefix, Whole}
-use Rattle.pb_proof.proofs.lemmas.pol.Kinds.{Says, kind_says, letter_kind, name_kind}
+use Rattle.pb_proof.proofs.lemmas.pol.Sane.{Says, kind_says, letter_kind, name_kind}
 use Rattle.pb_proof.proofs.lemmas.pol.Sound as sound
 
 blank_dark : (b : ℕ) → is_blank b ≡ true → (is_digit b ≡ false) × (is_name_byte b ≡ false)
 blank_dark b e = (grind (arith, nat_tests), grind (arith, nat_tests))
-
--- what the end of a word does, and whether it may end
-abbrev change_of : Closing → Change
-change_of None = Change.Keep
-change_of (Some (c, h)) = c
-
-abbrev is_there : Closing → Bool
-is_there None = false
-is_there (Some x) = true
 
 module _ (limit top depth b : ℕ) (t : List Letter) where
   -- what follows if a move may allocate
@@ -40,24 +31,16 @@ module _ (limit top depth b : ℕ) (t : List Letter) where
   -- a word that ends here, at a byte that is not part of a word
   finishes : (ws : List PolWord) (name : List ℕ) (ph : Phase) → prefix limit top ph ws depth name t → is_digit b ≡ false → is_name_byte b ≡ false
       → (c : Change) (h : Held) → close limit top depth ph ≡ Some (c, h) → adds c ≡ true → AsksWord (bytes t) b
-  finishes ws name Phase.Start f dark plain c h e k = absurd (false≢true (ap adds (ap change_of e) ∙ k))
-  finishes ws name Phase.After f dark plain c h e k = absurd (false≢true (ap adds (ap change_of e) ∙ k))
-  finishes ws name (Phase.Gap g) f dark plain c h e k = absurd (false≢true (ap adds (ap change_of e) ∙ k))
   finishes ws name (Phase.Signed n) f dark plain c h e k = inr (inl (number_end _ n t b f.1 dark))
   finishes ws name (Phase.Number n) f dark plain c h e k = inr (inl (number_end _ n t b f.1 dark))
-  finishes ws name (Phase.Lone Role.Name) f dark plain c h e k = absurd (false≢true (ap is_there e))
   finishes ws name (Phase.Lone Role.Saturate) (is, f) dark plain c h e k = inr (inr (inr (saturates f, plain)))
     where
       saturates : (Before limit top Role.Saturate ws depth ⋅ Blanks1 ⋅ FirstOf false name) t → EndsIn (bytes t) (115 ∷ [])
       saturates (x, y, z, u, (v, w)) =
           subst (λ (n : List ℕ). EndsIn (bytes t) n) is (literal_end (Before limit top Role.Saturate ws depth ⋅ Blanks1) false name t (x, y, z, u, w))
-  finishes ws name (Phase.Lone Role.Divide) f dark plain c h e k = absurd (false≢true (ap adds (ap change_of e) ∙ k))
-  finishes ws name (Phase.Lone Role.DivideLarge) f dark plain c h e k = absurd (false≢true (ap adds (ap change_of e) ∙ k))
-  finishes ws name (Phase.Lone Role.Weaken) f dark plain c h e k = absurd (false≢true (ap adds (ap change_of e) ∙ k))
   finishes ws name (Phase.Name negated) (x, y, z, u, (v, w)) dark plain c h e k =
       inl (at_name (bytes t) name b (literal_end (Settled limit top ws depth ⋅ Blanks1) negated name t (x, y, z, u, w)) v)
-  finishes ws name Phase.Done f dark plain c h e k = absurd f
-  finishes ws name _ f dark plain c h e k = absurd (false≢true (ap is_there e))
+  finishes ws name ph f dark plain c h e k = grind (arith, false≢true)
 
   -- what ends a word
   module _ (x : Closing) (ends : (c : Change) (h : Held) → x ≡ Some (c, h) → adds c ≡ true → AsksWord (bytes t) b) where

@@ -1,15 +1,14 @@
 -- The `pol` machine reads each line of postfix words: one lemma for each word.
-use Rattle.pb_proof.proofs.Common.{ℕ, ℤ, ◌++◌, ◌-◌, ◌<◌, ◌∙◌, ◌∷◌, ◌≡◌, ◌≤◌, [], ap, append-nil, append_assoc, arith, Bool, cond, false, List, nat_le, rules, pos}
-use Rattle.pb_proof.proofs.Common.{refl, Some, subst, suc, sym, true, neg_ℤ, le-leb, IsName, SpellsLiteral, longer, reads_after, Walks, walks_then, Go}
-use Rattle.pb_proof.proofs.Common.{ReadsStatement, ◌⋅◌, Blanks1, Byte, Bytes, unmarked, Digits, Letter, plain, Change, Held, Phase, Role, PolWord, changed, close}
-use Rattle.pb_proof.proofs.Common.{counted, held_name, held_number, turned, with_last, over, pol_automaton, pol_first, pol_last, PolState, Factor, LineEnd, Listed}
-use Rattle.pb_proof.proofs.Common.{SpellsId, SpellsWord, SpellsWords, IsFree, pol_act as act, Action}
-use Rattle.pb_proof.proofs.lemmas.line.Ends.{MayEnd, blanks1_lead, line_reads}
-use Rattle.pb_proof.proofs.lemmas.pol.Covers.{state, as_after, free_name, free_number}
+use Rattle.pb_proof.proofs.Common.{ℕ, ℤ, ◌++◌, ◌-◌, ◌<◌, ◌∙◌, ◌∷◌, ◌≡◌, ◌≤◌, [], ap, append-nil, append_assoc, arith, Bool, cond, false, List, nat_le, rules}
+use Rattle.pb_proof.proofs.Common.{pos, refl, Some, subst, suc, sym, true, neg_ℤ, le-leb, IsName, SpellsLiteral, longer, reads_after, Walks, walks_then, Go}
+use Rattle.pb_proof.proofs.Common.{ReadsStatement, ◌⋅◌, Blanks1, Byte, Bytes, unmarked, Digits, Letter, plain, Change, Held, Phase, Role, PolWord, changed}
+use Rattle.pb_proof.proofs.Common.{close, counted, held_name, held_number, turned, with_last, over, pol_automaton, pol_first, pol_last, PolState, Factor}
+use Rattle.pb_proof.proofs.Common.{LineEnd, Listed, SpellsId, SpellsWord, SpellsWords, IsFree, pol_act as act, Action}
+use Rattle.pb_proof.proofs.lemmas.line.Ends.{MayEnd, blanks1_lead, line_reads, not_zero}
+use Rattle.pb_proof.proofs.lemmas.pol.Walks.{state, as_after, free_name, free_number, unsigned_walk, signed_walk, name_walk, negated_walk, takes_blanks}
+use Rattle.pb_proof.proofs.lemmas.pol.Walks.{late_blanks}
 use Rattle.pb_proof.proofs.lemmas.pol.Prefixes.{with_last_append, bound_of_id, bound_of_factor}
 use Rattle.pb_proof.proofs.lemmas.pol.Postfix.{Counts, postfix_counts}
-use Rattle.pb_proof.proofs.lemmas.pol.Walks.{unsigned_walk, signed_walk, name_walk, negated_walk, takes_blanks, late_blanks}
-use Rattle.pb_proof.proofs.lemmas.line.ByteKinds.{not_zero}
 
 -- a number that may be the operand of an operator
 abbrev IsOperand : Held → Type 0
@@ -56,9 +55,6 @@ module _ (limit top : ℕ) (e : List PolWord) (after : PolState) where
       rw f
       (ends ws d name (Phase.Name false) (Change.Axiom false) (held_name false d) (gap ws d) (plain name) u (free_name false d) refl
       (name_walk limit top ws d Held.Nothing tt [] name h) r)
-
-  add_run : (ws : List PolWord) (d : ℕ) (t u : List Letter) → Byte 43 t → R (done (ws ++ PolWord.Add ∷ []) (suc d)) u → R (gap ws (suc (suc d))) (t ++ u)
-  add_run ws d t u f r = grind (arith, nat_le, le-leb, longer)
 
   saturate_run : (ws : List PolWord) (d : ℕ) (t u : List Letter) → Byte 115 t → R (done (ws ++ PolWord.Saturate ∷ []) (suc d)) u → R (gap ws (suc d)) (t ++ u)
   saturate_run ws d t u f r =
@@ -174,7 +170,7 @@ module _ (limit top : ℕ) (e : List PolWord) (after : PolState) where
   -- a word, if the words after it are read
   word_run : (vs : List PolWord) (d : ℕ) (w : PolWord) (ws : List PolWord) (t u : List Letter) → Counts d (w ∷ ws) → SpellsWord limit top w t
       → ((next : ℕ) → Counts next ws → R (done (vs ++ w ∷ []) next) u) → R (gap vs d) (t ++ u)
-  word_run vs d w ws t u c h f = search (rules, id_run, literal_run, add_run, multiply_run, divide_run, saturate_run, weaken_run)
+  word_run vs d w ws t u c h f = search (rules, id_run, literal_run, nat_le, le-leb, longer, multiply_run, divide_run, saturate_run, weaken_run)
 
 module _ (limit top : ℕ) where
   -- the end of the line after the words of one expression

@@ -1,8 +1,8 @@
 -- Postfix words determine their expression, and leave one. Offered to other crates.
 use Rattle.pb_proof.proofs.Common.{ℕ, ◌++◌, ◌∷◌, ◌≡◌, [], append-nil, append_assoc, arith, length, List, refl, suc, PolWord, Add, Axiom, Divide, Id, Multiply}
-use Rattle.pb_proof.proofs.Common.{Saturate, Weaken, Constraint, IsPostfix, LiteralAxiom, Product, Quotient, Saturation, Sum, Tree, Weakening, words, ◌∙◌, ap, subst}
-use Rattle.pb_proof.proofs.Common.{sym, ◌↔◌, None, Option, Some}
-use Rattle.pb_proof.specs.contract.Leaving.{Leaves, WordsReport, WordsLeaveOne}
+use Rattle.pb_proof.proofs.Common.{Saturate, Weaken, Constraint, IsPostfix, LiteralAxiom, Product, Quotient, Saturation, Sum, Tree, Weakening, words, ◌∙◌, ap}
+use Rattle.pb_proof.proofs.Common.{sym, ◌↔◌, ◌+◌, ◌-◌, ◌≤◌, None, Option, Some}
+use Rattle.pb_proof.specs.contract.Leaving.{Leaves, takes, WordsReport, WordsLeaveOne}
 use Rattle.pb_proof.specs.engine.line.Finished.{finished_with}
 
 abbrev Given : Option ℕ → (ℕ → Type 0) → Type 0
@@ -87,33 +87,16 @@ words_report t u e =
     let same : t ∷ [] ≡ u ∷ [] = sym (built_words t []) ∙ ap (λ (ws : List PolWord). built ws []) e ∙ built_words u [] in
     cc
 
-at : (m n : ℕ) (ws : List PolWord) → m ≡ n → Leaves m ws → Leaves n ws
-at m n ws e h = subst (λ k. Leaves k ws) e h
+-- a word leads on if and only if it finds the expressions that it takes
+word_leaves : (d : ℕ) (w : PolWord) (ws : List PolWord) → Counts d (w ∷ ws) ↔ ((takes w ≤ d) × Counts (d + 1 - takes w) ws)
+word_leaves d w ws = grind arith
 
-leaves_count : (d : ℕ) (ws : List PolWord) → Leaves d ws → Counts d ws
-leaves_count d [] h = h
-leaves_count d (Id id ∷ ws) h = leaves_count (suc d) ws (at _ (suc d) ws (omega arith) h.1)
-leaves_count d (Axiom l ∷ ws) h = leaves_count (suc d) ws (at _ (suc d) ws (omega arith) h.1)
-leaves_count (suc (suc d)) (Add ∷ ws) h = leaves_count (suc d) ws (at _ (suc d) ws (omega arith) h.1)
-leaves_count (suc d) (Multiply k ∷ ws) h = leaves_count (suc d) ws (at _ (suc d) ws (omega arith) h.1)
-leaves_count (suc d) (Divide k ∷ ws) h = leaves_count (suc d) ws (at _ (suc d) ws (omega arith) h.1)
-leaves_count (suc d) (Saturate ∷ ws) h = leaves_count (suc d) ws (at _ (suc d) ws (omega arith) h.1)
-leaves_count (suc d) (Weaken name ∷ ws) h = leaves_count (suc d) ws (at _ (suc d) ws (omega arith) h.1)
-leaves_count _ _ h = absurd (omega (arith, h.0))
-
-count_leaves : (d : ℕ) (ws : List PolWord) → Counts d ws → Leaves d ws
-count_leaves d [] h = h
-count_leaves d (Id id ∷ ws) h = (omega arith, at (suc d) _ ws (omega arith) (count_leaves (suc d) ws h))
-count_leaves d (Axiom l ∷ ws) h = (omega arith, at (suc d) _ ws (omega arith) (count_leaves (suc d) ws h))
-count_leaves (suc (suc d)) (Add ∷ ws) h = (omega arith, at (suc d) _ ws (omega arith) (count_leaves (suc d) ws h))
-count_leaves (suc d) (Multiply k ∷ ws) h = (omega arith, at (suc d) _ ws (omega arith) (count_leaves (suc d) ws h))
-count_leaves (suc d) (Divide k ∷ ws) h = (omega arith, at (suc d) _ ws (omega arith) (count_leaves (suc d) ws h))
-count_leaves (suc d) (Saturate ∷ ws) h = (omega arith, at (suc d) _ ws (omega arith) (count_leaves (suc d) ws h))
-count_leaves (suc d) (Weaken name ∷ ws) h = (omega arith, at (suc d) _ ws (omega arith) (count_leaves (suc d) ws h))
-count_leaves _ _ h = absurd h
+counts_leave : (d : ℕ) (ws : List PolWord) → Counts d ws ↔ Leaves d ws
+counts_leave d [] = ((λ h. h), (λ h. h))
+counts_leave d (w ∷ ws) = grind (arith, word_leaves, counts_leave (d + 1 - takes w) ws)
 
 pub words_leave_one : WordsLeaveOne
-words_leave_one ws = ((λ h. count_leaves 0 ws (postfix_counts ws h)), (λ h. counts_postfix ws (leaves_count 0 ws h)))
+words_leave_one ws = ((λ h. (counts_leave 0 ws).0 (postfix_counts ws h)), (λ h. counts_postfix ws ((counts_leave 0 ws).1 h)))
 
 -- Words are those of one expression if and only if they lead from no finished expression to one.
 pub postfix_leads : (ws : List PolWord) → IsPostfix ws ↔ Counts 0 ws

@@ -1,7 +1,7 @@
 -- What the `pol` machine has read.
-use Rattle.pb_proof.proofs.Common.{ℕ, ◌++◌, ◌-◌, ◌<◌, ◌∙◌, ◌∷◌, ◌≡◌, ◌≤◌, [], ap, append_assoc, arith, false, List, pos, refl, subst, suc, sym, true, le-max_left}
-use Rattle.pb_proof.proofs.Common.{le-max_right, FirstOf, LiteralOf, IsName, regroup3, ◌⋅◌, Blanks1, Byte, Bytes, Language, Digits, Letter, Held, Phase, Role}
-use Rattle.pb_proof.proofs.Common.{PolWord, Axiom, Id, Multiply, bound, with_last, PolState, Listed, SpellsWord, SpellsWords, IsFree}
+use Rattle.pb_proof.proofs.Common.{ℕ, ◌++◌, ◌-◌, ◌<◌, ◌∙◌, ◌∷◌, ◌≡◌, ◌≤◌, [], ap, append_assoc, arith, false, List, pos, refl, subst, suc, sym, true}
+use Rattle.pb_proof.proofs.Common.{le-max_left, le-max_right, FirstOf, LiteralOf, IsName, regroup3, ◌⋅◌, Blanks1, Byte, Bytes, Language, Digits, Letter, Held}
+use Rattle.pb_proof.proofs.Common.{Phase, Role, PolWord, Axiom, Id, Multiply, bound, with_last, PolState, Listed, SpellsWord, SpellsWords, IsFree}
 use Rattle.pb_proof.proofs.lemmas.line.Ends.{Closing, listed_append}
 use Rattle.pb_proof.proofs.lemmas.pol.Postfix.{Counts}
 

@@ -1,10 +1,53 @@
--- What the transition for a phase and a kind says of the state that it leads to.
-use Rattle.pb_proof.proofs.Common.{ℕ, ◌*◌, ◌++◌, ◌+◌, ◌∷◌, ◌≡◌, ◌≤◌, [], arith, Bool, cond, length, length-append, List, nat_eq, nat_le, None, refl, Some, subst}
-use Rattle.pb_proof.proofs.Common.{true, false≢true, true≢false, end_or_go, go_or_end, one_end, one_state, refuse_or_end, refuse_or_go, End, Go, Action, Change}
-use Rattle.pb_proof.proofs.Common.{Held, Kind, Phase, PolWord, blank, bound, changed, close, counted, feed, finished, is_done, is_midway, late, number, read}
-use Rattle.pb_proof.proofs.Common.{semicolon, transition, with_last, Work, work, all_units, in_hand, ready, units, word_units, pol_act as act, pol_next as next}
+-- The kinds of bytes, and what the transition for a phase and a kind says of the state that it leads to.
+use Rattle.pb_proof.proofs.Common.{ℕ, ◌+◌, ◌<◌, ◌≡◌, arith, IsTrue, true, eqb-true, false≢true, rules, nat_tests, digit_of, letter_name, is_blank, is_letter}
+use Rattle.pb_proof.proofs.Common.{is_name_byte, Kind, is_letter_kind, is_name_kind, kind_of, ◌*◌, ◌++◌, ◌∷◌, ◌≤◌, [], Bool, cond, length, length-append, List}
+use Rattle.pb_proof.proofs.Common.{nat_eq, nat_le, None, refl, Some, subst, true≢false, end_or_go, go_or_end, one_end, one_state, refuse_or_end, refuse_or_go}
+use Rattle.pb_proof.proofs.Common.{End, Go, Action, Change, Phase, PolWord, blank, bound, changed, close, counted, feed, finished, is_done, is_midway, late}
+use Rattle.pb_proof.proofs.Common.{number, read, semicolon, transition, with_last, Work, work, all_units, in_hand, ready, units, word_units, pol_act as act}
+use Rattle.pb_proof.specs.declared.line.pol.phase.Kind.TheVariants.{Digit, D, S, W, Letter, Mark, Blank, Feed, Semicolon, Plus, Star, Minus, Tilde, Other}
 use Rattle.pb_proof.specs.engine.line.Pol.{adds}
 use Rattle.pb_proof.specs.engine.line.Pol as pol
+
+abbrev pub Says : Kind → ℕ → Type 0
+Says (Digit d) b = (b ≡ 48 + d) × (d < 10)
+Says D b = b ≡ 100
+Says S b = b ≡ 115
+Says W b = b ≡ 119
+Says Letter b = IsTrue (is_letter b)
+Says Mark b = IsTrue (is_name_byte b)
+Says Blank b = IsTrue (is_blank b)
+Says Feed b = b ≡ 10
+Says Semicolon b = b ≡ 59
+Says Plus b = b ≡ 43
+Says Star b = b ≡ 42
+Says Minus b = b ≡ 45
+Says Tilde b = b ≡ 126
+Says Other b = Unit {0}
+
+pub kind_says : (b : ℕ) → Says (kind_of b) b
+kind_says b = search (rules, digit_of, eqb-true)
+
+-- what the kinds of letters, and of name bytes, say
+pub letter_kind : (k : Kind) (b : ℕ) → Says k b → is_letter_kind k ≡ true → IsTrue (is_letter b)
+letter_kind k b h e = grind (arith, false≢true)
+
+pub name_kind : (k : Kind) (b : ℕ) → Says k b → is_name_kind k ≡ true → IsTrue (is_name_byte b)
+name_kind k b h e = grind (arith, letter_name, false≢true, nat_tests)
+
+-- the kinds of bytes
+pub of_digit : (d : ℕ) → d < 10 → kind_of (48 + d) ≡ Digit d
+of_digit d h = grind (arith)
+
+pub of_blank : (b : ℕ) → IsTrue (is_blank b) → kind_of b ≡ Blank
+of_blank b h = grind (arith, nat_tests)
+
+pub of_letter : (b : ℕ) → IsTrue (is_letter b) → is_letter_kind (kind_of b) ≡ true
+of_letter b h = grind (arith, nat_tests)
+
+pub of_name : (b : ℕ) → IsTrue (is_name_byte b) → is_name_kind (kind_of b) ≡ true
+of_name b h = grind (arith, of_letter)
+
+-- What the transition for a phase and a kind says of the state that it leads to.
 
 -- The text has begun. A literal is being read if a name has begun.
 -- A word that is added was being read, or there was room for it.
@@ -36,11 +79,8 @@ module _ (limit top d : ℕ) where
   number-sane : (ph : Phase) (n k : ℕ) → IsSane ph (number limit top d n k)
   number-sane ph n k = test ph (nat_le (10 * n + k) (bound limit top d)) (Action.To (Phase.Number (10 * n + k))) (refl, refl)
 
-  next-sane : (h : Held) (k : Kind) → IsSane (Phase.Gap h) (next limit top d h k)
-  next-sane h k = grind (arith, false≢true, number-sane, test, nat_le)
-
   read-sane : (ph : Phase) (k : Kind) → IsSane ph (read limit top d ph k)
-  read-sane ph k = grind (arith, next-sane, number-sane, test, nat_le)
+  read-sane ph k = grind (arith, false≢true, number-sane, test, nat_le)
 
   late-sane : (k : Kind) → IsSane Phase.Ending (late k)
   late-sane k = grind arith
@@ -50,10 +90,7 @@ module _ (limit top d : ℕ) where
 
 pub transition-sane : (limit top d : ℕ) (ph : Phase) (k : Kind) → IsSane ph (transition limit top d ph k)
 transition-sane limit top d Phase.Ending k = late-sane limit top d k
-transition-sane limit top d ph Kind.Blank = blank-sane limit top d ph (close limit top d ph) (close-sane limit top d ph)
-transition-sane limit top d ph Kind.Semicolon = semicolon-sane limit top d ph (close limit top d ph) (close-sane limit top d ph)
-transition-sane limit top d ph Kind.Feed = feed-sane limit top d ph (close limit top d ph)
-transition-sane limit top d ph k = read-sane limit top d ph k
+transition-sane limit top d ph k = grind (arith, blank-sane, close-sane, semicolon-sane, feed-sane, read-sane)
 
 -- What is stored grows by at most one unit per byte.
 pub units_append : (ws : List PolWord) (w : PolWord) → units (ws ++ w ∷ []) ≡ units ws + word_units w
@@ -65,25 +102,19 @@ units_last f h [] = omega arith
 units_last f h (w ∷ []) = let i = h w in omega (arith, i)
 units_last f h (w ∷ v ∷ ws) = let i = units_last f h (v ∷ ws) in omega (arith, i)
 
-added_units : (c : Change) (ws : List PolWord) (name : List ℕ) → adds c ≡ true → units (changed c ws name) ≤ units ws + 1 + length name
-added_units c ws name h = grind (arith, units_append, false≢true)
-
-ready_once : (ph : Phase) → ready ph ≤ 1
-ready_once ph = grind arith
-
 abbrev pub potential : Work → ℕ
 potential w = all_units w + ready w.phase
 
 turn_grows : (c : Change) (ws : List PolWord) (name : List ℕ) (ph q : Phase) (b : Bool) → adds c ≡ b → in_hand q ≡ 0 → (adds c ≡ true → in_hand ph + ready ph ≡ 1)
     → units (changed c ws name) + in_hand q + 0 + ready q ≤ units ws + in_hand ph + length name + ready ph + 1
-turn_grows c ws name ph q b e f g = grind (arith, ready_once, added_units, units_last, true≢false)
+turn_grows c ws name ph q b e f g = grind (arith, units_append, false≢true, units_last, true≢false)
 
 -- after a byte: within a line, and at most one unit more
 abbrev pub IsNext : Work → Work → Type 0
 IsNext w v = (is_midway v.phase ≡ true) × (potential v ≤ potential w + 1)
 
 pub continues : (w v : Work) (b : ℕ) (m : Action) → IsSane w.phase m → act w b m ≡ Go v → IsNext w v
-continues w v b (Action.To q) h e = grind (arith, one_state, ready_once)
+continues w v b (Action.To q) h e = grind (arith, one_state)
 continues w v b (Action.Begin q) h e = grind (arith, one_state)
 continues w v b (Action.Add q) h e = grind (arith, one_state, length-append)
 continues w v b (Action.Turn c q) h e =
@@ -97,6 +128,4 @@ ends w v b m e h = grind (arith, one_end, go_or_end, refuse_or_end)
 
 -- after the end of the line no byte is taken
 pub stops : (limit top d : ℕ) (ph : Phase) (k : Kind) → is_done ph ≡ true → transition limit top d ph k ≡ Action.Stop
-stops limit top d Phase.Done Kind.Blank h = refl
-stops limit top d Phase.Done _ h = refl
-stops limit top d _ k h = absurd (false≢true h)
+stops limit top d ph k h = grind (arith, false≢true)

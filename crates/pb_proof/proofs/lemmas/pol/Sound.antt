@@ -1,19 +1,19 @@
 -- The `pol` machine has read a prefix of a line of postfix words: one lemma for each step that continues.
 use Rattle.pb_proof.proofs.Common.{cond_both, ℕ, ◌&&◌, ◌++◌, ◌+◌, ◌-◌, ◌<◌, ◌∙◌, ◌∷◌, ◌≡◌, ◌≤◌, [], ap, append-nil, arith, Bool, cond, false, IsTrue, List, nat_eq, rules}
 use Rattle.pb_proof.proofs.Common.{nat_le, None, pos, refl, Some, subst, suc, sym, true, zero, neg_ℤ, and_parts, eqb-true, false≢true, leb-true, nat_tests}
-use Rattle.pb_proof.proofs.Common.{FirstOf, LiteralOf, Keeps, On, reported, digits-grown, digits-one, grown, inside, regroup, regroup3, as_digit, as_unmarked}
-use Rattle.pb_proof.proofs.Common.{Next, ReadsStatement, is_blank, is_name_byte, ◌⋅◌, Blanks0, Blanks1, Byte, Bytes, Language, unmarked, Digits, Letter}
+use Rattle.pb_proof.proofs.Common.{FirstOf, LiteralOf, Keeps, On, digits-grown, digits-one, grown, inside, regroup, regroup3, as_digit, as_unmarked}
+use Rattle.pb_proof.proofs.Common.{Next, is_blank, is_name_byte, ◌⋅◌, Blanks0, Blanks1, Byte, Bytes, Language, unmarked, Digits, Letter}
 use Rattle.pb_proof.proofs.Common.{plain, Action, Held, Kind, Phase, Role, PolWord, blank, bound, changed, close, close_lone, close_number, counted, feed}
 use Rattle.pb_proof.proofs.Common.{held_name, held_number, is_letter_kind, is_name_kind, kind_of, late, may_be_name, next_large, next_word, number, read}
 use Rattle.pb_proof.proofs.Common.{role_of, semicolon, star, transition, turned, with_last, work, over, pol_automaton, pol_first, PolState, LineEnd}
 use Rattle.pb_proof.proofs.Common.{SpellsWord, SpellsWords, IsFree, next as next_part, pol_act as act, pol_next as next, pol_signed as signed, Change}
 use Rattle.pb_proof.specs.engine.line.Pol as pol
-use Rattle.pb_proof.proofs.lemmas.line.Ends.{semicolon_after_blanks, blank_closing, line_after_blanks, line_closing, gapped, first_blank, further_blank, gapped_some}
-use Rattle.pb_proof.proofs.lemmas.pol.Kinds.{Says, kind_says, letter_kind, name_kind}
+use Rattle.pb_proof.proofs.lemmas.line.Ends.{semicolon_after_blanks, blank_closing, line_after_blanks, line_closing, gapped, first_blank, further_blank}
+use Rattle.pb_proof.proofs.lemmas.line.Ends.{gapped_some, positive}
+use Rattle.pb_proof.proofs.lemmas.pol.Sane.{Says, kind_says, letter_kind, name_kind}
 use Rattle.pb_proof.proofs.lemmas.pol.Postfix.{Counts, counts_postfix}
 use Rattle.pb_proof.proofs.lemmas.pol.Prefixes.{Words, Settled, settle, Holds, released, whole, takes_number, with_last_append, lead, at, Named, IsRole, Before, prefix, Prefix, Whole}
-use Rattle.pb_proof.proofs.lemmas.solution.Texts.{first_grown, more_grown}
-use Rattle.pb_proof.proofs.lemmas.line.ByteKinds.{positive}
+use Rattle.pb_proof.proofs.lemmas.Solution.{first_grown, more_grown}
 
 -- letters
 
@@ -294,7 +294,3 @@ module _ (limit top : ℕ) (ws : List PolWord) (d : ℕ) (name : List ℕ) (l : 
 
 pub keeps : Keeps pol_automaton Prefix Whole
 keeps s l p h = sound s.limit s.top s.work.words s.work.depth s.work.name l p s.work.phase (kind_of l.byte) (kind_says l.byte) h
-
--- What is read is a line of words.
-pub reads_only : (limit top : ℕ) (text : List Letter) (e : List PolWord) (after : PolState) → ReadsStatement pol_automaton (pol_first limit top) text e after → Whole e after text
-reads_only limit top text e after r = reported pol_automaton Prefix Whole keeps text (pol_first limit top) [] e after r (refl, refl, refl)

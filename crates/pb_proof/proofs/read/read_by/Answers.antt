@@ -1,5 +1,5 @@
 use Rattle.pb_proof.proofs.Common.{AcceptsItems, MayAsk, largest, top_of, arith}
-use Rattle.pb_proof.proofs.lemmas.proofs.Gathered.{is_read, stops_in}
+use Rattle.pb_proof.proofs.lemmas.Proofs.{is_read, stops_in}
 use Rattle.pb_proof.proofs.read.read_by.Goals as goal
 
 pub returns-in-Ok-clause-reads : goal.returns-in-Ok-clause-reads

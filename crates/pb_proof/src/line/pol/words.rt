@@ -41,6 +41,7 @@ fn turned(change: Change, word: PolWord) -> PolWord
 }
 
 /// Changes the last word.
+#[tactic(auto, using(crate::proofs::lemmas::pol::Prefixes::with_last_append))]
 fn turn_last(words: &mut Vec<PolWord>, change: Change)
     ensures words { words.new.items ≡ with_last (turned change) words.old.items }
     ensures len { vec_len words.new ≡ vec_len words.old }
@@ -142,6 +143,7 @@ fn word_units(word: &PolWord) -> usize
 }
 
 /// The number of words plus the number of bytes of their names. The sum saturates.
+#[tactic(auto, using(crate::proofs::lemmas::pol::Theorems::count_more))]
 pub fn count_units(words: &[PolWord]) -> usize
     ensures { result ≡ min (units words.now) (2 ^ 64 - 1) }
 {

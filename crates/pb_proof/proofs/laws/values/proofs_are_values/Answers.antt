@@ -1,8 +1,5 @@
-use Rattle.pb_proof.proofs.lemmas.proofs.Values.{statement_values, proof_values}
+use Rattle.pb_proof.proofs.lemmas.Proofs.{proof_values}
 use Rattle.pb_proof.proofs.laws.values.proofs_are_values.Goals as goal
-
-pub returns-clause-statements : goal.returns-clause-statements
-returns-clause-statements c = statement_values
 
 pub returns-clause-proofs : goal.returns-clause-proofs
 returns-clause-proofs c = proof_values

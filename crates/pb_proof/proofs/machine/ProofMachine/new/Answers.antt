@@ -4,9 +4,6 @@ use Rattle.pb_proof.proofs.lemmas.machine.Asks.{asks_only}
 use Rattle.pb_proof.proofs.lemmas.machine.Exact.{reads_proofs}
 use Rattle.pb_proof.proofs.machine.ProofMachine.new.Goals as goal
 
-pub returns-clause-accepts : goal.returns-clause-accepts
-returns-clause-accepts c = reads_proofs (largest c.args.limits) (top_of c.args.limits)
-
 pub returns-clause-reads : goal.returns-clause-reads
 returns-clause-reads c =
     let l = largest c.args.limits in

@@ -1,4 +1,4 @@
-use Rattle.pb_proof.proofs.lemmas.delete.Theorems.{delete_is_state}
+use Rattle.pb_proof.proofs.lemmas.Delete.{delete_is_state}
 use Rattle.pb_proof.proofs.line.delete.DeleteMachineMachine.is_done.Goals as goal
 
 pub returns-clause-state : goal.returns-clause-state

@@ -1,7 +1,6 @@
 use Rattle.pb_proof.proofs.Common.{◌+◌, refl, subst, sym, take, when_ok, Runs, pol_automaton, PolState}
-use Rattle.pb_proof.proofs.lemmas.pol.Covers.{state}
-use Rattle.pb_proof.proofs.lemmas.pol.Theorems.{same_state}
-use Rattle.pb_proof.proofs.lemmas.pol.Whole.{free_of, gap_of, word_blank}
+use Rattle.pb_proof.proofs.lemmas.pol.Walks.{state}
+use Rattle.pb_proof.proofs.lemmas.pol.Theorems.{same_state, free_of, gap_of, word_blank}
 use Rattle.pb_proof.proofs.line.pol.PolMachine.take_word.Goals as goal
 
 pub returns-clause-runs : goal.returns-clause-runs

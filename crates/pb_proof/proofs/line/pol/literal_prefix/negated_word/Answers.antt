@@ -1,4 +1,4 @@
-use Rattle.pb_proof.proofs.lemmas.pol.Whole.{negated_is_word}
+use Rattle.pb_proof.proofs.lemmas.pol.Theorems.{negated_is_word}
 use Rattle.pb_proof.proofs.line.pol.literal_prefix.negated_word.Goals as goal
 
 pub returns-clause-word : goal.returns-clause-word

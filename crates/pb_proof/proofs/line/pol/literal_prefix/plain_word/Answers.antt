@@ -1,4 +1,4 @@
-use Rattle.pb_proof.proofs.lemmas.pol.Whole.{plain_is_word}
+use Rattle.pb_proof.proofs.lemmas.pol.Theorems.{plain_is_word}
 use Rattle.pb_proof.proofs.line.pol.literal_prefix.plain_word.Goals as goal
 
 pub returns-clause-word : goal.returns-clause-word

@@ -1,5 +1,5 @@
 use Rattle.pb_proof.proofs.Common.{◌+◌, ◌<◌, ◌∙◌, ◌≡◌, arith, length, List, subst, sym, take, when_ok, PolWord, counted, IsExpression}
-use Rattle.pb_proof.proofs.lemmas.pol.Whole.{last_word, more_words}
+use Rattle.pb_proof.proofs.lemmas.pol.Theorems.{last_word, more_words}
 use Rattle.pb_proof.proofs.line.pol.whole.words_at.Goals as goal
 
 pub returns-then-depth-eq1-clause-expression : goal.returns-then-depth-eq1-clause-expression

@@ -1,4 +1,4 @@
-use Rattle.pb_proof.proofs.lemmas.pol.Whole.{no_word, operator_word}
+use Rattle.pb_proof.proofs.lemmas.pol.Theorems.{no_word, operator_word}
 use Rattle.pb_proof.proofs.line.pol.word_prefix.word_prefix.Goals as goal
 
 pub returns-clause-word : goal.returns-clause-word

@@ -1,5 +1,5 @@
 use Rattle.pb_proof.proofs.Common.{subst, IsState, rup_automaton, RupState}
-use Rattle.pb_proof.proofs.lemmas.rup.States.{rup_is_state}
+use Rattle.pb_proof.proofs.lemmas.Rup.{rup_is_state}
 use Rattle.pb_proof.proofs.line.rup.RupMachineMachine.is_done.Goals as goal
 
 pub returns-clause-state : goal.returns-clause-state

@@ -1,5 +1,5 @@
 use Rattle.pb_proof.proofs.Common.{arith}
-use Rattle.pb_proof.proofs.lemmas.machine.Whole.{rup_leads}
+use Rattle.pb_proof.proofs.lemmas.machine.Taken.{rup_leads}
 use Rattle.pb_proof.proofs.line.rup.whole.rup_at.Goals as goal
 
 pub returns-clause-runs : goal.returns-clause-runs

@@ -1,5 +1,5 @@
 use Rattle.pb_proof.proofs.Common.{◌||◌, ◌∙◌, ap, refl, subst, sym, unchanged, when_err, adds, is_more, IsSolutionInOrder}
-use Rattle.pb_proof.proofs.lemmas.solution.Theorems.{IsTaken, wants, same_state}
+use Rattle.pb_proof.proofs.lemmas.Solution.{IsTaken, wants, same_state}
 use Rattle.pb_proof.proofs.line.solution.SolutionMachine.take.Goals as goal
 
 pub returns-then-is_err : goal.returns-then-is_err

@@ -1,4 +1,4 @@
-use Rattle.pb_proof.proofs.lemmas.solution.Theorems.{solution_is_state}
+use Rattle.pb_proof.proofs.lemmas.Solution.{solution_is_state}
 use Rattle.pb_proof.proofs.line.solution.SolutionMachineMachine.is_done.Goals as goal
 
 pub returns-clause-state : goal.returns-clause-state

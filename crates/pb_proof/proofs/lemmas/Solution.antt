@@ -1,13 +1,16 @@
--- Names and literals that grow at their end.
-use Rattle.pb_proof.proofs.Common.{ℕ, ◌++◌, ◌∷◌, ◌≡◌, [], Bool, IsTrue, List, first-append, FirstOf, LiteralOf, name-append, name-bytes, grown, is_name_byte, arith}
-use Rattle.pb_proof.proofs.Common.{rules, ◌⋅◌, Language, unmarked, Letter, ◌∙◌, ap, cond, false, refl, subst, true, Literal, SpellsLiteral, Keeps, On, letter_name}
-use Rattle.pb_proof.proofs.Common.{after_it, next, nil_first, none_yet, regroup3, as_unmarked, Next, is_blank, Blanks0, Blanks1, Byte, Empty, NameByte}
-use Rattle.pb_proof.proofs.Common.{SolutionPhase, First, More, Negation, name_byte, flushed, literal, solution_automaton, SolutionState, SpellsJoined, LineEnd}
-use Rattle.pb_proof.proofs.Common.{Listed, append-nil, append_assoc, map, reads_after, Walks, walks_then, End, Go, ReadsStatement, is_letter, Each, solution_at}
-use Rattle.pb_proof.proofs.Common.{solution_first, solution_last}
-use Rattle.pb_proof.specs.engine.line.Solution.{act, transition, next_action, before, step}
-use Rattle.pb_proof.proofs.lemmas.line.ByteKinds.{NameMeans, name_means, name_blank, name_letter, name_inner}
-use Rattle.pb_proof.proofs.lemmas.line.Ends.{TakesBlanks, MayEnd, closing_feeds, blanks1_lead, line_reads, listed_walks}
+-- What the literals machine reads, and its laws.
+use Rattle.pb_proof.proofs.Common.{ℕ, ◌++◌, ◌∷◌, ◌≡◌, [], Bool, IsTrue, List, first-append, FirstOf, LiteralOf, name-append, name-bytes, grown, is_name_byte}
+use Rattle.pb_proof.proofs.Common.{arith, rules, ◌⋅◌, Language, unmarked, Letter, ◌∙◌, ap, cond, false, refl, true, Literal, SpellsLiteral, Keeps, On}
+use Rattle.pb_proof.proofs.Common.{letter_name, after_it, next, nil_first, none_yet, regroup3, as_unmarked, Next, is_blank, Blanks0, Blanks1, Byte, Empty}
+use Rattle.pb_proof.proofs.Common.{NameByte, SolutionPhase, First, More, Negation, name_byte, flushed, literal, solution_automaton, SolutionState, SpellsJoined}
+use Rattle.pb_proof.proofs.Common.{LineEnd, Listed, append-nil, append_assoc, map, reads_after, Walks, walks_then, End, Go, ReadsStatement, is_letter, Each}
+use Rattle.pb_proof.proofs.Common.{solution_at, solution_first, solution_last, ◌+◌, ◌-◌, ◌^◌, ◌↔◌, ◌≤◌, length, length-append, sym, min-le_left, add-grows}
+use Rattle.pb_proof.proofs.Common.{begin-grows, to-grows, reads_before, ReadsOn, is_state, IsOfOne, one_state, never, IsState, Refuse, SolutionAction, is_begun}
+use Rattle.pb_proof.proofs.Common.{IsSolutionInOrder, ◌<◌, ◌||◌, get_or, min, take, take_more, admits, end_or_refuse, go_or_refuse, Admits, adds, is_more}
+use Rattle.pb_proof.specs.engine.line.Solution.{act, transition, next_action, before, step, is_midway, is_done, units, in_hand, ready, all_units}
+use Rattle.pb_proof.proofs.lemmas.line.Ends.{NameMeans, name_means, name_blank, name_letter, name_inner, TakesBlanks, MayEnd, closing_feeds, blanks1_lead}
+use Rattle.pb_proof.proofs.lemmas.line.Ends.{line_reads, listed_walks, reads_exactly}
+use Rattle.pb_sums.proofs.lemmas.machine.Counts.{counted}
 use Rattle.pb_proof.proofs.lemmas.line.Ends as ends
 
 -- a second byte, and more of them
@@ -36,9 +39,6 @@ abbrev pub Before : Bool → List Literal → Language
 Before false ls = Listed SpellsLiteral ls ⋅ Blanks1
 Before true [] = Blanks0
 Before true (l ∷ ls) = Row true (l ∷ ls) ⋅ Blanks1
-
-row_empty : (joined : Bool) (p : List Letter) → Empty p → Row joined [] p
-row_empty joined p h = grind arith
 
 row_append : (joined : Bool) (ls : List Literal) (l : Literal) (p : List Letter) → (Before joined ls ⋅ SpellsLiteral l) p → Row joined (ls ++ l ∷ []) p
 row_append false ls l p h = ends.listed_append SpellsLiteral ls l p h
@@ -91,7 +91,7 @@ module _ (joined : Bool) where
 
 start_sound : (joined : Bool) (ls : List Literal) (name : List ℕ) (k : NameByte) (l : Letter) (p : List Letter) → NameMeans k l.byte → ls ≡ [] → Empty p
     → OnNext (act joined ls ls name (cond joined (before k) (next_action k))) l (p ++ l ∷ [])
-start_sound joined ls name k l p m e h = grind (arith, before_sound, ends.gapped, ends.blanks_begin, after_sound, row_empty)
+start_sound joined ls name k l p m e h = grind (arith, before_sound, ends.gapped, ends.blanks_begin, after_sound)
 
 module _ (joined : Bool) where
   sound : (ph : SolutionPhase) (ls : List Literal) (name : List ℕ) (k : NameByte) (l : Letter) (p : List Letter) → NameMeans k l.byte → prefix joined ph ls name p
@@ -164,14 +164,7 @@ module _ (joined : Bool) where
   name_walks : (ls : List Literal) (negated : Bool) (name bs : List ℕ) → Each (λ b. IsTrue (is_name_byte b)) bs
       → Walks solution_automaton (at_more ls negated name) (map unmarked bs) (at_more ls negated (name ++ bs))
   name_walks ls negated name [] h = ap (λ x. at_more ls negated x) (append-nil name)
-  name_walks ls negated name (b ∷ bs) h = (
-    at_more ls negated (name ++ b ∷ []),
-    name_step (at_more ls negated name) (at_more ls negated (name ++ b ∷ [])) b refl refl h.0,
-    refl,
-    refl,
-    subst (λ x. Walks solution_automaton (at_more ls negated (name ++ b ∷ [])) (map unmarked bs) (at_more ls negated x))
-        (append_assoc name (b ∷ []) bs) (name_walks ls negated (name ++ b ∷ []) bs h.1),
-  )
+  name_walks ls negated name (b ∷ bs) h = search (rules, name_step, append_assoc, name_walks ls negated (name ++ b ∷ []) bs h.1)
 
   first_walks : (ls : List Literal) (negated : Bool) (a b : ℕ) (bs : List ℕ) → Each (λ b. IsTrue (is_name_byte b)) (b ∷ bs)
       → Walks solution_automaton (solution_at joined ls (a ∷ []) (First negated)) (map unmarked (b ∷ bs)) (at_more ls negated (a ∷ b ∷ bs))
@@ -223,3 +216,130 @@ reads_each true (l ∷ ls) t (abc, d, e, (ab, c, f, h, i), k) =
     rw g (reads_after solution_automaton ab (c ++ d) (solution_first true) (at_more true [] l.negated l.name) (solution_last true) (l ∷ ls)
     (first_joined l ab h)
     (row_reads true (l ∷ []) ls (at_more true [] l.negated l.name) (c ++ d) (more_after true [] l.negated l.name) (c, d, refl, i, k)))
+
+-- The laws of the literals machine.
+
+-- The phase that a move leads to is midway, and a literal is being read if a name has begun.
+abbrev IsSane : Bool → SolutionPhase → SolutionAction → Type 0
+IsSane joined ph (SolutionAction.To q) = (is_midway q ≡ true) × (in_hand q ≡ 0)
+IsSane joined ph (SolutionAction.Begin q b) = (is_midway q ≡ true) × (in_hand q + ready joined q ≡ 1) × (ready joined ph ≡ 1)
+IsSane joined ph (SolutionAction.Add q b) = (is_midway q ≡ true) × (in_hand q + ready joined q ≡ 1) × (in_hand ph ≡ 1)
+IsSane joined ph _ = Unit {0}
+
+transition_sane : (joined : Bool) (ph : SolutionPhase) (k : NameByte) → IsSane joined ph (transition joined ph k)
+transition_sane joined ph k = grind arith
+
+midway_begun : (joined : Bool) (ph : SolutionPhase) → is_midway ph ≡ true → is_begun joined ph ≡ true
+midway_begun joined ph h = grind arith
+
+-- what is stored grows by at most one unit per byte
+pub units_append : (ls : List Literal) (l : Literal) → units (ls ++ l ∷ []) ≡ units ls + (1 + length l.name)
+units_append [] l = omega arith
+units_append (x ∷ ls) l = omega (arith, units_append ls l)
+
+abbrev spent : SolutionState → ℕ
+spent s = all_units s + ready s.joined s.phase
+
+-- What holds after a step that continues.
+record Steps (s next : SolutionState) : Type 0 where
+  midway : is_midway next.phase ≡ true
+  joined : next.joined ≡ s.joined
+  grows : spent next ≤ spent s + 1
+
+module _ (joined : Bool) (ls : List Literal) (name : List ℕ) (ph : SolutionPhase) where
+  abbrev here : SolutionState
+  here = solution_at joined ls name ph
+
+  acted : (m : SolutionAction) (next : SolutionState) → IsSane joined ph m → act joined (flushed ph ls name) ls name m ≡ Go next → Steps here next
+  acted m next h e = grind (arith, one_state, begin-grows, add-grows, length-append, to-grows, length, units_append)
+
+  ended : (m : SolutionAction) (next : SolutionState) (e : List Literal) → act joined (flushed ph ls name) ls name m ≡ End e next → next ≡ solution_last joined
+  ended m next e i = grind arith
+
+continues : (s next : SolutionState) (b : ℕ) → solution_automaton.step s b ≡ Go next → Steps s next
+continues s next b e = acted s.joined s.literals s.name s.phase (transition s.joined s.phase (name_byte b)) next (transition_sane s.joined s.phase (name_byte b)) e
+
+abbrev last : SolutionState → SolutionState
+last s = solution_last s.joined
+
+-- a further byte or two of a name, and the line feed
+some_more : (joined negated : Bool) (ls : List Literal) (name : List ℕ) → ReadsOn solution_automaton (solution_at joined ls name (More negated))
+some_more joined negated ls name = (unmarked 10 ∷ [], ls ++ literal negated name ∷ [], solution_last joined, (refl, refl))
+
+some_name : (joined negated : Bool) (ls : List Literal) (name : List ℕ) → ReadsOn solution_automaton (solution_at joined ls name (First negated))
+some_name joined negated ls name =
+    reads_before solution_automaton (solution_at joined ls name (First negated)) (solution_at joined ls (name ++ 97 ∷ []) (More negated)) 97 refl refl (some_more joined negated ls (name ++ 97 ∷ []))
+
+some_text : (joined : Bool) (ph : SolutionPhase) (ls : List Literal) (name : List ℕ) → is_done ph ≡ false → ReadsOn solution_automaton (solution_at joined ls name ph)
+some_text true SolutionPhase.Start ls name h = (unmarked 10 ∷ [], ls, solution_last true, (refl, refl))
+some_text joined Negation ls name h = reads_before solution_automaton (solution_at joined ls name Negation) (solution_at joined ls (97 ∷ []) (First true)) 97 refl refl (some_name joined true ls (97 ∷ []))
+some_text joined (First negated) ls name h = some_name joined negated ls name
+some_text joined (More negated) ls name h = some_more joined negated ls name
+some_text joined SolutionPhase.Done ls name h = cc
+some_text joined _ ls name h = (unmarked 10 ∷ [], ls, solution_last joined, (refl, refl))
+
+pub solution_of_one : IsOfOne solution_automaton IsSolutionInOrder last
+solution_of_one = record {
+  keeps = λ s next b g e i. never (is_midway next.phase) (continues s next b e).midway i;
+  begins = λ s next b e. midway_begun next.joined next.phase (continues s next b e).midway;
+  owes = λ s h. grind arith;
+  leads = λ s next b e. ap solution_last (continues s next b e).joined;
+  ends = λ s next b e i. ended s.joined s.literals s.name s.phase (transition s.joined s.phase (name_byte b)) next e i;
+  done = λ s. refl;
+  stops = λ s h b. grind arith;
+  goes_on = λ s g h. some_text s.joined s.phase s.literals s.name h;
+  plain = λ s h. refl;
+  grows = λ s next b e. (continues s next b e).grows;
+  bounds = λ s. omega (arith, min-le_left (all_units s) (2 ^ 64 - 1));
+}
+
+-- A new machine reads exactly the literals.
+pub solution_reads : (joined : Bool) (text : List Letter) (e : List Literal) (after : SolutionState) →
+    ReadsStatement solution_automaton (solution_first joined) text e after ↔ (SpellsJoined joined e text × (after ≡ solution_last joined))
+solution_reads joined text e after =
+    reads_exactly solution_automaton IsSolutionInOrder last solution_of_one Prefix Whole keeps_prefix (solution_first joined) text e after (refl, refl) (reads_each joined e text)
+
+pub solution_is_state : (s : SolutionState) → IsSolutionInOrder s → IsState solution_automaton s
+solution_is_state s h = is_state solution_automaton IsSolutionInOrder last solution_of_one s h (λ i. empty s.joined s.phase s.literals s.name i h)
+  where
+    begun_midway : (joined : Bool) (ph : SolutionPhase) → is_begun joined ph ≡ false → (is_midway ph ≡ false) × (in_hand ph ≡ 0) × (ready joined ph ≡ 0)
+    begun_midway true SolutionPhase.Start i = cc
+    begun_midway false SolutionPhase.Start i = (refl, refl, refl)
+    begun_midway joined SolutionPhase.Done i = (refl, refl, refl)
+    begun_midway joined _ i = cc
+
+    empty : (joined : Bool) (ph : SolutionPhase) (ls : List Literal) (name : List ℕ) → is_begun joined ph ≡ false → IsSolutionInOrder (solution_at joined ls name ph)
+        → spent (solution_at joined ls name ph) ≡ 0
+    empty joined ph ls name i h =
+        let (m, f, r) = begun_midway joined ph i in
+        let (a, b) = h m in
+        rw (a, b, f, r) refl
+
+-- A push of the literals machine does what its transition says.
+
+abbrev pub IsTaken : SolutionAction → Type 0
+IsTaken SolutionAction.Stop = ⊥
+IsTaken _ = Unit {0}
+
+taken_acts : (joined : Bool) (ms ls : List Literal) (name : List ℕ) (m : SolutionAction) → IsTaken m → act joined ms ls name m ≡ Refuse → ⊥
+taken_acts joined ms ls name m h e = grind (arith, end_or_refuse, go_or_refuse)
+
+-- a push may allocate at a byte of a name or one that ends a literal, and only if the byte is taken
+pub wants : (s : SolutionState) (b : ℕ) (m : SolutionAction) → IsSolutionInOrder s → m ≡ transition s.joined s.phase (name_byte b) → IsTaken m → (adds m || is_more s.phase) ≡ true
+    → IsTrue (solution_automaton.asks s b) × Admits solution_automaton s b
+wants s b m o f t a =
+    let ms : List Literal = flushed s.phase s.literals s.name in (
+      ap (λ x. adds x || is_more s.phase) (sym f) ∙ a,
+      admits solution_automaton IsSolutionInOrder _ solution_of_one s b (act s.joined ms s.literals s.name m) o (ap (λ x. act s.joined ms s.literals s.name x) (sym f))
+          (taken_acts s.joined ms s.literals s.name m t),
+    )
+
+pub same_state : (joined : Bool) (ls ms : List Literal) (m n : List ℕ) (p q : SolutionPhase) → ls ≡ ms → m ≡ n → p ≡ q → solution_at joined ls m p ≡ solution_at joined ms n q
+same_state joined ls ms m n p q e f g = cc
+
+-- a count that stays at its maximum
+pub count_more : (ls : List Literal) (i : ℕ) (d : Literal) (c m r : ℕ) → i < length ls → c ≡ min (units (take i ls)) (2 ^ 64 - 1) → m ≡ min (length (get_or ls i d).name + 1) (2 ^ 64 - 1)
+    → r ≡ min (c + m) (2 ^ 64 - 1) → r ≡ min (units (take (i + 1) ls)) (2 ^ 64 - 1)
+count_more ls i d c m r h e f g =
+    counted (units (take i ls)) (length (get_or ls i d).name) c m r e f g
+    ∙ ap (λ n. min n (2 ^ 64 - 1)) (sym (ap units (take_more ls i d h) ∙ units_append (take i ls) (get_or ls i d)))

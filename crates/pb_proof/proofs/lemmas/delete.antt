@@ -1,3 +1,0 @@
--- Lemmas about the ids machine.
-pub mod Texts
-pub mod Theorems

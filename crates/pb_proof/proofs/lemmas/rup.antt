@@ -1,3 +1,0 @@
--- Lemmas about the `rup` machine.
-pub mod Reads
-pub mod States

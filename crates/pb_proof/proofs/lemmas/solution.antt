@@ -1,3 +1,0 @@
--- Lemmas about the literals machine.
-pub mod Texts
-pub mod Theorems
