@@ -3,7 +3,7 @@ use Rattle.pb_replay.proofs.Common.{ℕ, ◌<◌, ◌∙◌, ◌∷◌, ◌≡�
 use Rattle.pb_replay.proofs.Common.{subst, suc, sym, true, zero, Contains, Ok, Option, Entry, NumberedLiteral, Form, Holds, total, assignment}
 use Rattle.pb_replay.proofs.Common.{on, only, begin, Live, MayPropagate, Term, name_x, name_y, Problem, AreValues, Completed, Excludes, HasValue}
 use Rattle.pb_replay.proofs.Common.{logged_of, negations, same_Some, slice_get}
-use Rattle.pb_replay.proofs.lemmas.meaning.Propagating.{AreTrue, on-negations, conflict-none}
+use Rattle.pb_replay.proofs.lemmas.meaning.Propagated.{AreTrue, on-negations, conflict-none}
 
 abbrev pub entry : ℕ → Bool → Entry
 entry x negated = record { variable = x; negated = negated; coefficient = 1 }
@@ -85,7 +85,7 @@ abbrev pub Each : {A : Type 0} → (A → Type 0) → List A → Type 0
 Each P [] = Unit {0}
 Each P (x ∷ xs) = P x × Each P xs
 
-each-contains : {A : Type 0} (P : A → Type 0) (xs : List A) (x : A) → Each P xs → Contains xs x → P x
+pub each-contains : {A : Type 0} (P : A → Type 0) (xs : List A) (x : A) → Each P xs → Contains xs x → P x
 each-contains P [] x all (k, lt, is) = absurd (omega (arith, lt))
 each-contains P (y ∷ xs) x all (zero, lt, is) = subst P is all.0
 each-contains P (y ∷ xs) x all (suc k, lt, is) = each-contains P xs x all.1 (k, omega (arith, lt), is)

@@ -1,8 +1,9 @@
--- What propagation adds to a list is true wherever the forms hold and the given literals are true
-use Rattle.pb_replay.proofs.Common.{ℕ, ◌∙◌, ◌∷◌, ◌≡◌, [], arith, Bool, cond, false, inl, inr, List, not, refl, sym, true, both_ways, cases_Bool}
-use Rattle.pb_replay.proofs.Common.{cases_lt, false_from_ne_true, not-true, not_from_false, Holds-negation_back, NumberedLiteral, Form}
-use Rattle.pb_replay.proofs.Common.{Holds, total, true_at, negation_of, on, only-true, total-fits, total-within, begin, broken, Derivation}
-use Rattle.pb_replay.proofs.Common.{HasConflict, HoldAll, IsRup, MayPropagate, MeetsConflict, opened, opposed, put, With, negations}
+-- What propagation adds to a list is true wherever the forms hold and the given literals are true. Its order does not matter.
+use Rattle.pb_replay.proofs.Common.{ℕ, ◌∙◌, ◌∷◌, ◌≡◌, [], arith, Bool, cond, false, inl, inr, List, not, refl, sym, true, both_ways, cases_Bool, cases_lt}
+use Rattle.pb_replay.proofs.Common.{false_from_ne_true, not-true, not_from_false, Holds-negation_back, NumberedLiteral, Form, Holds, total, true_at}
+use Rattle.pb_replay.proofs.Common.{negation_of, on, only-true, total-fits, total-within, begin, broken, Derivation, HasConflict, HoldAll, IsRup, MayPropagate}
+use Rattle.pb_replay.proofs.Common.{MeetsConflict, opened, opposed, put, With, negations, ◌⊎◌, or_left, or_right, only, only-self, completion-one}
+use Rattle.pb_replay.proofs.Common.{conflict-part, conflicting, derivation-keeps, IsPart, lasting, on_it, put-part, still, CompletionIsOne, InList, OrderIsFree}
 use Rattle.std.proofs.Math.Bool.{not-not}
 
 -- a literal and its negation
@@ -70,3 +71,50 @@ IsRup-holds forms a r holds (inr m) =
     with_one : Holds a (negation_of r) → HoldAll a (With forms (negation_of r))
     with_one h f (inl old) = holds f old
     with_one h f (inr e) = rw e h
+
+-- a list is extended until it has a conflict, or the literals of another one
+pub record Reached (forms : Form → Type 0) (from other : List NumberedLiteral) : Type 0 where
+  pub list : List NumberedLiteral
+  pub derived : Derivation forms from list
+  pub ends : HasConflict forms list ⊎ IsPart other list
+
+grown : (a : List NumberedLiteral) (l : NumberedLiteral) → IsPart a (l ∷ a)
+grown a l v n h = or_right (only l.variable l.negated v n) (on a v n) h
+
+here : (a : List NumberedLiteral) (l : NumberedLiteral) → on (l ∷ a) l.variable l.negated ≡ true
+here a l = or_left (only l.variable l.negated l.variable l.negated) (on a l.variable l.negated) (only-self l.variable l.negated)
+
+part_then : (a b c : List NumberedLiteral) → IsPart a b → IsPart b c → IsPart a c
+part_then a b c w u v n h = u v n (w v n h)
+
+reach : (forms : Form → Type 0) (given from list : List NumberedLiteral) → IsPart given from → Derivation forms given list → Reached forms from list
+reach forms given from _ w begin = record { list = from; derived = begin; ends = inr w }
+reach forms given from _ w (put {list} l d m) =
+    let before = reach forms given from list w d in
+    elim before.ends [
+      | inl bad ↦ record { list = before.list; derived = before.derived; ends = inl bad }
+      | inr part ↦
+          elim (lasting forms list before.list l part m) [
+            | on_it e ↦ record { list = before.list; derived = before.derived; ends = inr (put-part list before.list l part e) }
+            | still more ↦ record {
+              list = l ∷ before.list;
+              derived = put l before.derived more;
+              ends = inr (put-part list (l ∷ before.list) l (part_then list before.list (l ∷ before.list) part (grown before.list l)) (here before.list l));
+            }
+            | conflicting bad ↦ record { list = before.list; derived = before.derived; ends = inl bad }
+          ]
+    ]
+
+pub conflicts-met : (forms : Form → Type 0) (given list : List NumberedLiteral) → MeetsConflict forms given → Derivation forms given list → MeetsConflict forms list
+conflicts-met forms given list meets d =
+    let r = reach forms given list meets.list (derivation-keeps forms given list d) meets.derived in
+    elim r.ends [
+      | inl bad ↦ record { list = r.list; derived = r.derived; conflict = bad }
+      | inr part ↦ record { list = r.list; derived = r.derived; conflict = conflict-part forms meets.list r.list part meets.conflict }
+    ]
+
+pub order-free : OrderIsFree
+order-free fs = conflicts-met (InList fs)
+
+pub completion-set : CompletionIsOne
+completion-set fs = completion-one (InList fs)

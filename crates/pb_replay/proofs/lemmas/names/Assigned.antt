@@ -1,9 +1,11 @@
--- Assignments of names, and of their numbers
-use Rattle.pb_replay.proofs.Common.{ℕ, ℤ, ◌++◌, ◌<◌, ◌∙◌, ◌∷◌, ◌≡◌, ◌≤◌, [], All, ap, append_assoc, arith, Bool, cond, false, get_or, length}
-use Rattle.pb_replay.proofs.Common.{length-append, List, not, pos, refl, Some, sym, true, ◌↔◌, All-head, All-tail, slice_get-get_or, prefix}
-use Rattle.pb_replay.proofs.Common.{number_in-append, number_in-below, number_in-get, SameSolutions-side, Side, Entry, Form, Holds, total, true_at}
-use Rattle.pb_replay.proofs.Common.{AreDistinct, has_name, HasNames, number_in, with_names, by_number, IsSideOf, MeetsSide, names_of, true_sum}
-use Rattle.pb_replay.proofs.Common.{Linear, Term, IsNamePrefix, IsProblem, objective_of, Problem, by_name, value}
+-- Names and their numbers, and assignments of both
+use Rattle.pb_replay.proofs.Common.{ℕ, ℤ, ◌++◌, ◌<◌, ◌∙◌, ◌∷◌, ◌≡◌, ◌≤◌, [], All, ap, append_assoc, arith, Bool, cond, false, get_or, length, length-append}
+use Rattle.pb_replay.proofs.Common.{List, not, pos, refl, Some, sym, true, ◌↔◌, All-head, All-tail, slice_get-get_or, prefix, number_in-append, number_in-below}
+use Rattle.pb_replay.proofs.Common.{number_in-get, SameSolutions-side, Side, Entry, Form, Holds, total, true_at, AreDistinct, has_name, HasNames, number_in}
+use Rattle.pb_replay.proofs.Common.{with_names, by_number, IsSideOf, MeetsSide, names_of, true_sum, Linear, Term, IsNamePrefix, IsProblem, objective_of}
+use Rattle.pb_replay.proofs.Common.{Problem, by_name, value, ◌+◌, subst, suc, take, zero, All-push, in_turn, NumberedLiteral, with_name, PolWord, Literal}
+use Rattle.pb_replay.proofs.Common.{take_read, numbered, numbered_one, literal_names, word_names, None, Option}
+use Rattle.pb_normal.proofs.lemmas.names.Appearing.{named}
 
 -- a prefix of the names stays one when more appear
 pub IsNamePrefix-more : (names all others : List (List ℕ)) → IsNamePrefix names all
@@ -68,3 +70,43 @@ value-over v names o a p (more, e) is =
 pub value-agree : (v : Problem) (a b : ℕ → Bool) → IsProblem v → ((k : ℕ) → k < length v.names → a k ≡ b k) → value v a ≡ value v b
 value-agree v a b p same =
     true_sum-agree (by_name v.names a) (by_name v.names b) v.names (objective_of v.objective) p.named (λ q h. same (number_in v.names q) (number_in-below v.names q h))
+
+pub words_named : (old new : List (List ℕ)) (ws vs us : List PolWord) → new ≡ with_names old (word_names ws) → ws ≡ us → vs ≡ us → HasNames new (word_names vs)
+words_named old new ws vs us e f g = rw (e, g, ← f) (named old (word_names ws))
+
+pub names_named : (old new : List (List ℕ)) (others : List (List ℕ)) → new ≡ with_names old others → HasNames new others
+names_named old new others e = subst (λ (ns : List (List ℕ)). HasNames ns others) (sym e) (named old others)
+
+literal_names-append : (xs ys : List Literal) → literal_names (xs ++ ys) ≡ literal_names xs ++ literal_names ys
+literal_names-append [] ys = refl
+literal_names-append (x ∷ xs) ys = ap (λ (ns : List (List ℕ)). x.name ∷ ns) (literal_names-append xs ys)
+
+numbered-append : (names : List (List ℕ)) (xs ys : List Literal) → numbered names (xs ++ ys) ≡ numbered names xs ++ numbered names ys
+numbered-append names [] ys = refl
+numbered-append names (x ∷ xs) ys = ap (λ (ls : List NumberedLiteral). numbered_one names x ∷ ls) (numbered-append names xs ys)
+
+module _ (given : List Literal) (i : ℕ) (l : Literal) (lt : i < length given) (e : l ≡ get_or given i l) where
+  pub next-names : (old names new : List (List ℕ)) → names ≡ with_names old (literal_names (take i given)) → new ≡ with_name names l.name → new ≡ with_names old (literal_names (take (i + 1) given))
+  next-names old names new before k =
+      let all = ap literal_names (take_read given i l l lt e) ∙ literal_names-append (take i given) (l ∷ []) in
+      k ∙ ap (λ (ns : List (List ℕ)). with_name ns l.name) before ∙ sym (in_turn old (literal_names (take i given)) (l.name ∷ [])) ∙ ap (with_names old) (sym all)
+
+  pub one-named : (names : List (List ℕ)) → HasNames names (literal_names given) → has_name names l.name ≡ true
+  one-named names h = at given i l lt e h
+    where
+      at : (ls : List Literal) (j : ℕ) (k : Literal) → j < length ls → k ≡ get_or ls j k → HasNames names (literal_names ls) → has_name names k.name ≡ true
+      at [] j k less is has = absurd (omega (arith, less))
+      at (x ∷ ls) zero k less is has = subst (λ (y : Literal). has_name names y.name ≡ true) (sym is) has.0
+      at (x ∷ ls) (suc j) k less is has = at ls j k (omega (arith, less)) is has.1
+
+  pub next-numbers : (names : List (List ℕ)) → HasNames names (literal_names given) → (n : ℕ) → n ≡ number_in names l.name → (out new : List NumberedLiteral) → (out ≡ numbered names (take i given)) × All (λ x. x.variable < length names) out → new ≡ out ++ record { variable = n; negated = l.negated } ∷ []
+      → (new ≡ numbered names (take (i + 1) given)) × All (λ x. x.variable < length names) new
+  next-numbers names h n is out new before k = (
+    k ∙ ap (λ (ls : List NumberedLiteral). ls ++ record { variable = n; negated = l.negated } ∷ []) before.0 ∙ ap (λ m. numbered names (take i given) ++ record { variable = m; negated = l.negated } ∷ []) is
+        ∙ sym (ap (numbered names) (take_read given i l l lt e) ∙ numbered-append names (take i given) (l ∷ [])),
+    subst (λ (ls : List NumberedLiteral). All (λ x. x.variable < length names) ls) (sym k)
+        (All-push (λ (x : NumberedLiteral). x.variable < length names) out (record { variable = n; negated = l.negated }) before.1 (omega (arith, is, number_in-below names l.name (one-named names h)))),
+  )
+
+pub position-none : (names : List (List ℕ)) (name : List ℕ) (o : Option ℕ) → has_name names name ≡ true → o ≡ cond (has_name names name) (Some (number_in names name)) None → o ≡ None → ⊥
+position-none names name o has e none = grind (arith)
