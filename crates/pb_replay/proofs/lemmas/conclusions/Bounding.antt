@@ -38,8 +38,7 @@ below-to logged None b h k g c = absurd (contains-none logged g h c)
 below-to logged (Some z) b h k g c = (below logged z b h).0 k g c
 
 pub below-back : (logged : List Logged) (best : Option ℤ) (b : ℤ) → IsBest logged best → ((g : Logged) → Contains logged g → b ≤ℤ g.value) → IsBelow best b
-below-back logged None b h all = tt
-below-back logged (Some z) b h all = (below logged z b h).1 all
+below-back logged best b h all = grind (arith, below)
 
 pub reached-to : (logged : List Logged) (best : Option ℤ) (u : ℤ) (r : Result Unit Fault) → IsBest logged best → IsReached best u r → Reached logged u r
 reached-to logged None u r h k = inr (λ some. contains-none logged some.0 h some.1, k)

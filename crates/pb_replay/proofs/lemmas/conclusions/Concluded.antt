@@ -6,7 +6,7 @@ use Rattle.pb_replay.proofs.Common.{contradicted, contradiction, IsShownBy, obje
 use Rattle.pb_replay.proofs.Common.{HasNone, IsAtLeast, IsAtMost, IsProblem, IsSolution, IsSound, known, Means, Problem, numbered, State, value, ◌++◌, ◌∷◌}
 use Rattle.pb_replay.proofs.Common.{refl, subst, IsSome, with_names, Stage, Closing, Complete, Statement, Conclude, End, Output, stage_of, HasConclusion}
 use Rattle.pb_replay.proofs.Common.{VerdictsAreThere, WholeProofsConclude, verdict_at, Verdict, Accepts, mentioned}
-use Rattle.pb_replay.specs.contract.Rules.{HasContradiction, some, named, IsNamed, unnamed, named_one, IsLower, infinite, finite, IsUpper, unbounded, by_shown}
+use Rattle.pb_replay.specs.contract.Rules.{HasContradiction, some, named, IsNamed, IsLower, infinite, finite, IsUpper, unbounded, by_shown}
 use Rattle.pb_replay.specs.contract.Rules.{by_logged, IsJustified, no_claim, unsat, sat_shown, sat_logged, bounds, Rule, header, formula, pol, rup, soli, solx}
 use Rattle.pb_replay.specs.contract.Rules.{delete, output, conclude, end}
 use Rattle.pb_replay.proofs.lemmas.meaning.Accepting.{needed, ok-same}
@@ -35,8 +35,7 @@ none_left-means v s id sound none is a solution = refute (sound.stands a solutio
     refute (allowed holds) = let f = contradiction-live s.live id is in contradiction-fails a f.0 f.2 (holds f.0 f.1)
 
 named-live : (live : List (Option Form)) (id : Option ℤ) (o : Option Form) → IsNamed live id o → (f : Form) → o ≡ Some f → Live live f
-named-live live _ _ unnamed f e = absurd (none-some _ e)
-named-live live _ _ (named_one id g at) f e = rw (same_Some _ _ e) at (IsLive-live live id g at)
+named-live live id o is f e = grind (arith, IsLive-live, none-some, same_Some)
 
 shown-holds : (a : ℕ → Bool) (live : List (Option Form)) (id : Option Form) (g : Form) → HoldAll a (Live live) → ((f : Form) → id ≡ Some f → Live live f) → IsShownBy live id g → Holds a g
 shown-holds a live id g holds in_live (trivial none) = omega (arith, none)

@@ -4,17 +4,13 @@ use Rattle.pb_replay.proofs.Common.{false_from_ne_true, not-true, not_from_false
 use Rattle.pb_replay.proofs.Common.{negation_of, on, only-true, total-fits, total-within, begin, broken, Derivation, HasConflict, HoldAll, IsRup, MayPropagate}
 use Rattle.pb_replay.proofs.Common.{MeetsConflict, opened, opposed, put, With, negations, ◌⊎◌, or_left, or_right, only, only-self, completion-one}
 use Rattle.pb_replay.proofs.Common.{conflict-part, conflicting, derivation-keeps, IsPart, lasting, on_it, put-part, still, CompletionIsOne, InList, OrderIsFree}
-use Rattle.std.proofs.Math.Bool.{not-not}
 
 -- a literal and its negation
 pub true_at-not : (a : ℕ → Bool) (v : ℕ) (n : Bool) → true_at a v (not n) ≡ not (true_at a v n)
-true_at-not a v true = sym (not-not (a v))
-true_at-not a v false = refl
+true_at-not a v n = grind arith
 
 not_sign : (n m : Bool) → cond (not n) m (not m) ≡ cond n (not m) (not (not m))
-not_sign true m = refl
-not_sign false true = refl
-not_sign false false = refl
+not_sign n m = grind arith
 
 -- the negations have the negation of each literal of the list
 pub on-negations : (given : List NumberedLiteral) (x : ℕ) (m : Bool) → on (negations given) x m ≡ on given x (not m)
@@ -47,9 +43,8 @@ derivation-true forms a given _ holds h (put {list} l d m) =
 
 -- so there is no conflict
 pub conflict-false : (forms : Form → Type 0) (a : ℕ → Bool) (list : List NumberedLiteral) → HoldAll a forms → AreTrue a list → HasConflict forms list → ⊥
-conflict-false forms a list holds h (opposed v on off) = both_ways _ (not-true (a v) (h v true on)) (h v false off)
-conflict-false forms a list holds h (broken f among low) =
-    omega (arith, total-within (true_at a) (opened list) (true-opened a list h) f.terms, holds f among, low)
+conflict-false forms a list holds h (opposed v on off) = grind (arith, h)
+conflict-false forms a list holds h (broken f among low) = grind (arith, total-within, true-opened, holds)
 
 pub conflict-none : (forms : Form → Type 0) (a : ℕ → Bool) (given : List NumberedLiteral) → HoldAll a forms → AreTrue a given → MeetsConflict forms given → ⊥
 conflict-none forms a given holds h m =
@@ -69,8 +64,7 @@ IsRup-holds forms a r holds (inr m) =
     nothing v n e = absurd (let f : false ≡ true = e in cc)
 
     with_one : Holds a (negation_of r) → HoldAll a (With forms (negation_of r))
-    with_one h f (inl old) = holds f old
-    with_one h f (inr e) = rw e h
+    with_one h f c = grind (arith, holds, h)
 
 -- a list is extended until it has a conflict, or the literals of another one
 pub record Reached (forms : Form → Type 0) (from other : List NumberedLiteral) : Type 0 where

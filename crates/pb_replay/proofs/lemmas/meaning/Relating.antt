@@ -1,6 +1,6 @@
 -- What the outcomes of a statement have in common, by a relation that passes through its tests. They are single, and larger limits accept more.
 use Rattle.pb_replay.proofs.Common.{ℕ, ℤ, ◌++◌, ◌-ℤ◌, ◌<◌, ◌∙◌, ◌∷◌, ◌≡◌, ◌≤◌, ◌⊎◌, [], ap, arith, Bool, Err, false, inl, inr, length, List, None, pos, set}
-use Rattle.pb_replay.proofs.Common.{Some, subst, sym, true, Contains, Ok, Option, Result, cases_order, ext_get_or, same_Some, IsFormOf-unique, same_forms, Side}
+use Rattle.pb_replay.proofs.Common.{Some, subst, sym, true, Contains, Ok, Option, Result, ext_get_or, same_Some, IsFormOf-unique, same_forms, Side}
 use Rattle.pb_replay.proofs.Common.{NumberedLiteral, AreFormsOf, sides_in, Form, with_names, IsSum, on, Bound, Finite, Infinite, Conclusion, Bounds, NoClaim}
 use Rattle.pb_replay.proofs.Common.{Sat, Unsat, Statement, Conclude, Delete, F, Pol, Rup, Soli, Solx, Constraint, LiteralAxiom, Product, Quotient, Saturation}
 use Rattle.pb_replay.proofs.Common.{Sum, Tree, Weakening, words, completion-one, Live, Linear, Literal, Term, ok_or_err, same_err, AcceptsMore, IsSingle}
@@ -28,36 +28,19 @@ module _ {A : Type 0} where
   single-gives x r s p q = p ∙ sym q
 
   single-need : (P : Type 0) (e : Fault) (next : Answer A) → IsSingle next → IsSingle (need P e next)
-  single-need P e next h r s (inl p) (inl q) = h r s p.1 q.1
-  single-need P e next h r s (inl p) (inr q) = absurd (q.0 p.0)
-  single-need P e next h r s (inr p) (inl q) = absurd (p.0 q.0)
-  single-need P e next h r s (inr p) (inr q) = p.1 ∙ sym q.1
+  single-need P e next h r s p q = grind (arith, h)
 
   single-each : (P : ℕ → Type 0) (n : ℕ) (e : ℕ → Fault) (next : Answer A) → IsSingle next → IsSingle (each_below P n e next)
-  single-each P n e next h r s (inl p) (inl q) = h r s p.1 q.1
-  single-each P n e next h r s (inl p) (inr q) = absurd (q.2 (p.0 q.0 q.1))
-  single-each P n e next h r s (inr p) (inl q) = absurd (p.2 (q.0 p.0 p.1))
-  single-each P n e next h r s (inr p) (inr q) =
-      elim (cases_order p.0 q.0) [
-        | inl same ↦ p.4 ∙ ap (λ k. Err (e k)) same ∙ sym q.4
-        | inr (inl lt) ↦ absurd (p.2 (q.3 p.0 lt))
-        | inr (inr gt) ↦ absurd (q.2 (p.3 q.0 gt))
-      ]
+  single-each P n e next h r s p q = grind (arith, h)
 
   single-some : {X : Type 0} (P : X → Type 0) (next : X → Answer A) → ((x y : X) → P x → P y → x ≡ y) → ((x : X) → IsSingle (next x)) → IsSingle (some P next)
   single-some P next one h r s p q = h q.0 r s (rw (one p.0 q.0 p.1 q.1) at p.2) q.2
 
   single-found : {X : Type 0} (P : X → Type 0) (e : Fault) (next : X → Answer A) → ((x y : X) → P x → P y → x ≡ y) → ((x : X) → IsSingle (next x)) → IsSingle (found P e next)
-  single-found P e next one h r s (inl p) (inl q) = h q.0 r s (rw (one p.0 q.0 p.1 q.1) at p.2) q.2
-  single-found P e next one h r s (inl p) (inr q) = absurd (q.0 p.0 p.1)
-  single-found P e next one h r s (inr p) (inl q) = absurd (p.0 q.0 q.1)
-  single-found P e next one h r s (inr p) (inr q) = p.1 ∙ sym q.1
+  single-found P e next one h r s p q = grind (arith, one, h)
 
   single-after : {X : Type 0} (m : Answer X) (next : X → Answer A) → IsSingle m → ((x : X) → IsSingle (next x)) → IsSingle (after m next)
-  single-after m next one h r s (inl p) (inl q) = h q.0 r s (rw (ok-same (one (Ok p.0) (Ok q.0) p.1 q.1)) at p.2) q.2
-  single-after m next one h r s (inl p) (inr q) = ok_or_err (one (Ok p.0) (Err q.0) p.1 q.1)
-  single-after m next one h r s (inr p) (inl q) = ok_or_err (one (Ok q.0) (Err p.0) q.1 p.1)
-  single-after m next one h r s (inr p) (inr q) = p.2 ∙ ap (λ e. Err e) (same_err (one (Err p.0) (Err q.0) p.1 q.1)) ∙ sym q.2
+  single-after m next one h r s p q = grind (arith, one, h, ok-same)
 
 IsLive-one : (live : List (Option Form)) (i : ℤ) (f g : Form) → IsLive live i f → IsLive live i g → f ≡ g
 IsLive-one live i f g p q = same_Some _ _ (sym p ∙ q)
@@ -79,10 +62,7 @@ HasValue-same a b same k (inl h) = inl (sym (same k false) ∙ h)
 HasValue-same a b same k (inr h) = inr (sym (same k true) ∙ h)
 
 Solution-same : (v : Problem) (names : ℕ) (a b : List NumberedLiteral) → ((x : ℕ) (n : Bool) → on a x n ≡ on b x n) → (r : Result Logged Fault) → Solution v names a r → Solution v names b r
-Solution-same v names a b same r (inl p) =
-    inl (λ k lt. HasValue-same a b same k (p.0 k lt), ((p.1).0, record { count = ((p.1).1).count; each = λ k lt. ((p.1).1).each k lt ∙ same k false }, (p.1).2))
-Solution-same v names a b same r (inr p) =
-    inr (p.0, p.1, λ h. p.2 (HasValue-same b a (λ x n. sym (same x n)) p.0 h), λ j lt. HasValue-same a b same j (p.3 j lt), p.4)
+Solution-same v names a b same r h = grind (arith, same, HasValue-same)
 
 pub single-completed : (v : Problem) (forms : Form → Type 0) (names : ℕ) (given : List NumberedLiteral) → IsSingle (Completed v forms names given)
 single-completed v forms names given r s (inl p) (inl q) =
@@ -350,10 +330,7 @@ unvalued-old limit top v s st n d h =
         unvalued v (Live s.live) s.names given k r d is (subst (λ (ns : List (List ℕ)). Completed v (Live s.live) (length (with_names s.names ns)) (numbered (with_names s.names ns) given) r) said c)
 
 pub unvalued-wants : UnvaluedMayWant
-unvalued-wants limit top v s (Soli given) n (inl (next, inl (o, e, h))) = (next, tt, (o, e))
-unvalued-wants limit top v s (Soli given) n (inl (next, inr h)) = absurd (let bad = same_err h.1 in cc)
-unvalued-wants limit top v s (Soli given) n (inr h) = absurd (let bad = same_err h.1 in cc)
-unvalued-wants limit top v s (Solx given) n (inl h) = (h.0, tt, tt)
-unvalued-wants limit top v s (Solx given) n (inr h) = absurd (let bad = same_err h.1 in cc)
+unvalued-wants limit top v s (Soli given) n h = grind arith
+unvalued-wants limit top v s (Solx given) n h = grind arith
 unvalued-wants limit top v s st n h =
     absurd (outcome-pass (Only (λ k. ⊥)) (only-composes (λ k. ⊥)) limit limit top top (omega arith) (omega arith) v s st (λ given e. absurd (grind arith)) (Err (Fault.NotTotal n)) n refl h)

@@ -1,7 +1,7 @@
 -- Every accepted statement preserves what is true of a state
 use Rattle.pb_replay.proofs.Common.{ℕ, ◌≤ℤ◌, arith, Bool, List, pos, unsigned_abs, Option, ints, Holds-sum, Holds-divided, Holds-weakened, Form, Holds}
 use Rattle.pb_replay.proofs.Common.{Constraint, LiteralAxiom, Product, Quotient, Saturation, Sum, Tree, Weakening, HoldAll, Live, ℤ, ◌++◌, ◌+ℤ◌, ◌-ℤ◌, ◌<◌, ◌∷◌}
-use Rattle.pb_replay.proofs.Common.{◌≡◌, ◌⊎◌, [], All, append-nil, inl, inr, length, Side, negsuc, None, refl, set, Some, cases_lt, All-cons, All-head, All-nil}
+use Rattle.pb_replay.proofs.Common.{◌≡◌, ◌⊎◌, [], All, append-nil, inl, inr, length, Side, None, refl, set, Some, cases_lt, All-cons, All-head, All-nil}
 use Rattle.pb_replay.proofs.Common.{All-tail, Contains-append_left, Contains-push, Contains-push_cases, none-some, same_Some, distinct, total, true_at}
 use Rattle.pb_replay.proofs.Common.{AreDistinct, with_names, assignment, IsSideOf, true_sum, IsStatementValue, IsWord, Divide, Stage, Closing, Complete}
 use Rattle.pb_replay.proofs.Common.{Concluding, Formula, Steps, Statement, words, contains-none, Literal, Term, FirstIsSound, StatementsAreSound}
@@ -121,10 +121,7 @@ no_smaller v s o a r w p sound e normal low =
     ]
   where
     cases_le : (x y : ℤ) → (x ≤ℤ y) ⊎ ((y +ℤ pos 1) ≤ℤ x)
-    cases_le (pos m) (pos n) = elim (cases_lt n m) [ inl lt ↦ inr (omega (arith, ints, lt)) | inr ge ↦ inl (omega (arith, ints, ge)) ]
-    cases_le (pos m) (negsuc n) = inr (omega (arith, ints))
-    cases_le (negsuc m) (pos n) = inl (omega (arith, ints))
-    cases_le (negsuc m) (negsuc n) = elim (cases_lt m n) [ inl lt ↦ inr (omega (arith, ints, lt)) | inr ge ↦ inl (omega (arith, ints, ge)) ]
+    cases_le x y = grind (arith, ints)
 
 rule-sound : (limit top : ℕ) (v : Problem) (s t : State) (st : Statement) → IsProblem v → IsStatementValue limit top st → IsSound v s → Rule limit top v s st t → IsSound v t
 rule-sound limit top v s _ _ p q sound header = live-sound v s s.live s.names Formula sound sound.names sound.distinct (λ a solution holds. holds)

@@ -1,5 +1,5 @@
 -- Names and their numbers, and assignments of both
-use Rattle.pb_replay.proofs.Common.{ℕ, ℤ, ◌++◌, ◌<◌, ◌∙◌, ◌∷◌, ◌≡◌, ◌≤◌, [], All, ap, append_assoc, arith, Bool, cond, false, get_or, length, length-append}
+use Rattle.pb_replay.proofs.Common.{ℕ, ℤ, ◌++◌, ◌<◌, ◌∙◌, ◌∷◌, ◌≡◌, ◌≤◌, [], All, ap, append_assoc, arith, Bool, cond, get_or, length, length-append}
 use Rattle.pb_replay.proofs.Common.{List, not, pos, refl, Some, sym, true, ◌↔◌, All-head, All-tail, slice_get-get_or, prefix, number_in-append, number_in-below}
 use Rattle.pb_replay.proofs.Common.{number_in-get, SameSolutions-side, Side, Entry, Form, Holds, total, true_at, AreDistinct, has_name, HasNames, number_in}
 use Rattle.pb_replay.proofs.Common.{with_names, by_number, IsSideOf, MeetsSide, names_of, true_sum, Linear, Term, IsNamePrefix, IsProblem, objective_of}
@@ -30,8 +30,7 @@ true_sum-agree a b names (t ∷ ts) has h =
 
 -- a form depends only on its variables
 true_at-agree : (a b : ℕ → Bool) (v : ℕ) (n : Bool) → a v ≡ b v → true_at a v n ≡ true_at b v n
-true_at-agree a b v true e = ap not e
-true_at-agree a b v false e = e
+true_at-agree a b v n e = grind arith
 
 total-agree : (a b : ℕ → Bool) (n : ℕ) (ts : List Entry) → All (λ t. t.variable < n) ts → ((x : ℕ) → x < n → a x ≡ b x) → total (true_at a) ts ≡ total (true_at b) ts
 total-agree a b n [] h e = refl

@@ -20,9 +20,7 @@ pub Live-deleted : (live : List (Option Form)) (k : ℕ) (f : Form) → Live (se
 Live-deleted live k f (j, lt, is) = grind (arith, length-set, none-some, get_or-set_other, get_or-set_same, cases_eq j k)
 
 pub Live-loaded : (forms : List Form) (f : Form) → Live (map (λ f. Some f) forms) f → Contains forms f
-Live-loaded forms f (j, lt, is) =
-    let inside : j < length forms = omega (arith, lt, length-map forms (λ f. Some f)) in
-    (j, inside, same_Some _ _ (sym (get_or-map (λ f. Some f) forms j f (Some f) inside) ∙ is))
+Live-loaded forms f c = grind (arith, length-map, get_or-map, same_Some)
 
 pub HoldAll-added : (a : ℕ → Bool) (live : List (Option Form)) (r : Form) → HoldAll a (Live live) → Holds a r → HoldAll a (Live (live ++ (Some r ∷ [])))
 HoldAll-added a live r holds h f c =

@@ -3,7 +3,7 @@ use Rattle.pb_replay.proofs.Common.{ℕ, ◌≡◌, List, subst, Option, Result,
 use Rattle.pb_replay.proofs.Common.{refl, sym, Ok, Statement, stage_of, Adding, Carries, Comes, does_in, Goes, IsBest, outcome_in, state_of, with_mentioned}
 use Rattle.pb_replay.proofs.Common.{Running, Answer, ◌∙◌, ap, false, length, IfErr, OnOk, Delete, IsInside, IsLinked, Deleted, ◌∷◌, [], HasNames, with_names}
 use Rattle.pb_replay.proofs.Common.{PolWord, arith, Id, Pol, Constraint, Tree, words, largest, HasNamed, some, IsNamePrefix, FormOfExpression, IsLive}
-use Rattle.pb_replay.proofs.Common.{word_names, ◌++◌, ◌<◌, ◌≤◌, ◌⊎◌, append_assoc, Bool, IsTrue, map, Side, rules, Some, true, ◌↔◌, cases_lt, prefix}
+use Rattle.pb_replay.proofs.Common.{word_names, ◌++◌, ◌<◌, ◌≤◌, ◌⊎◌, append_assoc, Bool, IsTrue, map, Side, Some, true, ◌↔◌, cases_lt, prefix}
 use Rattle.pb_replay.proofs.Common.{NormalFault, Fits, IsSideOf, names_of, Steps, F, Rup, IsRup, Live, Linear, same_err, Keeps, Memory, NotImplied, Overflow}
 use Rattle.pb_replay.proofs.Common.{IsCount, ◌*◌, ◌+◌, sum_by, IsFormOf-unique, NumberedLiteral, negation_of, one_in, terms_in, IsCompletion, MeetsConflict}
 use Rattle.pb_replay.proofs.Common.{With, ok_or_err, IdsSpent, Order}
@@ -111,20 +111,14 @@ module _ (old entered : Running) (linear : Linear) (form : Form) (named : HasNam
 
 -- no form was made
 pub rup_unmade : (old : Running) (linear : Linear) (e : Fault) (new : Running) (result : Result Unit Fault) → result ≡ Err e → (e ≡ Memory) ⊎ ((e ≡ Overflow) × (Fits (largest old.limits) linear → ⊥)) → Goes old (Rup linear) result new
-rup_unmade old linear e new (Ok u) same bad = absurd cc
-rup_unmade old linear e new (Err d) same (inl memory) = let is : d ≡ Memory = cc in inl is
-rup_unmade old linear e new (Err d) same (inr (is, none)) =
-    let over : d ≡ Overflow = cc in
-    goes-err old new (Rup linear) d (λ logged. inr (none, let to : Fault → Result State Fault = λ x. Err x in ap to over))
+rup_unmade old linear e new result same bad = grind (arith, goes-err)
 
 -- if memory ran out, the constraint fits
 pub unmade : {P Q : Type 0} (e : Fault) → ((e ≡ Memory) × P) ⊎ ((e ≡ Overflow) × Q) → (e ≡ Memory) ⊎ ((e ≡ Overflow) × Q)
-unmade e (inl h) = inl h.0
-unmade e (inr h) = inr h
+unmade e h = grind arith
 
 pub unmade-fits : {A P Q : Type 0} (e : Fault) (result : Result A Fault) → result ≡ Err e → result ≡ Err Memory → ((e ≡ Memory) × P) ⊎ ((e ≡ Overflow) × Q) → P
-unmade-fits e result is memory (inl h) = h.1
-unmade-fits e result is memory (inr h) = absurd (let bad : Overflow ≡ Memory = sym h.0 ∙ same_err (sym is ∙ memory) in cc)
+unmade-fits e result is memory h = grind arith
 
 -- names that appeared come after the others
 pub prefix_after : (old new others : List (List ℕ)) → new ≡ with_names old others → IsNamePrefix old new
@@ -143,12 +137,10 @@ keeps_then a b c h k = record {
 }
 
 pub not_so : (b : Bool) (P : Type 0) → b ≡ false → IsTrue b ↔ P → P → ⊥
-not_so true P e h p = cc
-not_so false P e h p = let t = h.1 p in absurd (search rules)
+not_so b P e h p = grind arith
 
 pub is_so : (b : Bool) (P : Type 0) → b ≡ true → IsTrue b ↔ P → P
-is_so true P e h = h.0 (search rules)
-is_so false P e h = absurd cc
+is_so b P e h = grind arith
 
 pub loaded-goes : (old new : Running) (count : Option ℕ) → new.best ≡ old.best → new.names ≡ old.names → new.concluded ≡ old.concluded → new.next ≡ Steps → new.engine.forms ≡ map (λ (f : Form). let o : Option Form = Some f in o) old.loaded.items
     → IsCount count (length old.loaded.items) → length old.loaded.items ≤ top_of old.limits → Goes old (F count) (Ok tt) new
@@ -163,9 +155,6 @@ adding-fault old new form (Err d) e (inr h) is = inr (sym (same_err is) ∙ spen
     spent : added (top_of old.limits) (state_of old []) [] form (Err d) → d ≡ IdsSpent
     spent (inl k) = ok_or_err (sym k.1)
     spent (inr k) = same_err k.1
-
-neither : (e : Fault) → (e ≡ Memory) ⊎ (e ≡ IdsSpent) → (e ≡ Order) ⊎ ((e ≡ Overflow) ⊎ (e ≡ NotImplied)) → ⊥
-neither e h k = grind arith
 
 module _ (linear : Linear) (mid live : List (Option Form)) (names new : List (List ℕ)) (form : Form) (count visits : ℕ) (forms : mid ≡ live) (appeared : new ≡ with_names names (names_of linear.terms)) (is : IsSideOf new Side.AtLeast linear form)
     (most : count ≤ 3 * (sum_by terms_in mid + length form.terms) + (sum_by one_in mid + 1)) (unasked : form.degree ≡ 0 → count ≡ 0) (same : visits ≡ count) where
@@ -184,46 +173,35 @@ module _ (linear : Linear) (mid live : List (Option Form)) (names new : List (Li
   visits-implied old after result met adding = record {
     few = few-of;
     conflict = λ e goal h. subst (λ (f : Form). CoversConflict live f visits) (same_goal goal h) (subst (λ (l : List (Option Form)). CoversConflict l form visits) forms (covered met));
-    completion = λ e goal h. absurd (neither NotImplied (adding-fault old after form result NotImplied adding e) (inr (inr refl)));
+    completion = λ e goal h. grind (arith, adding-fault old after form result NotImplied adding);
     unasked = unasked-of;
-    refused = λ bad. absurd (late bad);
+    refused = λ bad. grind (arith, adding-fault old after form result Order adding, adding-fault old after form result Overflow adding);
   }
     where
       covered : (form.degree ≡ 0) ⊎ ((m : MeetsConflict (With (Live mid) (negation_of form)) []) × (length m.list ≤ count)) → CoversConflict mid form visits
       covered (inl none) some = absurd (omega (arith, none, some))
       covered (inr (m, le)) some = (m.list, m.derived, m.conflict, omega (arith, le, same))
 
-      late : (result ≡ Err Order) ⊎ (result ≡ Err Overflow) → ⊥
-      late (inl e) = neither Order (adding-fault old after form result Order adding e) (inl refl)
-      late (inr e) = neither Overflow (adding-fault old after form result Overflow adding e) (inr (inl refl))
-
   pub visits-not : (list : List NumberedLiteral) × IsCompletion (With (Live mid) (negation_of form)) [] list × (length list ≤ count) → RupVisits live (with_names names (names_of linear.terms)) linear (Err NotImplied) visits
   visits-not done = record {
     few = few-of;
-    conflict = λ e goal h. absurd (elim e [ inl ok ↦ ok_or_err (sym ok) | inr spent ↦ let bad : NotImplied ≡ IdsSpent = same_err spent in cc ]);
+    conflict = λ e goal h. grind arith;
     completion = λ e goal h.
         let at : CoversCompletion mid form visits = (done.0, done.1, omega (arith, done.2, same)) in
         subst (λ (f : Form). CoversCompletion live f visits) (same_goal goal h) (subst (λ (l : List (Option Form)). CoversCompletion l form visits) forms at);
     unasked = unasked-of;
-    refused = λ bad. absurd (late bad);
+    refused = λ bad. grind arith;
   }
-    where
-      late : (let r : Result Unit Fault = Err NotImplied in r ≡ Err Order) ⊎ (let r : Result Unit Fault = Err NotImplied in r ≡ Err Overflow) → ⊥
-      late (inl e) = let bad = same_err e in cc
-      late (inr e) = let bad = same_err e in cc
 
   -- memory ran out in the middle
   pub visits-memory : (result : Result Unit Fault) → result ≡ Err Memory → RupVisits live (with_names names (names_of linear.terms)) linear result visits
   visits-memory result memory = record {
     few = few-of;
-    conflict = λ h goal k. absurd (elim h [ inl ok ↦ ok_or_err (sym ok ∙ memory) | inr spent ↦ let bad : IdsSpent ≡ Memory = same_err (sym spent ∙ memory) in cc ]);
-    completion = λ h goal k. absurd (other NotImplied h (inr (inr refl)));
+    conflict = λ e goal h. grind (arith, memory);
+    completion = λ e goal h. grind (arith, memory);
     unasked = unasked-of;
-    refused = λ bad. absurd (elim bad [ inl h ↦ other Order h (inl refl) | inr h ↦ other Overflow h (inr (inl refl)) ]);
+    refused = λ bad. grind (arith, memory);
   }
-    where
-      other : (e : Fault) → result ≡ Err e → (e ≡ Order) ⊎ ((e ≡ Overflow) ⊎ (e ≡ NotImplied)) → ⊥
-      other e h = neither e (inl (same_err (sym h ∙ memory)))
 
   pub visits-judged : (old after : Running) (result : Result Unit Fault) (implied : Bool) → (implied ≡ true → (form.degree ≡ 0) ⊎ ((m : MeetsConflict (With (Live mid) (negation_of form)) []) × (length m.list ≤ count)))
       → (implied ≡ false → (list : List NumberedLiteral) × IsCompletion (With (Live mid) (negation_of form)) [] list × (length list ≤ count)) → (implied ≡ true → Adding old form result after) → (implied ≡ false → result ≡ Err NotImplied)

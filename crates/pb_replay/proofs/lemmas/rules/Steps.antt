@@ -6,7 +6,7 @@ use Rattle.pb_replay.proofs.Common.{All-contains, same_Some, in_turn, NormalFaul
 use Rattle.pb_replay.proofs.Common.{names_of, Instance, IsStatementValue, Statement, Linear, Term, same_err, Limits, largest, top_of, Comes, IsKept, IsLinked}
 use Rattle.pb_replay.proofs.Common.{IsOpened, IsProper, IsReady, Keeps, outcome_in, problem_of, state_of, Fault, Memory, NotTotal, Running, Verdict}
 use Rattle.pb_replay.proofs.Common.{IsNamePrefix, IsSound, Means, MeansWritten, names_in, objective_of, Opened, Problem, State, ◌-ℤ◌, pos, Side, IsSideOf}
-use Rattle.pb_replay.proofs.Common.{Adding, does_in, Goes, GoesAt, HasNamed, Logs, with_mentioned, NoObjective, Overflow, Demands, HasObjective, objective_with}
+use Rattle.pb_replay.proofs.Common.{Adding, does_in, Goes, GoesAt, HasNamed, Logs, with_mentioned, Demands, HasObjective, objective_with}
 use Rattle.pb_replay.proofs.Common.{added, normal_form, Does, mentioned}
 use Rattle.pb_replay.specs.contract.Faults.{fault_of}
 use Rattle.std.specs.List.{All as AllOf}
@@ -18,8 +18,7 @@ use Rattle.pb_replay.proofs.lemmas.meaning.Relating.{unvalued-old}
 use Rattle.pb_replay.proofs.lemmas.rules.Statements.{same-state, carries-from, added-over}
 
 pub nothing : (logged : List Logged) (best : Option ℤ) → IsBest logged best → best ≡ None → logged ≡ []
-nothing logged None h e = h
-nothing logged (Some b) h e = absurd (none-some b (sym e))
+nothing logged best h e = grind arith
 
 pub best-push : (logged : List Logged) (best : Option ℤ) (g : Logged) (r : ℤ) → IsBest logged best → IsBetter best g.value r → IsBest (logged ++ g ∷ []) (Some r)
 best-push logged None g r h e = (
@@ -210,18 +209,9 @@ demands-from old m named proper kept z (Err e) new (inr h) = inr (λ before g o 
 -- the form of an objective
 pub form-of : (limit : ℕ) (names : List (List ℕ)) (objective : Option (List Term)) (side : Side) (degree : ℤ) (form : Form) → HasObjective limit names objective side degree (Ok form) → (o : List Term) → objective ≡ Some o
     → Fits limit (objective_with o degree) × IsSideOf names side (objective_with o degree) form
-form-of limit names objective side degree form (inl (p, is, inl (fits, (r, made, same)))) o has =
-    let e : p ≡ o = same_Some _ _ (sym is ∙ has) in
-    (subst (λ (ts : List Term). Fits limit (objective_with ts degree)) e fits, subst (λ (ts : List Term). IsSideOf names side (objective_with ts degree) form) e (subst (λ (f : Form). IsSideOf names side (objective_with p degree) f) (sym (ok-same same)) made))
-form-of limit names objective side degree form (inl (p, is, inr (late, same))) o has = absurd (let f : Ok form ≡ Err Overflow = same in cc)
-form-of limit names objective side degree form (inr (late, same)) o has = absurd (let f : Ok form ≡ Err NoObjective = same in cc)
+form-of limit names objective side degree form made o has = grind (arith, same_Some, ok-same)
 
 pub demands-ok : (old new : Running) (z : ℤ) (form : Form) (result : Result Unit Fault) → HasObjective (largest old.limits) old.names (problem_of old).objective Side.AtMost (z -ℤ pos 1) (Ok form) → Logs old z form result new → Demands old z result new
-demands-ok old new z form (Ok u) made h = λ before g o best value has.
-    let k = h before g best value in
-    let parts = form-of (largest old.limits) old.names (problem_of old).objective Side.AtMost (z -ℤ pos 1) form made o has in
-    (k.0, subst (λ (y : ℤ). normal_form (largest old.limits) old.names Side.AtMost (objective_with o (y -ℤ pos 1)) (added (top_of old.limits) (state_of old before) (before ++ g ∷ [])) (Ok (state_of new (before ++ g ∷ [])))) (sym value) (inl (parts.0, (form, parts.1, k.1))))
+demands-ok old new z form (Ok u) made h = λ before g o best value has. grind (arith, form-of, h)
 demands-ok old new z form (Err e) made (inl memory) = inl memory
-demands-ok old new z form (Err e) made (inr h) = inr (λ before g o value has.
-    let parts = form-of (largest old.limits) old.names (problem_of old).objective Side.AtMost (z -ℤ pos 1) form made o has in
-    subst (λ (y : ℤ). normal_form (largest old.limits) old.names Side.AtMost (objective_with o (y -ℤ pos 1)) (added (top_of old.limits) (state_of old before) (before ++ g ∷ [])) (Err e)) (sym value) (inl (parts.0, (form, parts.1, h before g))))
+demands-ok old new z form (Err e) made (inr h) = inr (λ before g o value has. grind (arith, form-of, h))

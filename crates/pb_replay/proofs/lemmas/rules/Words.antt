@@ -3,7 +3,7 @@ use Rattle.pb_replay.proofs.Common.{ℕ, ◌++◌, ◌∙◌, ◌∷◌, ◌≡�
 use Rattle.pb_replay.proofs.Common.{Form, number_in, axiom_on, IsSum, saturated, weakened, PolWord, Add, Axiom, Saturate, Weaken, Literal, Fault, Memory, Word}
 use Rattle.pb_replay.proofs.Common.{some, limited, ◌+◌, append-nil, append_assoc, arith, unsigned_abs, divided, multiplied, Leaves, Divide, Multiply}
 use Rattle.pb_replay.proofs.Common.{Constraint, LiteralAxiom, Product, Quotient, Saturation, Sum, Tree, Weakening, words, NoSuchId, Words, after, Answer, gives}
-use Rattle.pb_replay.proofs.Common.{FormOfExpression, ◌-◌, ◌<◌, ◌≤◌, drop, get_or, length, length-append, sym, take, drop_all, drop_more, in_turn, prefix}
+use Rattle.pb_replay.proofs.Common.{FormOfExpression, ◌<◌, ◌≤◌, drop, get_or, length, length-append, sym, take, drop_all, drop_more, in_turn, prefix}
 use Rattle.pb_replay.proofs.Common.{HasNames, with_names, takes, IsPostfix, take_read, IsNamePrefix, word_names, ◌*◌, ◌==◌, map, min, nat_lt, not, subst}
 use Rattle.pb_replay.proofs.Common.{All-cons, All-filter, All-map, All-nil, div_ceil, names_split, number_in-below, Entry, with_coefficient, Live, IsInside}
 use Rattle.pb_normal.proofs.lemmas.rules.Keeps.{IsOver-sum, IsOver-below}
@@ -58,32 +58,23 @@ leaves-one t = rw (append-nil (words t)) at (leaves_more t 0 [] (omega arith))
 
 -- how answers are composed
 after_given : {Y Z : Type 0} (y : Y) (k : Y → Answer Z) (r : Result Z Fault) → after (gives y) k r → k y r
-after_given y k r (inl (x, e, h)) = let same : x ≡ y = cc in rw same at h
-after_given y k r (inr (e, bad, h)) = absurd cc
+after_given y k r h = grind arith
 
 module _ {X Y Z : Type 0} where
   after_gives : (m : Answer X) (f : X → Y) (k : Y → Answer Z) (r : Result Z Fault) → after (after m (λ x. gives (f x))) k r → after m (λ x. k (f x)) r
-  after_gives m f k r (inl (y, inl (x, p, e), h)) = let same : y ≡ f x = cc in inl (x, p, rw same at h)
-  after_gives m f k r (inl (y, inr (e, p, bad), h)) = absurd cc
-  after_gives m f k r (inr (e, inl (x, p, bad), h)) = absurd cc
-  after_gives m f k r (inr (e, inr (d, p, is), h)) = let same : e ≡ d = cc in inr (d, p, rw same at h)
+  after_gives m f k r h = grind arith
 
   joined : (m : Answer X) (n : X → Answer Y) (k : Y → Answer Z) (r : Result Z Fault) → after m (λ x. after (n x) k) r → after (after m n) k r
-  joined m n k r (inl (x, p, inl (y, q, h))) = inl (y, inl (x, p, q), h)
-  joined m n k r (inl (x, p, inr (e, q, h))) = inr (e, inl (x, p, q), h)
-  joined m n k r (inr (e, p, h)) = inr (e, inr (e, p, refl), h)
+  joined m n k r h = grind arith
 
   some_joined : (P : X → Type 0) (n : X → Answer Y) (k : Y → Answer Z) (r : Result Z Fault) → some P (λ x. after (n x) k) r → after (some P n) k r
-  some_joined P n k r (x, p, inl (y, q, h)) = inl (y, (x, p, q), h)
-  some_joined P n k r (x, p, inr (e, q, h)) = inr (e, (x, p, q), h)
+  some_joined P n k r h = grind arith
 
 after_some : {X Y Z : Type 0} (P : X → Type 0) (n : X → Answer Y) (k : Y → Answer Z) (r : Result Z Fault) → after (some P n) k r → some P (λ x. after (n x) k) r
-after_some P n k r (inl (y, (x, p, q), h)) = (x, p, inl (y, q, h))
-after_some P n k r (inr (e, (x, p, q), h)) = (x, p, inr (e, q, h))
+after_some P n k r h = grind arith
 
 after_like : {X Z : Type 0} (m : Answer X) (n k : X → Answer Z) (r : Result Z Fault) → ((x : X) → n x r → k x r) → after m n r → after m k r
-after_like m n k r f (inl (x, p, h)) = inl (x, p, f x h)
-after_like m n k r f (inr h) = inr h
+after_like m n k r f h = grind (arith, f)
 
 module _ (limit : ℕ) (names : List (List ℕ)) (live : List (Option Form)) where
   abbrev Then : List PolWord → List Form → Form → Answer (List Form)
@@ -131,20 +122,10 @@ module _ (limit : ℕ) (names : List (List ℕ)) (live : List (Option Form)) whe
 
   -- the form that the words leave is that of their expression, and so is their fault
   pub tree-leaves : (t : Tree) (ws : List PolWord) (f : Form) → ws ≡ words t → Words limit names live ws [] (Ok (f ∷ [])) → FormOfExpression limit names live t (Ok f)
-  tree-leaves t ws f e h = at (as_tree t [] [] (Ok (f ∷ [])) (rw (append-nil (words t), ← e) h))
-    where
-      at : after (FormOfExpression limit names live t) (Then [] []) (Ok (f ∷ []))
-          → FormOfExpression limit names live t (Ok f)
-      at (inl (g, p, is)) = let same : g ≡ f = cc in rw same at p
-      at (inr (e, p, bad)) = absurd cc
+  tree-leaves t ws f e h = let left = as_tree t [] [] (Ok (f ∷ [])) (rw (append-nil (words t), ← e) h) in grind arith
 
   pub tree-fails : (t : Tree) (ws : List PolWord) (d : Fault) → ws ≡ words t → Words limit names live ws [] (Err d) → FormOfExpression limit names live t (Err d)
-  tree-fails t ws d e h = at (as_tree t [] [] (Err d) (rw (append-nil (words t), ← e) h))
-    where
-      at : after (FormOfExpression limit names live t) (Then [] []) (Err d)
-          → FormOfExpression limit names live t (Err d)
-      at (inl (g, p, bad)) = absurd cc
-      at (inr (e, p, is)) = let same : e ≡ d = cc in rw same at p
+  tree-fails t ws d e h = let left = as_tree t [] [] (Err d) (rw (append-nil (words t), ← e) h) in grind arith
 
 pub word_names-append : (xs ys : List PolWord) → word_names (xs ++ ys) ≡ word_names xs ++ word_names ys
 word_names-append [] ys = refl
@@ -193,18 +174,7 @@ module _ (limit top : ℕ) (names : List (List ℕ)) (live : List (Option Form))
 
   pub stands_next : (f : Form) (middle next : List Form) → Word limit names live w (reverse stack) (Ok (f ∷ reverse middle)) → length middle + takes w ≡ length stack → next ≡ middle ++ f ∷ []
       → Standing limit top names live ws (i + 1) next
-  stands_next f middle next h count is =
-      let rest = rest_is ws i w lt e in
-      let l = s.leaves in
-      let n = s.named in
-      record {
-        leaves =
-            let left = (rw rest at l).1 in
-            let same : length next ≡ length stack + 1 - takes w = rw is (omega (arith, length-append middle (f ∷ []), count)) in
-            rw same left;
-        named = (named_apart names w (drop (i + 1) ws) (rw rest at n)).1;
-        answers = λ r k. s.answers r (rw rest (inl (f ∷ reverse middle, h, rw (is, last_first middle f) at k)));
-      }
+  stands_next f middle next h count is = grind (arith, rest_is, s.leaves, s.named, s.answers, length-append, named_apart, last_first)
 
 -- at the end
 none_left : (fs gs : List Form) (f : Form) → fs ≡ gs ++ f ∷ [] → length fs ≡ 1 → gs ≡ []

@@ -2,9 +2,9 @@
 use Rattle.pb_replay.proofs.Common.{ℕ, ◌<◌, ◌∙◌, ◌≡◌, arith, Bool, false, get_or, inl, inr, length, List, not, refl, sym, true, Ok, both_ways, cases_Bool}
 use Rattle.pb_replay.proofs.Common.{cond-true, not-true, not_from_false, get_or_default, NumberedLiteral, Form, Holds, total, true_at, assignment, on, only}
 use Rattle.pb_replay.proofs.Common.{only-true, total-within, HoldAll, IsCompletion, MeetsConflict, IsSolution, Problem, AreValues, Completed, Excludes}
-use Rattle.pb_replay.proofs.Common.{HasValue, Logged, logged_of, negations, no_form, value, ℤ, ◌+◌, ◌⊎◌, ap, Err, None, rules, Some, Contains, IsSome, Option}
-use Rattle.pb_replay.proofs.Common.{Result, none-some, Gives, value_says, begin, broken, Derivation, HasConflict, MayPropagate, opposed, put, ok_or_err}
-use Rattle.pb_replay.proofs.Common.{same_err, ReturnsValue, Fault, Conflict, Memory, NotTotal, Violates, AllHold, AreTotal, Given, Judged, Answer, Shown}
+use Rattle.pb_replay.proofs.Common.{HasValue, Logged, logged_of, negations, no_form, value, ℤ, ◌⊎◌, ap, Err, None, rules, Some, Contains, IsSome, Option}
+use Rattle.pb_replay.proofs.Common.{Result, Gives, value_says, begin, broken, Derivation, HasConflict, MayPropagate, opposed, put, ok_or_err}
+use Rattle.pb_replay.proofs.Common.{ReturnsValue, Fault, Conflict, Memory, AllHold, AreTotal, Judged, Answer, Shown}
 use Rattle.pb_replay.proofs.Common.{Solution, ◌++◌, ◌∷◌, [], All, cond, subst, option_map, or_cases, All-head, All-tail, Contains-get_or, Soli, Solx, only-self}
 use Rattle.pb_replay.proofs.Common.{rising-positive, total-has, Live, Linear, Literal, Term, GoesAt, IsInside, Logs, problem_of, Running, Demands, numbered}
 use Rattle.pb_replay.proofs.Common.{is_some, map, Verdict, get_or-map, length-map, Sat, Closing, Conclude, IsBest, state_of, NoSolution, State}
@@ -16,7 +16,6 @@ use Rattle.pb_replay.proofs.lemmas.rules.Live.{Live-loaded}
 -- what an accepted completion has
 pub record IsTaken (v : Problem) (forms : Form → Type 0) (names : ℕ) (given : List NumberedLiteral) (g : Logged) : Type 0 where
   pub list : List NumberedLiteral
-  pub no_conflict : MeetsConflict forms given → ⊥
   pub completion : IsCompletion forms given list
   pub total : (k : ℕ) → k < names → HasValue list k
   pub values : AreValues list names g.values
@@ -36,7 +35,6 @@ Completed-taken v forms names given g h =
     let is : g ≡ logged_of v values.0 = ok-same holds.1 in
     let taken : IsTaken v forms names given (logged_of v values.0) = record {
       list = list.0;
-      no_conflict = free.0;
       completion = list.1;
       total = full.0;
       values = values.1;
@@ -60,8 +58,7 @@ taken-known v forms names given g a t holds h k lt =
 
 -- if the clause fails, all given literals are true
 not_off : (given : List NumberedLiteral) (x : ℕ) (n : Bool) → on given x n ≡ true → on given x (not (not n)) ≡ true
-not_off given x true h = h
-not_off given x false h = h
+not_off given x n h = grind arith
 
 pub clause-fails : (given : List NumberedLiteral) (r : Form) (a : ℕ → Bool) → Excludes given r → total (true_at a) r.terms < r.degree → AreTrue a given
 clause-fails given r a c low x n h =
@@ -78,43 +75,16 @@ clause-fails given r a c low x n h =
 
 -- what a value says of the plain literal and of its negation
 says-some : (o : Option Bool) (m : Bool) → o ≡ Some m → (value_says o false ≡ m) × (value_says o true ≡ not m)
-says-some (Some true) true e = (refl, refl)
-says-some (Some false) false e = (refl, refl)
-says-some o m e = absurd cc
-
-says-none : (o : Option Bool) → o ≡ None → (value_says o false ≡ false) × (value_says o true ≡ false)
-says-none None e = (refl, refl)
-says-none (Some m) e = absurd (none-some m (sym e))
+says-some o m e = grind arith
 
 is-some : (o : Option Bool) (b : Bool) → o ≡ Some b → IsSome o
-is-some (Some c) b e = search rules
-is-some None b e = absurd cc
+is-some o b e = grind arith
 
 has-value : (list : List NumberedLiteral) (k : ℕ) (o : Option Bool) → ((n : Bool) → on list k n ≡ value_says o n) → IsSome o → HasValue list k
-has-value list k (Some true) h s = inl (h false)
-has-value list k (Some false) h s = inr (h true)
-has-value list k None h s = absurd (search rules)
+has-value list k o h s = grind (arith, h)
 
 has-none : (list : List NumberedLiteral) (k : ℕ) (o : Option Bool) → ((n : Bool) → on list k n ≡ value_says o n) → (IsSome o → ⊥) → HasValue list k → ⊥
-has-none list k (Some m) h s v = s (search rules)
-has-none list k None h s (inl e) = absurd (let bad = sym (h false) ∙ e in cc)
-has-none list k None h s (inr e) = absurd (let bad = sym (h true) ∙ e in cc)
-
-given-ok : (given : List (Option Bool)) (names : ℕ) (values : List Bool) → Given given names (Ok values) → ((k : ℕ) → k < names → IsSome (get_or given k None)) × AreTotal given names values
-given-ok given names values (inl (all, (vs, total, is))) = (all, rw (ok-same is) total)
-given-ok given names values (inr (k, lt, gone, before, is)) = ok_or_err is
-
-given-err : (given : List (Option Bool)) (names : ℕ) (e : Fault) → Given given names (Err e) → (k : ℕ) × (k < names) × (IsSome (get_or given k None) → ⊥) × ((j : ℕ) → j < k → IsSome (get_or given j None)) × (e ≡ NotTotal k)
-given-err given names e (inl (all, (vs, total, is))) = ok_or_err (sym is)
-given-err given names e (inr (k, lt, gone, before, is)) = (k, lt, gone, before, same_err is)
-
-hold-ok : (loaded : List Form) (values : List Bool) (u : Unit {0}) → AllHold loaded values (Ok u) → (k : ℕ) → k < length loaded → Holds (assignment values) (get_or loaded k no_form)
-hold-ok loaded values u (inl (all, is)) = all
-hold-ok loaded values u (inr (k, lt, gone, before, is)) = ok_or_err is
-
-hold-err : (loaded : List Form) (values : List Bool) (e : Fault) → AllHold loaded values (Err e) → (k : ℕ) × (k < length loaded) × (Holds (assignment values) (get_or loaded k no_form) → ⊥) × ((j : ℕ) → j < k → Holds (assignment values) (get_or loaded j no_form)) × (e ≡ Violates (k + 1))
-hold-err loaded values e (inl (all, is)) = ok_or_err (sym is)
-hold-err loaded values e (inr (k, lt, gone, before, is)) = (k, lt, gone, before, same_err is)
+has-none list k o h s v = grind (arith, h)
 
 module _ (v : Problem) (list : List NumberedLiteral) (given : List (Option Bool)) (says : Gives list given) (names : ℕ) where
   values-of : (values : List Bool) → AreTotal given names values → AreValues list names values
@@ -124,16 +94,7 @@ module _ (v : Problem) (list : List NumberedLiteral) (given : List (Option Bool)
   }
 
   pub judged-solution : (r : Result Logged Fault) → Judged v names given r → Solution v names list r
-  judged-solution r (inl (values, g, inl (u, h, is))) =
-      let all = given-ok given names values g in
-      inl (λ k lt. has-value list k (get_or given k None) (says k) (all.0 k lt), (values, values-of values all.1, inl (hold-ok v.loaded values u h, is)))
-  judged-solution r (inl (values, g, inr (e, h, is))) =
-      let all = given-ok given names values g in
-      let bad = hold-err v.loaded values e h in
-      inl (λ k lt. has-value list k (get_or given k None) (says k) (all.0 k lt), (values, values-of values all.1, inr (bad.0, bad.1, bad.2, bad.3, is ∙ ap (λ d. Err d) bad.4)))
-  judged-solution r (inr (e, g, is)) =
-      let bad = given-err given names e g in
-      inr (bad.0, bad.1, λ h. has-none list bad.0 (get_or given bad.0 None) (says bad.0) bad.2 h, λ j lt. has-value list j (get_or given j None) (says j) (bad.3 j lt), is ∙ ap (λ d. Err d) bad.4)
+  judged-solution r h = grind (arith, has-value, has-none, values-of)
 
 -- the same over a set of forms
 module _ (F G : Form → Type 0) (to : (f : Form) → F f → G f) where
@@ -238,8 +199,7 @@ on-below (l ∷ ls) n x m h e =
     ]
 
 counts-true : (b : Bool) → 0 < cond b 1 0 → b ≡ true
-counts-true true h = refl
-counts-true false h = absurd (omega (arith, h))
+counts-true b h = grind arith
 
 pub count-inside : (given : List NumberedLiteral) (r : Form) (n : ℕ) → Excludes given r → All (λ l. l.variable < n) given → IsInside n r
 count-inside given r n h below k d lt =
@@ -280,5 +240,4 @@ module _ (old new : Running) (given : List NumberedLiteral) (written : List Lite
   sat-err e (inr (is, none)) = inr (λ logged best. inr (λ g s. none g (subst (λ (x : List NumberedLiteral). Shown (problem_of old) x g) (sym numbers) s), let to : Fault → Result State Fault = λ d. Err d in ap to is))
 
 pub logged-some : (logged : List Logged) (best : Option ℤ) → is_some best ≡ true → IsBest logged best → (g : Logged) × Contains logged g
-logged-some logged None e h = absurd cc
-logged-some logged (Some b) e h = let one = h.0 in (one.0, one.1)
+logged-some logged best e h = grind arith

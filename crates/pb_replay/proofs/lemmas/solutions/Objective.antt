@@ -4,6 +4,7 @@ use Rattle.pb_replay.proofs.Common.{subst, suc, sym, take, true, unsigned_abs, z
 use Rattle.pb_replay.proofs.Common.{number_in-append, number_in-below, HasNames-append, magnitude-append, has_name, HasNames, number_in, magnitude, names_of}
 use Rattle.pb_replay.proofs.Common.{true_sum, Linear, Term, take_read, IsProper, problem_of, Running, by_name, value, inl, refl, Ok, present, Side, Form}
 use Rattle.pb_replay.proofs.Common.{with_names, IsFormOf, side_number, side_terms, largest, IsInside, HasObjective}
+use Rattle.std.proofs.lemmas.List.{length-take}
 use Rattle.pb_text.proofs.lemmas.numbers.Numbers.{largest_small}
 use Rattle.pb_replay.proofs.lemmas.names.Assigned.{objective-named, value-over}
 
@@ -52,12 +53,7 @@ each-below own names more (t ∷ ts) h le (suc k) d lt = each-below own names mo
 pub objective-inside : (r : Running) (o : List Term) (n : ℕ) → IsProper r → (problem_of r).objective ≡ Some o → r.own ≤ n → All (λ t. number_in r.names t.literal.name < n) o
 objective-inside r o n p e le =
     subst (λ (ns : List (List ℕ)). All (λ t. number_in ns t.literal.name < n) o) (take-append-drop r.own r.names)
-    (each-below n (take r.own r.names) (drop r.own r.names) o (objective-named (problem_of r) o p.problem e) (omega (arith, le, short r.own r.names)))
-  where
-    short : (k : ℕ) (ns : List (List ℕ)) → length (take k ns) ≤ k
-    short zero ns = omega arith
-    short (suc k) [] = omega arith
-    short (suc k) (x ∷ ns) = omega (arith, short k ns)
+    (each-below n (take r.own r.names) (drop r.own r.names) o (objective-named (problem_of r) o p.problem e) (omega (arith, le, length-take r.own r.names)))
 
 pub objective-small : (r : Running) (linear : Linear) → IsProper r → r.objective ≡ Some linear → magnitude linear.terms < 2 ^ 127
 objective-small r linear p e = grind (arith, linear.terms, r.limits, p.fits, largest_small)
