@@ -24,13 +24,17 @@ module _ {A : Type 0} (s : Result Unit Fault) (r : Result A Fault) (same : (e : 
   pub left-moves : (state : State) (id : Option ℤ) (next : Answer A) → (s ≡ Ok tt → next r) → none_left state id (gives (tt {0})) s → none_left state id next r
   left-moves state id next = left-pass (Unit {0}) 0 0 (omega arith) (λ u. omega arith) Unit A Moves moves-pass state id (gives tt) next
 
-  lower-moves : (limit : ℕ) (state : State) (o : List Term) (b : Bound) (id : Option ℤ) (next : Answer A) → (s ≡ Ok tt → next r) → lower_bound limit state o b id (gives (tt {0})) s → lower_bound limit state o b id next r
+  lower-moves : (limit : ℕ) (state : State) (o : List Term) (b : Bound) (id : Option ℤ) (next : Answer A) → (s ≡ Ok tt → next r)
+      → lower_bound limit state o b id (gives (tt {0})) s → lower_bound limit state o b id next r
   lower-moves limit state o b id next = lower-pass (Unit {0}) limit limit (omega arith) (λ u. omega arith) Unit A Moves moves-pass state o b id (gives tt) next
 
-  upper-moves : (v : Problem) (state : State) (b : Bound) (written : Option (List Literal)) (next : Answer A) → (s ≡ Ok tt → next r) → upper_of v state.logged b (option_map (numbered state.names) written) s → upper_bound v state b written next r
+  upper-moves : (v : Problem) (state : State) (b : Bound) (written : Option (List Literal)) (next : Answer A) → (s ≡ Ok tt → next r)
+      → upper_of v state.logged b (option_map (numbered state.names) written) s → upper_bound v state b written next r
   upper-moves v state Infinite written next go h = go h
-  upper-moves v state (Finite u) None next go h = upper-pass (Unit {0}) 0 0 (omega arith) (λ u. omega arith) Unit A Moves moves-pass v state (Finite u) None (gives tt) next go h
-  upper-moves v state (Finite u) (Some ls) next go h = upper-pass (Unit {0}) 0 0 (omega arith) (λ u. omega arith) Unit A Moves moves-pass v state (Finite u) (Some ls) (gives tt) next go h
+  upper-moves v state (Finite u) None next go h =
+      upper-pass (Unit {0}) 0 0 (omega arith) (λ u. omega arith) Unit A Moves moves-pass v state (Finite u) None (gives tt) next go h
+  upper-moves v state (Finite u) (Some ls) next go h =
+      upper-pass (Unit {0}) 0 0 (omega arith) (λ u. omega arith) Unit A Moves moves-pass v state (Finite u) (Some ls) (gives tt) next go h
 
 -- bounds by the best value
 pub below-to : (logged : List Logged) (best : Option ℤ) (b : ℤ) → IsBest logged best → IsBelow best b → (g : Logged) → Contains logged g → b ≤ℤ g.value

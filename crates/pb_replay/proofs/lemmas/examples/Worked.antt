@@ -11,7 +11,8 @@ use Rattle.pb_proof.specs.declared.Conclusion.TheVariants as conclusion
 use Rattle.pb_normal.specs.declared.Side.TheVariants.{AtLeast as least, AtMost as most}
 use Rattle.pb_replay.specs.contract.Example.{both_on, opposed}
 use Rattle.pb_replay.specs.declared.verdict.Verdict.TheVariants as verdict
-use Rattle.pb_replay.proofs.lemmas.examples.Pairs.{each-at, each-contains, Each, entry, pair, values, problem, IsMet, met, completed, OfLive, live-met, own-met, clause-of}
+use Rattle.pb_replay.proofs.lemmas.examples.Pairs.{each-at, each-contains, Each, entry, pair, values, problem, IsMet, met, completed, OfLive, live-met, own-met}
+use Rattle.pb_replay.proofs.lemmas.examples.Pairs.{clause-of}
 use Rattle.pb_propagate.proofs.lemmas.engine.Literals.{literal}
 
 -- forms on one name, and one that is a contradiction
@@ -32,7 +33,8 @@ abbrev stepping : List (List ℕ) → List (Option Form) → List Logged → Sta
 stepping ns live logged = record { live = live; names = ns; logged = logged; next = Steps; concluded = None }
 
 -- the first two statements, and more after them
-begun : (v : Problem) (count : Option ℕ) (sts : List Statement) (t : State) → IsCount count (length v.loaded) → length v.loaded ≤ 9 → Accepts 127 9 v (stepping v.names (map (λ f. Some f) v.loaded) []) sts t
+begun : (v : Problem) (count : Option ℕ) (sts : List Statement) (t : State) → IsCount count (length v.loaded) → length v.loaded ≤ 9
+    → Accepts 127 9 v (stepping v.names (map (λ f. Some f) v.loaded) []) sts t
     → Accepts 127 9 v (first_state v) (Header ∷ F count ∷ sts) t
 begun v count sts t is few h = (_, inl (refl, refl), (_, inl (refl, inl (is, inl (few, refl))), h))
 
@@ -173,7 +175,8 @@ nothing_rup = inr (record {
     second = record { absent = refl; not_falsified = refl; form = pair true true 1; among = inl (1, omega arith, refl); stands = omega arith; forced = omega arith }
 
 -- a solution that is logged is excluded
-logged : (m n : Bool) (live : List (Option Form)) (before : List Logged) → length live < 9 → Each (OfLive (IsMet m n)) live → Holds (assignment (values m n)) (pair false false 1)
+logged : (m n : Bool) (live : List (Option Form)) (before : List Logged) → length live < 9 → Each (OfLive (IsMet m n)) live
+    → Holds (assignment (values m n)) (pair false false 1)
     → Outcome 127 9 (problem None) (stepping names live before) (Solx (both_on m n)) (Ok (stepping names (live ++ Some (pair (not m) (not n) 1) ∷ []) (before ++ logged_of (problem None) (values m n) ∷ [])))
 logged m n live before room all own =
     inl (refl, inl (logged_of (problem None) (values m n), completed (Live live) m n (live-met m n live all) None own, (pair (not m) (not n) 1, clause-of m n, inl (room, refl))))

@@ -83,8 +83,10 @@ IsOther _ = Unit {0}
 -- The relation passes through tests. A test may become weaker; if E holds, it says the same.
 pub record Passes (E A B : Type 0) (R : Answer A → Answer B → Type 0) : Type 1 where
   pub by_need : (P Q : Type 0) (e : Fault) (m : Answer A) (n : Answer B) → IsOther e → (P → Q) → (E → Q → P) → R m n → R (need P e m) (need Q e n)
-  pub by_found : (X : Type 0) (P : X → Type 0) (e : Fault) (m : X → Answer A) (n : X → Answer B) → IsOther e → ((x y : X) → P x → P y → x ≡ y) → ((x : X) → R (m x) (n x)) → R (found P e m) (found P e n)
-  pub by_some : (X : Type 0) (P : X → Type 0) (m : X → Answer A) (n : X → Answer B) → ((x y : X) → P x → P y → x ≡ y) → ((x : X) → R (m x) (n x)) → R (some P m) (some P n)
+  pub by_found : (X : Type 0) (P : X → Type 0) (e : Fault) (m : X → Answer A) (n : X → Answer B) → IsOther e → ((x y : X) → P x → P y → x ≡ y)
+      → ((x : X) → R (m x) (n x)) → R (found P e m) (found P e n)
+  pub by_some : (X : Type 0) (P : X → Type 0) (m : X → Answer A) (n : X → Answer B) → ((x y : X) → P x → P y → x ≡ y) → ((x : X) → R (m x) (n x))
+      → R (some P m) (some P n)
 
 -- It passes through values and what follows them too.
 pub record Composes (R : (A : Type 0) → Answer A → Answer A → Type 0) : Type 1 where
@@ -92,11 +94,13 @@ pub record Composes (R : (A : Type 0) → Answer A → Answer A → Type 0) : Ty
   pub by_gives : (A : Type 0) (x : A) → R A (gives x) (gives x)
   pub by_after : (A X : Type 0) (k j : Answer X) (m n : X → Answer A) → R X k j → ((x : X) → R A (m x) (n x)) → R A (after k m) (after j n)
 
-module _ (E : Type 0) (limit more : ℕ) (wider : limit ≤ more) (same : E → more ≤ limit) (A B : Type 0) (R : Answer A → Answer B → Type 0) (p : Passes E A B R) where
+module _ (E : Type 0) (limit more : ℕ) (wider : limit ≤ more) (same : E → more ≤ limit) (A B : Type 0) (R : Answer A → Answer B → Type 0)
+    (p : Passes E A B R) where
   always : (P : Type 0) (e : Fault) (m : Answer A) (n : Answer B) → IsOther e → R m n → R (need P e m) (need P e n)
   always P e m n o h = p.by_need P P e m n o (λ x. x) (λ k x. x) h
 
-  normal-pass : (names : List (List ℕ)) (side : Side) (linear : Linear) (m : Form → Answer A) (n : Form → Answer B) → ((f : Form) → R (m f) (n f)) → R (normal_form limit names side linear m) (normal_form more names side linear n)
+  normal-pass : (names : List (List ℕ)) (side : Side) (linear : Linear) (m : Form → Answer A) (n : Form → Answer B) → ((f : Form) → R (m f) (n f))
+      → R (normal_form limit names side linear m) (normal_form more names side linear n)
   normal-pass names side linear m n h =
       p.by_need _ _ Overflow _ _ tt (λ le. omega (arith, le, wider)) (λ e le. omega (arith, le, same e)) (p.by_some Form _ m n (IsFormOf-unique names _ _) h)
 
@@ -105,16 +109,19 @@ module _ (E : Type 0) (limit more : ℕ) (wider : limit ≤ more) (same : E → 
   left-pass s (Some i) m n h =
       always _ SolutionLogged _ _ tt (p.by_found Form (IsLive s.live i) (NoSuchId i) _ _ tt (IsLive-one s.live i) (λ f. always _ NotContradiction _ _ tt h))
 
-  named-pass : (live : List (Option Form)) (id : Option ℤ) (m : Option Form → Answer A) (n : Option Form → Answer B) → ((f : Option Form) → R (m f) (n f)) → R (named live id m) (named live id n)
+  named-pass : (live : List (Option Form)) (id : Option ℤ) (m : Option Form → Answer A) (n : Option Form → Answer B) → ((f : Option Form) → R (m f) (n f))
+      → R (named live id m) (named live id n)
   named-pass live None m n h = h None
   named-pass live (Some i) m n h = p.by_found Form (IsLive live i) (NoSuchId i) _ _ tt (IsLive-one live i) (λ f. h (Some f))
 
-  pub lower-pass : (s : State) (o : List Term) (b : Bound) (id : Option ℤ) (m : Answer A) (n : Answer B) → R m n → R (lower_bound limit s o b id m) (lower_bound more s o b id n)
+  pub lower-pass : (s : State) (o : List Term) (b : Bound) (id : Option ℤ) (m : Answer A) (n : Answer B) → R m n
+      → R (lower_bound limit s o b id m) (lower_bound more s o b id n)
   lower-pass s o Infinite id m n h = left-pass s id m n h
   lower-pass s o (Finite b) id m n h =
       always _ NotBound _ _ tt (named-pass s.live id _ _ (λ f. normal-pass s.names Side.AtLeast (objective_with o b) _ _ (λ g. always _ NotBound _ _ tt h)))
 
-  pub upper-pass : (v : Problem) (s : State) (u : Bound) (shown : Option (List Literal)) (m : Answer A) (n : Answer B) → R m n → R (upper_bound v s u shown m) (upper_bound v s u shown n)
+  pub upper-pass : (v : Problem) (s : State) (u : Bound) (shown : Option (List Literal)) (m : Answer A) (n : Answer B) → R m n
+      → R (upper_bound v s u shown m) (upper_bound v s u shown n)
   upper-pass v s Infinite shown m n h = h
   upper-pass v s (Finite u) (Some given) m n h =
       p.by_found Logged (Shown v (numbered s.names given)) NoSolution _ _ tt (Shown-one v (numbered s.names given)) (λ g. always _ NotBound _ _ tt h)
@@ -123,7 +130,8 @@ module _ (E : Type 0) (limit more : ℕ) (wider : limit ≤ more) (same : E → 
 module _ (R : (A : Type 0) → Answer A → Answer A → Type 0) (c : Composes R) (limit more top above : ℕ) (wider : limit ≤ more) (higher : top ≤ above) where
   limited-pass : (r : Form) → R Form (limited limit r) (limited more r)
   limited-pass r =
-      (c.passes Form).by_need _ _ Overflow _ _ tt (λ w. record { size_in = omega (arith, w.size_in, wider); degree_in = omega (arith, w.degree_in, wider) }) (λ e. absurd e) (c.by_gives Form r)
+      (c.passes Form).by_need _ _ Overflow _ _ tt (λ w. record { size_in = omega (arith, w.size_in, wider); degree_in = omega (arith, w.degree_in, wider) })
+      (λ e. absurd e) (c.by_gives Form r)
 
   tree-pass : (names : List (List ℕ)) (live : List (Option Form)) (t : Tree) → R Form (FormOfExpression limit names live t) (FormOfExpression more names live t)
   tree-pass names live (Constraint i) = (c.passes Form).by_found Form (IsLive live i) (NoSuchId i) _ _ tt (IsLive-one live i) (c.by_gives Form)
@@ -142,28 +150,34 @@ module _ (R : (A : Type 0) → Answer A → Answer A → Type 0) (c : Composes R
   deleted-pass : (live : List (Option Form)) (ids : List ℤ) → R (List (Option Form)) (Deleted live ids) (Deleted live ids)
   deleted-pass live [] = c.by_gives (List (Option Form)) live
   deleted-pass live (i ∷ ids) =
-      (c.passes (List (Option Form))).by_found Form (IsLive live i) (NoSuchId i) _ _ tt (IsLive-one live i) (λ f. deleted-pass (set live (place (length live) i) None) ids)
+      (c.passes (List (Option Form))).by_found Form (IsLive live i) (NoSuchId i) _ _ tt (IsLive-one live i)
+      (λ f. deleted-pass (set live (place (length live) i) None) ids)
 
   test : (P : Type 0) (e : Fault) (m n : Answer State) → IsOther e → R State m n → R State (need P e m) (need P e n)
   test = always ⊥ limit more wider (λ e. absurd e) State State (R State) (c.passes State)
 
-  normal : (names : List (List ℕ)) (side : Side) (linear : Linear) (m n : Form → Answer State) → ((f : Form) → R State (m f) (n f)) → R State (normal_form limit names side linear m) (normal_form more names side linear n)
+  normal : (names : List (List ℕ)) (side : Side) (linear : Linear) (m n : Form → Answer State) → ((f : Form) → R State (m f) (n f))
+      → R State (normal_form limit names side linear m) (normal_form more names side linear n)
   normal = normal-pass ⊥ limit more wider (λ e. absurd e) State State (R State) (c.passes State)
 
-  concludes-pass : (v : Problem) (s : State) (k : Conclusion) (next : Answer State) → R State next next → R State (Concludes limit v s k next) (Concludes more v s k next)
+  concludes-pass : (v : Problem) (s : State) (k : Conclusion) (next : Answer State) → R State next next
+      → R State (Concludes limit v s k next) (Concludes more v s k next)
   concludes-pass v s NoClaim next h = h
   concludes-pass v s (Unsat id) next h = left-pass ⊥ limit more wider (λ e. absurd e) State State (R State) (c.passes State) s id next next h
-  concludes-pass v s (Sat (Some given)) next h = (c.passes State).by_found Logged (Shown v (numbered s.names given)) NoSolution _ _ tt (Shown-one v (numbered s.names given)) (λ g. h)
+  concludes-pass v s (Sat (Some given)) next h =
+      (c.passes State).by_found Logged (Shown v (numbered s.names given)) NoSolution _ _ tt (Shown-one v (numbered s.names given)) (λ g. h)
   concludes-pass v s (Sat None) next h = test _ NoSolution _ _ tt h
   concludes-pass v s (Bounds lower id upper shown) next h =
       (c.passes State).by_found (List Term) (λ o. v.objective ≡ Some o) NoObjective _ _ tt (objective-one v) (λ o.
       lower-pass ⊥ limit more wider (λ e. absurd e) State State (R State) (c.passes State) s o lower id _ _ (
       upper-pass ⊥ limit more wider (λ e. absurd e) State State (R State) (c.passes State) v s upper shown next next h))
 
-  does-pass : (v : Problem) (s : State) (st : Statement) → ((given : List Literal) → (st ≡ Soli given) ⊎ (st ≡ Solx given) → R Logged (Completed v (Live s.live) (length s.names) (numbered s.names given)) (Completed v (Live s.live) (length s.names) (numbered s.names given)))
+  does-pass : (v : Problem) (s : State) (st : Statement)
+      → ((given : List Literal) → (st ≡ Soli given) ⊎ (st ≡ Solx given) → R Logged (Completed v (Live s.live) (length s.names) (numbered s.names given)) (Completed v (Live s.live) (length s.names) (numbered s.names given)))
       → R State (Does limit top v s st) (Does more above v s st)
   does-pass v s (F count) done =
-      test _ (FormulaCount (length v.loaded)) _ _ tt ((c.passes State).by_need _ _ IdsSpent _ _ tt (λ le. omega (arith, le, higher)) (λ e. absurd e) (c.by_gives State _))
+      test _ (FormulaCount (length v.loaded)) _ _ tt
+      ((c.passes State).by_need _ _ IdsSpent _ _ tt (λ le. omega (arith, le, higher)) (λ e. absurd e) (c.by_gives State _))
   does-pass v s (Pol ws) done =
       (c.passes State).by_some Tree (λ tree. ws ≡ words tree) _ _ (λ t u p q. words_report t u (sym p ∙ q)) (λ tree.
       c.by_after State Form _ _ _ _ (tree-pass s.names s.live tree) (added-pass s s.logged))
@@ -179,7 +193,8 @@ module _ (R : (A : Type 0) → Answer A → Answer A → Type 0) (c : Composes R
   does-pass v s (Conclude k) done = concludes-pass v s k _ (c.by_gives State _)
   does-pass v s st done = c.by_gives State _
 
-  pub outcome-pass : (v : Problem) (s : State) (st : Statement) → (let names = with_names s.names (mentioned st) in (given : List Literal) → (st ≡ Soli given) ⊎ (st ≡ Solx given) → R Logged (Completed v (Live s.live) (length names) (numbered names given)) (Completed v (Live s.live) (length names) (numbered names given)))
+  pub outcome-pass : (v : Problem) (s : State) (st : Statement)
+      → (let names = with_names s.names (mentioned st) in (given : List Literal) → (st ≡ Soli given) ⊎ (st ≡ Solx given) → R Logged (Completed v (Live s.live) (length names) (numbered names given)) (Completed v (Live s.live) (length names) (numbered names given)))
       → R State (Outcome limit top v s st) (Outcome more above v s st)
   outcome-pass v s st done = test _ Order _ _ tt (does-pass v (record s { names = with_names s.names (mentioned st) }) st done)
 
@@ -200,7 +215,8 @@ single-composes = record {
 
 pub outcomes-single : OutcomesAreSingle
 outcomes-single limit top v s st =
-    outcome-pass SingleAt single-composes limit limit top top (omega arith) (omega arith) v s st (λ given e. single-completed v (Live s.live) (length (with_names s.names (mentioned st))) (numbered (with_names s.names (mentioned st)) given))
+    outcome-pass SingleAt single-composes limit limit top top (omega arith) (omega arith) v s st
+    (λ given e. single-completed v (Live s.live) (length (with_names s.names (mentioned st))) (numbered (with_names s.names (mentioned st)) given))
 
 pub openings-single : OpeningsAreSingle
 openings-single limit i = single-need (FitsAll limit i) _ _ (single-some (AreFormsOf (names_in i) (sides_in i.constraints)) _ (same_forms IsFormOf-unique (names_in i) (sides_in i.constraints)) (λ forms. single-gives _))
@@ -321,16 +337,19 @@ module _ (K : ℕ → Type 0) where
 
 pub unvalued-old : UnvaluedAreOld
 unvalued-old limit top v s st n d h =
-    outcome-pass (Only (λ k. k < length s.names)) (only-composes (λ k. k < length s.names)) limit limit top top (omega arith) (omega arith) v s st done (Err (Fault.NotTotal n)) n refl h
+    outcome-pass (Only (λ k. k < length s.names)) (only-composes (λ k. k < length s.names)) limit limit top top (omega arith) (omega arith) v s st done
+    (Err (Fault.NotTotal n)) n refl h
   where
     done : (given : List Literal) → (st ≡ Soli given) ⊎ (st ≡ Solx given) → (r : Result Logged Fault) (k : ℕ) → r ≡ Err (Fault.NotTotal k)
         → Completed v (Live s.live) (length (with_names s.names (mentioned st))) (numbered (with_names s.names (mentioned st)) given) r → k < length s.names
     done given e r k is c =
         let said : mentioned st ≡ literal_names given = elim e [ inl g ↦ ap mentioned g | inr g ↦ ap mentioned g ] in
-        unvalued v (Live s.live) s.names given k r d is (subst (λ (ns : List (List ℕ)). Completed v (Live s.live) (length (with_names s.names ns)) (numbered (with_names s.names ns) given) r) said c)
+        unvalued v (Live s.live) s.names given k r d is
+        (subst (λ (ns : List (List ℕ)). Completed v (Live s.live) (length (with_names s.names ns)) (numbered (with_names s.names ns) given) r) said c)
 
 pub unvalued-wants : UnvaluedMayWant
 unvalued-wants limit top v s (Soli given) n h = grind arith
 unvalued-wants limit top v s (Solx given) n h = grind arith
 unvalued-wants limit top v s st n h =
-    absurd (outcome-pass (Only (λ k. ⊥)) (only-composes (λ k. ⊥)) limit limit top top (omega arith) (omega arith) v s st (λ given e. absurd (grind arith)) (Err (Fault.NotTotal n)) n refl h)
+    absurd
+    (outcome-pass (Only (λ k. ⊥)) (only-composes (λ k. ⊥)) limit limit top top (omega arith) (omega arith) v s st (λ given e. absurd (grind arith)) (Err (Fault.NotTotal n)) n refl h)
