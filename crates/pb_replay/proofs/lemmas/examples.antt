@@ -1,4 +1,3 @@
 -- Lemmas of the short proofs that are examples.
-pub mod Examples
 pub mod Pairs
 pub mod Worked

@@ -1,5 +1,3 @@
 -- Lemmas of solutions and completions.
-pub mod Excluding
-pub mod Solutions
-pub mod Solved
-pub mod Values
+pub mod Completions
+pub mod Objective

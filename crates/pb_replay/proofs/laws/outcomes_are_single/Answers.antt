@@ -1,5 +1,4 @@
-use Rattle.pb_replay.proofs.lemmas.meaning.Single.{openings-single, outcomes-single}
-use Rattle.pb_replay.proofs.lemmas.names.Unvalued.{unvalued-old, unvalued-wants}
+use Rattle.pb_replay.proofs.lemmas.meaning.Relating.{openings-single, outcomes-single, unvalued-old, unvalued-wants}
 use Rattle.pb_replay.proofs.laws.outcomes_are_single.Goals as goal
 
 pub returns : goal.returns

@@ -1,42 +1,40 @@
 -- A conclusion continues after its tests
 use Rattle.pb_replay.proofs.Common.{ℕ, ℤ, ◌∙◌, ◌≡◌, ◌≤ℤ◌, [], ap, arith, Err, inl, inr, List, None, refl, Some, subst, sym, Contains, Ok, Option, Verdict, Side}
-use Rattle.pb_replay.proofs.Common.{option_map, Result, ints, NumberedLiteral, Form, Bound, Finite, Infinite, Bounds, Closing, Conclude}
-use Rattle.pb_replay.proofs.Common.{contains-none, Linear, Literal, Term, ok_or_err, largest, GoesAt, HasNamed, IsBest, IsProper, Keeps, problem_of}
-use Rattle.pb_replay.proofs.Common.{state_of, Fault, NoSuchId, NotBound, Running, Both, HasObjective, IsBelow, IsNamed, IsReached, Lower}
-use Rattle.pb_replay.proofs.Common.{objective_at_least, ObjectiveShown, Reached, Refutes, ShownAs, ShownReaches, Upper, upper_of, Answer, gives, need}
-use Rattle.pb_replay.proofs.Common.{contradicted, contradiction, IsShownBy, lower_bound, named, none_left, objective_with, sum, upper_bound, Problem}
-use Rattle.pb_replay.proofs.Common.{IsLive, Logged, normal_form, numbered, State}
-use Rattle.pb_replay.proofs.lemmas.conclusions.Best.{below}
-use Rattle.pb_replay.proofs.lemmas.names.Going.{form-of}
-use Rattle.pb_replay.proofs.lemmas.rules.Ready.{same_problem}
-use Rattle.pb_replay.proofs.lemmas.rules.States.{same-state}
+use Rattle.pb_replay.proofs.Common.{option_map, Result, ints, NumberedLiteral, Form, Bound, Finite, Infinite, Bounds, Closing, Conclude, contains-none, Literal}
+use Rattle.pb_replay.proofs.Common.{Term, ok_or_err, largest, GoesAt, HasNamed, IsBest, IsProper, Keeps, problem_of, state_of, Fault, NoSuchId, NotBound}
+use Rattle.pb_replay.proofs.Common.{Running, Both, HasObjective, IsBelow, IsNamed, IsReached, Lower, objective_at_least, ObjectiveShown, Reached, Refutes}
+use Rattle.pb_replay.proofs.Common.{ShownAs, ShownReaches, Upper, upper_of, Answer, gives, contradiction, IsShownBy, lower_bound, named, none_left, sum}
+use Rattle.pb_replay.proofs.Common.{upper_bound, Problem, IsLive, Logged, numbered, State}
+use Rattle.pb_replay.proofs.lemmas.rules.Steps.{below, form-of, same_problem}
+use Rattle.pb_replay.proofs.lemmas.meaning.Relating.{Passes, left-pass, lower-pass, upper-pass}
+use Rattle.pb_replay.proofs.lemmas.rules.Statements.{same-state}
 
--- the next answer at the value of another one, and the same fault
-abbrev Moves : {A : Type 0} → Answer A → Result Unit Fault → Result A Fault → Type 0
-Moves {A} next s r = (s ≡ Ok tt → next r) × ((e : Fault) → s ≡ Err e → r ≡ Err e)
+-- what has one result also has the other, if what follows does
+module _ {A : Type 0} (s : Result Unit Fault) (r : Result A Fault) (same : (e : Fault) → s ≡ Err e → r ≡ Err e) where
+  abbrev Moves : Answer Unit → Answer A → Type 0
+  Moves m n = m s → n r
 
-went : {A : Type 0} (next : Answer A) (r : Result A Fault) → next r → Moves next (Ok tt) r
-went next r n = (λ k. n, λ e k. ok_or_err k)
+  moves-pass : Passes (Unit {0}) Unit A Moves
+  moves-pass = record {
+    by_need = λ P Q e m n o f back g. elim [ inl t ↦ inl (f t.0, g t.1) | inr t ↦ inr (λ q. t.0 (back tt q), same e t.1) ];
+    by_found = λ X P e m n o one g. elim [ inl t ↦ inl (t.0, t.1, g t.0 t.2) | inr t ↦ inr (t.0, same e t.1) ];
+    by_some = λ X P m n one g t. (t.0, t.1, g t.0 t.2);
+  }
 
-stopped : {A : Type 0} (next : Answer A) (d : Fault) → Moves next (Err d) (Err d)
-stopped next d = (λ k. ok_or_err (sym k), λ e k. cc)
+  pub left-moves : (state : State) (id : Option ℤ) (next : Answer A) → (s ≡ Ok tt → next r) → none_left state id (gives (tt {0})) s → none_left state id next r
+  left-moves state id next = left-pass (Unit {0}) 0 0 (omega arith) (λ u. omega arith) Unit A Moves moves-pass state id (gives tt) next
 
-contra-moves : {A : Type 0} (live : List (Option Form)) (id : Option ℤ) (next : Answer A) (s : Result Unit Fault) (r : Result A Fault) → Moves next s r → contradicted live id (gives (tt {0})) s → contradicted live id next r
-contra-moves live None next s r m (inl (h, k)) = inl (h, m.0 k)
-contra-moves live None next s r m (inr (h, k)) = inr (h, m.1 _ k)
-contra-moves live (Some i) next s r m (inl (f, is, inl (h, k))) = inl (f, is, inl (h, m.0 k))
-contra-moves live (Some i) next s r m (inl (f, is, inr (h, k))) = inl (f, is, inr (h, m.1 _ k))
-contra-moves live (Some i) next s r m (inr (h, k)) = inr (h, m.1 _ k)
+  lower-moves : (limit : ℕ) (state : State) (o : List Term) (b : Bound) (id : Option ℤ) (next : Answer A) → (s ≡ Ok tt → next r)
+      → lower_bound limit state o b id (gives (tt {0})) s → lower_bound limit state o b id next r
+  lower-moves limit state o b id next = lower-pass (Unit {0}) limit limit (omega arith) (λ u. omega arith) Unit A Moves moves-pass state o b id (gives tt) next
 
-left-moves : {A : Type 0} (state : State) (id : Option ℤ) (next : Answer A) (s : Result Unit Fault) (r : Result A Fault) → Moves next s r → none_left state id (gives (tt {0})) s → none_left state id next r
-left-moves state id next s r m (inl (none, h)) = inl (none, contra-moves state.live id next s r m h)
-left-moves state id next s r m (inr (h, k)) = inr (h, m.1 _ k)
-
-pub left-then : {A : Type 0} (state : State) (id : Option ℤ) (next : Answer A) (r : Result A Fault) (u : Unit {0}) → none_left state id (gives (tt {0})) (Ok u) → next r → none_left state id next r
-left-then state id next r u h n = left-moves state id next (Ok u) r (λ k. n, λ e k. ok_or_err k) h
-
-pub left-stop : {A : Type 0} (state : State) (id : Option ℤ) (next : Answer A) (e : Fault) → none_left state id (gives (tt {0})) (Err e) → none_left state id next (Err e)
-left-stop state id next e h = left-moves state id next (Err e) (Err e) (stopped next e) h
+  upper-moves : (v : Problem) (state : State) (b : Bound) (written : Option (List Literal)) (next : Answer A) → (s ≡ Ok tt → next r)
+      → upper_of v state.logged b (option_map (numbered state.names) written) s → upper_bound v state b written next r
+  upper-moves v state Infinite written next go h = go h
+  upper-moves v state (Finite u) None next go h =
+      upper-pass (Unit {0}) 0 0 (omega arith) (λ u. omega arith) Unit A Moves moves-pass v state (Finite u) None (gives tt) next go h
+  upper-moves v state (Finite u) (Some ls) next go h =
+      upper-pass (Unit {0}) 0 0 (omega arith) (λ u. omega arith) Unit A Moves moves-pass v state (Finite u) (Some ls) (gives tt) next go h
 
 -- bounds by the best value
 pub below-to : (logged : List Logged) (best : Option ℤ) (b : ℤ) → IsBest logged best → IsBelow best b → (g : Logged) → Contains logged g → b ≤ℤ g.value
@@ -44,8 +42,7 @@ below-to logged None b h k g c = absurd (contains-none logged g h c)
 below-to logged (Some z) b h k g c = (below logged z b h).0 k g c
 
 pub below-back : (logged : List Logged) (best : Option ℤ) (b : ℤ) → IsBest logged best → ((g : Logged) → Contains logged g → b ≤ℤ g.value) → IsBelow best b
-below-back logged None b h all = tt
-below-back logged (Some z) b h all = (below logged z b h).1 all
+below-back logged best b h all = grind (arith, below)
 
 pub reached-to : (logged : List Logged) (best : Option ℤ) (u : ℤ) (r : Result Unit Fault) → IsBest logged best → IsReached best u r → Reached logged u r
 reached-to logged None u r h k = inr (λ some. contains-none logged some.0 h some.1, k)
@@ -90,29 +87,6 @@ pub lower-infinite : (r : Running) (id : Option ℤ) (result : Result Unit Fault
 lower-infinite r id (Ok u) h = λ logged o best has. h logged best
 lower-infinite r id (Err e) h = inr (λ logged o best has. h logged best)
 
--- what comes after a bound
-form-moves : {A : Type 0} (limit : ℕ) (names : List (List ℕ)) (linear : Linear) (P : Form → Type 0) (next : Answer A) (s : Result Unit Fault) (r : Result A Fault) → Moves next s r → normal_form limit names Side.AtLeast linear (λ g. need (P g) NotBound (gives (tt {0}))) s → normal_form limit names Side.AtLeast linear (λ g. need (P g) NotBound next) r
-form-moves limit names linear P next s r m (inl (fits, (g, made, inl (h, k)))) = inl (fits, (g, made, inl (h, m.0 k)))
-form-moves limit names linear P next s r m (inl (fits, (g, made, inr (h, k)))) = inl (fits, (g, made, inr (h, m.1 _ k)))
-form-moves limit names linear P next s r m (inr (late, k)) = inr (late, m.1 _ k)
-
-lower-moves : {A : Type 0} (limit : ℕ) (state : State) (o : List Term) (b : Bound) (id : Option ℤ) (next : Answer A) (s : Result Unit Fault) (r : Result A Fault) → Moves next s r → lower_bound limit state o b id (gives (tt {0})) s → lower_bound limit state o b id next r
-lower-moves limit state o Infinite id next s r m h = left-moves state id next s r m h
-lower-moves limit state o (Finite b) None next s r m (inl (low, h)) = inl (low, form-moves limit state.names (objective_with o b) (IsShownBy state.live None) next s r m h)
-lower-moves limit state o (Finite b) (Some i) next s r m (inl (low, inl (f, is, h))) =
-    inl (low, inl (f, is, form-moves limit state.names (objective_with o b) (IsShownBy state.live (Some f)) next s r m h))
-lower-moves limit state o (Finite b) (Some i) next s r m (inl (low, inr (none, k))) = inl (low, inr (none, m.1 _ k))
-lower-moves limit state o (Finite b) id next s r m (inr (late, k)) = inr (late, m.1 _ k)
-
-upper-moves : {A : Type 0} (v : Problem) (state : State) (b : Bound) (written : Option (List Literal)) (next : Answer A) (s : Result Unit Fault) (r : Result A Fault) → Moves next s r → upper_of v state.logged b (option_map (numbered state.names) written) s → upper_bound v state b written next r
-upper-moves v state Infinite written next s r m h = m.0 h
-upper-moves v state (Finite z) None next s r m (inl (some, inl (less, k))) = inl (some, inl (less, m.0 k))
-upper-moves v state (Finite z) None next s r m (inl (some, inr (late, k))) = inl (some, inr (late, m.1 _ k))
-upper-moves v state (Finite z) None next s r m (inr (late, k)) = inr (late, m.1 _ k)
-upper-moves v state (Finite z) (Some ls) next s r m (inl (g, is, inl (less, k))) = inl (g, is, inl (less, m.0 k))
-upper-moves v state (Finite z) (Some ls) next s r m (inl (g, is, inr (late, k))) = inl (g, is, inr (late, m.1 _ k))
-upper-moves v state (Finite z) (Some ls) next s r m (inr (late, k)) = inr (late, m.1 _ k)
-
 -- both bounds
 module _ (old m : Running) (lower : Bound) (id : Option ℤ) (upper : Bound) (given : Option (List NumberedLiteral)) where
   pub both-ok : HasNamed [] old m → IsProper old → Keeps old m → Lower old lower id (Ok tt) → (result : Result Unit Fault) → Upper m upper given result → Both old lower id upper given result
@@ -126,17 +100,18 @@ module _ (old m new : Running) (lower : Bound) (id : Option ℤ) (upper : Bound)
   abbrev last : List Logged → Answer State
   last logged = gives (record (state_of old logged) { next = Closing; concluded = Some (Verdict.Bounds lower upper) })
 
-  moved : (logged : List Logged) (s : Result Unit Fault) (r : Result State Fault) → Moves (last logged) s r → lower_bound (largest old.limits) (state_of old logged) o lower id (gives (tt {0})) (Ok tt) × upper_of (problem_of old) logged upper given s
+  moved : (logged : List Logged) (s : Result Unit Fault) (r : Result State Fault) → ((e : Fault) → s ≡ Err e → r ≡ Err e) → (s ≡ Ok tt → last logged r)
+      → lower_bound (largest old.limits) (state_of old logged) o lower id (gives (tt {0})) (Ok tt) × upper_of (problem_of old) logged upper given s
       → lower_bound (largest old.limits) (state_of old logged) o lower id (upper_bound (problem_of old) (state_of old logged) upper written (last logged)) r
-  moved logged s r move k =
+  moved logged s r same go k =
       let up = subst (λ (y : Option (List NumberedLiteral)). upper_of (problem_of old) logged upper y s) numbers k.1 in
-      let after = upper-moves (problem_of old) (state_of old logged) upper written (last logged) s r move up in
-      lower-moves (largest old.limits) (state_of old logged) o lower id (upper_bound (problem_of old) (state_of old logged) upper written (last logged)) (Ok tt) r (went (upper_bound (problem_of old) (state_of old logged) upper written (last logged)) r after) k.0
+      let after = upper-moves s r same (problem_of old) (state_of old logged) upper written (last logged) go up in
+      lower-moves (Ok tt) r (λ e is. ok_or_err is) (largest old.limits) (state_of old logged) o lower id (upper_bound (problem_of old) (state_of old logged) upper written (last logged)) (λ is. after) k.0
 
   pub bounds-ok : HasNamed [] old m → new.engine.forms ≡ m.engine.forms → new.names ≡ m.names → new.best ≡ m.best → new.next ≡ Closing → new.concluded ≡ Some (Verdict.Bounds lower upper) → Both old lower id upper given (Ok tt) → GoesAt old (Conclude (Bounds lower id upper written)) (Ok tt) new
   bounds-ok named f n b x d both = λ logged best.
       let done = let to : State → Result State Fault = λ s. Ok s in ap to (same-state {logged = logged} (f ∙ named.forms) (n ∙ named.names) x d) in
-      (logged, subst (λ (y : Option ℤ). IsBest logged y) (sym (b ∙ named.best)) best, inl (o, has, moved logged (Ok tt) (Ok (state_of new logged)) (went (last logged) (Ok (state_of new logged)) done) (both logged o best has)))
+      (logged, subst (λ (y : Option ℤ). IsBest logged y) (sym (b ∙ named.best)) best, inl (o, has, moved logged (Ok tt) (Ok (state_of new logged)) (λ e is. ok_or_err is) (λ is. done) (both logged o best has)))
 
   pub bounds-err : (e : Fault) → Both old lower id upper given (Err e) → GoesAt old (Conclude (Bounds lower id upper written)) (Err e) new
   bounds-err e (inl memory) = inl memory
@@ -145,8 +120,8 @@ module _ (old m new : Running) (lower : Bound) (id : Option ℤ) (upper : Bound)
         o,
         has,
         elim (both logged o best has) [
-          | inl low ↦ lower-moves (largest old.limits) (state_of old logged) o lower id (upper_bound (problem_of old) (state_of old logged) upper written (last logged)) (Err e) (Err e) (stopped (upper_bound (problem_of old) (state_of old logged) upper written (last logged)) e) low
-          | inr k ↦ moved logged (Err e) (Err e) (stopped (last logged) e) k
+          | inl low ↦ lower-moves (Err e) (Err e) (λ d is. cc) (largest old.limits) (state_of old logged) o lower id (upper_bound (problem_of old) (state_of old logged) upper written (last logged)) (λ is. ok_or_err (sym is)) low
+          | inr k ↦ moved logged (Err e) (Err e) (λ d is. cc) (λ is. ok_or_err (sym is)) k
         ],
       ))
 

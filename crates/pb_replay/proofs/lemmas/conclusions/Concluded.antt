@@ -1,17 +1,20 @@
 -- What an accepted conclusion means. Offered to other crates.
-use Rattle.pb_replay.proofs.Common.{ℕ, ℤ, ◌∙◌, ◌≡◌, ◌≤ℤ◌, [], arith, Bool, inl, inr, length, List, Some, sym, Contains, Ok, Option, cases_lt, Side}
-use Rattle.pb_replay.proofs.Common.{ints, none-some, same_Some, HasNames-append, Holds-sum, Holds-negation_back, total-le-each, Form, Holds, total}
-use Rattle.pb_replay.proofs.Common.{true_at, HasNames, assignment, IsContradiction, negation_of, names_of, Bound}
-use Rattle.pb_replay.proofs.Common.{Conclusion, contains-none, HoldAll, Live, Literal, Term, Answer}
-use Rattle.pb_replay.proofs.Common.{contradicted, contradiction, IsShownBy, objective_with, propagated, sum, trivial}
-use Rattle.pb_replay.proofs.Common.{verdict_of, Accounted, allowed, beaten, HasNone, IsAtLeast, IsAtMost, IsProblem, IsSolution, IsSound}
-use Rattle.pb_replay.proofs.Common.{known, Means, Problem, numbered, State, value}
-use Rattle.pb_replay.specs.contract.Rules.{HasContradiction, some, named, IsNamed, unnamed, named_one, IsLower, infinite, finite, IsUpper, unbounded, by_shown, by_logged, IsJustified, no_claim, unsat, sat_shown, sat_logged, bounds}
-use Rattle.pb_replay.proofs.lemmas.meaning.Ruled.{contradiction-to}
-use Rattle.pb_replay.proofs.lemmas.rules.Living.{IsLive-live}
-use Rattle.pb_replay.proofs.lemmas.names.Naming.{value-over, value-agree, side-holds, objective-named}
-use Rattle.pb_replay.proofs.lemmas.meaning.Propagating.{IsRup-holds}
-use Rattle.pb_replay.proofs.lemmas.solutions.Solutions.{Completed-taken}
+use Rattle.pb_replay.proofs.Common.{ℕ, ℤ, ◌∙◌, ◌≡◌, ◌≤ℤ◌, [], arith, Bool, inl, inr, length, List, Some, sym, Contains, Ok, Option, cases_lt, Side, ints}
+use Rattle.pb_replay.proofs.Common.{none-some, same_Some, HasNames-append, Holds-sum, Holds-negation_back, total-le-each, Form, Holds, total, true_at, HasNames}
+use Rattle.pb_replay.proofs.Common.{assignment, IsContradiction, negation_of, names_of, Bound, Conclusion, contains-none, HoldAll, Live, Literal, Term, Answer}
+use Rattle.pb_replay.proofs.Common.{contradicted, contradiction, IsShownBy, objective_with, propagated, sum, trivial, verdict_of, Accounted, allowed, beaten}
+use Rattle.pb_replay.proofs.Common.{HasNone, IsAtLeast, IsAtMost, IsProblem, IsSolution, IsSound, known, Means, Problem, numbered, State, value, ◌++◌, ◌∷◌}
+use Rattle.pb_replay.proofs.Common.{refl, subst, IsSome, with_names, Stage, Closing, Complete, Statement, Conclude, End, Output, stage_of, HasConclusion}
+use Rattle.pb_replay.proofs.Common.{VerdictsAreThere, WholeProofsConclude, verdict_at, Verdict, Accepts, mentioned}
+use Rattle.pb_replay.specs.contract.Rules.{HasContradiction, some, named, IsNamed, IsLower, infinite, finite, IsUpper, unbounded, by_shown}
+use Rattle.pb_replay.specs.contract.Rules.{by_logged, IsJustified, no_claim, unsat, sat_shown, sat_logged, bounds, Rule, header, formula, pol, rup, soli, solx}
+use Rattle.pb_replay.specs.contract.Rules.{delete, output, conclude, end}
+use Rattle.pb_replay.proofs.lemmas.meaning.Accepting.{needed, ok-same}
+use Rattle.pb_replay.proofs.lemmas.meaning.Propagated.{IsRup-holds}
+use Rattle.pb_replay.proofs.lemmas.meaning.Ruled.{contradiction-to, rules-outcomes}
+use Rattle.pb_replay.proofs.lemmas.names.Assigned.{value-over, value-agree, side-holds, objective-named}
+use Rattle.pb_replay.proofs.lemmas.rules.Live.{IsLive-live}
+use Rattle.pb_replay.proofs.lemmas.solutions.Completions.{Completed-taken}
 
 contradiction-fails : (a : ℕ → Bool) (f : Form) → IsContradiction f → Holds a f → ⊥
 contradiction-fails a f c h = omega (arith, total-le-each (true_at a) f.terms)
@@ -32,8 +35,7 @@ none_left-means v s id sound none is a solution = refute (sound.stands a solutio
     refute (allowed holds) = let f = contradiction-live s.live id is in contradiction-fails a f.0 f.2 (holds f.0 f.1)
 
 named-live : (live : List (Option Form)) (id : Option ℤ) (o : Option Form) → IsNamed live id o → (f : Form) → o ≡ Some f → Live live f
-named-live live _ _ unnamed f e = absurd (none-some _ e)
-named-live live _ _ (named_one id g at) f e = rw (same_Some _ _ e) at (IsLive-live live id g at)
+named-live live id o is f e = grind (arith, IsLive-live, none-some, same_Some)
 
 shown-holds : (a : ℕ → Bool) (live : List (Option Form)) (id : Option Form) (g : Form) → HoldAll a (Live live) → ((f : Form) → id ≡ Some f → Live live f) → IsShownBy live id g → Holds a g
 shown-holds a live id g holds in_live (trivial none) = omega (arith, none)
@@ -78,3 +80,39 @@ justified-means limit v s _ p sound (sat_shown given g is) =
 justified-means limit v s _ p sound (sat_logged g c) = (assignment g.values, sound.solutions g c)
 justified-means limit v s _ p sound (bounds lower id upper shown o has low high) =
     (lower-means limit v s o lower id p sound has low, upper-means v s upper shown sound high)
+
+-- after a conclusion there is a verdict
+does : (limit top : ℕ) (v : Problem) (s t : State) (st : Statement) → HasConclusion s.next s.concluded → (st ≡ End → s.next ≡ Closing) → Rule limit top v s st t → HasConclusion t.next t.concluded
+does limit top v s _ _ p q header = tt
+does limit top v s _ _ p q (formula count is few) = tt
+does limit top v s _ _ p q (pol tree r is room) = p
+does limit top v s _ _ p q (rup linear r side is room) = p
+does limit top v s _ _ p q (soli given o g r is solved side room) = p
+does limit top v s _ _ p q (solx given g r solved is room) = p
+does limit top v s _ _ p q (delete ids live is) = p
+does limit top v s _ _ p q output = tt
+does limit top v s _ _ p q (conclude c is) = refl
+does limit top v s _ _ p q end = let before : (λ (x : Stage). HasConclusion x s.concluded) s.next = p in rw (q refl) at before
+
+pub run : (limit top : ℕ) (v : Problem) (s t : State) (sts : List Statement) → HasConclusion s.next s.concluded → Accepts limit top v s sts t → HasConclusion t.next t.concluded
+run limit top v s t [] p h = rw (← h) p
+run limit top v s t (st ∷ sts) p h =
+    let step = (rules-outcomes limit top v s h.0 st).0 h.1 in
+    run limit top v h.0 t sts (does limit top v (record s { names = with_names s.names (mentioned st) }) h.0 st p (λ e. ending st e step.stage) step.rule) h.2
+  where
+    ending : (x : Statement) → x ≡ End → s.next ≡ stage_of x → s.next ≡ Closing
+    ending x e k = rw e at k
+
+pub verdicts-there : VerdictsAreThere
+verdicts-there limit top v sts s t begins h = run limit top v s t sts (subst (λ (x : Stage). HasConclusion x s.concluded) (sym begins) tt) h
+
+-- ---- a whole proof
+ended : (limit top : ℕ) (v : Problem) (steps : List Statement) (c : Conclusion) (s t : State) → Accepts limit top v s (steps ++ Output ∷ Conclude c ∷ End ∷ []) t → t.next ≡ Complete
+ended limit top v [] c s t (a, h, (b, k, (d, l, e))) = let last = ok-same (needed l).1 in rw (sym e, last) refl
+ended limit top v (x ∷ steps) c s t h = ended limit top v steps c h.0 t h.2
+
+at-end : (p : Stage) (concluded : Option Verdict) → p ≡ Complete → HasConclusion p concluded → IsSome (verdict_at p concluded)
+at-end p concluded e h = subst (λ (x : Stage). IsSome (verdict_at x concluded)) (sym e) (subst (λ (x : Stage). HasConclusion x concluded) e h)
+
+pub whole-proofs-conclude : WholeProofsConclude
+whole-proofs-conclude limit top v p s t (a, h, (b, k, rest)) = grind (arith, needed, s.next, s.concluded, at-end, t.next, t.concluded, ended, p.steps, p.conclusion, run)

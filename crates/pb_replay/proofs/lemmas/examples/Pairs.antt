@@ -1,9 +1,8 @@
 -- Forms on two variables, and what two literals complete to over them
-use Rattle.pb_replay.proofs.Common.{ℕ, ◌<◌, ◌∙◌, ◌∷◌, ◌≡◌, [], ap, arith, Bool, cond, false, get_or, inl, inr, List, None, not, refl, Some}
-use Rattle.pb_replay.proofs.Common.{subst, suc, sym, true, zero, Contains, Ok, Option, Entry, NumberedLiteral, Form, Holds, total, assignment}
-use Rattle.pb_replay.proofs.Common.{on, only, begin, Live, MayPropagate, Term, name_x, name_y, Problem, AreValues, Completed, Excludes, HasValue}
-use Rattle.pb_replay.proofs.Common.{logged_of, negations, same_Some, slice_get}
-use Rattle.pb_replay.proofs.lemmas.meaning.Propagating.{AreTrue, on-negations, conflict-none}
+use Rattle.pb_replay.proofs.Common.{ℕ, ◌<◌, ◌∙◌, ◌∷◌, ◌≡◌, [], ap, arith, Bool, cond, false, inl, List, None, not, refl, Some, subst, suc, sym, zero, Contains}
+use Rattle.pb_replay.proofs.Common.{Ok, Option, Entry, NumberedLiteral, Form, Holds, total, assignment, on, only, begin, Live, MayPropagate, Term, name_x}
+use Rattle.pb_replay.proofs.Common.{name_y, Problem, AreValues, Completed, Excludes, HasValue, logged_of, negations, same_Some, slice_get}
+use Rattle.pb_replay.proofs.lemmas.meaning.Propagated.{AreTrue, on-negations, conflict-none}
 
 abbrev pub entry : ℕ → Bool → Entry
 entry x negated = record { variable = x; negated = negated; coefficient = 1 }
@@ -40,21 +39,13 @@ true-given m n = grind (arith)
 
 -- one of a literal and its negation is given
 one-given : (m n : Bool) (x : ℕ) (b : Bool) → x < 2 → on (given m n) x b ≡ false → on (given m n) x (not b) ≡ false → ⊥
-one-given true n zero true lt e f = cc
-one-given true n zero false lt e f = cc
-one-given false n zero true lt e f = cc
-one-given false n zero false lt e f = cc
-one-given m true (suc zero) true lt e f = cc
-one-given m true (suc zero) false lt e f = cc
-one-given m false (suc zero) true lt e f = cc
-one-given m false (suc zero) false lt e f = cc
+one-given m n zero b lt e f = grind arith
+one-given m n (suc zero) b lt e f = grind arith
 one-given m n (suc (suc x)) b lt e f = omega (arith, lt)
 
 has-value : (m n : Bool) (k : ℕ) → k < 2 → HasValue (given m n) k
-has-value true n zero lt = inr refl
-has-value false n zero lt = inl refl
-has-value m true (suc zero) lt = inr refl
-has-value m false (suc zero) lt = inl refl
+has-value m n zero lt = grind arith
+has-value m n (suc zero) lt = grind arith
 has-value m n (suc (suc k)) lt = absurd (omega (arith, lt))
 
 are-values : (m n : Bool) → AreValues (given m n) 2 (values m n)
@@ -73,19 +64,15 @@ module _ (F : Form → Type 0) (m n : Bool) (all : (f : Form) → F f → IsMet 
   completed objective own =
       inl (
         conflict-none F (assignment (values m n)) (given m n) (λ f h. (all f h).holds) (true-given m n),
-        (given m n, record { derived = begin; closed = closed }, inl (has-value m n, (values m n, are-values m n, inl (held, refl)))),
+        (given m n, record { derived = begin; closed = closed }, inl (has-value m n, (values m n, are-values m n, inl (λ k lt. grind (arith, own), refl)))),
       )
-    where
-      held : (k : ℕ) → k < 1 → Holds (assignment (values m n)) (get_or (pair false false 1 ∷ []) k (record { terms = []; degree = 0 }))
-      held zero lt = own
-      held (suc k) lt = absurd (omega (arith, lt))
 
 -- what is true of each item of a short list
 abbrev pub Each : {A : Type 0} → (A → Type 0) → List A → Type 0
 Each P [] = Unit {0}
 Each P (x ∷ xs) = P x × Each P xs
 
-each-contains : {A : Type 0} (P : A → Type 0) (xs : List A) (x : A) → Each P xs → Contains xs x → P x
+pub each-contains : {A : Type 0} (P : A → Type 0) (xs : List A) (x : A) → Each P xs → Contains xs x → P x
 each-contains P [] x all (k, lt, is) = absurd (omega (arith, lt))
 each-contains P (y ∷ xs) x all (zero, lt, is) = subst P is all.0
 each-contains P (y ∷ xs) x all (suc k, lt, is) = each-contains P xs x all.1 (k, omega (arith, lt), is)
@@ -114,12 +101,6 @@ pub clause-of : (m n : Bool) → Excludes (given m n) (pair (not m) (not n) 1)
 clause-of m n = record { ordered = (omega arith, omega arith, (omega arith, omega arith, tt)); coefficients = each m n; degree_is = refl }
   where
     each : (m n : Bool) (x : ℕ) (b : Bool) → total (only x b) (pair (not m) (not n) 1).terms ≡ cond (on (negations (given m n)) x b) 1 0
-    each true n zero true = refl
-    each true n zero false = refl
-    each false n zero true = refl
-    each false n zero false = refl
-    each m true (suc zero) true = refl
-    each m true (suc zero) false = refl
-    each m false (suc zero) true = refl
-    each m false (suc zero) false = refl
+    each m n zero b = grind arith
+    each m n (suc zero) b = grind arith
     each m n (suc (suc x)) b = far-total (not m) (not n) 1 x b ∙ sym (ap (λ e. cond e 1 0) (on-negations (given m n) (suc (suc x)) b ∙ far-on m n x (not b)))

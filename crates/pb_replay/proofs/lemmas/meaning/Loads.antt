@@ -1,20 +1,19 @@
 -- The forms of an instance hold if and only if it is solved. What a verdict means for them, it means for the instance.
-use Rattle.pb_replay.proofs.Common.{ℕ, ◌++◌, ◌<◌, ◌∙◌, ◌∷◌, ◌≡◌, [], All, ap, arith, Bool, get_or, length, length-append, List, refl, Some, suc, sym}
-use Rattle.pb_replay.proofs.Common.{true, zero, ◌↔◌, Contains, Ok, Option, get_or_append_left, get_or_default, get_or_from_slice_get}
-use Rattle.pb_replay.proofs.Common.{slice_get-get_or, distinct, names_split, number_in-get, slice_get-number, SameAsForm-from, SameAsForms-from}
-use Rattle.pb_replay.proofs.Common.{SameSolutions-side, Side, AreFormsOf, constraint_names, sides_in, with_sides, Form, Holds, AreDistinct, has_name}
-use Rattle.pb_replay.proofs.Common.{HasNames, number_in, assignment, by_number, HoldsWritten, names_of, true_sum, Instance, Bound, Finite, Infinite}
-use Rattle.pb_replay.proofs.Common.{contains-none, HoldAll, Linear, MeaningsAgree, ProblemsAreProper, SolutionsAreAccounted, VerdictsMean, Verdict}
-use Rattle.pb_replay.proofs.Common.{Accounted, AccountedWritten, allowed, allowed_still, beaten, beaten_value, IsAtLeast, IsAtMost, IsProblem}
-use Rattle.pb_replay.proofs.Common.{IsSolution, IsSound, known, known_names, Means, MeansWritten, names_in, objective_of, Opened, Problem, Solves}
-use Rattle.pb_replay.proofs.Common.{written_value, by_name, first_state, State, value}
+use Rattle.pb_replay.proofs.Common.{ℕ, ◌++◌, ◌<◌, ◌∙◌, ◌∷◌, ◌≡◌, [], All, ap, arith, Bool, get_or, length, length-append, List, refl, Some, suc, sym, true}
+use Rattle.pb_replay.proofs.Common.{zero, ◌↔◌, Contains, Ok, Option, get_or_append_left, get_or_default, get_or_from_slice_get, slice_get-get_or, distinct}
+use Rattle.pb_replay.proofs.Common.{names_split, number_in-get, slice_get-number, SameAsForm-from, SameAsForms-from, SameSolutions-side, Side, AreFormsOf}
+use Rattle.pb_replay.proofs.Common.{constraint_names, sides_in, with_sides, Form, Holds, AreDistinct, has_name, HasNames, number_in, assignment, by_number}
+use Rattle.pb_replay.proofs.Common.{HoldsWritten, names_of, true_sum, Instance, Bound, Finite, Infinite, contains-none, HoldAll, Linear, MeaningsAgree}
+use Rattle.pb_replay.proofs.Common.{ProblemsAreProper, SolutionsAreAccounted, VerdictsMean, Verdict, Accounted, AccountedWritten, allowed, allowed_still}
+use Rattle.pb_replay.proofs.Common.{beaten, beaten_value, IsAtLeast, IsAtMost, IsProblem, IsSolution, IsSound, known, known_names, Means, MeansWritten}
+use Rattle.pb_replay.proofs.Common.{names_in, objective_of, Opened, Problem, Solves, written_value, by_name, first_state, State, value}
 use Rattle.pb_sums.specs.declared.Relation.{Relation}
 use Rattle.pb_sums.specs.declared.Relation.TheVariants.{AtLeast, Equal}
 use Rattle.pb_normal.proofs.lemmas.names.Appearing.{named}
 use Rattle.pb_replay.specs.declared.verdict.Verdict.TheVariants.{NoClaim, Unsat, Sat, Bounds}
 use Rattle.pb_replay.proofs.lemmas.meaning.Accepting.{needed, ok-same}
-use Rattle.pb_replay.proofs.lemmas.names.Naming.{Holds-agree, back, true_sum-agree, value-agree}
-use Rattle.pb_replay.proofs.lemmas.meaning.Sound.{first-sound, run-sound}
+use Rattle.pb_replay.proofs.lemmas.names.Assigned.{Holds-agree, back, true_sum-agree, value-agree}
+use Rattle.pb_replay.proofs.lemmas.meaning.Soundness.{first-sound, run-sound}
 
 -- for each member of a longer list
 module _ {X : Type 0} (P : X → Type 0) where

@@ -1,5 +1,5 @@
 use Rattle.pb_replay.proofs.Common.{◌≡◌, inl, inr, None, refl, rules, state_of}
-use Rattle.pb_replay.proofs.lemmas.rules.Ready.{kept-ok, kept-err, step-ok, step-err, step-unvalued}
+use Rattle.pb_replay.proofs.lemmas.rules.Steps.{kept-ok, kept-err, step-ok, step-err, step-unvalued}
 use Rattle.pb_replay.proofs.replay.Replay.step.Goals as goal
 
 pub invariant_of-self : goal.invariant_of-self

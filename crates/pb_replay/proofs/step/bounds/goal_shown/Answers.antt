@@ -1,5 +1,5 @@
 use Rattle.pb_replay.proofs.Common.{inr, refl}
-use Rattle.pb_replay.proofs.lemmas.rules.Rups.{is_so, not_so}
+use Rattle.pb_replay.proofs.lemmas.rules.Statements.{is_so, not_so}
 use Rattle.pb_replay.proofs.step.bounds.goal_shown.Goals as goal
 
 pub returns-then-branch-clause-shown : goal.returns-then-branch-clause-shown

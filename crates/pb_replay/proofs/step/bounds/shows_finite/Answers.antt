@@ -1,6 +1,6 @@
 use Rattle.pb_replay.proofs.Common.{◌≡◌, false, FitsSigned, rules, true, to_z-of_z, err_from_is_err_and, w128, IsBelow, arith}
 use Rattle.pb_replay.proofs.lemmas.conclusions.Bounding.{lower-late, lower-missing, lower-found}
-use Rattle.pb_replay.proofs.lemmas.rules.Rups.{is_so, not_so}
+use Rattle.pb_replay.proofs.lemmas.rules.Statements.{is_so, not_so}
 use Rattle.pb_replay.proofs.step.bounds.shows_finite.Goals as goal
 
 pub returns-then-not-is_below_best-clause-lower : goal.returns-then-not-is_below_best-clause-lower

@@ -1,5 +1,5 @@
 use Rattle.pb_replay.proofs.Common.{refl, rules}
-use Rattle.pb_replay.proofs.lemmas.rules.Deleting.{delete-goes, delete-linked}
+use Rattle.pb_replay.proofs.lemmas.rules.Statements.{delete-goes, delete-linked}
 use Rattle.pb_replay.proofs.step.delete.delete.Goals as goal
 
 pub returns-clause-goes : goal.returns-clause-goes

@@ -1,5 +1,5 @@
 use Rattle.pb_replay.proofs.Common.{◌∙◌}
-use Rattle.pb_replay.proofs.lemmas.rules.Made.{axiom_made, weaken_made, saturate_made, add_fails}
+use Rattle.pb_replay.proofs.lemmas.rules.Words.{axiom_made, weaken_made, saturate_made, add_fails}
 use Rattle.pb_replay.proofs.step.pol.form_of_word.Goals as goal
 
 pub returns-in_ok-axiom-in-Axiom-clause-ok : goal.returns-in_ok-axiom-in-Axiom-clause-ok

@@ -1,5 +1,5 @@
 use Rattle.pb_replay.proofs.Common.{inl, inr, err_from_is_err_and}
-use Rattle.pb_replay.proofs.lemmas.rules.Evaluation.{stands_first, word_takes, word_named, word_fails, stands_next, some_form, some_fault}
+use Rattle.pb_replay.proofs.lemmas.rules.Words.{stands_first, word_takes, word_named, word_fails, stands_next, some_form, some_fault}
 use Rattle.pb_replay.proofs.step.pol.form_of_words.Goals as goal
 
 pub loop-word-init : goal.loop-word-init

@@ -1,6 +1,5 @@
 use Rattle.pb_replay.proofs.Common.{◌∙◌, refl, rules}
-use Rattle.pb_replay.proofs.lemmas.rules.VisitCounts.{visits-judged, visits-memory, visits-none}
-use Rattle.pb_replay.proofs.lemmas.rules.Rups.{keeps_then, rup_judged, rup_unmade, unmade, unmade-fits}
+use Rattle.pb_replay.proofs.lemmas.rules.Statements.{visits-judged, visits-memory, visits-none, keeps_then, rup_judged, rup_unmade, unmade, unmade-fits}
 use Rattle.pb_replay.proofs.step.rup.rup.Goals as goal
 
 pub returns-in_err-form-clause-goes : goal.returns-in_err-form-clause-goes

@@ -1,5 +1,5 @@
 use Rattle.pb_replay.proofs.Common.{◌-ℤ◌, ◌≡◌, FitsSigned, pos, rules, fits_signed_from_abs, to_z-of_z, w128}
-use Rattle.pb_replay.proofs.lemmas.names.Going.{demands-ok, logs-from}
+use Rattle.pb_replay.proofs.lemmas.rules.Steps.{demands-ok, logs-from}
 use Rattle.pb_replay.proofs.step.solution.demand_less.Goals as goal
 
 pub returns-clause-demands : goal.returns-clause-demands

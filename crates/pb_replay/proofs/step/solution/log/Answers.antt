@@ -1,5 +1,5 @@
 use Rattle.pb_replay.proofs.Common.{FitsSigned, of_z, refl, rules, Some, to_z, to_z-of_z, err_from_is_err_and, w128}
-use Rattle.pb_replay.proofs.lemmas.names.Going.{logs-ok, logs-err}
+use Rattle.pb_replay.proofs.lemmas.rules.Steps.{logs-ok, logs-err}
 use Rattle.pb_replay.proofs.step.solution.log.Goals as goal
 
 pub returns-clause-logs : goal.returns-clause-logs

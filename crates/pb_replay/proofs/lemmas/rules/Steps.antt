@@ -1,18 +1,50 @@
--- What is true before each statement
-use Rattle.pb_replay.proofs.Common.{ℕ, ◌++◌, ◌<◌, ◌∙◌, ◌≡◌, ◌≤◌, ◌⊎◌, [], ap, arith, Err, inl, inr, length, length-append, List, None, refl, Some}
-use Rattle.pb_replay.proofs.Common.{subst, sym, take, Contains, IfSome, Ok, Option, Result, take-length, length-take-le, take-append-le}
-use Rattle.pb_replay.proofs.Common.{All-contains, none-some, same_Some, in_turn, NormalFault, AreFormsOf, constraint_names, Fits, sides_in, Form}
-use Rattle.pb_replay.proofs.Common.{with_names, magnitude, names_of, Instance, IsStatementValue, Statement, contains-none, Linear, Term, same_err}
-use Rattle.pb_replay.proofs.Common.{Limits, largest, top_of, Comes, IsBest, IsKept, IsLinked, IsOpened, IsProper, IsReady, Keeps}
-use Rattle.pb_replay.proofs.Common.{outcome_in, problem_of, state_of, Fault, Memory, NotTotal, Running, Verdict, IsNamePrefix, IsSound, Means}
-use Rattle.pb_replay.proofs.Common.{MeansWritten, names_in, objective_of, Opened, Problem, Logged, State}
-use Rattle.std.specs.List.{All as AllOf}
+-- What is true before each statement, from the state after its names have appeared to the state before, and the best value
+use Rattle.pb_replay.proofs.Common.{ℤ, ◌++◌, ◌∙◌, ◌∷◌, ◌≡◌, ◌≤ℤ◌, ◌⊎◌, [], ap, arith, inl, inr, List, None, Some, sym, ◌↔◌, Contains, Option, ints}
+use Rattle.pb_replay.proofs.Common.{Contains-append_left, Contains-push, Contains-push_cases, none-some, contains-none, IsBest, IsBetter, Logged, ℕ, ◌<◌, ◌≤◌}
+use Rattle.pb_replay.proofs.Common.{Err, length, length-append, refl, subst, take, IfSome, Ok, Result, take-length, length-take-le, take-append-le}
+use Rattle.pb_replay.proofs.Common.{All-contains, same_Some, in_turn, NormalFault, AreFormsOf, constraint_names, Fits, sides_in, Form, with_names, magnitude}
+use Rattle.pb_replay.proofs.Common.{names_of, Instance, IsStatementValue, Statement, Linear, Term, same_err, Limits, largest, top_of, Comes, IsKept, IsLinked}
+use Rattle.pb_replay.proofs.Common.{IsOpened, IsProper, IsReady, Keeps, outcome_in, problem_of, state_of, Fault, Memory, NotTotal, Running, Verdict}
+use Rattle.pb_replay.proofs.Common.{IsNamePrefix, IsSound, Means, MeansWritten, names_in, objective_of, Opened, Problem, State, ◌-ℤ◌, pos, Side, IsSideOf}
+use Rattle.pb_replay.proofs.Common.{Adding, does_in, Goes, GoesAt, HasNamed, Logs, with_mentioned, Demands, HasObjective, objective_with}
+use Rattle.pb_replay.proofs.Common.{added, normal_form, Does, mentioned}
 use Rattle.pb_replay.specs.contract.Faults.{fault_of}
-use Rattle.pb_replay.proofs.lemmas.names.Unvalued.{unvalued-old}
-use Rattle.pb_replay.proofs.lemmas.rules.States.{same-state}
+use Rattle.std.specs.List.{All as AllOf}
+use Rattle.pb_replay.proofs.lemmas.meaning.Accepting.{ok-same}
 use Rattle.pb_replay.proofs.lemmas.meaning.Loads.{problems-proper, loaded-inside, meanings-agree}
-use Rattle.pb_replay.proofs.lemmas.meaning.Sound.{first-sound, statements-sound}
-use Rattle.pb_replay.proofs.lemmas.names.Naming.{length-prefix}
+use Rattle.pb_replay.proofs.lemmas.meaning.Soundness.{first-sound, statements-sound}
+use Rattle.pb_replay.proofs.lemmas.names.Assigned.{length-prefix}
+use Rattle.pb_replay.proofs.lemmas.meaning.Relating.{unvalued-old}
+use Rattle.pb_replay.proofs.lemmas.rules.Statements.{same-state, carries-from, added-over}
+
+pub nothing : (logged : List Logged) (best : Option ℤ) → IsBest logged best → best ≡ None → logged ≡ []
+nothing logged best h e = grind arith
+
+pub best-push : (logged : List Logged) (best : Option ℤ) (g : Logged) (r : ℤ) → IsBest logged best → IsBetter best g.value r → IsBest (logged ++ g ∷ []) (Some r)
+best-push logged None g r h e = (
+  (g, Contains-push logged g, sym e),
+  λ k c. elim (Contains-push_cases logged g k c) [
+    | inl old ↦ absurd (contains-none logged k h old)
+    | inr new ↦ omega (arith, ints, e, ap (λ (x : Logged). x.value) new)
+  ],
+)
+best-push logged (Some b) g r h e = (
+  reached e.2,
+  λ k c. elim (Contains-push_cases logged g k c) [
+    | inl old ↦ omega (arith, ints, e.0, h.1 k old)
+    | inr new ↦ omega (arith, ints, e.1, ap (λ (x : Logged). x.value) new)
+  ],
+)
+  where
+    reached : (r ≡ b) ⊎ (r ≡ g.value) → (k : Logged) × Contains (logged ++ g ∷ []) k × (k.value ≡ r)
+    reached (inl is) = let one = h.0 in (one.0, Contains-append_left logged (g ∷ []) one.0 one.1, one.2 ∙ sym is)
+    reached (inr is) = (g, Contains-push logged g, sym is)
+
+pub below : (logged : List Logged) (b bound : ℤ) → IsBest logged (Some b) → (bound ≤ℤ b) ↔ ((g : Logged) → Contains logged g → bound ≤ℤ g.value)
+below logged b bound h = (
+  λ le g c. omega (arith, ints, le, h.1 g c),
+  λ each. let one = h.0 in omega (arith, ints, each one.0 one.1, one.2),
+)
 
 pub meant : (v : Problem) (s : State) (o : Option Verdict) → IsSound v s → o ≡ s.concluded → IfSome o (Means v)
 meant v s None sound e = tt
@@ -128,3 +160,58 @@ kept-err old new st d ready comes k = record {
   ready = λ none. absurd (none-some _ (sym none));
   reported = λ n e. omega (arith, step-unvalued old new st d n ready comes (ap (λ (x : Fault). let r : Result Unit Fault = Err x in r) (same_Some _ _ e)), length-prefix old.names new.names k.names);
 }
+
+module _ (old m : Running) (st : Statement) (named : HasNamed (mentioned st) old m) (proper : IsProper old) (kept : Keeps old m) where
+  does-from : (logged : List Logged) (r : Result State Fault) → does_in m st (state_of m logged) r → does_in old st (with_mentioned (state_of old logged) st) r
+  does-from logged r h =
+      let same : state_of m logged ≡ with_mentioned (state_of old logged) st = same-state named.forms named.names named.next named.concluded in
+      let one = subst (λ (s : State). does_in m st s r) same h in
+      let two = subst (λ (v : Problem). Does (largest m.limits) (top_of m.limits) v (with_mentioned (state_of old logged) st) st r) (same_problem old m proper kept) one in
+      subst (λ (l : Limits). Does (largest l) (top_of l) (problem_of old) (with_mentioned (state_of old logged) st) st r) kept.limits two
+
+  pub goes-from : (result : Result Unit Fault) (new : Running) → GoesAt m st result new → Goes old st result new
+  goes-from = carries-from old m (does_in m st) (λ s. does_in old st (with_mentioned s st)) named.best does-from
+
+-- a step that changed nothing but the number of visits
+module _ (old m : Running) (named : HasNamed [] old m) (kept : Keeps old m) where
+  moved : (before after : List Logged) (form : Form) (r : Result State Fault) → added (top_of m.limits) (state_of m before) after form r → added (top_of old.limits) (state_of old before) after form r
+  moved before after form r =
+      added-over old.limits m.limits kept.limits (state_of m before) (state_of old before) (same-state named.forms named.names named.next named.concluded) after form r
+
+  pub logs-from : (z : ℤ) (form : Form) (result : Result Unit Fault) (new : Running) → Logs m z form result new → Logs old z form result new
+  logs-from z form (Ok u) new h = λ before g best is.
+      let k = h before g (subst (λ (b : Option ℤ). IsBest before b) (sym named.best) best) is in
+      (k.0, moved before (before ++ g ∷ []) form (Ok (state_of new (before ++ g ∷ []))) k.1)
+  logs-from z form (Err e) new (inl memory) = inl memory
+  logs-from z form (Err e) new (inr h) = inr (λ before g. moved before (before ++ g ∷ []) form (Err e) (h before g))
+
+pub logs-ok : (old new : Running) (best : Option ℤ) (z b : ℤ) (form : Form) → best ≡ old.best → IsBetter best z b → new.best ≡ Some b
+    → ((before after : List Logged) → added (top_of old.limits) (state_of old before) after form (Ok (state_of new after))) → Logs old z form (Ok tt) new
+logs-ok old new best z b form e better is h before g was value =
+    (subst (λ (o : Option ℤ). IsBest (before ++ g ∷ []) o) (sym is) (best-push before best g b (subst (λ (o : Option ℤ). IsBest before o) (sym e) was) (subst (λ (y : ℤ). IsBetter best y b) (sym value) better)), h before (before ++ g ∷ []))
+
+pub logs-err : (old new : Running) (z : ℤ) (form : Form) (e : Fault) → Adding old form (Err e) new → Logs old z form (Err e) new
+logs-err old new z form e (inl memory) = inl memory
+logs-err old new z form e (inr h) = inr (λ before g. h before (before ++ g ∷ []))
+
+demand-moved : (old m : Running) → HasNamed [] old m → Keeps old m → (before : List Logged) (g : Logged) (o : List Term) (r : Result State Fault)
+    → normal_form (largest m.limits) m.names Side.AtMost (objective_with o (g.value -ℤ pos 1)) (added (top_of m.limits) (state_of m before) (before ++ g ∷ [])) r
+    → normal_form (largest old.limits) old.names Side.AtMost (objective_with o (g.value -ℤ pos 1)) (added (top_of old.limits) (state_of old before) (before ++ g ∷ [])) r
+demand-moved old m named kept before g o r h = grind (arith, same-state, named.forms, named.names, named.next, named.concluded, m.limits, g.value, old.names, kept.limits)
+
+pub demands-from : (old m : Running) → HasNamed [] old m → IsProper old → Keeps old m → (z : ℤ) (result : Result Unit Fault) (new : Running) → Demands m z result new → Demands old z result new
+demands-from old m named proper kept z (Ok u) new h = λ before g o best is has.
+    let k = h before g o (subst (λ (b : Option ℤ). IsBest before b) (sym named.best) best) is (kept.objective ∙ has) in
+    (k.0, demand-moved old m named kept before g o (Ok (state_of new (before ++ g ∷ []))) k.1)
+demands-from old m named proper kept z (Err e) new (inl memory) = inl memory
+demands-from old m named proper kept z (Err e) new (inr h) = inr (λ before g o is has. demand-moved old m named kept before g o (Err e) (h before g o is (kept.objective ∙ has)))
+
+-- the form of an objective
+pub form-of : (limit : ℕ) (names : List (List ℕ)) (objective : Option (List Term)) (side : Side) (degree : ℤ) (form : Form) → HasObjective limit names objective side degree (Ok form) → (o : List Term) → objective ≡ Some o
+    → Fits limit (objective_with o degree) × IsSideOf names side (objective_with o degree) form
+form-of limit names objective side degree form made o has = grind (arith, same_Some, ok-same)
+
+pub demands-ok : (old new : Running) (z : ℤ) (form : Form) (result : Result Unit Fault) → HasObjective (largest old.limits) old.names (problem_of old).objective Side.AtMost (z -ℤ pos 1) (Ok form) → Logs old z form result new → Demands old z result new
+demands-ok old new z form (Ok u) made h = λ before g o best value has. grind (arith, form-of, h)
+demands-ok old new z form (Err e) made (inl memory) = inl memory
+demands-ok old new z form (Err e) made (inr h) = inr (λ before g o value has. grind (arith, form-of, h))

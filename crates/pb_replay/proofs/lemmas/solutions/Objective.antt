@@ -1,11 +1,12 @@
--- Sums of the terms that are true, and their magnitudes
-use Rattle.pb_replay.proofs.Common.{ℕ, ℤ, ◌++◌, ◌+ℤ◌, ◌+◌, ◌<◌, ◌^◌, ◌∙◌, ◌∷◌, ◌≡◌, ◌≤◌, [], All, ap, arith, Bool, drop, FitsSigned, get_or, length}
-use Rattle.pb_replay.proofs.Common.{List, Some, subst, suc, sym, take, true, unsigned_abs, zero, option_map, fits_signed_from_abs, ints}
-use Rattle.pb_replay.proofs.Common.{take-append-drop, w128, number_in-append, number_in-below, HasNames-append, magnitude-append, has_name, HasNames}
-use Rattle.pb_replay.proofs.Common.{number_in, magnitude, names_of, true_sum, Linear, Term, take_read, IsProper, problem_of, Running}
-use Rattle.pb_replay.proofs.Common.{by_name, value}
+-- Sums of the terms that are true, their magnitudes, and the form of one side of the objective
+use Rattle.pb_replay.proofs.Common.{ℕ, ℤ, ◌++◌, ◌+ℤ◌, ◌+◌, ◌<◌, ◌^◌, ◌∙◌, ◌∷◌, ◌≡◌, ◌≤◌, [], All, ap, arith, Bool, drop, FitsSigned, get_or, length, List, Some}
+use Rattle.pb_replay.proofs.Common.{subst, suc, sym, take, true, unsigned_abs, zero, option_map, fits_signed_from_abs, ints, take-append-drop, w128}
+use Rattle.pb_replay.proofs.Common.{number_in-append, number_in-below, HasNames-append, magnitude-append, has_name, HasNames, number_in, magnitude, names_of}
+use Rattle.pb_replay.proofs.Common.{true_sum, Linear, Term, take_read, IsProper, problem_of, Running, by_name, value, inl, refl, Ok, present, Side, Form}
+use Rattle.pb_replay.proofs.Common.{with_names, IsFormOf, side_number, side_terms, largest, IsInside, HasObjective}
+use Rattle.std.proofs.lemmas.List.{length-take}
 use Rattle.pb_text.proofs.lemmas.numbers.Numbers.{largest_small}
-use Rattle.pb_replay.proofs.lemmas.names.Naming.{objective-named, value-over}
+use Rattle.pb_replay.proofs.lemmas.names.Assigned.{objective-named, value-over}
 
 pub true_sum-append : (a : List ℕ → Bool) (xs ys : List Term) → true_sum a (xs ++ ys) ≡ (true_sum a xs +ℤ true_sum a ys)
 true_sum-append a [] ys = omega (arith, ints)
@@ -52,12 +53,7 @@ each-below own names more (t ∷ ts) h le (suc k) d lt = each-below own names mo
 pub objective-inside : (r : Running) (o : List Term) (n : ℕ) → IsProper r → (problem_of r).objective ≡ Some o → r.own ≤ n → All (λ t. number_in r.names t.literal.name < n) o
 objective-inside r o n p e le =
     subst (λ (ns : List (List ℕ)). All (λ t. number_in ns t.literal.name < n) o) (take-append-drop r.own r.names)
-    (each-below n (take r.own r.names) (drop r.own r.names) o (objective-named (problem_of r) o p.problem e) (omega (arith, le, short r.own r.names)))
-  where
-    short : (k : ℕ) (ns : List (List ℕ)) → length (take k ns) ≤ k
-    short zero ns = omega arith
-    short (suc k) [] = omega arith
-    short (suc k) (x ∷ ns) = omega (arith, short k ns)
+    (each-below n (take r.own r.names) (drop r.own r.names) o (objective-named (problem_of r) o p.problem e) (omega (arith, le, length-take r.own r.names)))
 
 pub objective-small : (r : Running) (linear : Linear) → IsProper r → r.objective ≡ Some linear → magnitude linear.terms < 2 ^ 127
 objective-small r linear p e = grind (arith, linear.terms, r.limits, p.fits, largest_small)
@@ -65,3 +61,24 @@ objective-small r linear p e = grind (arith, linear.terms, r.limits, p.fits, lar
 pub objective-value : (r : Running) (linear : Linear) → IsProper r → r.objective ≡ Some linear → (a : ℕ → Bool) → true_sum (by_name r.names a) linear.terms ≡ value (problem_of r) a
 objective-value r linear p e a =
     value-over (problem_of r) r.names linear.terms a p.problem (drop r.own r.names, sym (take-append-drop r.own r.names)) (ap (option_map (λ (x : Linear). x.terms)) e)
+
+module _ (r : Running) (linear : Linear) where
+  terms-are : r.objective ≡ Some linear → (problem_of r).objective ≡ Some linear.terms
+  terms-are e = ap (option_map (λ (x : Linear). x.terms)) e
+
+  pub unchanged : (names : List (List ℕ)) → IsProper r → r.objective ≡ Some linear → names ≡ with_names r.names (names_of linear.terms) → names ≡ r.names
+  unchanged names p e h = h ∙ present r.names (names_of linear.terms) (objective-has r linear.terms p (terms-are e))
+
+  pub objective-made : (degree given : ℤ) (side : Side) (names : List (List ℕ)) (form : Form) → IsProper r → r.objective ≡ Some linear → names ≡ with_names r.names (names_of linear.terms) → given ≡ degree
+      → magnitude linear.terms + unsigned_abs given ≤ largest r.limits → IsFormOf names (side_terms side linear.terms) (side_number side given) form
+      → HasObjective (largest r.limits) r.names (problem_of r).objective side degree (Ok form)
+  objective-made degree given side names form p e h same fits is =
+      let at : IsFormOf r.names (side_terms side linear.terms) (side_number side given) form = subst (λ (ns : List (List ℕ)). IsFormOf ns (side_terms side linear.terms) (side_number side given) form) (unchanged names p e h) is in
+      inl (
+        linear.terms,
+        terms-are e,
+        inl (subst (λ (z : ℤ). magnitude linear.terms + unsigned_abs z ≤ largest r.limits) same fits, (form, subst (λ (z : ℤ). IsFormOf r.names (side_terms side linear.terms) (side_number side z) form) same at, refl)),
+      )
+
+  pub objective-within : (names : List (List ℕ)) (form : Form) (side : Side) (given : ℤ) → IsProper r → r.objective ≡ Some linear → names ≡ with_names r.names (names_of linear.terms) → IsFormOf names (side_terms side linear.terms) (side_number side given) form → IsInside (length r.names) form
+  objective-within names form side given p e h is = subst (λ (ns : List (List ℕ)). IsInside (length ns) form) (unchanged names p e h) is.named

@@ -1,21 +1,42 @@
 -- Every accepted statement preserves what is true of a state
-use Rattle.pb_replay.proofs.Common.{ℕ, ℤ, ◌++◌, ◌+ℤ◌, ◌-ℤ◌, ◌<◌, ◌∷◌, ◌≡◌, ◌≤ℤ◌, ◌⊎◌, [], All, append-nil, arith, Bool, inl, inr, length, List, Side}
-use Rattle.pb_replay.proofs.Common.{negsuc, None, pos, refl, set, Some, Option, cases_lt, ints, All-cons, All-head, All-nil, All-tail}
-use Rattle.pb_replay.proofs.Common.{Contains-append_left, Contains-push, Contains-push_cases, none-some, same_Some, distinct, Form, total, true_at}
-use Rattle.pb_replay.proofs.Common.{AreDistinct, with_names, assignment, IsSideOf, true_sum, IsStatementValue, IsWord, Divide, Stage, Closing}
-use Rattle.pb_replay.proofs.Common.{Complete, Concluding, Formula, Steps, Statement}
-use Rattle.pb_replay.proofs.Common.{Constraint, LiteralAxiom, Product, Quotient, Saturation, Sum, Tree, Weakening, words, contains-none, HoldAll}
-use Rattle.pb_replay.proofs.Common.{Live, Literal, Term, FirstIsSound, StatementsAreSound, objective_with, verdict_of, Accounted, allowed, beaten}
-use Rattle.pb_replay.proofs.Common.{IsNamePrefix, IsProblem, IsSolution, IsSound, known, Problem, by_name, Logged, numbered, place, State}
-use Rattle.pb_replay.proofs.Common.{value, Accepts, mentioned}
-use Rattle.pb_replay.specs.contract.Rules.{Deletes, none, one, IsSolvedBy, Rule, header, formula, pol, rup, soli, solx, delete, output, conclude, end}
-use Rattle.pb_replay.proofs.lemmas.meaning.Ruled.{rules-outcomes, solved-from}
-use Rattle.pb_replay.proofs.lemmas.rules.Living.{Live-deleted, Live-loaded, HoldAll-added}
-use Rattle.pb_replay.proofs.lemmas.names.Naming.{IsNamePrefix-more, length-prefix, side-holds, value-over}
-use Rattle.pb_replay.proofs.lemmas.meaning.Propagating.{IsRup-holds}
-use Rattle.pb_replay.proofs.lemmas.meaning.Trees.{HasDivisors, HasForm-holds}
-use Rattle.pb_replay.proofs.lemmas.solutions.Solutions.{IsTaken, Completed-taken, taken-known, clause-fails}
+use Rattle.pb_replay.proofs.Common.{ℕ, ◌≤ℤ◌, arith, Bool, List, pos, unsigned_abs, Option, ints, Holds-sum, Holds-divided, Holds-weakened, Form, Holds}
+use Rattle.pb_replay.proofs.Common.{Constraint, LiteralAxiom, Product, Quotient, Saturation, Sum, Tree, Weakening, HoldAll, Live, ℤ, ◌++◌, ◌+ℤ◌, ◌-ℤ◌, ◌<◌, ◌∷◌}
+use Rattle.pb_replay.proofs.Common.{◌≡◌, ◌⊎◌, [], All, append-nil, inl, inr, length, Side, None, refl, set, Some, cases_lt, All-cons, All-head, All-nil}
+use Rattle.pb_replay.proofs.Common.{All-tail, Contains-append_left, Contains-push, Contains-push_cases, none-some, same_Some, distinct, total, true_at}
+use Rattle.pb_replay.proofs.Common.{AreDistinct, with_names, assignment, IsSideOf, true_sum, IsStatementValue, IsWord, Divide, Stage, Closing, Complete}
+use Rattle.pb_replay.proofs.Common.{Concluding, Formula, Steps, Statement, words, contains-none, Literal, Term, FirstIsSound, StatementsAreSound}
+use Rattle.pb_replay.proofs.Common.{objective_with, verdict_of, Accounted, allowed, beaten, IsNamePrefix, IsProblem, IsSolution, IsSound, known, Problem}
+use Rattle.pb_replay.proofs.Common.{by_name, Logged, numbered, place, State, value, Accepts, mentioned}
+use Rattle.pb_normal.proofs.lemmas.rules.Scales.{Holds-multiplied, Holds-saturated}
+use Rattle.pb_replay.specs.contract.Rules.{HasForm, constraint, literal, sum, product, quotient, saturation, weakening, Deletes, none, one, IsSolvedBy, Rule}
+use Rattle.pb_replay.specs.contract.Rules.{header, formula, pol, rup, soli, solx, delete, output, conclude, end}
 use Rattle.pb_replay.proofs.lemmas.conclusions.Concluded.{justified-means, objective-numbers}
+use Rattle.pb_replay.proofs.lemmas.meaning.Propagated.{IsRup-holds}
+use Rattle.pb_replay.proofs.lemmas.meaning.Ruled.{rules-outcomes, solved-from}
+use Rattle.pb_replay.proofs.lemmas.names.Assigned.{IsNamePrefix-more, length-prefix, side-holds, value-over}
+use Rattle.pb_replay.proofs.lemmas.rules.Live.{IsLive-live, Live-deleted, Live-loaded, HoldAll-added}
+use Rattle.pb_replay.proofs.lemmas.solutions.Completions.{IsTaken, Completed-taken, taken-known, clause-fails}
+
+-- divisors are above 0
+abbrev pub HasDivisors : Tree → Type 0
+HasDivisors (Constraint id) = Unit {0}
+HasDivisors (LiteralAxiom l) = Unit {0}
+HasDivisors (Sum a b) = HasDivisors a × HasDivisors b
+HasDivisors (Product a k) = HasDivisors a
+HasDivisors (Quotient a k) = (pos 1 ≤ℤ k) × HasDivisors a
+HasDivisors (Saturation a) = HasDivisors a
+HasDivisors (Weakening a name) = HasDivisors a
+
+pub HasForm-holds : (a : ℕ → Bool) (limit : ℕ) (names : List (List ℕ)) (live : List (Option Form)) (t : Tree) (r : Form) → HasDivisors t → HoldAll a (Live live) → HasForm limit names live t r → Holds a r
+HasForm-holds a limit names live _ _ p h (constraint i f at) = h f (IsLive-live live i f at)
+HasForm-holds a limit names live _ _ p h (literal l) = omega arith
+HasForm-holds a limit names live _ _ p h (sum b c f g r x y is within) =
+    Holds-sum a f g r is (HasForm-holds a limit names live b f p.0 h x) (HasForm-holds a limit names live c g p.1 h y)
+HasForm-holds a limit names live _ _ p h (product b k f x within) = Holds-multiplied a (unsigned_abs k) f (HasForm-holds a limit names live b f p h x)
+HasForm-holds a limit names live _ _ p h (quotient b k f x) =
+    Holds-divided a (unsigned_abs k) f (omega (arith, ints, p.0)) (HasForm-holds a limit names live b f p.1 h x)
+HasForm-holds a limit names live _ _ p h (saturation b f x) = Holds-saturated a f (HasForm-holds a limit names live b f p h x)
+HasForm-holds a limit names live _ _ p h (weakening b name f x) = Holds-weakened a _ f (HasForm-holds a limit names live b f p h x)
 
 pub first-sound : FirstIsSound
 first-sound v p = grind (arith, contains-none, append-nil, v.names, p.distinct, none-some)
@@ -100,10 +121,7 @@ no_smaller v s o a r w p sound e normal low =
     ]
   where
     cases_le : (x y : ℤ) → (x ≤ℤ y) ⊎ ((y +ℤ pos 1) ≤ℤ x)
-    cases_le (pos m) (pos n) = elim (cases_lt n m) [ inl lt ↦ inr (omega (arith, ints, lt)) | inr ge ↦ inl (omega (arith, ints, ge)) ]
-    cases_le (pos m) (negsuc n) = inr (omega (arith, ints))
-    cases_le (negsuc m) (pos n) = inl (omega (arith, ints))
-    cases_le (negsuc m) (negsuc n) = elim (cases_lt m n) [ inl lt ↦ inr (omega (arith, ints, lt)) | inr ge ↦ inl (omega (arith, ints, ge)) ]
+    cases_le x y = grind (arith, ints)
 
 rule-sound : (limit top : ℕ) (v : Problem) (s t : State) (st : Statement) → IsProblem v → IsStatementValue limit top st → IsSound v s → Rule limit top v s st t → IsSound v t
 rule-sound limit top v s _ _ p q sound header = live-sound v s s.live s.names Formula sound sound.names sound.distinct (λ a solution holds. holds)
