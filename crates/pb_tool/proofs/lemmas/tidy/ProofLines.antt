@@ -1,14 +1,14 @@
 -- The text of a proof whose statements are gathered one by one is its canonical text.
-use Rattle.pb_tool.proofs.Common.{ℕ, ◌++◌, ◌↔◌, ◌∙◌, ◌∷◌, ◌≡◌, [], All, ap, append-nil, append_assoc, List, Option, refl, Result, sym}
-use Rattle.pb_tool.proofs.Common.{flat_map-append, All-head, All-tail, flat_map, Proof, Statement, Conclude, Delete, End, F, Output, Pol, Rup, Soli}
-use Rattle.pb_tool.proofs.Common.{Solx, statement_bytes, IsProofOf, IsStep, statements_of, Limits, Item, events_of, gathered, ToolFault, TidiesEach}
-use Rattle.pb_tool.proofs.Common.{AsksInProofText, IsProofText, tidied_proof, TidiesProof}
+use Rattle.pb_tool.proofs.Common.{ℕ, ◌++◌, ◌↔◌, ◌∙◌, ◌∷◌, ◌≡◌, [], All, ap, append-nil, append_assoc, List, Option, refl, Result, sym, flat_map-append}
+use Rattle.pb_tool.proofs.Common.{All-head, All-tail, flat_map, Proof, Statement, Conclude, Delete, End, F, Output, Pol, Rup, Soli, Solx, statement_bytes}
+use Rattle.pb_tool.proofs.Common.{IsProofOf, IsStep, statements_of, Limits, Item, events_of, gathered, ToolFault, TidiesEach, AsksInProofText, IsProofText}
+use Rattle.pb_tool.proofs.Common.{tidied_proof, TidiesProof}
 use Rattle.pb_proof.specs.contract.Gather.{asks, MayKeep}
 use Rattle.pb_proof.specs.meaning.Canonical.{lines}
 use Rattle.pb_proof.specs.declared.Statement.TheVariants.{Header}
 use Rattle.pb_tool.specs.engine.ProofText.{line, with, text_of, IsProofTextOf}
 use Rattle.pb_tool.specs.declared.commands.tidy.proof_text.ProofText.{ProofText}
-use Rattle.pb_tool.proofs.lemmas.tidy.GatheredText.{tidies_value}
+use Rattle.pb_tool.proofs.lemmas.tidy.InstanceLines.{tidies_value}
 
 -- lines, each with its line feed
 ended : (s : Statement) (rest : List Statement) → lines (s ∷ rest) ++ 10 ∷ [] ≡ flat_map line (s ∷ rest)
