@@ -60,11 +60,9 @@ module _ (exact : ReadsProofs) (limits : Limits) (longest : ℕ) (v : Problem) (
       let left = nothing_left apart (largest limits) (top_of limits) longest taken reported.left now.spans (place_of f) begun rest whole (sym reported.input_is ∙ is) (is_complete f) reported.answer in
       let (used, n, prefix, place, opens, bound) = open_at in
       let as_long : length used ≡ length taken = sym (place_after-offset used) ∙ (ap (λ (x : Place). x.offset) (sym place ∙ reported.place_is) ∙ place_after-offset taken) in
-      let nothing : length reported.left ≡ 0 = ap length left in
-      let all_taken : length input ≡ length taken = omega (arith, ap length reported.input_is, length-append taken reported.left, nothing) in
+      let all_taken : length input ≡ length taken = omega (arith, ap length reported.input_is, length-append taken reported.left, ap length left) in
       let same : used ≡ input = same_prefix used input prefix.0 [] (sym prefix.1 ∙ sym (append-nil input)) (as_long ∙ sym all_taken) in
       let long : length used ≡ length (letters_of begun) = ap length (same ∙ is) ∙ length-bytes (letters_of begun) in
-      let long_after : length used ≡ length {A = ℕ} [] + length (letters_of begun) = omega (arith, long) in
       let text : bytes_of (begun ++ rest) ≡ used ++ bytes_of rest = bytes_joined begun rest ∙ ap (λ (x : List ℕ). x ++ bytes_of rest) (sym (same ∙ is)) in
-      let closed : n ≡ 0 = sym (opens (begun ++ rest) whole (bytes_of rest, text)) ∙ none_open (length used) [] begun rest long_after in
+      let closed : n ≡ 0 = sym (opens (begun ++ rest) whole (bytes_of rest, text)) ∙ none_open (length used) [] begun rest (omega (arith, long)) in
       omega (arith, bound, closed)

@@ -3,9 +3,9 @@ use Rattle.pb_tool.proofs.Common.{ℕ, ◌++◌, ◌↔◌, ◌∙◌, ◌∷◌
 use Rattle.pb_tool.proofs.Common.{string_bytes, subst, sym, String, same_Some, Instance, IsValueOf, Proof, Statement, IsProofOf, statements_of}
 use Rattle.pb_tool.proofs.Common.{OutcomesAreSingle, Fault, NotTotal, Verdict, Opened, Problem, first_state, State, Accepts, Outcome, ok_or_err, same_err}
 use Rattle.pb_tool.proofs.Common.{same_ok, Limits, Place, Spanned, Stop, largest, top_of, HasFixedSpans, IsSpelled, Reads, Item, events_at, events_of, IsRead}
-use Rattle.pb_tool.proofs.Common.{Keeping, Reading, IsSpelling, File, ToolFault, Overflow, Step, Text, AnswersExactly, AreVerified, IsDecided, IsOfText}
-use Rattle.pb_tool.proofs.Common.{IsOfTexts, IsSame, OneAnswer, IsProofFile, IsProofText, IsFile, IsInstanceFile, IsInstanceText, IsNoInstanceFile, InRest}
-use Rattle.pb_tool.proofs.Common.{InText, AfterProof, CheckCall, ChecksFiles, ComesTo, InProof, IsRefusedStep, IsRefusedText, IsReported, IsVerified}
+use Rattle.pb_tool.proofs.Common.{Keeping, Reading, IsSpelling, ToolFault, Overflow, Step, Text, AnswersExactly, AreVerified, IsDecided, IsOfText, IsOfTexts}
+use Rattle.pb_tool.proofs.Common.{IsSame, OneAnswer, IsProofFile, IsProofText, IsFile, IsInstanceFile, IsInstanceText, IsNoInstanceFile, InRest, InText}
+use Rattle.pb_tool.proofs.Common.{AfterProof, CheckCall, ChecksFiles, ComesTo, InProof, IsRefusedStep, IsRefusedText, IsReported, IsVerified}
 use Rattle.pb_replay.specs.declared.fault.Fault.TheVariants.{Memory as no_memory, Overflow as over}
 use Rattle.std.specs.declared.alloc.Global.{Global}
 use Rattle.pb_opb.proofs.lemmas.instances.OneValue.{same_value}
@@ -278,9 +278,7 @@ module _ (laws : AllSingle) (limits : Limits) (longest : ℕ) (i : List ℕ) whe
           (whole_of (IsProofText limits) IsProofOf longest p p1 q g) (proof_refusal laws limits longest p problem (first_state problem) p' s r) d)
       settled i1 p1 v q w f g h (Err (Text of_instance s)) old new i' p' (r, left) d = absurd (no_instance i1 i' v s f r d)
       settled i1 p1 v q w f g h (Err (Overflow of_instance)) old new i' p' (v', f', k, left) d = absurd (opens i1 i' v v' h.problem f h.opened f' k)
-      settled i1 p1 v q w f g h (Err (Text File s)) old new i' p' a d = absurd a
-      settled i1 p1 v q w f g h (Err (Overflow input)) old new i' p' a d = absurd a
-      settled i1 p1 v q w f g h (Err e) old new i' p' a d = absurd d
+      settled i1 p1 v q w f g h result old new i' p' a d = absurd (grind arith)
 
       verified_by : (w : Verdict) (old new : W) (i' p' : Option (List ℕ)) → Answers (Ok w) old i' p' new → AreVerified limits longest i p w
       verified_by w old new i' p' (v, f, q, g, h, wrote) = record { instance = v; first = taken (IsInstanceText limits) IsValueOf longest i i' v f; proof = q; second = taken (IsProofText limits) IsProofOf longest p p' q g; verified = h }

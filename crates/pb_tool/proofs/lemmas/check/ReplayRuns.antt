@@ -1,9 +1,9 @@
 -- A run of a replay through the statements of a source: what it ensures, and the calls that a watch gets.
-use Rattle.pb_tool.proofs.Common.{ℕ, ◌++◌, ◌∙◌, ◌∷◌, ◌≡◌, ◌⊎◌, [], ap, Bool, Err, false, inl, inr, List, None, Ok, Option, refl, Some, subst, sym, true}
+use Rattle.pb_tool.proofs.Common.{ℕ, ◌++◌, ◌∙◌, ◌∷◌, ◌≡◌, ◌⊎◌, [], ap, Bool, Err, false, inl, inr, List, None, Ok, Option, refl, rules, Some, subst, sym, true}
 use Rattle.pb_tool.proofs.Common.{ReadsProofs, Stage, Statement, begin, proofs, Replaying, StandsFor, verdict_at, verdict_in, Fault, Verdict, IsNamePrefix}
 use Rattle.pb_tool.proofs.Common.{Problem, State, Accepts, MayWantAt, Outcome, asking_to, MayAsk, Limits, Place, Spanned, Stop, largest, top_of, TookAll}
 use Rattle.pb_tool.proofs.Common.{TookSoFar, Reads, Item, IsAsking, events_at, KeepsNames, Rejects, StepsTo, RunsProof, Accepted, Call, GotEach, HasSeen}
-use Rattle.pb_tool.proofs.Common.{Rejected, ShowsEach, ShowsRun, CheckFault, Memory, Step, HasShown, AsksInProofText, IsProofText, IsAccepted}
+use Rattle.pb_tool.proofs.Common.{Rejected, ShowsEach, ShowsRun, CheckFault, HasShown, AsksInProofText, IsProofText, IsAccepted}
 use Rattle.pb_text.specs.contract.Automaton.{AcceptsItems as AcceptsBytes}
 use Rattle.pb_proof.specs.declared.Stage.TheVariants.{Complete}
 use Rattle.pb_tool.proofs.lemmas.check.CheckerSteps.{Answers, ReportsOld, accepts_more, failed, proofs_read, shown_at}
@@ -136,11 +136,5 @@ module _ {V : Type 0} (got : V → Call → V → Type 0) (old : V) (began : Rep
     pub shown_all : (before rest : Option (List ℕ)) (place : Place) (done : Bool) (stop : Option Stop) → TookAll (Taken began.limits) longest before rest spans place done stop → HasSeen began.limits longest got began.problem first before old rest place done stop new
     shown_all before rest place done stop t =
         let (last, stands, shows) = h.2 first at in
-        record {
-          spans = spans;
-          took = all_to (Taken began.limits) (IsProofText began.limits) longest (to_proof exact began.limits longest) before before (λ after used seen k. k) rest spans place done stop t;
-          calls = h.0;
-          last = last;
-          shows = shows;
-          got_are = h.1;
-        }
+        let took = all_to (Taken began.limits) (IsProofText began.limits) longest (to_proof exact began.limits longest) before before (λ after used seen k. k) rest spans place done stop t in
+        search rules

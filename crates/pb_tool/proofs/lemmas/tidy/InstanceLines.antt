@@ -1,12 +1,12 @@
 -- The text of an instance whose statements are gathered one by one is its canonical text.
-use Rattle.pb_tool.proofs.Common.{ℕ, ◌++◌, ◌+◌, ◌<◌, ◌==◌, ◌↔◌, ◌∙◌, ◌∷◌, ◌≡◌, ◌≤◌, [], ap, append-nil, append_assoc, ap₂, arith, Bool, cond, drop, false}
-use Rattle.pb_tool.proofs.Common.{IsTrue, length, List, nat_le, None, Option, refl, Result, Some, subst, suc, sym, take, true, zero, both_ways, cond-false}
-use Rattle.pb_tool.proofs.Common.{cond-true, leb-false, AllByRecursion, flat_map, counted, IsCounted, IsEntry, body_events, comment_events, constraint_events}
-use Rattle.pb_tool.proofs.Common.{due, event_bytes, header_bytes, in_order, instance_bytes, lines, objective_events, Instance, OpbEvent, Comment, Constraint}
-use Rattle.pb_tool.proofs.Common.{Header, Objective, MayKeep, IsBegun, IsInstance, comment_at, comments_in, constraints_in, IsValueOf, last_or, objectives_in}
-use Rattle.pb_tool.proofs.Common.{head_bytes, Linear, Term, stops_in, Limits, Spanned, Stop, largest, top_of, Item, Letter, events_of, gathered, IsRead}
-use Rattle.pb_tool.proofs.Common.{IsWhole, MayHold, ReadsValue, ReadsWhole, ToolFault, TidiesEach, IsInstanceTextOf, line, line_if, text_of, with}
-use Rattle.pb_tool.proofs.Common.{AsksInInstanceText, ends_in_feed, is_bare, IsFile, IsInstanceText, IsRefused, tidied, Tidies, TidiesAs, InRest, InText}
+use Rattle.pb_tool.proofs.Common.{ℕ, ◌++◌, ◌+◌, ◌==◌, ◌↔◌, ◌∙◌, ◌∷◌, ◌≡◌, ◌≤◌, [], ap, append-nil, append_assoc, ap₂, arith, Bool, drop, false, IsTrue, length}
+use Rattle.pb_tool.proofs.Common.{List, None, Option, refl, Result, Some, subst, suc, sym, take, true, zero, both_ways, cond-false, cond-true, AllByRecursion}
+use Rattle.pb_tool.proofs.Common.{flat_map, counted, IsCounted, IsEntry, body_events, comment_events, constraint_events, due, event_bytes, header_bytes}
+use Rattle.pb_tool.proofs.Common.{in_order, instance_bytes, lines, objective_events, Instance, OpbEvent, Comment, Constraint, Header, Objective, MayKeep}
+use Rattle.pb_tool.proofs.Common.{IsBegun, IsInstance, comment_at, comments_in, constraints_in, IsValueOf, last_or, objectives_in, head_bytes, Linear, Term}
+use Rattle.pb_tool.proofs.Common.{stops_in, Limits, Spanned, Stop, largest, top_of, Item, Letter, events_of, gathered, IsRead, IsWhole, MayHold, ReadsValue}
+use Rattle.pb_tool.proofs.Common.{ReadsWhole, ToolFault, TidiesEach, IsInstanceTextOf, line, line_if, text_of, with, AsksInInstanceText, ends_in_feed, is_bare}
+use Rattle.pb_tool.proofs.Common.{IsFile, IsInstanceText, IsRefused, tidied, Tidies, TidiesAs, InRest, InText}
 use Rattle.pb_opb.proofs.lemmas.instances.Kept.{reported}
 use Rattle.pb_tool.specs.engine.InstanceText.{asks}
 use Rattle.pb_tool.specs.declared.commands.tidy.instance_text.InstanceText.{InstanceText}
@@ -106,15 +106,7 @@ mains_in (e ∷ events) = mains_in events
 
 -- a comment that is due comes first
 comment_first : (k : ℕ) (t : List ℕ) (cs : List comment.Comment) (e : OpbEvent) (ms : List OpbEvent) → in_order k (comment_at k t ∷ cs) (e ∷ ms) ≡ Comment t ∷ in_order k cs (e ∷ ms)
-comment_first k t cs e ms = first (nat_le k k) refl
-  where
-    first : (b : Bool) → nat_le k k ≡ b
-        → comment_events (take (cond b (1 + due k cs) 0) (comment_at k t ∷ cs)) ++ e ∷ in_order (k + 1) (drop (cond b (1 + due k cs) 0) (comment_at k t ∷ cs)) ms
-        ≡ Comment t ∷ (comment_events (take (due k cs) cs) ++ e ∷ in_order (k + 1) (drop (due k cs) cs) ms)
-    first true h =
-        let one : 1 + due k cs ≡ suc (due k cs) = omega arith in
-        rw one refl
-    first false h = absurd (let late : k < k = leb-false k k h in omega arith)
+comment_first k t cs e ms = grind (arith, nat_tests)
 
 -- no comment after a later statement is due
 late : (events : List OpbEvent) (k j : ℕ) → k + 1 ≤ j → due k (comments_in j events) ≡ 0
@@ -276,11 +268,7 @@ module _ {E T V : Type 0} (accepted format : List (Item E) → Type 0) (same : (
 
 -- ---- the text so far, and one more statement
 
--- after a stored objective
-pushed : (a p o l : List ℕ) → a ++ ((p ++ (o ++ l)) ++ []) ≡ (a ++ (p ++ o)) ++ l
-pushed a p o l = ap (λ (x : List ℕ). a ++ x) (append-nil (p ++ (o ++ l)) ∙ sym (append_assoc p o l)) ∙ sym (append_assoc a (p ++ o) l)
-
--- without one
+-- the text so far and one more line, if no objective is stored
 kept : (a p l : List ℕ) (o : Option OpbEvent) → o ≡ None → a ++ (p ++ l) ≡ (a ++ (p ++ line_if o)) ++ l
 kept a p l o n =
     ap (λ (x : List ℕ). a ++ (x ++ l)) (sym (append-nil p)) ∙ (sym (append_assoc a (p ++ []) l) ∙ ap (λ (x : Option OpbEvent). (a ++ (p ++ line_if x)) ++ l) (sym n))
@@ -292,14 +280,12 @@ module _ (limit : ℕ) where
       → text_of (gathered with t (e ∷ events_of rest)) ≡ gathered line_more (text_of t) (e ∷ events_of rest)
   kept-entry may n text (Header a b c) rest ih t h none = absurd h
   kept-entry may n text (Comment x) rest ih t h none =
-      ih may (suc n) (with t (Comment x)) h.2 (λ i. refl)
-      ∙ ap (λ (x : List ℕ). gathered line_more x (events_of rest)) (pushed (line_if t.header) t.page.text (line_if t.objective) (line (Comment x)))
+      grind (arith, append-nil, append_assoc, ih may (suc n) (with t (Comment x)) h.2 (λ i. refl))
   kept-entry may n text (Objective terms) rest ih t h none =
       ih false (suc n) (with t (Objective terms)) h.2 (λ i. cc)
       ∙ ap (λ (x : List ℕ). gathered line_more x (events_of rest)) (kept (line_if t.header) t.page.text (line (Objective terms)) t.objective (none h.0))
   kept-entry may n text (Constraint l) rest ih t h none =
-      ih false n (with t (Constraint l)) h.1 (λ i. refl)
-      ∙ ap (λ (x : List ℕ). gathered line_more x (events_of rest)) (pushed (line_if t.header) t.page.text (line_if t.objective) (line (Constraint l)))
+      grind (arith, append-nil, append_assoc, ih false n (with t (Constraint l)) h.1 (λ i. refl))
 
   kept_lines : (may : Bool) (n : ℕ) (items : List (Item OpbEvent)) (t : InstanceText) → IsCounted limit may n items → (may ≡ true → t.objective ≡ None) → text_of (gathered with t (events_of items)) ≡ gathered line_more (text_of t) (events_of items)
   kept_lines may zero [] t h none = refl

@@ -1,6 +1,6 @@
 -- The normal form of a file whose statements come one by one, its solutions, and that there is one.
 use Rattle.pb_tool.proofs.Common.{ℕ, ℤ, ◌++◌, ◌+◌, ◌↔◌, ◌∙◌, ◌∷◌, ◌≡◌, [], ap, append-nil, append_assoc, ap₂, arith, Bool, Err, false, IsTrue, length, List}
-use Rattle.pb_tool.proofs.Common.{map, None, Ok, Option, refl, Result, Some, subst, sym, true, length-map, All-contains, All-contains_itself}
+use Rattle.pb_tool.proofs.Common.{map, None, Ok, Option, refl, Result, rules, Some, subst, sym, true, length-map, All-contains, All-contains_itself}
 use Rattle.pb_tool.proofs.Common.{All-from_recursion, All-weaker, recursion_from_All, AllByRecursion, flat_map, names_split, same_forms, Side, AreFormsOf}
 use Rattle.pb_tool.proofs.Common.{constraint_names, sides_in, with_sides, Form, AreDistinct, HasNames, with_names, HoldsWritten, IsFormOf, IsSideOf, linear_of}
 use Rattle.pb_tool.proofs.Common.{names_of, SameAsForm, SameAsForms, counted, body_events, constraint_events, header_bytes, in_order, instance_bytes, lines}
@@ -139,17 +139,10 @@ module _ (events : List OpbEvent) (n : ℕ) (o : Option OpbEvent) (t : Forms) (h
   constraints = map (linear_of t.lines.names) made.0.forms
 
   normalised : IsNormalised v (plain v.variables v.objective constraints)
-  normalised = record {
-    variables = refl;
-    objective = refl;
-    tail = refl;
-    comments = refl;
-    constraints = (
-      made.0.forms,
-      subst (λ (ks : List (List ℕ)). AreFormsOf ks (sides_in v.constraints) made.0.forms) all_names forms_loaded,
-      ap (λ (ks : List (List ℕ)). map (linear_of ks) made.0.forms) all_names,
-    );
-  }
+  normalised =
+      let loaded = subst (λ (ks : List (List ℕ)). AreFormsOf ks (sides_in v.constraints) made.0.forms) all_names forms_loaded in
+      let written = ap (λ (ks : List (List ℕ)). map (linear_of ks) made.0.forms) all_names in
+      search rules
 
   text_kept : line (Header n t.lines.count []) ++ (line_if o ++ t.lines.page.text) ≡ tidied (plain v.variables v.objective constraints)
   text_kept =

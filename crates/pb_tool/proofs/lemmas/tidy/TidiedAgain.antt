@@ -25,11 +25,7 @@ written v = by_end (ends_in_feed (instance_bytes v))
 
 -- what follows a canonical text is blank
 passes_feed : (rest used more : List ℕ) (b : ℕ) → IsFeed rest → rest ≡ used ++ b ∷ more → passes used b ≡ false → ⊥
-passes_feed rest [] more b (inr f) e p =
-    let feed : b ≡ 10 = cc in
-    let white : passes [] 10 ≡ true = refl in
-    let no : true ≡ false = sym white ∙ subst (λ (x : ℕ). passes [] x ≡ false) feed p in
-    absurd cc
+passes_feed rest [] more b (inr f) e p = grind arith
 passes_feed rest (u ∷ []) more b f e p = grind arith
 passes_feed rest used more b f e p = grind arith
 
