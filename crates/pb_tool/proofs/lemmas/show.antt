@@ -1,4 +1,2 @@
 -- Lemmas of `pb show`.
-pub mod GivenStatements
 pub mod ShownStatements
-pub mod StatementLine

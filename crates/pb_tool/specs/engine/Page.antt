@@ -1,5 +1,5 @@
 -- A page in which a text is stored.
-use Rattle.std.specs.Prelude.{ℕ, List, Option, Some, Result}
+use Rattle.std.specs.Prelude.{ℕ, List, Some, Result}
 use Rattle.pb_text.specs.declared.source.Failed.{Failed}
 use Rattle.pb_text.specs.meaning.Writing.{Writes}
 use Rattle.pb_tool.specs.declared.commands.tidy.page.Page.{Page}

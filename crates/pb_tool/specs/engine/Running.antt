@@ -39,6 +39,22 @@ pub record Begins (longest : ℕ) (began : Replaying) (c : Checking) : Type 0 wh
   pub start : (place_of c.feeder).offset ≡ 0
   pub replay : c.replay ≡ began
 
+-- for the bytes that are known of a source, and for those that its calls have given
+abbrev pub OfBoth : (Option (List ℕ) → Option (List ℕ) → Type 0) → Option (List ℕ) → List ℕ → Option (List ℕ) → List ℕ → Type 0
+OfBoth Owed before since rest now = Owed before rest × OfGiven Owed since now
+
+-- A run began with this replay, in this state, and with this watch.
+module _ (longest : ℕ) (began : Replaying) {V : Type 0} (got : V → Call → V → Type 0) (old : V) (first : State) where
+  -- what the run through a source comes to, and what it shows
+  pub record IsRun (result : Result (Verdict × Place) CheckFault) (r : Replaying) (new : V) (before after : Option (List ℕ)) : Type 0 where
+    pub runs : RunsProof began.limits longest began.problem first before result after r
+    pub shown : ShowsRun began.limits longest got began.problem first before old result after new
+
+  -- the same for the check of the proof, with the rest after it
+  pub record IsChecked (result : Result Verdict ToolFault) (new : V) (before after : Option (List ℕ)) : Type 0 where
+    pub replayed : Replays began.limits longest began.problem first before result after
+    pub shown : ShowsProof began.limits longest got began.problem first before old result after new
+
 -- A run began with this replay, this source and this watch. Of the source, the bytes are known that were left in it, or
 -- those that its calls had given.
 module _ (longest : ℕ) (began : Replaying) {V : Type 0} (got : V → Call → V → Type 0) (before : Option (List ℕ)) (since : List ℕ) (old : V) where
@@ -53,16 +69,9 @@ module _ (longest : ℕ) (began : Replaying) {V : Type 0} (got : V → Call → 
     pub given : HasGiven longest (begin (largest began.limits) (top_of began.limits)) since spans c.feeder now
     pub shown : HasShown got old began spans new c.replay
 
-  -- what the run comes to, and what it shows
-  pub record IsRun (first : State) (result : Result (Verdict × Place) CheckFault) (r : Replaying) (rest : Option (List ℕ)) (now : List ℕ) (new : V) : Type 0 where
-    pub runs : RunsProof began.limits longest began.problem first before result rest r
-    pub given : OfGiven (λ left end. RunsProof began.limits longest began.problem first left result end r) since now
-    pub shown : ShowsRun began.limits longest got began.problem first before old result rest new
-    pub shown_given : OfGiven (λ left end. ShowsRun began.limits longest got began.problem first left old result end new) since now
-
-  -- for each state that the replay may have begun with
+  -- what the run comes to, for each state that the replay may have begun with
   abbrev pub RunsTo : Result (Verdict × Place) CheckFault → Replaying → Option (List ℕ) → List ℕ → V → Type 0
-  RunsTo result r rest now new = (first : State) → StandsFor began first → IsRun first result r rest now new
+  RunsTo result r rest now new = (first : State) → StandsFor began first → OfBoth (IsRun longest began got old first result r new) before since rest now
 
   -- after one statement more, or at the end
   abbrev pub RunsOn : Result (Option Verdict) CheckFault → Checking → Option (List ℕ) → List ℕ → V → Type 0
@@ -70,13 +79,6 @@ module _ (longest : ℕ) (began : Replaying) {V : Type 0} (got : V → Call → 
   RunsOn (Ok (Some w)) c rest now new = RunsTo (Ok (w, place_of c.feeder)) c.replay rest now new
   RunsOn (Err f) c rest now new = RunsTo (Err f) c.replay rest now new
 
-  -- what the check of the proof comes to, with the rest after it, and what it shows
-  pub record IsChecked (first : State) (result : Result Verdict ToolFault) (rest : Option (List ℕ)) (now : List ℕ) (new : V) : Type 0 where
-    pub replayed : Replays began.limits longest began.problem first before result rest
-    pub given : OfGiven (λ left end. Replays began.limits longest began.problem first left result end) since now
-    pub shown : ShowsProof began.limits longest got began.problem first before old result rest new
-    pub shown_given : OfGiven (λ left end. ShowsProof began.limits longest got began.problem first left old result end new) since now
-
-  -- for each state that the replay may have begun with
+  -- what the check of the proof comes to
   abbrev pub ChecksTo : Result Verdict ToolFault → Option (List ℕ) → List ℕ → V → Type 0
-  ChecksTo result rest now new = (first : State) → StandsFor began first → IsChecked first result rest now new
+  ChecksTo result rest now new = (first : State) → StandsFor began first → OfBoth (IsChecked longest began got old first result new) before since rest now

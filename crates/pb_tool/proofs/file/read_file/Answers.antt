@@ -1,6 +1,5 @@
-use Rattle.pb_tool.proofs.Common.{AcceptsItems, MayAsk, IsWhole, ReadsWhole, InRest, InText, arith}
-use Rattle.pb_tool.proofs.lemmas.file.GivenBytes.{file_then_blank, given_file, given_stray, used_of}
-use Rattle.pb_tool.proofs.lemmas.file.PassedOn.{passed_on}
+use Rattle.pb_tool.proofs.Common.{arith, AcceptsItems, MayAsk, IsWhole, ReadsWhole, InRest, InText}
+use Rattle.pb_tool.proofs.lemmas.file.GivenBytes.{file_then_blank, given_file, given_stray, used_of, passed_on}
 use Rattle.pb_tool.proofs.file.read_file.Goals as goal
 
 pub returns-in_err-read-clause-refused : goal.returns-in_err-read-clause-refused

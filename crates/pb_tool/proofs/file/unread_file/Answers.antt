@@ -1,5 +1,5 @@
 use Rattle.pb_tool.proofs.Common.{[], false, Some, false_from_ne_true, first_fault, first_place, largest, top_of}
-use Rattle.pb_tool.proofs.lemmas.file.ChosenFormat.{no_proof}
+use Rattle.pb_tool.proofs.lemmas.file.GivenBytes.{no_proof}
 use Rattle.pb_tool.proofs.file.unread_file.Goals as goal
 
 pub returns-clause-instance : goal.returns-clause-instance

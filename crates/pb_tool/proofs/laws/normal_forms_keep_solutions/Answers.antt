@@ -1,4 +1,4 @@
-use Rattle.pb_tool.proofs.lemmas.tidy.NormalSolutions.{same_solutions}
+use Rattle.pb_tool.proofs.lemmas.tidy.NormalFile.{same_solutions}
 use Rattle.pb_tool.proofs.laws.normal_forms_keep_solutions.Goals as goal
 
 pub returns : goal.returns

@@ -1,4 +1,4 @@
-use Rattle.pb_tool.proofs.lemmas.tidy.NormalSolutions.{one_form}
+use Rattle.pb_tool.proofs.lemmas.tidy.NormalFile.{one_form}
 use Rattle.pb_tool.proofs.laws.one_normal_form.Goals as goal
 
 pub returns : goal.returns

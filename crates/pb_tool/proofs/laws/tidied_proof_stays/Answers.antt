@@ -1,5 +1,5 @@
 use Rattle.pb_tool.proofs.Common.{◌∙◌, ◌∷◌, [], inr, refl, sym, proof_bytes, IsProofOf, largest_small, largest, top_of, IsProofText, tidied_proof}
-use Rattle.pb_tool.proofs.lemmas.tidy.ReadBack.{faultless, read_alone}
+use Rattle.pb_tool.proofs.lemmas.tidy.TidiedAgain.{faultless, read_alone}
 use Rattle.pb_tool.proofs.laws.tidied_proof_stays.Goals as goal
 
 pub returns-clause-taken : goal.returns-clause-taken

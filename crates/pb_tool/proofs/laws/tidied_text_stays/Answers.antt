@@ -1,6 +1,6 @@
 use Rattle.pb_tool.proofs.Common.{ℕ, ◌++◌, ◌∙◌, ◌∷◌, ◌≡◌, List, refl, sym, instance_bytes, Instance, IsValueOf, largest_small, largest, top_of, arith}
 use Rattle.pb_tool.proofs.Common.{IsInstanceText, tidied}
-use Rattle.pb_tool.proofs.lemmas.tidy.ReadBack.{faultless, read_alone, written}
+use Rattle.pb_tool.proofs.lemmas.tidy.TidiedAgain.{faultless, read_alone, written}
 use Rattle.pb_tool.proofs.laws.tidied_text_stays.Goals as goal
 
 -- an instance begins with a star

@@ -1,18 +1,16 @@
 -- A checker that pulls a statement from a source, and steps through it.
-use Rattle.pb_tool.proofs.Common.{ℕ, ◌++◌, ◌^◌, ◌∙◌, ◌∷◌, ◌≡◌, ◌≤◌, [], append-nil, arith, Bool, Err, List, None, Ok, Option, refl}
-use Rattle.pb_tool.proofs.Common.{Result, Some, subst, sym, true, ReadsProofs, ReadStatements, IsStatementValue, Statement, begin, ProofState}
-use Rattle.pb_tool.proofs.Common.{WholeProofsConclude, Replaying, verdict_in, Fault, Verdict, IsNamePrefix, Problem, State, length-bytes}
-use Rattle.pb_tool.proofs.Common.{place_after-offset, halt_of, is_complete, place_of, StandsAt, stop_of, Limits, Spanned, Stop}
-use Rattle.pb_tool.proofs.Common.{largest, top_of, OfGiven, Pulls, PullsOn, AsksAsText, Checking, ChecksSoFar, IsSomewhere, false}
-use Rattle.pb_tool.proofs.Common.{ProofFeeder, TextsAreRead, SawText, Accepted, Call, Rejected, CheckFault, Begins, HasRun}
-use Rattle.pb_tool.proofs.Common.{RunsTo}
+use Rattle.pb_tool.proofs.Common.{ℕ, ◌++◌, ◌^◌, ◌∙◌, ◌∷◌, ◌≡◌, ◌≤◌, [], append-nil, arith, Bool, Err, false, List, None, Ok, Option, refl, Result, Some, subst}
+use Rattle.pb_tool.proofs.Common.{sym, true, ReadsProofs, ReadStatements, IsStatementValue, Statement, begin, ProofState, WholeProofsConclude, Replaying}
+use Rattle.pb_tool.proofs.Common.{verdict_in, Fault, Verdict, IsNamePrefix, Problem, State, length-bytes, place_after-offset, halt_of, is_complete, place_of}
+use Rattle.pb_tool.proofs.Common.{StandsAt, stop_of, Limits, Spanned, Stop, largest, top_of, OfGiven, Pulls, PullsOn, AsksAsText, Checking, ChecksSoFar}
+use Rattle.pb_tool.proofs.Common.{IsSomewhere, ProofFeeder, TextsAreRead, SawText, Accepted, Call, Rejected, CheckFault, Begins, HasRun, IsRun, RunsTo}
 use Rattle.pb_text.specs.contract.Standing.{IsOpen as IsOpenText}
-use Rattle.pb_tool.proofs.lemmas.check.CheckerSteps as checked
 use Rattle.pb_tool.proofs.lemmas.check.CheckerSteps.{Answers, ReportsOld, running_at}
+use Rattle.pb_tool.proofs.lemmas.check.ReplayRuns.{shown_all, shown_first, shown_next, shown_rejected}
+use Rattle.pb_tool.proofs.lemmas.file.GivenBytes.{of_both}
+use Rattle.pb_tool.proofs.lemmas.show.ShownStatements.{given_next, given_row, first_pull}
+use Rattle.pb_tool.proofs.lemmas.check.CheckerSteps as checked
 use Rattle.pb_tool.proofs.lemmas.check.ReplayRuns as replayed
-use Rattle.pb_tool.proofs.lemmas.check.WatchCalls.{shown_all, shown_first, shown_next, shown_rejected}
-use Rattle.pb_tool.proofs.lemmas.show.GivenStatements.{given_next, given_row}
-use Rattle.pb_tool.proofs.lemmas.show.ShownStatements.{first_pull}
 
 -- what a pull ensures, whatever the feeder was fed before
 abbrev pub PullsFrom : ProofFeeder → Option (List ℕ) → Result (Option (Spanned Statement)) Stop → ProofFeeder → Option (List ℕ) → List ℕ → List ℕ → Type 0
@@ -26,53 +24,57 @@ in_reach longest start input spans f s = grind (arith, s.1, place_after-offset, 
 -- ---- a checker is still one that was fed some text
 
 module _ (read : TextsAreRead) (f : ProofFeeder) (r : Replaying) (e : Option CheckFault) (none : e ≡ None) (n : ProofFeeder) (left rest : Option (List ℕ)) (given given' : List ℕ) where
+  pulled : (limits : Limits) (longest : ℕ) (v : Problem) (first : Result State Fault) (input : List ℕ) (h : ChecksSoFar limits longest v first input f r e)
+      (result : Result (Option (Spanned Statement)) Stop) → PullsFrom f left result n rest given given'
+      → Pulls longest (begin (largest limits) (top_of limits)) input (running_at limits longest v first input f r e none h).spans f left result n rest given
+      given'
+  pulled limits longest v first input h result pulls =
+      let here = running_at limits longest v first input f r e none h in
+      pulls longest (begin (largest limits) (top_of limits)) input here.spans (subst IsOpenText (sym here.running) tt) here.stands
+
   pub stopped_somewhere : IsSomewhere f r e → (s : Stop) → PullsFrom f left (Err s) n rest given given' → halt_of n ≡ Some s → IsSomewhere n r (Some (CheckFault.Text s))
   stopped_somewhere (limits, longest, v, first, input, asks, h) s pulls halts =
-      let here = running_at limits longest v first input f r e none h in
-      let p = pulls longest (begin (largest limits) (top_of limits)) input here.spans (subst IsOpenText (sym here.running) tt) here.stands in
+      let p = pulled limits longest v first input h (Err s) pulls in
       (limits, longest, v, first, input ++ (p.taken ++ p.seen), asks, (checked.halted_on read limits longest v first input f r e none h _ refl (p.taken ++ p.seen) n s (rw append-nil at p.stands) halts).0)
 
   -- the proof has ended
-  ended_so_far : (limits : Limits) (longest : ℕ) (v : Problem) (first : Result State Fault) (input : List ℕ) → ChecksSoFar limits longest v first input f r e → PullsFrom f left (Ok None) n rest given given' → halt_of n ≡ None → (more : List ℕ) × ChecksSoFar limits longest v first more n r e
-  ended_so_far limits longest v first input h pulls running =
-      let here = running_at limits longest v first input f r e none h in
-      let p = pulls longest (begin (largest limits) (top_of limits)) input here.spans (subst IsOpenText (sym here.running) tt) here.stands in
-      (input ++ (p.taken ++ p.seen), (checked.quiet_on read limits longest v first input f r e none h _ refl (p.taken ++ p.seen) n (rw append-nil at p.stands) running).0)
-
   pub ended_somewhere : IsSomewhere f r e → PullsFrom f left (Ok None) n rest given given' → halt_of n ≡ None → IsSomewhere n r e
   ended_somewhere (limits, longest, v, first, input, asks, h) pulls running =
-      let (more, so_far) = ended_so_far limits longest v first input h pulls running in
-      (limits, longest, v, first, more, asks, so_far)
+      let p = pulled limits longest v first input h (Ok None) pulls in (
+        limits,
+        longest,
+        v,
+        first,
+        input ++ (p.taken ++ p.seen),
+        asks,
+        (checked.quiet_on read limits longest v first input f r e none h _ refl (p.taken ++ p.seen) n (rw append-nil at p.stands) running).0,
+      )
 
   -- at its end there is a verdict
   pub ends_with_verdict : IsSomewhere f r e → PullsFrom f left (Ok None) n rest given given' → halt_of n ≡ None → WholeProofsConclude → is_complete n ≡ true → None ≡ verdict_in r → ⊥
-  ends_with_verdict (limits, longest, v, first, input, asks, h) pulls running whole done is =
-      let (more, so_far) = ended_so_far limits longest v first input h pulls running in
-      checked.no_verdict read limits longest v first more n r e none so_far whole done is
+  ends_with_verdict at pulls running whole done is =
+      let (limits, longest, v, first, input, asks, h) = ended_somewhere at pulls running in
+      checked.no_verdict read limits longest v first input n r e none h whole done is
 
   module _ (m : Spanned Statement) (pulls : PullsFrom f left (Ok (Some m)) n rest given given') (running : halt_of n ≡ None) where
     pub value_here : IsSomewhere f r e → ReadStatements → IsStatementValue (largest r.limits) (top_of r.limits) m.event
     value_here (limits, longest, v, first, input, asks, h) values =
-        let here = running_at limits longest v first input f r e none h in
-        let p = pulls longest (begin (largest limits) (top_of limits)) input here.spans (subst IsOpenText (sym here.running) tt) here.stands in
+        let p = pulled limits longest v first input h (Ok (Some m)) pulls in
         checked.value_on read limits longest v first input f r e none h _ refl p.taken n m p.stands running values
 
     pub within_reach : IsSomewhere f r e → (place_of n).offset ≤ 2 ^ 40
     within_reach (limits, longest, v, first, input, asks, h) =
-        let here = running_at limits longest v first input f r e none h in
-        let p = pulls longest (begin (largest limits) (top_of limits)) input here.spans (subst IsOpenText (sym here.running) tt) here.stands in
-        in_reach longest (begin (largest limits) (top_of limits)) (input ++ p.taken) (here.spans ++ m ∷ []) n p.stands
+        let p = pulled limits longest v first input h (Ok (Some m)) pulls in
+        in_reach longest (begin (largest limits) (top_of limits)) (input ++ p.taken) _ n p.stands
 
     pub stepped_somewhere : IsSomewhere f r e → (t : Replaying) → Answers r m (Ok tt) t → t.limits ≡ r.limits → t.problem ≡ r.problem → IsSomewhere n t e
     stepped_somewhere (limits, longest, v, first, input, asks, h) t steps limited problem =
-        let here = running_at limits longest v first input f r e none h in
-        let p = pulls longest (begin (largest limits) (top_of limits)) input here.spans (subst IsOpenText (sym here.running) tt) here.stands in
+        let p = pulled limits longest v first input h (Ok (Some m)) pulls in
         (limits, longest, v, first, input ++ p.taken, asks, (checked.stepped_on read limits longest v first input f r e none h _ refl p.taken n m p.stands running t steps limited problem).0)
 
     pub refused_somewhere : m.past ≡ place_of n → IsSomewhere f r e → (t : Replaying) (x : CheckFault) → Answers r m (Err x) t → IsNamePrefix r.names t.names → ReportsOld r x → IsSomewhere n t (Some x)
     refused_somewhere past (limits, longest, v, first, input, asks, h) t x steps names reports =
-        let here = running_at limits longest v first input f r e none h in
-        let p = pulls longest (begin (largest limits) (top_of limits)) input here.spans (subst IsOpenText (sym here.running) tt) here.stands in
+        let p = pulled limits longest v first input h (Ok (Some m)) pulls in
         (limits, longest, v, first, (input ++ p.taken) ++ [], asks, (checked.refused_on read limits longest v first input f r e none h _ refl p.taken n m p.stands running past [] t x steps names reports).0)
 
 -- ---- what a step says that needs no text
@@ -132,33 +134,32 @@ module _ (exact : ReadsProofs) (longest : ℕ) (began : Replaying) {V : Type 0} 
   pub runs_refused : (m : Spanned Statement) → PullsOn longest (start_of began) before i.spans (Ok (Some m)) n rest → PullsFrom f left (Ok (Some m)) n rest given given' → halt_of n ≡ None → ((k : Spanned Statement) → ◌≡◌ {A = Result (Option (Spanned Statement)) Stop} (Ok (Some m)) (Ok (Some k)) → k.past ≡ place_of n)
       → (t : Replaying) (x : CheckFault) → Answers r m (Err x) t → IsNamePrefix r.names t.names → ReportsOld r x → (new : V) → got mid (Rejected m t x) new → RunsTo longest began got before since old (Err x) t rest given' new
   runs_refused m row pulls running past t x steps names reports new call first at =
-      let (taken, seen, are, (running_text, so_far)) = row_given (Ok (Some m)) pulls running (λ is. absurd (cc is)) past in
-      record {
-        runs = replayed.refused_run exact began.limits longest before rest began.problem first r i.spans (i.led first at) i.unspent t m i.limited i.problem x steps names reports row.1;
-        given = (taken, seen, are, replayed.refused_run exact began.limits longest (Some (taken ++ seen)) (Some seen) began.problem first r i.spans (i.led first at) i.unspent t m i.limited i.problem x steps names reports so_far);
-        shown = shown_rejected got old began i.spans mid r i.shown m t new i.unspent i.limited i.problem exact longest first at x before rest steps names reports call row.1;
-        shown_given = (taken, seen, are, shown_rejected got old began i.spans mid r i.shown m t new i.unspent i.limited i.problem exact longest first at x (Some (taken ++ seen)) (Some seen) steps names reports call so_far);
-      }
+      of_both {P = λ left end. PullsOn longest (start_of began) left i.spans (Ok (Some m)) n end} {Q = IsRun longest began got old first (Err x) t new}
+      before since rest given' (λ left end on. record {
+        runs =
+            replayed.refused_run exact began.limits longest left end began.problem first r i.spans (i.led first at) i.unspent t m i.limited i.problem x steps
+            names reports on.1;
+        shown =
+            shown_rejected got old began i.spans mid r i.shown m t new i.unspent i.limited i.problem exact longest first at x left end steps names reports
+            call on.1;
+      }) (row, row_given (Ok (Some m)) pulls running (λ is. absurd (cc is)) past)
 
   -- a text that stopped
   pub runs_stopped : AsksAsText began.limits → (s : Stop) → PullsOn longest (start_of began) before i.spans (Err s) n rest → PullsFrom f left (Err s) n rest given given' → halt_of n ≡ Some s → RunsTo longest began got before since old (Err (CheckFault.Text s)) r rest given' mid
   runs_stopped asks s row pulls halts first at =
-      let (taken, seen, are, all) = row_given (Err s) pulls halts (λ is. absurd (cc is)) (λ m is. absurd (cc is)) in
-      record {
-        runs = replayed.stopped exact began.limits longest before rest began.problem first r i.spans (i.led first at) asks s row;
-        given = (taken, seen, are, replayed.stopped exact began.limits longest (Some (taken ++ seen)) (Some seen) began.problem first r i.spans (i.led first at) asks s all);
-        shown = shown_all got old began exact longest first at i.spans mid r i.shown before rest s.place false (Some s) row.0;
-        shown_given = (taken, seen, are, shown_all got old began exact longest first at i.spans mid r i.shown (Some (taken ++ seen)) (Some seen) s.place false (Some s) all.0);
-      }
+      of_both {P = λ left end. PullsOn longest (start_of began) left i.spans (Err s) n end}
+      {Q = IsRun longest began got old first (Err (CheckFault.Text s)) r mid}
+      before since rest given' (λ left end on. record {
+        runs = replayed.stopped exact began.limits longest left end began.problem first r i.spans (i.led first at) asks s on;
+        shown = shown_all got old began exact longest first at i.spans mid r i.shown left end s.place false (Some s) on.0;
+      }) (row, row_given (Err s) pulls halts (λ is. absurd (cc is)) (λ m is. absurd (cc is)))
 
   -- a proof that has ended
   pub runs_ended : (w : Verdict) → Some w ≡ verdict_in r → PullsOn longest (start_of began) before i.spans (Ok None) n rest → PullsFrom f left (Ok None) n rest given given' → halt_of n ≡ None → is_complete n ≡ true
       → RunsTo longest began got before since old (Ok (w, place_of n)) r rest given' mid
   runs_ended w is row pulls running done first at =
-      let (taken, seen, are, all) = row_given (Ok None) pulls running (λ _. done) (λ m bad. absurd (cc bad)) in
-      record {
-        runs = replayed.ended exact began.limits longest before rest began.problem first r i.spans (i.led first at) i.unspent (place_of n) w row is;
-        given = (taken, seen, are, replayed.ended exact began.limits longest (Some (taken ++ seen)) (Some seen) began.problem first r i.spans (i.led first at) i.unspent (place_of n) w all is);
-        shown = shown_all got old began exact longest first at i.spans mid r i.shown before rest (place_of n) true None row;
-        shown_given = (taken, seen, are, shown_all got old began exact longest first at i.spans mid r i.shown (Some (taken ++ seen)) (Some seen) (place_of n) true None all);
-      }
+      of_both {P = λ left end. PullsOn longest (start_of began) left i.spans (Ok None) n end} {Q = IsRun longest began got old first (Ok (w, place_of n)) r mid}
+      before since rest given' (λ left end on. record {
+        runs = replayed.ended exact began.limits longest left end began.problem first r i.spans (i.led first at) i.unspent (place_of n) w on is;
+        shown = shown_all got old began exact longest first at i.spans mid r i.shown left end (place_of n) true None on;
+      }) (row, row_given (Ok None) pulls running (λ _. done) (λ m bad. absurd (cc bad)))

@@ -17,7 +17,7 @@ use Rattle.pb_text.proofs.lemmas.text.Formats as formats
 use Rattle.pb_proof.specs.declared.Statement.TheVariants.{Header}
 use Rattle.pb_replay.specs.declared.fault.Fault.TheVariants.{Memory}
 use Rattle.pb_tool.specs.declared.commands.check.checker.CheckFault.TheVariants.{Text, Step}
-use Rattle.pb_tool.proofs.lemmas.check.Prefixes.{no_prefix}
+use Rattle.pb_tool.proofs.lemmas.check.OneRead.{no_prefix}
 
 abbrev pub failed : CheckFault → Result Unit CheckFault
 failed x = Err x

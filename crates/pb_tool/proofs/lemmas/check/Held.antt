@@ -1,12 +1,12 @@
 -- What a checker holds of the unfinished statement.
-use Rattle.pb_tool.proofs.Common.{ℕ, ◌++◌, ◌+◌, ◌-◌, ◌∙◌, ◌∷◌, ◌≡◌, ◌≤◌, [], ap, append-nil, append_assoc, arith, Bool, false, le-leb, length}
-use Rattle.pb_tool.proofs.Common.{length-append, List, nat_le, None, Option, refl, Result, sym, true, cond-true, cond_both, length-map, PrefixFree}
-use Rattle.pb_tool.proofs.Common.{ReadsProofs, Statement, begin, ProofState, IsProof, Replaying, Fault, Problem, State, same_prefix, bytes-append}
-use Rattle.pb_tool.proofs.Common.{length-bytes, place_after-offset, HoldsFew, is_complete, place_of, StandsAt, Limits, Place, Spanned, largest}
-use Rattle.pb_tool.proofs.Common.{top_of, Answers, open_bytes, bytes, bytes_of, Item, Letter, letters_of, place_after, plain, spans_since}
+use Rattle.pb_tool.proofs.Common.{ℕ, ◌++◌, ◌+◌, ◌∙◌, ◌∷◌, ◌≡◌, ◌≤◌, [], ap, append-nil, append_assoc, arith, Bool, false, length, length-append, List, None}
+use Rattle.pb_tool.proofs.Common.{Option, refl, Result, sym, true, length-map, PrefixFree, ReadsProofs, Statement, begin, ProofState, IsProof, Replaying, Fault}
+use Rattle.pb_tool.proofs.Common.{Problem, State, same_prefix, bytes-append, length-bytes, place_after-offset, HoldsFew, is_complete, place_of, StandsAt}
+use Rattle.pb_tool.proofs.Common.{Limits, Place, Spanned, largest, top_of, Answers, open_bytes, bytes, bytes_of, Item, Letter, letters_of, plain, spans_since}
 use Rattle.pb_tool.proofs.Common.{ChecksSoFar, ProofFeeder, TextsAreRead, EndsStatement, HoldsOpen, CheckFault}
+use Rattle.std.proofs.lemmas.Bool.Decides.{nat_tests}
 use Rattle.pb_tool.proofs.lemmas.check.CheckerSteps.{running_at, reported as so_far}
-use Rattle.pb_tool.proofs.lemmas.check.Prefixes.{no_prefix}
+use Rattle.pb_tool.proofs.lemmas.check.OneRead.{no_prefix}
 
 -- ---- after whole statements none is unfinished
 length_plain : (gap : List ℕ) → length (plain gap) ≡ length gap
@@ -15,10 +15,7 @@ length_plain gap = length-map gap (λ (b : ℕ). let l : Letter = record { byte 
 module _ {E : Type 0} where
   letters_joined : (a b : List (Item E)) → letters_of (a ++ b) ≡ letters_of a ++ letters_of b
   letters_joined [] b = refl
-  letters_joined (i ∷ a) b =
-      ap (λ (x : List Letter). plain i.gap ++ (i.text ++ x)) (letters_joined a b)
-      ∙ (ap (λ (x : List Letter). plain i.gap ++ x) (sym (append_assoc i.text (letters_of a) (letters_of b)))
-      ∙ sym (append_assoc (plain i.gap) (i.text ++ letters_of a) (letters_of b)))
+  letters_joined (i ∷ a) b = simp (letters_joined a b, append_assoc)
 
   bytes_joined : (a b : List (Item E)) → bytes_of (a ++ b) ≡ bytes_of a ++ bytes_of b
   bytes_joined a b = ap bytes (letters_joined a b) ∙ bytes-append (letters_of a) (letters_of b)
@@ -31,23 +28,14 @@ module _ {E : Type 0} where
   past_all : (n : ℕ) (before : List ℕ) (items : List (Item E)) → n ≤ length before → open_bytes n (spans_since None before items) ≡ 0
   past_all n before [] h = refl
   past_all n before (i ∷ items) h =
-      cond_both (nat_le (place_after (before ++ (i.gap ++ bytes i.text))).offset n)
-      (open_bytes n (spans_since None (before ++ (i.gap ++ bytes i.text)) items))
-      (n - (place_after (before ++ i.gap)).offset)
-      (λ (k : ℕ). k ≡ 0)
-      (λ _. past_all n (before ++ (i.gap ++ bytes i.text)) items (omega (arith, h, length_item before i)))
-      (λ _. omega (arith, h, place_after-offset (before ++ i.gap), length-append before i.gap))
+      grind (arith, nat_tests, place_after-offset, length-append, length_item before i, past_all n (before ++ (i.gap ++ bytes i.text)) items)
 
   none_open : (n : ℕ) (before : List ℕ) (begun rest : List (Item E)) → n ≡ length before + length (letters_of begun) → open_bytes n (spans_since None before (begun ++ rest)) ≡ 0
   none_open n before [] rest h = let all : n ≡ length before + 0 = h in past_all n before rest (omega (arith, all))
   none_open n before (i ∷ begun) rest h =
       let joined : length (letters_of (i ∷ begun)) ≡ length (plain i.gap) + length (i.text ++ letters_of begun) = length-append (plain i.gap) (i.text ++ letters_of begun) in
       let all : length (letters_of (i ∷ begun)) ≡ length i.gap + (length i.text + length (letters_of begun)) = omega (arith, joined, length-append i.text (letters_of begun), length_plain i.gap) in
-      cond-true (nat_le (place_after (before ++ (i.gap ++ bytes i.text))).offset n)
-      (open_bytes n (spans_since None (before ++ (i.gap ++ bytes i.text)) (begun ++ rest)))
-      (n - (place_after (before ++ i.gap)).offset)
-      (le-leb (place_after (before ++ (i.gap ++ bytes i.text))).offset n (omega (arith, h, all, place_after-offset (before ++ (i.gap ++ bytes i.text)), length_item before i)))
-      ∙ none_open n (before ++ (i.gap ++ bytes i.text)) begun rest (omega (arith, h, all, length_item before i))
+      grind (arith, nat_tests, place_after-offset, length_item before i, none_open n (before ++ (i.gap ++ bytes i.text)) begun rest)
 
 -- ---- all of the input was read
 module _ (apart : PrefixFree) (limit top longest : ℕ) (used left : List ℕ) (spans : List (Spanned Statement)) (place : Place) (begun rest : List (Item Statement)) (whole : IsProof limit top (begun ++ rest)) (is : used ++ left ≡ bytes_of begun) where
@@ -72,11 +60,9 @@ module _ (exact : ReadsProofs) (limits : Limits) (longest : ℕ) (v : Problem) (
       let left = nothing_left apart (largest limits) (top_of limits) longest taken reported.left now.spans (place_of f) begun rest whole (sym reported.input_is ∙ is) (is_complete f) reported.answer in
       let (used, n, prefix, place, opens, bound) = open_at in
       let as_long : length used ≡ length taken = sym (place_after-offset used) ∙ (ap (λ (x : Place). x.offset) (sym place ∙ reported.place_is) ∙ place_after-offset taken) in
-      let nothing : length reported.left ≡ 0 = ap length left in
-      let all_taken : length input ≡ length taken = omega (arith, ap length reported.input_is, length-append taken reported.left, nothing) in
+      let all_taken : length input ≡ length taken = omega (arith, ap length reported.input_is, length-append taken reported.left, ap length left) in
       let same : used ≡ input = same_prefix used input prefix.0 [] (sym prefix.1 ∙ sym (append-nil input)) (as_long ∙ sym all_taken) in
       let long : length used ≡ length (letters_of begun) = ap length (same ∙ is) ∙ length-bytes (letters_of begun) in
-      let long_after : length used ≡ length {A = ℕ} [] + length (letters_of begun) = omega (arith, long) in
       let text : bytes_of (begun ++ rest) ≡ used ++ bytes_of rest = bytes_joined begun rest ∙ ap (λ (x : List ℕ). x ++ bytes_of rest) (sym (same ∙ is)) in
-      let closed : n ≡ 0 = sym (opens (begun ++ rest) whole (bytes_of rest, text)) ∙ none_open (length used) [] begun rest long_after in
+      let closed : n ≡ 0 = sym (opens (begun ++ rest) whole (bytes_of rest, text)) ∙ none_open (length used) [] begun rest (omega (arith, long)) in
       omega (arith, bound, closed)

@@ -1,20 +1,137 @@
 -- The result of a check that the bytes decide.
-use Rattle.pb_tool.proofs.Common.{ℕ, ◌++◌, ◌↔◌, ◌∙◌, ◌≡◌, ◌≢◌, [], ap, Err, List, Ok, Option, refl, Result, Some, string_bytes, subst, sym, String}
-use Rattle.pb_tool.proofs.Common.{same_Some, Instance, IsValueOf, Proof, Statement, IsProofOf, statements_of, Fault, Verdict, Opened, Problem}
-use Rattle.pb_tool.proofs.Common.{first_state, State, Accepts, ok_or_err, same_ok, Limits, Place, Spanned, Stop, largest, top_of, HasFixedSpans}
-use Rattle.pb_tool.proofs.Common.{IsSpelled, Item, events_at, events_of, IsRead, Keeping, Reading, IsSpelling, File, ToolFault, Overflow, Step, Text}
-use Rattle.pb_tool.proofs.Common.{AnswersExactly, AreVerified, IsDecided, IsOfText, IsOfTexts, IsSame, OneAnswer, IsProofFile, IsProofText, IsFile}
-use Rattle.pb_tool.proofs.Common.{IsInstanceFile, IsInstanceText, IsNoInstanceFile, InRest, InText, AfterProof, CheckCall, ChecksFiles, InProof}
-use Rattle.pb_tool.proofs.Common.{IsRefusedStep, IsRefusedText, IsVerified}
-use Rattle.std.specs.declared.alloc.Global.{Global}
+use Rattle.pb_tool.proofs.Common.{ℕ, ◌++◌, ◌↔◌, ◌∙◌, ◌∷◌, ◌≡◌, ◌≢◌, ◌⊎◌, [], ap, arith, Bool, Err, inl, inr, List, None, Ok, Option, refl, Result, Some}
+use Rattle.pb_tool.proofs.Common.{string_bytes, subst, sym, String, same_Some, Instance, IsValueOf, Proof, Statement, IsProofOf, statements_of}
+use Rattle.pb_tool.proofs.Common.{OutcomesAreSingle, Fault, NotTotal, Verdict, Opened, Problem, first_state, State, Accepts, Outcome, ok_or_err, same_err}
+use Rattle.pb_tool.proofs.Common.{same_ok, Limits, Place, Spanned, Stop, largest, top_of, HasFixedSpans, IsSpelled, Reads, Item, events_at, events_of, IsRead}
+use Rattle.pb_tool.proofs.Common.{Keeping, Reading, IsSpelling, ToolFault, Overflow, Step, Text, AnswersExactly, AreVerified, IsDecided, IsOfText, IsOfTexts}
+use Rattle.pb_tool.proofs.Common.{IsSame, OneAnswer, IsProofFile, IsProofText, IsFile, IsInstanceFile, IsInstanceText, IsNoInstanceFile, InRest, InText}
+use Rattle.pb_tool.proofs.Common.{AfterProof, CheckCall, ChecksFiles, ComesTo, InProof, IsRefusedStep, IsRefusedText, IsReported, IsVerified}
 use Rattle.pb_replay.specs.declared.fault.Fault.TheVariants.{Memory as no_memory, Overflow as over}
+use Rattle.std.specs.declared.alloc.Global.{Global}
 use Rattle.pb_opb.proofs.lemmas.instances.OneValue.{same_value}
 use Rattle.pb_tool.specs.engine.Single.{AllSingle}
 use Rattle.pb_tool.specs.declared.fault.Input.TheVariants.{Instance as of_instance, Proof as of_proof}
-use Rattle.pb_tool.proofs.lemmas.check.OneOutcome.{Passed, no_step, one_state, one_step}
+use Rattle.pb_tool.proofs.lemmas.check.OneRead.{Compared, two_prefixes, Begins, spans_begin, so_far_reached, OneSpelling, NoneGoesOn, one_spelled}
+use Rattle.pb_tool.proofs.lemmas.check.OneRead.{reached_before, so_far_before, spelling_reached, way_reached}
 use Rattle.pb_tool.proofs.lemmas.check.CheckerSteps.{spelled_events}
-use Rattle.pb_tool.proofs.lemmas.check.OneRead.{OneSpelling, NoneGoesOn, spans_begin, one_spelled, reached_before, so_far_before, so_far_reached, spelling_reached, way_reached}
 use Rattle.pb_tool.proofs.lemmas.check.OneRejection.{Refusal, AtStop, all_taken, at_rest, no_refusal, one_refusal}
+
+-- ---- lists that continue others
+
+no_spans : {A : Type 0} (xs : List A) (x : A) (more : List A) → [] ≡ (xs ++ x ∷ []) ++ more → ⊥
+no_spans [] x more e = absurd cc
+no_spans (y ∷ xs) x more e = absurd cc
+
+-- Of two lists, the second with its last element begins with the first with its last. The last elements are at the same
+-- index, or that of the second comes later.
+ends_at : {A : Type 0} (xs ys : List A) (x y : A) (more : List A) → ys ++ y ∷ [] ≡ (xs ++ x ∷ []) ++ more → ((ys ≡ xs) × (y ≡ x)) ⊎ ((others : List A) × (ys ≡ (xs ++ x ∷ []) ++ others))
+ends_at [] [] x y more e = inl (refl, let same : y ≡ x = cc in same)
+ends_at [] (z ∷ ys) x y more e = inr (ys, let same : z ≡ x = cc in ap (λ (k : _). k ∷ ys) same)
+ends_at (z ∷ xs) [] x y more e = absurd (no_spans xs x more (let none : [] ≡ (xs ++ x ∷ []) ++ more = cc in none))
+ends_at (z ∷ xs) (w ∷ ys) x y more e = one_longer (ends_at xs ys x y more (let rest : ys ++ y ∷ [] ≡ (xs ++ x ∷ []) ++ more = cc in rest))
+  where
+    one_longer : ((ys ≡ xs) × (y ≡ x)) ⊎ ((others : List _) × (ys ≡ (xs ++ x ∷ []) ++ others))
+        → ((w ∷ ys ≡ z ∷ xs) × (y ≡ x)) ⊎ ((others : List _) × (w ∷ ys ≡ z ∷ ((xs ++ x ∷ []) ++ others)))
+    one_longer (inl (h, k)) = inl (cc, k)
+    one_longer (inr (others, h)) = inr (others, cc)
+
+-- ---- the name that a fault gives
+
+one_name : (names : List (List ℕ)) (e : Fault) (a b : List ℕ) → IsReported names e a → IsReported names e b → a ≡ b
+one_name names (NotTotal n) a b reported reported' = reported ∙ sym reported'
+one_name names e a b reported reported' = reported ∙ sym reported'
+
+module _ (single : OutcomesAreSingle) (limits : Limits) (v : Problem) where
+  abbrev Does : State → Statement → Result State Fault → Type 0
+  Does s st r = Outcome (largest limits) (top_of limits) v s st r
+
+  abbrev Leads : State → List Statement → State → Type 0
+  Leads s sts t = Accepts (largest limits) (top_of limits) v s sts t
+
+  one_next : (s : State) (st : Statement) (a b : State) → Does s st (Ok a) → Does s st (Ok b) → a ≡ b
+  one_next s st a b h k = same_ok (single (largest limits) (top_of limits) v s st (Ok a) (Ok b) h k)
+
+  pub one_state : (sts : List Statement) (s t u : State) → Leads s sts t → Leads s sts u → t ≡ u
+  one_state [] s t u h k = sym h ∙ k
+  one_state (st ∷ sts) s t u (a, o, h) (b, o', k) = one_state sts b t u (subst (λ (x : State). Leads x sts t) (one_next s st a b o o') h) k
+
+  -- a statement that is accepted later on is not rejected
+  clash : (spans : List (Spanned Statement)) (m : Spanned Statement) (more : List (Spanned Statement)) (s t u : State) (e : Fault) → Leads s (events_at ((spans ++ m ∷ []) ++ more)) t → Leads s (events_at spans) u → Does u m.event (Err e) → ⊥
+  clash [] m more s t u e (a, o, h) k x = ok_or_err (single (largest limits) (top_of limits) v s m.event (Ok a) (Err e) o (subst (λ (y : State). Does y m.event (Err e)) (sym k) x))
+  clash (n ∷ spans) m more s t u e (a, o, h) (b, o', k) x =
+      clash spans m more b t u e (subst (λ (y : State). Leads y (events_at ((spans ++ m ∷ []) ++ more)) t) (one_next s n.event a b o o') h) k x
+
+  module _ (fixed : HasFixedSpans (IsProofText limits)) (longest : ℕ) (first : State) (input : List ℕ) where
+    -- Accepted statements of the text. Each list of statements that is read so far begins them.
+    pub record Passed : Type 0 where
+      pub spans : List (Spanned Statement)
+      pub last : State
+      pub accepted : Leads first (events_at spans) last
+      pub begins : (used left : List ℕ) (others : List (Spanned Statement)) (place : Place) (done : Bool) → input ≡ used ++ left → Reads (IsProofText limits) longest used used others place done None → Begins others spans
+
+    pub no_step : (after : Option (List ℕ)) (begins : Place) (e : Fault) (name : List ℕ) → Passed → IsRefusedStep limits longest v first (Some input) after begins e name → e ≢ no_memory → ⊥
+    no_step after begins e name p (st, state, comes, inl h) d = d h.0
+    no_step after begins e name p (st, state, comes, inr (out, named)) d =
+        let t = comes.took in
+        let (more, is) = p.begins t.used t.seen (comes.spans ++ comes.last ∷ []) comes.last.past t.done t.took.0 t.reads in
+        clash comes.spans comes.last more first p.last state e (subst (λ (x : List (Spanned Statement)). Leads first (events_at x) p.last) is p.accepted) comes.accepted
+        (subst (λ (x : Statement). Does state x (Err e)) (sym comes.statement) out)
+
+    -- ---- two rejected statements
+    -- the statement that was rejected
+    record Refused (after : Option (List ℕ)) (e : Fault) (name : List ℕ) (begins : Place) : Type 0 where
+      statement : Statement
+      state : State
+      comes : ComesTo limits longest v first (Some input) after begins statement state
+      out : Does state comes.last.event (Err e)
+      named : IsReported state.names e name
+
+    refused : (after : Option (List ℕ)) (begins : Place) (e : Fault) (name : List ℕ) → IsRefusedStep limits longest v first (Some input) after begins e name → e ≢ no_memory → Refused after e name begins
+    refused after begins e name (st, state, comes, inl h) d = absurd (d h.0)
+    refused after begins e name (st, state, comes, inr (out, named)) d =
+        record { statement = st; state = state; comes = comes; out = subst (λ (x : Statement). Does state x (Err e)) (sym comes.statement) out; named = named }
+
+    module _ (after after' : Option (List ℕ)) (e e' : Fault) (name name' : List ℕ) (begins begins' : Place) (r : Refused after e name begins) (r' : Refused after' e' name' begins') where
+      -- if both are in one text, the second is the first
+      same_span : (m : List ℕ) → r'.comes.took.used ≡ r.comes.took.used ++ m → (r'.comes.spans ≡ r.comes.spans) × (r'.comes.last ≡ r.comes.last)
+      same_span m p =
+          let t = r.comes.took in
+          let t' = r'.comes.took in
+          let (more, is) =
+          spans_begin (IsProofText limits) longest fixed t.used t'.used m (r.comes.spans ++ r.comes.last ∷ []) (r'.comes.spans ++ r'.comes.last ∷ []) p
+          (so_far_reached (IsProofText limits) longest t.used t.used (r.comes.spans ++ r.comes.last ∷ []) r.comes.last.past t.done t.reads) (so_far_reached (IsProofText limits) longest t'.used t'.used (r'.comes.spans ++ r'.comes.last ∷ []) r'.comes.last.past t'.done t'.reads) in
+          by (ends_at r.comes.spans r'.comes.spans r.comes.last r'.comes.last more is)
+        where
+          by : ((r'.comes.spans ≡ r.comes.spans) × (r'.comes.last ≡ r.comes.last)) ⊎ ((others : List (Spanned Statement)) × (r'.comes.spans ≡ (r.comes.spans ++ r.comes.last ∷ []) ++ others))
+              → (r'.comes.spans ≡ r.comes.spans) × (r'.comes.last ≡ r.comes.last)
+          by (inl h) = h
+          by (inr (others, h)) =
+              absurd (clash r.comes.spans r.comes.last others first r'.state r.state e (subst (λ (x : List (Spanned Statement)). Leads first (events_at x) r'.state) h r'.comes.accepted) r.comes.accepted r.out)
+
+      same_fault : r'.comes.spans ≡ r.comes.spans → r'.comes.last ≡ r.comes.last → (begins' ≡ begins) × (e' ≡ e) × (name ≡ name')
+      same_fault spans last =
+          let state : r'.state ≡ r.state = one_state (events_at r.comes.spans) first r'.state r.state (subst (λ (x : List (Spanned Statement)). Leads first (events_at x) r'.state) spans r'.comes.accepted) r.comes.accepted in
+          let out : Does r.state r.comes.last.event (Err e') = subst (λ (x : Spanned Statement). Does r.state x.event (Err e')) last (subst (λ (x : State). Does x r'.comes.last.event (Err e')) state r'.out) in
+          let fault : e' ≡ e = same_err (single (largest limits) (top_of limits) v r.state r.comes.last.event (Err e') (Err e) out r.out) in (
+            r'.comes.begins_is ∙ (ap (λ (x : Spanned Statement). x.first) last ∙ sym r.comes.begins_is),
+            fault,
+            one_name r.state.names e name name' r.named (subst (λ (x : Fault). IsReported r.state.names x name') fault (subst (λ (x : State). IsReported x.names e' name') state r'.named)),
+          )
+
+    one_refused : (after after' : Option (List ℕ)) (e e' : Fault) (name name' : List ℕ) (begins begins' : Place) (r : Refused after e name begins) (r' : Refused after' e' name' begins') → (begins' ≡ begins) × (e' ≡ e) × (name ≡ name')
+    one_refused after after' e e' name name' begins begins' r r' = by (two_prefixes r.comes.took.used r.comes.took.seen r'.comes.took.used r'.comes.took.seen (sym r.comes.took.took.0 ∙ r'.comes.took.took.0))
+      where
+        by : Compared r.comes.took.used r'.comes.took.used → (begins' ≡ begins) × (e' ≡ e) × (name ≡ name')
+        by (inl (m, p)) = let (spans, last) = same_span after after' e e' name name' begins begins' r r' m p in same_fault after after' e e' name name' begins begins' r r' spans last
+        by (inr (x, m, p)) =
+            let (spans, last) = same_span after' after e' e name' name begins' begins r' r (x ∷ m) p in
+            let back = same_fault after' after e' e name' name begins' begins r' r spans last in
+            (sym back.0, sym back.1, sym back.2)
+
+    pub one_step : (after after' : Option (List ℕ)) (begins begins' : Place) (e e' : Fault) (name name' : List ℕ) → IsRefusedStep limits longest v first (Some input) after begins e name → e ≢ no_memory
+        → IsRefusedStep limits longest v first (Some input) after' begins' e' name' → e' ≢ no_memory → (begins' ≡ begins) × (e' ≡ e) × (name ≡ name')
+    one_step after after' begins begins' e e' name name' h d h' d' =
+        one_refused after after' e e' name name' begins begins' (refused after begins e name h d) (refused after' begins' e' name' h' d')
 
 -- ---- an input, in one way of reading
 
@@ -152,8 +269,6 @@ module _ (laws : AllSingle) (limits : Limits) (longest : ℕ) (i : List ℕ) whe
           subst (λ (y : Problem). Accepts (largest limits) (top_of limits) y (first_state y) (statements_of q) h'.last) problem (subst (λ (y : Proof). Accepts (largest limits) (top_of limits) h'.problem (first_state h'.problem) (statements_of y) h'.last) proof h'.accepted) in
           let last : h'.last ≡ h.last = one_state laws.outcomes limits h.problem (statements_of q) (first_state h.problem) h'.last h.last here h.accepted in
           ap (λ (y : Verdict). Ok y) (same_Some x w (sym h'.claimed ∙ (ap (λ (s : State). s.concluded) last ∙ h.claimed)))
-      settled i1 p1 v q w f g h (Err (Text of_instance s)) old new i' p' (r, left) d = absurd (no_instance i1 i' v s f r d)
-      settled i1 p1 v q w f g h (Err (Overflow of_instance)) old new i' p' (v', f', k, left) d = absurd (opens i1 i' v v' h.problem f h.opened f' k)
       settled i1 p1 v q w f g h (Err (Step place e name)) old new i' p' (v', f', problem, opened, r, x) d =
           let same : h.problem ≡ problem = problems i1 i' v v' h.problem problem f h.opened f' opened in
           let went : Went problem = subst Went same (proof_passed laws limits longest p h.problem (first_state h.problem) p1 q h.last g h.accepted) in
@@ -161,9 +276,9 @@ module _ (laws : AllSingle) (limits : Limits) (longest : ℕ) (i : List ℕ) whe
       settled i1 p1 v q w f g h (Err (Text of_proof s)) old new i' p' (v', f', problem, opened, r, x) d =
           absurd (no_refusal (IsProofText limits) longest (one_proof_text laws limits longest p) (prefix_of_proof laws limits longest p) p s p1 g.spelled.spans
           (whole_of (IsProofText limits) IsProofOf longest p p1 q g) (proof_refusal laws limits longest p problem (first_state problem) p' s r) d)
-      settled i1 p1 v q w f g h (Err (Text File s)) old new i' p' a d = absurd a
-      settled i1 p1 v q w f g h (Err (Overflow input)) old new i' p' a d = absurd a
-      settled i1 p1 v q w f g h (Err e) old new i' p' a d = absurd d
+      settled i1 p1 v q w f g h (Err (Text of_instance s)) old new i' p' (r, left) d = absurd (no_instance i1 i' v s f r d)
+      settled i1 p1 v q w f g h (Err (Overflow of_instance)) old new i' p' (v', f', k, left) d = absurd (opens i1 i' v v' h.problem f h.opened f' k)
+      settled i1 p1 v q w f g h result old new i' p' a d = absurd (grind arith)
 
       verified_by : (w : Verdict) (old new : W) (i' p' : Option (List ℕ)) → Answers (Ok w) old i' p' new → AreVerified limits longest i p w
       verified_by w old new i' p' (v, f, q, g, h, wrote) = record { instance = v; first = taken (IsInstanceText limits) IsValueOf longest i i' v f; proof = q; second = taken (IsProofText limits) IsProofOf longest p p' q g; verified = h }
@@ -175,29 +290,6 @@ module _ (laws : AllSingle) (limits : Limits) (longest : ℕ) (i : List ℕ) whe
       )
 
       -- ---- two results
-
-      -- what a result that the bytes decide says of them
-      data Shown (result : Result Verdict ToolFault) : Type 0 where
-        Accepted : (w : Verdict) → result ≡ Ok w → AreVerified limits longest i p w → Shown result
-        NoInstance : (s : Stop) (i' : Option (List ℕ)) → result ≡ Err (Text of_instance s) → IsNoInstanceFile limits longest (Some i) i' s → IsOfText s.why → Shown result
-        TooLarge : (v : Instance) (i' : Option (List ℕ)) → result ≡ Err (Overflow of_instance) → IsInstanceFile limits longest (Some i) i' v → Opened (largest limits) v (Err over) → Shown result
-        NoStep : (v : Instance) (i' : Option (List ℕ)) (problem : Problem) (place : Place) (e : Fault) (name : String Global) (p' : Option (List ℕ)) → result ≡ Err (Step place e name) → IsInstanceFile limits longest (Some i) i' v → Opened (largest limits) v (Ok problem)
-            → IsRefusedStep limits longest problem (first_state problem) (Some p) p' place e (string_bytes name) → e ≢ no_memory → Shown result
-        NoText : (v : Instance) (i' : Option (List ℕ)) (problem : Problem) (s : Stop) (p' : Option (List ℕ)) → result ≡ Err (Text of_proof s) → IsInstanceFile limits longest (Some i) i' v → Opened (largest limits) v (Ok problem)
-            → IsRefusedText limits longest problem (first_state problem) (Some p) p' s → IsOfText s.why → Shown result
-
-      shown : (result : Result Verdict ToolFault) (old new : W) (i' p' : Option (List ℕ)) → Answers result old i' p' new → IsDecided result → Shown result
-      shown (Ok w) old new i' p' a d = Accepted w refl (verified_by w old new i' p' a)
-      shown (Err (Text of_instance s)) old new i' p' (r, left) d = NoInstance s i' refl r d
-      shown (Err (Overflow of_instance)) old new i' p' (v, f, k, left) d = TooLarge v i' refl f k
-      shown (Err (Step place e name)) old new i' p' (v, f, problem, opened, r, x) d = NoStep v i' problem place e name p' refl f opened r d
-      shown (Err (Text of_proof s)) old new i' p' (v, f, problem, opened, r, x) d = NoText v i' problem s p' refl f opened r d
-      shown (Err (Text File s)) old new i' p' a d = absurd a
-      shown (Err (Overflow input)) old new i' p' a d = absurd a
-      shown (Err e) old new i' p' a d = absurd d
-
-      to_same : (one other a b : Result Verdict ToolFault) → one ≡ a → other ≡ b → IsSame a b → IsSame one other
-      to_same one other a b e f h = subst (λ (x : Result Verdict ToolFault). IsSame x other) (sym e) (subst (λ (y : Result Verdict ToolFault). IsSame a y) (sym f) h)
 
       -- an accepted statement is not rejected, and two rejected statements are the same
       text_or_step : (v w : Instance) (i' i'' : Option (List ℕ)) (a b : Problem) (s : Stop) (place : Place) (e : Fault) (name : String Global) (p' p'' : Option (List ℕ)) → IsInstanceFile limits longest (Some i) i' v → Opened (largest limits) v (Ok a)
@@ -222,34 +314,43 @@ module _ (laws : AllSingle) (limits : Limits) (longest : ℕ) (i : List ℕ) whe
           one_refusal (IsProofText limits) longest (one_proof_text laws limits longest p) (prefix_of_proof laws limits longest p) p t s
           (proof_refusal laws limits longest p b (first_state b) p'' t r') (proof_refusal laws limits longest p a (first_state a) p' s r) d' d
 
-      same_refusals : (one other : Result Verdict ToolFault) → ((w : Verdict) → other ≡ Ok w → AreVerified limits longest i p w → one ≡ Ok w) → ((w : Verdict) → one ≡ Ok w → AreVerified limits longest i p w → other ≡ Ok w) → Shown one → Shown other → IsSame one other
-      same_refusals one other to from (Accepted w e v) y = to_same one other (Ok w) (Ok w) e (from w e v) refl
-      same_refusals one other to from (NoInstance s i' e r d) (NoInstance t i'' e' r' d') = to_same one other (Err (Text of_instance s)) (Err (Text of_instance t)) e e' (ap (λ (x : Stop). Err (Text of_instance x)) (one_stop_of_instance i' i'' s t r d r' d'))
-      same_refusals one other to from (NoInstance s i' e r d) (TooLarge v i'' e' f k) = absurd (no_instance i'' i' v s f r d)
-      same_refusals one other to from (NoInstance s i' e r d) (NoStep v i'' problem place x name p' e' f k r' d') = absurd (no_instance i'' i' v s f r d)
-      same_refusals one other to from (NoInstance s i' e r d) (NoText v i'' problem t p' e' f k r' d') = absurd (no_instance i'' i' v s f r d)
-      same_refusals one other to from (TooLarge v i' e f k) (NoInstance s i'' e' r d) = absurd (no_instance i' i'' v s f r d)
-      same_refusals one other to from (TooLarge v i' e f k) (TooLarge w i'' e' g h) = to_same one other (Err (Overflow of_instance)) (Err (Overflow of_instance)) e e' refl
-      same_refusals one other to from (TooLarge v i' e f k) (NoStep w i'' problem place x name p' e' g h r d) = absurd (opens i'' i' w v problem g h f k)
-      same_refusals one other to from (TooLarge v i' e f k) (NoText w i'' problem s p' e' g h r d) = absurd (opens i'' i' w v problem g h f k)
-      same_refusals one other to from (NoStep v i' problem place x name p' e f k r d) (NoInstance s i'' e' r' d') = absurd (no_instance i' i'' v s f r' d')
-      same_refusals one other to from (NoStep v i' problem place x name p' e f k r d) (TooLarge w i'' e' g h) = absurd (opens i' i'' v w problem f k g h)
-      same_refusals one other to from (NoStep v i' problem place x name p' e f k r d) (NoStep w i'' problem' place' x' name' p'' e' g h r' d') =
-          to_same one other (Err (Step place x name)) (Err (Step place' x' name')) e e' (two_steps v w i' i'' problem problem' place place' x x' name name' p' p'' f k r d g h r' d')
-      same_refusals one other to from (NoStep v i' problem place x name p' e f k r d) (NoText w i'' problem' s p'' e' g h r' d') = absurd (text_or_step w v i'' i' problem' problem s place x name p'' p' g h r' d' f k r d)
-      same_refusals one other to from (NoText v i' problem s p' e f k r d) (NoInstance t i'' e' r' d') = absurd (no_instance i' i'' v t f r' d')
-      same_refusals one other to from (NoText v i' problem s p' e f k r d) (TooLarge w i'' e' g h) = absurd (opens i' i'' v w problem f k g h)
-      same_refusals one other to from (NoText v i' problem s p' e f k r d) (NoStep w i'' problem' place x name p'' e' g h r' d') = absurd (text_or_step v w i' i'' problem problem' s place x name p' p'' f k r d g h r' d')
-      same_refusals one other to from (NoText v i' problem s p' e f k r d) (NoText w i'' problem' t p'' e' g h r' d') =
-          to_same one other (Err (Text of_proof s)) (Err (Text of_proof t)) e e' (ap (λ (x : Stop). Err (Text of_proof x)) (two_texts v w i' i'' problem problem' s t p' p'' r d r' d'))
-      same_refusals one other to from x (Accepted w f v) = to_same one other (Ok w) (Ok w) (to w f v) f refl
+      module _ (i' p' i'' p'' : Option (List ℕ)) (old new old' new' : W) where
+        abbrev One : Result Verdict ToolFault → Type 0
+        One one = Answers one old i' p' new
 
-      alike : (i' p' i'' p'' : Option (List ℕ)) (old new old' new' : W) (one other : Result Verdict ToolFault) → Answers one old i' p' new → IsDecided one → Answers other old' i'' p'' new' → IsDecided other → IsSame one other
-      alike i' p' i'' p'' old new old' new' one other a d b d' =
-          same_refusals one other
-          (λ w e v. settled (Some []) (Some []) v.instance v.proof w v.first v.second v.verified one old new i' p' a d)
-          (λ w e v. settled (Some []) (Some []) v.instance v.proof w v.first v.second v.verified other old' new' i'' p'' b d')
-          (shown one old new i' p' a d) (shown other old' new' i'' p'' b d')
+        abbrev Other : Result Verdict ToolFault → Type 0
+        Other other = Answers other old' i'' p'' new'
+
+        alike : (one other : Result Verdict ToolFault) → One one → IsDecided one → Other other → IsDecided other → IsSame one other
+        alike (Ok w) other a d b d' =
+            let v = verified_by w old new i' p' a in
+            settled (Some []) (Some []) v.instance v.proof w v.first v.second v.verified other old' new' i'' p'' b d'
+        alike one (Ok w) a d b d' =
+            let v = verified_by w old' new' i'' p'' b in
+            let is = settled (Some []) (Some []) v.instance v.proof w v.first v.second v.verified one old new i' p' a d in
+            subst (λ (x : Result Verdict ToolFault). IsSame x (Ok w)) (sym is) refl
+        alike (Err (Text of_instance s)) (Err (Text of_instance t)) (r, left) d (r', left') d' =
+            ap (λ (x : Stop). Err (Text of_instance x)) (one_stop_of_instance i' i'' s t r d r' d')
+        alike (Err (Overflow of_instance)) (Err (Overflow of_instance)) a d b d' = refl
+        alike (Err (Step place e name)) (Err (Step place' e' name')) (v, f, a, h, r, left) d (w, g, b, k, r', left') d' =
+            two_steps v w i' i'' a b place place' e e' name name' p' p'' f h r d g k r' d'
+        alike (Err (Step place e name)) (Err (Text of_proof s)) (v, f, a, h, r, left) d (w, g, b, k, r', left') d' =
+            absurd (text_or_step w v i'' i' b a s place e name p'' p' g k r' d' f h r d)
+        alike (Err (Text of_proof s)) (Err (Step place e name)) (v, f, a, h, r, left) d (w, g, b, k, r', left') d' =
+            absurd (text_or_step v w i' i'' a b s place e name p' p'' f h r d g k r' d')
+        alike (Err (Text of_proof s)) (Err (Text of_proof t)) (v, f, a, h, r, left) d (w, g, b, k, r', left') d' =
+            ap (λ (x : Stop). Err (Text of_proof x)) (two_texts v w i' i'' a b s t p' p'' r d r' d')
+        alike (Err (Text of_instance s)) (Err (Overflow of_instance)) (r, left) d b d' = absurd (no_instance i'' i' b.0 s b.1 r d)
+        alike (Err (Text of_instance s)) (Err (Step place e name)) (r, left) d b d' = absurd (no_instance i'' i' b.0 s b.1 r d)
+        alike (Err (Text of_instance s)) (Err (Text of_proof t)) (r, left) d b d' = absurd (no_instance i'' i' b.0 s b.1 r d)
+        alike (Err (Overflow of_instance)) (Err (Text of_instance s)) a d (r, left) d' = absurd (no_instance i' i'' a.0 s a.1 r d')
+        alike (Err (Overflow of_instance)) (Err (Step place e name)) (v, f, k, left) d b d' = absurd (opens i'' i' b.0 v b.2 b.1 b.3 f k)
+        alike (Err (Overflow of_instance)) (Err (Text of_proof s)) (v, f, k, left) d b d' = absurd (opens i'' i' b.0 v b.2 b.1 b.3 f k)
+        alike (Err (Step place e name)) (Err (Text of_instance s)) a d (r, left) d' = absurd (no_instance i' i'' a.0 s a.1 r d')
+        alike (Err (Step place e name)) (Err (Overflow of_instance)) a d (w, g, k, left) d' = absurd (opens i' i'' a.0 w a.2 a.1 a.3 g k)
+        alike (Err (Text of_proof s)) (Err (Text of_instance t)) a d (r, left) d' = absurd (no_instance i' i'' a.0 t a.1 r d')
+        alike (Err (Text of_proof s)) (Err (Overflow of_instance)) a d (w, g, k, left) d' = absurd (opens i' i'' a.0 w a.2 a.1 a.3 g k)
+        alike one other a d b d' = absurd (grind arith)
 
 module _ {W : Type 0} (contents : W → Option (List ℕ)) (faults : W → ℕ) (laws : AllSingle) where
   -- a check of two texts, in terms of these texts

@@ -1,12 +1,57 @@
 -- The same bytes are read in one way. Offered to other crates.
-use Rattle.pb_tool.proofs.Common.{ℕ, ◌++◌, ◌<◌, ◌∙◌, ◌∷◌, ◌≡◌, ◌≤◌, ◌⊎◌, [], ap, append-nil, append_assoc, arith, Bool, false, inl, inr, IsTrue}
-use Rattle.pb_tool.proofs.Common.{le-leb, length, length-append, List, nat_le, None, Option, refl, subst, sym, true, cond-false, cond-true, lt-leb}
-use Rattle.pb_tool.proofs.Common.{leb_tells, bytes-append, bytes-plain, place_after-offset, Place, Spanned, Why, Byte, Ended, Read, TooLarge, TooLong}
-use Rattle.pb_tool.proofs.Common.{AreShort, byte_limit, ended_within, EndsInNumber, Explains, HasFixedSpans, IsBad, IsFull, IsPrefix, IsSpelled}
-use Rattle.pb_tool.proofs.Common.{IsUnderWay, Overruns, Reads, bytes, bytes_of, Item, letters_of, plain, spans_of, spans_since, IsOfText}
-use Rattle.pb_text.specs.meaning.Classes.{is_digit}
-use Rattle.pb_text.specs.declared.Why.TheVariants.{Memory}
-use Rattle.pb_tool.proofs.lemmas.check.Prefixes.{begins_with, after_prefix, one_prefix, same_rest}
+use Rattle.pb_tool.proofs.Common.{ℕ, ◌++◌, ◌<◌, ◌∙◌, ◌∷◌, ◌≡◌, ◌≢◌, ◌≤◌, ◌⊎◌, [], ap, append-nil, append_assoc, arith, Bool, false, inl, inr, length}
+use Rattle.pb_tool.proofs.Common.{length-append, List, nat_le, None, Option, refl, rules, subst, sym, true, leb_tells, append_cancel_left, bytes-append}
+use Rattle.pb_tool.proofs.Common.{bytes-plain, place_after-offset, Place, Spanned, Why, Byte, TooLarge, TooLong, AreShort, byte_limit, ended_within, Explains}
+use Rattle.pb_tool.proofs.Common.{HasFixedSpans, IsBad, IsFull, IsPrefix, IsSpelled, IsUnderWay, Overruns, Reads, bytes, bytes_of, Item, spans_of, spans_since}
+use Rattle.pb_tool.proofs.Common.{IsOfText}
+use Rattle.std.proofs.lemmas.Bool.Decides.{nat_tests}
+use Rattle.std.proofs.lemmas.Grind.{common_steps}
+
+pub some_left : (left : List ℕ) → left ≢ [] → 0 < length left
+some_left left h = grind (arith, common_steps)
+
+-- only the empty text is a prefix of the empty text
+pub no_prefix : (a b : List ℕ) → a ++ b ≡ [] → a ≡ []
+no_prefix [] b e = refl
+no_prefix (x ∷ a) b e = absurd (cc e)
+
+-- a text begins with another one, or that one is longer
+abbrev pub Compared : List ℕ → List ℕ → Type 0
+Compared a c = ((m : List ℕ) × (c ≡ a ++ m)) ⊎ ((x : ℕ) × (m : List ℕ) × (a ≡ c ++ x ∷ m))
+
+pub two_prefixes : (a b c d : List ℕ) → a ++ b ≡ c ++ d → Compared a c
+two_prefixes [] b c d e = inl (c, refl)
+two_prefixes (x ∷ a) b [] d e = inr (x, a, refl)
+two_prefixes (x ∷ a) b (y ∷ c) d e = one_longer (two_prefixes a b c d (let rest : a ++ b ≡ c ++ d = cc in rest))
+  where
+    one_longer : Compared a c → Compared (x ∷ a) (y ∷ c)
+    one_longer (inl (m, p)) = inl (m, cc)
+    one_longer (inr (z, m, p)) = inr (z, m, cc)
+
+module _ (a b c d : List ℕ) (e : a ++ b ≡ c ++ d) where
+  -- what follows the first, if the second is the first and then this
+  pub after_prefix : (m : List ℕ) → c ≡ a ++ m → b ≡ m ++ d
+  after_prefix m p = append_cancel_left a b (m ++ d) (e ∙ (ap (λ (y : List ℕ). y ++ d) p ∙ append_assoc a m d))
+
+  -- what follows two equal prefixes
+  pub same_rest : a ≡ c → b ≡ d
+  same_rest p = append_cancel_left a b d (e ∙ ap (λ (y : List ℕ). y ++ d) (sym p))
+
+  -- the second begins with the first, if the first is not longer
+  pub begins_with : ((x : ℕ) (m : List ℕ) → a ≡ c ++ x ∷ m → ⊥) → (m : List ℕ) × (c ≡ a ++ m)
+  begins_with not_longer = by (two_prefixes a b c d e)
+    where
+      by : Compared a c → (m : List ℕ) × (c ≡ a ++ m)
+      by (inl h) = h
+      by (inr (x, m, p)) = absurd (not_longer x m p)
+
+  -- they are equal, if neither is longer
+  pub one_prefix : ((x : ℕ) (m : List ℕ) → c ≡ a ++ x ∷ m → ⊥) → ((x : ℕ) (m : List ℕ) → a ≡ c ++ x ∷ m → ⊥) → a ≡ c
+  one_prefix not_shorter not_longer = by (begins_with not_longer)
+    where
+      by : (m : List ℕ) × (c ≡ a ++ m) → a ≡ c
+      by ([], p) = grind (arith, append-nil)
+      by (x ∷ m, p) = absurd (not_shorter x m p)
 
 -- ---- spans within prefixes
 
@@ -15,31 +60,18 @@ module _ {E : Type 0} where
   abbrev pub Begins : List (Spanned E) → List (Spanned E) → Type 0
   Begins leading all = (more : List (Spanned E)) × (all ≡ leading ++ more)
 
-  within_more : (n : ℕ) (m : Spanned E) (spans : List (Spanned E)) → m.past.offset ≤ n → ended_within n (m ∷ spans) ≡ m ∷ ended_within n spans
-  within_more n m spans h = cond-true (nat_le m.past.offset n) (m ∷ ended_within n spans) (ended_within n spans) (le-leb m.past.offset n h)
-
-  within_first : (n : ℕ) (m : Spanned E) (spans : List (Spanned E)) → n < m.past.offset → ended_within n spans ≡ [] → ended_within n (m ∷ spans) ≡ []
-  within_first n m spans h e = cond-false (nat_le m.past.offset n) (m ∷ ended_within n spans) (ended_within n spans) (lt-leb m.past.offset n h) ∙ e
-
-  within_kept : (n : ℕ) (m : Spanned E) (spans : List (Spanned E)) → m.past.offset ≤ n → ended_within n spans ≡ spans → ended_within n (m ∷ spans) ≡ m ∷ spans
-  within_kept n m spans h e = within_more n m spans h ∙ ap (λ (x : List (Spanned E)). m ∷ x) e
-
   -- a text does not end a statement that follows it
   none_within : (n : ℕ) (first : Option Place) (before : List ℕ) (items : List (Item E)) → n < length before → ended_within n (spans_since first before items) ≡ []
   none_within n first before [] h = refl
   none_within n first before (i ∷ items) h =
-      within_first n _ (spans_since None (before ++ (i.gap ++ bytes i.text)) items) (omega (arith, h, place_after-offset (before ++ (i.gap ++ bytes i.text)), length-append before (i.gap ++ bytes i.text)))
-      (none_within n None (before ++ (i.gap ++ bytes i.text)) items (omega (arith, h, length-append before (i.gap ++ bytes i.text))))
+      grind (arith, nat_tests, place_after-offset, length-append, none_within n None (before ++ (i.gap ++ bytes i.text)) items)
 
   first_begins : (n k : ℕ) (m : Spanned E) (spans : List (Spanned E)) → n ≤ k → (n < m.past.offset → ended_within n spans ≡ []) → Begins (ended_within n spans) (ended_within k spans) → Begins (ended_within n (m ∷ spans)) (ended_within k (m ∷ spans))
   first_begins n k m spans le none (more, e) = by (leb_tells m.past.offset n)
     where
       by : ((nat_le m.past.offset n ≡ true) × (m.past.offset ≤ n)) ⊎ ((nat_le m.past.offset n ≡ false) × (n < m.past.offset)) → Begins (ended_within n (m ∷ spans)) (ended_within k (m ∷ spans))
-      by (inl (t, h)) = (
-        more,
-        within_more k m spans (omega (arith, h, le)) ∙ (ap (λ (x : List (Spanned E)). m ∷ x) e ∙ ap (λ (x : List (Spanned E)). x ++ more) (sym (within_more n m spans h))),
-      )
-      by (inr (t, h)) = (ended_within k (m ∷ spans), ap (λ (x : List (Spanned E)). x ++ ended_within k (m ∷ spans)) (sym (within_first n m spans h (none h))))
+      by (inl (t, h)) = (more, grind (arith, nat_tests))
+      by (inr (t, h)) = (ended_within k (m ∷ spans), grind (arith, nat_tests, none))
 
   -- the statements that end in a prefix begin those that end in a longer one
   prefix : (n k : ℕ) (first : Option Place) (before : List ℕ) (items : List (Item E)) → n ≤ k → Begins (ended_within n (spans_since first before items)) (ended_within k (spans_since first before items))
@@ -50,25 +82,18 @@ module _ {E : Type 0} where
       (prefix n k None (before ++ (i.gap ++ bytes i.text)) items le)
 
   one_length : (i : Item E) (items : List (Item E)) (before : List ℕ) → length (before ++ bytes_of (i ∷ items)) ≡ length ((before ++ (i.gap ++ bytes i.text)) ++ bytes_of items)
-  one_length i items before =
-      ap length (ap (λ (x : List ℕ). before ++ x) (bytes-append (plain i.gap) (i.text ++ letters_of items) ∙ (ap (λ (x : List ℕ). x ++ bytes (i.text ++ letters_of items)) (bytes-plain i.gap)
-      ∙ (ap (λ (x : List ℕ). i.gap ++ x) (bytes-append i.text (letters_of items)) ∙ sym (append_assoc i.gap (bytes i.text) (bytes_of items)))))
-      ∙ sym (append_assoc before (i.gap ++ bytes i.text) (bytes_of items)))
+  one_length i items before = simp (bytes-append, bytes-plain, append_assoc)
 
   -- a whole text ends all its statements
   all_within : (n : ℕ) (first : Option Place) (before : List ℕ) (items : List (Item E)) → length (before ++ bytes_of items) ≤ n → ended_within n (spans_since first before items) ≡ spans_since first before items
   all_within n first before [] h = refl
   all_within n first before (i ∷ items) h =
-      let here : length ((before ++ (i.gap ++ bytes i.text)) ++ bytes_of items) ≤ n = omega (arith, h, one_length i items before) in
-      within_kept n _ (spans_since None (before ++ (i.gap ++ bytes i.text)) items)
-      (omega (arith, here, place_after-offset (before ++ (i.gap ++ bytes i.text)), length-append (before ++ (i.gap ++ bytes i.text)) (bytes_of items)))
-      (all_within n None (before ++ (i.gap ++ bytes i.text)) items here)
+      grind (arith, nat_tests, one_length i items before, place_after-offset, length-append, all_within n None (before ++ (i.gap ++ bytes i.text)) items)
 
   -- a statement with longest bytes in a prefix that ends after that prefix has more bytes in a longer one
   overrun : (longest n k : ℕ) (spans : List (Spanned E)) → n < k → Overruns longest n spans → AreShort longest k spans → ⊥
   overrun longest n k [] lt o s = o
-  overrun longest n k (m ∷ spans) lt (inl (e, past)) s = omega (arith, e, past, lt, s.0)
-  overrun longest n k (m ∷ spans) lt (inr o) s = overrun longest n k spans lt o s.1
+  overrun longest n k (m ∷ spans) lt o s = grind (arith, overrun longest n k spans)
 
 -- ---- a format in which a text has one value, and none is a prefix of another
 
@@ -81,9 +106,7 @@ NoneGoesOn {E} format = (items items' : List (Item E)) (more : List ℕ) → for
 -- of two texts of the format in one text, neither is longer
 module _ {E : Type 0} (format : List (Item E) → Type 0) (leading : NoneGoesOn format) where
   no_longer : (used used' : List ℕ) (items items' : List (Item E)) → format items → format items' → bytes_of items ≡ used → bytes_of items' ≡ used' → (x : ℕ) (m : List ℕ) → used' ≡ used ++ x ∷ m → ⊥
-  no_longer used used' items items' h h' are are' x m p =
-      let none : x ∷ m ≡ [] = leading items items' (x ∷ m) h h' (are' ∙ (p ∙ ap (λ (y : List ℕ). y ++ x ∷ m) (sym are))) in
-      absurd cc
+  no_longer used used' items items' h h' are are' x m p = grind (arith, leading items items' (x ∷ m))
 
   pub one_spelt : (used left used' left' : List ℕ) (items items' : List (Item E)) → used ++ left ≡ used' ++ left' → format items → format items' → bytes_of items ≡ used → bytes_of items' ≡ used' → used ≡ used'
   one_spelt used left used' left' items items' e h h' are are' = one_prefix used left used' left' e (no_longer used used' items items' h h' are are') (no_longer used' used items' items h' h are' are)
@@ -100,15 +123,11 @@ module _ {E : Type 0} (format : List (Item E) → Type 0) (longest : ℕ) where
     pub short : AreShort longest (length used) (spans_of items)
 
   pub spelling_reached : (used : List ℕ) (spans : List (Spanned E)) → IsSpelled format longest used spans → Reached used spans
-  spelling_reached used spans s = record {
-    items = s.items;
-    is = s.spelled;
-    more = [];
-    begins = s.used_are ∙ sym (append-nil used);
-    spans_are = all_within (length used) None [] s.items (omega (arith, ap (λ (x : List ℕ). length x) s.used_are)) ∙ sym s.spans_are;
-    within = s.within;
-    short = subst (λ (x : List (Spanned E)). AreShort longest (length used) x) s.spans_are s.short;
-  }
+  spelling_reached used spans s =
+      let begins : bytes_of s.items ≡ used ++ [] = s.used_are ∙ sym (append-nil used) in
+      let all = all_within (length used) None [] s.items (omega (arith, ap (λ (x : List ℕ). length x) s.used_are)) ∙ sym s.spans_are in
+      let short = subst (λ (x : List (Spanned E)). AreShort longest (length used) x) s.spans_are s.short in
+      search rules
 
   pub way_reached : (used : List ℕ) (spans : List (Spanned E)) → IsUnderWay format longest used spans → Reached used spans
   way_reached used spans u =
@@ -120,26 +139,20 @@ module _ {E : Type 0} (format : List (Item E) → Type 0) (longest : ℕ) where
     next : (x : ℕ) (m : List ℕ) → used' ≡ used ++ x ∷ m → left ≡ x ∷ (m ++ left')
     next x m p = after_prefix used left used' left' input_is (x ∷ m) p
 
-    goes_on : (m : List ℕ) → used' ≡ used ++ m → bytes_of r.items ≡ used ++ (m ++ r.more)
-    goes_on m p = r.begins ∙ (ap (λ (y : List ℕ). y ++ r.more) p ∙ append_assoc used m r.more)
-
     not_bad : (b : ℕ) (more : List ℕ) → left ≡ b ∷ more → IsBad format longest used b → (x : ℕ) (m : List ℕ) → used' ≡ used ++ x ∷ m → ⊥
     not_bad b more e bad x m p =
-        let k : b ∷ more ≡ x ∷ (m ++ left') = sym e ∙ next x m p in
-        let same : x ≡ b = cc in
-        bad.refused (r.items, r.is, (m ++ r.more, goes_on (x ∷ m) p ∙ (ap (λ (y : ℕ). used ++ (y ∷ (m ++ r.more))) same ∙ sym (append_assoc used (b ∷ []) (m ++ r.more)))))
+        let same : x ≡ b = let k = next x m p in cc in
+        bad.refused (r.items, r.is, (m ++ r.more, grind (arith, r.begins, append_assoc)))
 
     not_full : IsFull format longest used → (x : ℕ) (m : List ℕ) → used' ≡ used ++ x ∷ m → ⊥
-    not_full (inl e) x m p = omega (arith, e, r.within, ap (λ (y : List ℕ). length y) p, length-append used (x ∷ m))
-    not_full (inr over) x m p =
-        overrun longest (length used) (length used') (spans_of r.items) (omega (arith, ap (λ (y : List ℕ). length y) p, length-append used (x ∷ m))) (over r.items r.is (x ∷ (m ++ r.more), goes_on (x ∷ m) p)) r.short
+    not_full (inl e) x m p = grind (arith, r.within, length-append)
+    not_full (inr over) x m p = grind (arith, overrun, length-append, over, r.is, r.begins, r.short, append_assoc)
 
     no_further : (why : Why) → IsOfText why → Explains format longest used left why → (x : ℕ) (m : List ℕ) → used' ≡ used ++ x ∷ m → ⊥
     no_further (Byte b) d (more, e, bad, number) x m p = not_bad b more e bad x m p
     no_further TooLarge d (b, more, e, bad, digit, number) x m p = not_bad b more e bad x m p
     no_further TooLong d (some, full) x m p = not_full full x m p
-    no_further Ended d e x m p = let k : [] ≡ x ∷ (m ++ left') = sym e ∙ next x m p in absurd cc
-    no_further why d h x m p = d
+    no_further why d h x m p = grind (arith, next)
 
     -- what was reached of the text begins the used bytes
     pub reached_before : (why : Why) → IsOfText why → Explains format longest used left why → (m : List ℕ) × (used ≡ used' ++ m)
@@ -147,35 +160,9 @@ module _ {E : Type 0} (format : List (Item E) → Type 0) (longest : ℕ) where
 
   -- ---- two stops
   module _ (used left : List ℕ) where
-    one_byte : (b c : ℕ) (more more' : List ℕ) → left ≡ b ∷ more → left ≡ c ∷ more' → b ≡ c
-    one_byte b c more more' e e' = let k : b ∷ more ≡ c ∷ more' = sym e ∙ e' in cc
-
-    no_byte : (b : ℕ) (more : List ℕ) → left ≡ b ∷ more → left ≡ [] → ⊥
-    no_byte b more e e' = let k : b ∷ more ≡ [] = sym e ∙ e' in absurd cc
-
-    one_digit : (b c : ℕ) → b ≡ c → (IsTrue (is_digit b) → EndsInNumber format used → ⊥) → IsTrue (is_digit c) → EndsInNumber format used → ⊥
-    one_digit b c e none digit number = none (subst (λ (x : ℕ). IsTrue (is_digit x)) (sym e) digit) number
-
     one_why : (why why' : Why) → IsOfText why → IsOfText why' → Explains format longest used left why → Explains format longest used left why' → why ≡ why'
-    one_why (Byte b) (Byte c) d d' (more, e, bad, number) (more', e', bad', number') = ap (λ (x : ℕ). Byte x) (one_byte b c more more' e e')
-    one_why (Byte b) TooLarge d d' (more, e, bad, number) (c, more', e', bad', digit, ends) = absurd (one_digit b c (one_byte b c more more' e e') number digit ends)
-    one_why (Byte b) TooLong d d' (more, e, bad, number) (some, full) = absurd (bad.room full)
-    one_why (Byte b) Ended d d' (more, e, bad, number) none = absurd (no_byte b more e none)
-    one_why TooLarge (Byte c) d d' (b, more, e, bad, digit, ends) (more', e', bad', number') = absurd (one_digit c b (one_byte c b more' more e' e) number' digit ends)
     one_why TooLarge TooLarge d d' h h' = refl
-    one_why TooLarge TooLong d d' (b, more, e, bad, digit, ends) (some, full) = absurd (bad.room full)
-    one_why TooLarge Ended d d' (b, more, e, bad, digit, ends) none = absurd (no_byte b more e none)
-    one_why TooLong (Byte c) d d' (some, full) (more', e', bad', number') = absurd (bad'.room full)
-    one_why TooLong TooLarge d d' (some, full) (c, more', e', bad', digit, ends) = absurd (bad'.room full)
-    one_why TooLong TooLong d d' h h' = refl
-    one_why TooLong Ended d d' (some, full) none = absurd (some none)
-    one_why Ended (Byte c) d d' none (more', e', bad', number') = absurd (no_byte c more' e' none)
-    one_why Ended TooLarge d d' none (c, more', e', bad', digit, ends) = absurd (no_byte c more' e' none)
-    one_why Ended TooLong d d' none (some, full) = absurd (some none)
-    one_why Ended Ended d d' h h' = refl
-    one_why why Read d d' h h' = absurd d'
-    one_why why Memory d d' h h' = absurd d'
-    one_why why why' d d' h h' = absurd d
+    one_why why why' d d' h h' = grind arith
 
   pub one_stop : (used left used' left' : List ℕ) (spans spans' : List (Spanned E)) (why why' : Why) → used ++ left ≡ used' ++ left' → IsUnderWay format longest used spans → IsOfText why → Explains format longest used left why
       → IsUnderWay format longest used' spans' → IsOfText why' → Explains format longest used' left' why' → (used ≡ used') × (why ≡ why')
@@ -188,13 +175,10 @@ module _ {E : Type 0} (format : List (Item E) → Type 0) (longest : ℕ) where
   -- ---- a text of the format is not rejected
   module _ (used left used' left' : List ℕ) (spans spans' : List (Spanned E)) (e : used ++ left ≡ used' ++ left') (u : IsUnderWay format longest used spans) (s : IsSpelled format longest used' spans') where
     not_beyond : (m : List ℕ) → used ≡ used' ++ m → ⊥
-    not_beyond m p = u.unfinished s.items s.spelled (m, p ∙ ap (λ (y : List ℕ). y ++ m) (sym s.used_are))
+    not_beyond m p = u.unfinished s.items s.spelled (m, rw s.used_are p)
 
     pub not_both : (why : Why) → IsOfText why → Explains format longest used left why → ⊥
-    not_both why d x = not_beyond before.0 before.1
-      where
-        before : (m : List ℕ) × (used ≡ used' ++ m)
-        before = reached_before used left used' left' spans' e (spelling_reached used' spans' s) why d x
+    not_both why d x = let (m, p) = reached_before used left used' left' spans' e (spelling_reached used' spans' s) why d x in not_beyond m p
 
     -- and a text that was read so far is a prefix of it
     pub way_before : (m : List ℕ) × (used' ≡ used ++ m)

@@ -1,14 +1,16 @@
 -- What a check of two sources ensures, from what its parts ensure. Offered to other crates.
-use Rattle.pb_tool.proofs.Common.{ℕ, ◌++◌, ◌<◌, ◌∙◌, ◌≡◌, ◌⊎◌, [], ap, Err, get_or, inl, inr, length, List, None, Ok, Option, refl, Result, Some}
-use Rattle.pb_tool.proofs.Common.{string_bytes, subst, sym, true, get_or_append_left, Proof, Statement, IsProofOf, statements_of, UnvaluedMayWant}
-use Rattle.pb_tool.proofs.Common.{Replaying, Fault, NotTotal, Verdict, Problem, first_state, State, Accepts, MayWantAt, Outcome, Limits, Place}
-use Rattle.pb_tool.proofs.Common.{Spanned, ReadsBlank, largest, top_of, place_after, IsRead, Broke, Wrote, KeepsNames, faults_of_instance, IsNoReplay}
-use Rattle.pb_tool.proofs.Common.{IsReplayOf, IsReportedAs, Replays, RunsProof, ToolFault, Memory, Overflow, Step, Text, Write, IsProofText}
-use Rattle.pb_tool.proofs.Common.{CheckCall, ChecksFiles, IsAccepted, IsReported, IsVerified, verdict_line, CheckFault}
+use Rattle.pb_tool.proofs.Common.{ℕ, ◌++◌, ◌<◌, ◌∙◌, ◌≡◌, ◌⊎◌, [], ap, Bool, Err, get_or, inl, inr, length, List, None, Ok, Option, refl, Result, Some}
+use Rattle.pb_tool.proofs.Common.{string_bytes, subst, sym, true, get_or_append_left, Instance, Proof, Statement, IsProofOf, UnvaluedMayWant, Replaying, Fault}
+use Rattle.pb_tool.proofs.Common.{NotTotal, Verdict, Opened, Problem, first_state, State, Accepts, MayWantAt, Outcome, Limits, Place, Spanned, Stop, ReadsBlank}
+use Rattle.pb_tool.proofs.Common.{largest, top_of, place_after, IsRead, Broke, Wrote, KeepsNames, faults_of_instance, faults_of_proof, IsNoReplay, IsReplayOf}
+use Rattle.pb_tool.proofs.Common.{IsReportedAs, Replays, RunsProof, SawNoInstance, SawNoProof, Call, HasSeenUpTo, IsWatched, ShowsProof, ShowsRun, CheckFault}
+use Rattle.pb_tool.proofs.Common.{ToolFault, Memory, Overflow, Step, Text, Write, IsChecked, IsRun, OfBoth, IsProofFile, IsProofText, IsInstanceFile}
+use Rattle.pb_tool.proofs.Common.{AfterProof, ChecksFiles, InProof, IsAccepted, IsReported, IsVerified, verdict_line}
 use Rattle.pb_replay.specs.declared.fault.Fault.TheVariants.{Memory as no_memory}
 use Rattle.pb_tool.specs.declared.fault.Input.TheVariants.{Instance as of_instance, Proof as of_proof}
 use Rattle.pb_tool.proofs.lemmas.check.CheckerSteps.{spelled_events}
-use Rattle.pb_tool.proofs.lemmas.file.GivenBytes.{file_then_blank}
+use Rattle.pb_tool.proofs.lemmas.file.GivenBytes.{both_then, file_then_blank}
+use Rattle.pb_tool.proofs.lemmas.show.ShownStatements.{all_of}
 
 -- the name is among those from before the statement
 names_prefix : (names all more : List (List ℕ)) (n : ℕ) → all ≡ names ++ more → n < length names → get_or all n [] ≡ get_or names n []
@@ -54,54 +56,181 @@ module _ (limits : Limits) (longest : ℕ) (v : Problem) (first : State) (before
           inr (subst (λ (y : Fault). Outcome (largest limits) (top_of limits) v state st (Err y) × IsReported state.names y (string_bytes name)) (sym same) (out, reported_before state.names new.names e (string_bytes name) kept h))
   step_report law after new place e f h reported = absurd reported
 
-module _ (limits : Limits) (longest n : ℕ) (is : longest ≡ n) {W : Type 0} (contents : W → Option (List ℕ)) (faults : W → ℕ) (i i' p p' : Option (List ℕ)) (old new : W) where
-  abbrev call : Result Verdict ToolFault → CheckCall (Option (List ℕ)) W
-  call result = record { instance = i; proof = p; out = old; result = result; instance_after = i'; proof_after = p'; out_after = new }
+module _ (limits : Limits) (longest : ℕ) {V : Type 0} (got : V → Call → V → Type 0) (v : Problem) (first : State) (old new : V) where
+  -- what the watch got of a rejected statement
+  step_shown : (before after : Option (List ℕ)) (names : List (List ℕ)) (place : Place) (e : Fault) (f : ToolFault) → IsReportedAs names place e f
+      → ShowsRun limits longest got v first before old (Err (CheckFault.Step place e)) after new
+      → ShowsProof limits longest got v first before old (Err f) after new
+  step_shown before after names place e (Step at x name) (same, why) h =
+      (e, by why, subst (λ (p : Place). HasSeenUpTo limits longest got v first before old after p e new) (sym same) h)
+    where
+      by : ((x ≡ no_memory) × ((n : ℕ) × (e ≡ NotTotal n))) ⊎ ((x ≡ e) × IsReported names e (string_bytes name)) → (x ≡ e) ⊎ ((x ≡ no_memory) × (n : ℕ) × (e ≡ NotTotal n))
+      by (inl (k, (n, reported))) = inr (k, n, reported)
+      by (inr (k, reported)) = inl k
+  step_shown before after names place e f reported h = absurd reported
 
-  abbrev Checks : Result Verdict ToolFault → Type 0
-  Checks result = ChecksFiles limits n contents faults (call result)
+-- ---- a proof, with the rest after it
+
+module _ (longest : ℕ) (began : Replaying) {V : Type 0} (got : V → Call → V → Type 0) (old : V) (first : State) (r : Replaying) (new : V) where
+  abbrev Run : Result (Verdict × Place) CheckFault → Option (List ℕ) → Option (List ℕ) → Type 0
+  Run result = IsRun longest began got old first result r new
+
+  abbrev Whole : Result Verdict ToolFault → Option (List ℕ) → Option (List ℕ) → Type 0
+  Whole result = IsChecked longest began got old first result new
+
+  -- a text that stopped
+  pub text_stopped : (s : Stop) (before after : Option (List ℕ)) → Run (Err (CheckFault.Text s)) before after → Whole (Err (Text of_proof s)) before after
+  text_stopped s before after run = record { replayed = InProof run.runs.0 run.runs.1 run.runs.2; shown = inl run.shown }
+
+  -- a rejected statement
+  pub step_rejected : UnvaluedMayWant → (place : Place) (e : Fault) (f : ToolFault) → IsReportedAs r.names place e f → (before after : Option (List ℕ))
+      → Run (Err (CheckFault.Step place e)) before after → Whole (Err f) before after
+  step_rejected law place e f reported before after run = record {
+    replayed = step_report began.limits longest began.problem first before law after r place e f run.runs reported;
+    shown = step_shown began.limits longest got began.problem first old new before after r.names place e f reported run.shown;
+  }
+
+  -- a whole proof, with another rest
+  moved : (ended : Verdict × Place) (used seen other : List ℕ) → Run (Ok ended) (Some (used ++ seen)) (Some seen)
+      → Run (Ok ended) (Some (used ++ other)) (Some other)
+  moved ended used seen other run =
+      let (last, a, claimed) = run.runs in
+      let h = run.shown in
+      record {
+        runs = (
+          last,
+          record { spans = a.spans; took = all_of (IsProofText began.limits) longest used seen other a.spans ended.1 a.took; accepted = a.accepted },
+          claimed,
+        );
+        shown =
+            record {
+              spans = h.spans;
+              took = all_of (IsProofText began.limits) longest used seen other h.spans ended.1 h.took;
+              calls = h.calls;
+              last = h.last;
+              shows = h.shows;
+              got_are = h.got_are;
+            };
+      }
+
+  -- a blank rest follows
+  pub blank_after : (ended : Verdict × Place) (before : Option (List ℕ)) (since : List ℕ) (mid : Option (List ℕ)) (given : List ℕ) (rest : Option (List ℕ))
+      (now : List ℕ)
+      → OfBoth (Run (Ok ended)) before since mid given → OfBoth (λ left end. ReadsBlank ended.1 left (Ok tt) end) mid given rest now
+      → OfBoth (Whole (Ok ended.0)) before since rest now
+  blank_after ended = both_then (moved ended) (λ before mid after run blank. record {
+    replayed = whole_file began.limits longest began.problem first before mid after ended.1 run.runs.0 ended.0 run.runs.1 run.runs.2 blank;
+    shown = (mid, ended.1, run.shown);
+  })
+
+  -- one that is not blank
+  pub stray_after : (ended : Verdict × Place) (s : Stop) (before : Option (List ℕ)) (since : List ℕ) (mid : Option (List ℕ)) (given : List ℕ)
+      (rest : Option (List ℕ)) (now : List ℕ)
+      → OfBoth (Run (Ok ended)) before since mid given → OfBoth (λ left end. ReadsBlank ended.1 left (Err s) end) mid given rest now
+      → OfBoth (Whole (Err (Text of_proof s))) before since rest now
+  stray_after ended s = both_then (moved ended) (λ before mid after run blank. record {
+    replayed = AfterProof mid ended.1 run.runs.0 ended.0 run.runs.1 run.runs.2 blank;
+    shown = inr (mid, ended.1, run.shown);
+  })
+
+-- ---- two sources
+
+module _ (limits : Limits) (longest : ℕ) {W V : Type 0} (contents : W → Option (List ℕ)) (faults : W → ℕ) (got : V → Call → V → Type 0) (old new : W)
+    (watch watched : V) where
+  -- what a check returns, and what the watch got
+  pub record Answered (result : Result Verdict ToolFault) (i i' p p' : Option (List ℕ)) : Type 0 where
+    pub checks : ChecksFiles limits longest contents faults record {
+      instance = i;
+      proof = p;
+      out = old;
+      result = result;
+      instance_after = i';
+      proof_after = p';
+      out_after = new;
+    }
+    pub watches : IsWatched limits longest got i p watch result i' p' watched
 
   -- there is no replay
-  pub no_replay : (f : ToolFault) → IsNoReplay limits longest i i' f → p' ≡ p → new ≡ old → Checks (Err f)
-  no_replay f h kept same = subst (λ (m : ℕ). ChecksFiles limits m contents faults (call (Err f))) is (by f h)
-    where
-      by : (f : ToolFault) → IsNoReplay limits longest i i' f → ChecksFiles limits longest contents faults (call (Err f))
-      by (Text of_instance s) h = (h, (kept, same))
-      by (Overflow of_instance) h = (h.0, h.1, h.2, (kept, same))
-      by (Memory of_instance) h = (h.0, h.1, h.2, (kept, same))
-      by f h = absurd h
+  pub no_replay : (f : ToolFault) → new ≡ old → watched ≡ watch → (i i' p : Option (List ℕ)) → IsNoReplay limits longest i i' f → Answered (Err f) i i' p p
+  no_replay (Text of_instance s) same unseen i i' p h = record { checks = (h, (refl, same)); watches = unseen }
+  no_replay (Overflow of_instance) same unseen i i' p h = record { checks = (h.0, h.1, h.2, (refl, same)); watches = unseen }
+  no_replay (Memory of_instance) same unseen i i' p h = record { checks = (h.0, h.1, h.2, (refl, same)); watches = unseen }
+  no_replay f same unseen i i' p h = absurd h
 
-  module _ (r : Replaying) (h : IsReplayOf limits longest i i' r) where
-    abbrev Owes : Result Verdict ToolFault → Type 0
-    Owes result = Replays r.limits longest r.problem (first_state r.problem) p result p'
+  module _ (r : Replaying) where
+    -- a check of the proof with the replay, for an instance and a proof
+    abbrev pub Answers : Result Verdict ToolFault → Result Verdict ToolFault → Type 0
+    Answers checked result = (i i' p p' : Option (List ℕ)) → IsReplayOf limits longest i i' r
+        → IsChecked longest r got watch (first_state r.problem) checked watched p p' → Answered result i i' p p'
 
-    here : (result : Result Verdict ToolFault) → Owes result → Replays limits longest r.problem (first_state r.problem) p result p'
-    here result owed = subst (λ (x : Limits). Replays x longest r.problem (first_state r.problem) p result p') h.limited owed
+    shown : (result : Result Verdict ToolFault) (i i' p p' : Option (List ℕ)) → IsReplayOf limits longest i i' r
+        → IsChecked longest r got watch (first_state r.problem) result watched p p'
+        → (v : Instance) × IsInstanceFile limits longest i i' v × (problem : Problem) × Opened (largest limits) v (Ok problem)
+        × ShowsProof limits longest got problem (first_state problem) p watch result p' watched
+    shown result i i' p p' h owed =
+        let of = λ (x : Limits). ShowsProof x longest got r.problem (first_state r.problem) p watch result p' watched in
+        (h.instance, h.file, r.problem, h.opened, subst of h.limited owed.shown)
 
-    verified : (w : Verdict) (q : Proof) (t : State) → Accepts (largest limits) (top_of limits) r.problem (first_state r.problem) (statements_of q) t → t.concluded ≡ Some w → IsVerified limits h.instance q w
-    verified w q t accepted claimed = record { problem = r.problem; opened = h.opened; last = t; accepted = accepted; claimed = claimed }
+    replayed : (result : Result Verdict ToolFault) (i i' p p' : Option (List ℕ)) → IsReplayOf limits longest i i' r
+        → IsChecked longest r got watch (first_state r.problem) result watched p p' → Replays limits longest r.problem (first_state r.problem) p result p'
+    replayed result i i' p p' h owed =
+        subst (λ (x : Limits). Replays x longest r.problem (first_state r.problem) p result p') h.limited owed.replayed
 
     -- all was accepted
-    pub checked_ok : (w : Verdict) → Owes (Ok w) → Wrote contents faults old (verdict_line w) new → Checks (Ok w)
-    checked_ok w owed wrote =
-        let (q, file, t, accepted, claimed) = here (Ok w) owed in
-        subst (λ (m : ℕ). ChecksFiles limits m contents faults (call (Ok w))) is (h.instance, h.file, q, file, verified w q t accepted claimed, wrote)
+    verified : (w : Verdict) (i i' p p' : Option (List ℕ)) (h : IsReplayOf limits longest i i' r)
+        → IsChecked longest r got watch (first_state r.problem) (Ok w) watched p p'
+        → (q : Proof) × IsProofFile limits longest p p' q × IsVerified limits h.instance q w
+    verified w i i' p p' h owed =
+        let (q, file, t, accepted, claimed) = replayed (Ok w) i i' p p' h owed in
+        (q, file, record { problem = r.problem; opened = h.opened; last = t; accepted = accepted; claimed = claimed })
 
-    pub checked_broke : (w : Verdict) → Owes (Ok w) → Broke contents faults old (verdict_line w) new → Checks (Err Write)
-    checked_broke w owed broke =
-        let (q, file, t, accepted, claimed) = here (Ok w) owed in
-        subst (λ (m : ℕ). ChecksFiles limits m contents faults (call (Err Write))) is (h.instance, h.file, q, file, w, verified w q t accepted claimed, broke)
+    pub all_written : (w : Verdict) → Wrote contents faults old (verdict_line w) new → Answers (Ok w) (Ok w)
+    all_written w wrote i i' p p' h owed =
+        let (q, file, is) = verified w i i' p p' h owed in
+        record { checks = (h.instance, h.file, q, file, is, wrote); watches = shown (Ok w) i i' p p' h owed }
+
+    pub all_broke : (w : Verdict) → Broke contents faults old (verdict_line w) new → Answers (Ok w) (Err Write)
+    all_broke w broke i i' p p' h owed =
+        let (q, file, is) = verified w i i' p p' h owed in
+        record { checks = (h.instance, h.file, q, file, w, is, broke); watches = shown (Ok w) i i' p p' h owed }
 
     -- the proof was rejected
-    pub checked_refused : (f : ToolFault) → Owes (Err f) → new ≡ old → Checks (Err f)
-    checked_refused f owed same = subst (λ (m : ℕ). ChecksFiles limits m contents faults (call (Err f))) is (by f (here (Err f) owed))
-      where
-        by : (f : ToolFault) → Replays limits longest r.problem (first_state r.problem) p (Err f) p' → ChecksFiles limits longest contents faults (call (Err f))
-        by (Step place e name) x = (h.instance, h.file, r.problem, h.opened, x, same)
-        by (Text of_proof s) x = (h.instance, h.file, r.problem, h.opened, x, same)
-        by f x = absurd x
+    pub proof_refused : (f : ToolFault) → new ≡ old → Answers (Err f) (Err f)
+    proof_refused (Step place e name) same i i' p p' h owed =
+        let checks = replayed (Err (Step place e name)) i i' p p' h owed in
+        record { checks = (h.instance, h.file, r.problem, h.opened, checks, same); watches = shown (Err (Step place e name)) i i' p p' h owed }
+    proof_refused (Text of_proof s) same i i' p p' h owed =
+        let checks = replayed (Err (Text of_proof s)) i i' p p' h owed in
+        record { checks = (h.instance, h.file, r.problem, h.opened, checks, same); watches = shown (Err (Text of_proof s)) i i' p p' h owed }
+    proof_refused f same i i' p p' h owed = absurd owed.replayed
 
-    -- the source of the instance did not fail then
-    pub instance_read : (f : ToolFault) → Owes (Err f) → (k m : ℕ) → k ≡ m → k ≡ faults_of_instance {A = Verdict} (Err f) m
-    instance_read (Text of_instance s) x k m h = absurd x
-    instance_read f x k m h = h
+-- ---- what the last peeks of a check have shown
+
+module _ (shown : Option ℕ) (ended : Bool) where
+  module _ (limits : Limits) (longest : ℕ) (before after : Option (List ℕ)) where
+    -- if there is no replay, the reason is not the text of the proof
+    pub opening_unseen : (f : ToolFault) → IsNoReplay limits longest before after f → SawNoProof shown ended f
+    opening_unseen (Text of_proof s) h = absurd h
+    opening_unseen Write h = absurd h
+    opening_unseen f h = tt
+
+    -- a proof is not rejected for the text of the instance, which was read to its end
+    pub replay_unseen : ended ≡ true → (v : Problem) (first : State) (f : ToolFault) → Replays limits longest v first before (Err f) after → SawNoInstance shown ended f
+    replay_unseen end v first (Text of_instance s) h = absurd h
+    replay_unseen end v first f h = end
+
+  -- a rejected statement is not a text that stopped the reader
+  pub report_unseen : (names : List (List ℕ)) (place : Place) (e : Fault) (f : ToolFault) → IsReportedAs names place e f → SawNoProof shown ended f
+  report_unseen names place e (Step at x name) h = tt
+  report_unseen names place e f h = absurd h
+
+-- nor has the source of the instance then
+pub instance_read : (limits : Limits) (longest : ℕ) (v : Problem) (first : State) (before after : Option (List ℕ)) (f : ToolFault)
+    → Replays limits longest v first before (Err f) after → (k m : ℕ) → k ≡ m → k ≡ faults_of_instance {A = Verdict} (Err f) m
+instance_read limits longest v first before after (Text of_instance s) h k m same = absurd h
+instance_read limits longest v first before after f h k m same = same
+
+-- for a rejected statement the source has not failed
+pub report_faults : (A : Type 0) (names : List (List ℕ)) (place : Place) (e : Fault) (f : ToolFault) → IsReportedAs names place e f → (k n : ℕ) → k ≡ n → k ≡ faults_of_proof {A = A} (Err f) n
+report_faults A names place e (Step at x name) h k n same = same
+report_faults A names place e f h k n same = absurd h

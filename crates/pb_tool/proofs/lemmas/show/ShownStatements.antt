@@ -1,11 +1,20 @@
 -- Statements that are shown one after another. Offered to other crates.
-use Rattle.pb_tool.proofs.Common.{ℕ, ◌++◌, ◌+◌, ◌-◌, ◌<◌, ◌^◌, ◌∙◌, ◌∷◌, ◌≡◌, ◌≤◌, [], ap, append-nil, arith, Bool, Err, false, length, length-append}
-use Rattle.pb_tool.proofs.Common.{List, None, Ok, Option, refl, Result, Some, subst, sym, true, flat_map-append, took_join, asking_to}
-use Rattle.pb_tool.proofs.Common.{place_after-offset, halt_of, place_of, StandsAt, Feeder, Ghosts, Place, Spanned, Stop, ReadsBlank, Took, HasPulled}
-use Rattle.pb_tool.proofs.Common.{TookAll, TookSoFar, byte_limit, IsSpelled, Reads, Item, place_after, Wrote, EndsAt, IsRefusedAfter, IsSpelling}
-use Rattle.pb_tool.proofs.Common.{shown, shown_line, ShowsLines, File, ToolFault, Text, Write}
+use Rattle.pb_tool.proofs.Common.{ℕ, ◌++◌, ◌+◌, ◌-◌, ◌<◌, ◌^◌, ◌∙◌, ◌∷◌, ◌≡◌, ◌≤◌, [], ap, append-nil, append_assoc, arith, Bool, Err, false, length}
+use Rattle.pb_tool.proofs.Common.{length-append, List, None, Ok, Option, refl, Result, rules, Some, subst, sym, true, flat_map-append, append_cancel_right}
+use Rattle.pb_tool.proofs.Common.{place_bytes, row, took_join, asking_to, given_both, place_after-offset, AcceptsItems, MayAsk, halt_of, is_complete, place_of}
+use Rattle.pb_tool.proofs.Common.{StandsAt, stop_of, Feeder, Ghosts, Place, Spanned, Stop, ReadsBlank, OfGiven, Pulls, Took, HasPulled, PullsOn, TookAll}
+use Rattle.pb_tool.proofs.Common.{TookSoFar, byte_limit, IsSpelled, Reads, Item, place_after, Broke, Wrote, EndsAt, IsRefusedAfter, IsSpelling, line_of, shown}
+use Rattle.pb_tool.proofs.Common.{shown_line, ShowsLines, File, ToolFault, Text, Write, HasGiven}
 use Rattle.pb_tool.specs.contract.Show.{InText, InRest}
+use Rattle.pb_text.specs.contract.Pulled.{PullsOnce}
+use Rattle.pb_text.specs.contract.Standing.{IsOpen}
 use Rattle.pb_tool.proofs.lemmas.check.OneRead.{so_far_reached}
+
+-- a line is a position and what follows it
+pub line_parts : {E : Type 0} (text : E → List ℕ) (m : Spanned E) → shown_line text m ≡ place_bytes m.first ++ line_of text m.event
+line_parts text m = grind (arith, m.event, append_assoc, m.first.line, m.first.column)
+
+-- ---- statements that are shown one after another
 
 -- a text and the blank rest after it are no longer than an input may be
 pub rest_within : (used rest : List ℕ) (place : Place) → place ≡ place_after used → place.offset + length rest ≤ byte_limit → length (used ++ rest) ≤ byte_limit
@@ -38,14 +47,11 @@ module _ {E : Type 0} (format : List (Item E) → Type 0) (longest : ℕ) where
 
   -- a text of the format, and then a blank rest
   pub spelling : (before mid after : Option (List ℕ)) (spans : List (Spanned E)) (place : Place) → TookAll format longest before mid spans place true None → ReadsBlank place mid (Ok tt) after → IsSpelling format longest before after spans
-  spelling before mid after spans place t (rest, more, blank, bound) = record {
-    used = t.used;
-    rest = rest;
-    took = took_join before mid after t.used rest t.seen [] t.took more;
-    spelled = t.reads.answer.0;
-    blank = blank;
-    within = rest_within t.used rest place t.reads.place_is bound;
-  }
+  spelling before mid after spans place t (rest, more, blank, bound) =
+      let took = took_join before mid after t.used rest t.seen [] t.took more in
+      let spelled = t.reads.answer.0 in
+      let within = rest_within t.used rest place t.reads.place_is bound in
+      search rules
 
   -- a text of the format, and then a rest that is not blank
   pub stray : (May : List ℕ → ℕ → Type 0) (before mid after : Option (List ℕ)) (spans : List (Spanned E)) (place : Place) (s : Stop) → TookAll format longest before mid spans place true None → ReadsBlank place mid (Err s) after → IsRefusedAfter format longest May before after spans s
@@ -88,3 +94,53 @@ module _ {E : Type 0} (one other : List (Item E) → Type 0) (longest : ℕ)
       shows_to old (Err (Text File s)) after new (spans, i, w) = (spans, refused_to after spans s i, w)
       shows_to old (Err Write) after new (spans, last, between, t, w, b) = (spans, last, between, so_far_to after (spans ++ last ∷ []) last.past t, w, b)
       shows_to old (Err e) after new h = h
+
+-- ---- statements that are shown one after another, for the bytes that the calls of a source have given
+
+module _ {M E : Type 0} {g : Ghosts M E} {longest : ℕ} {start : M} (before mid after : List ℕ) {spans : List (Spanned E)} {old new : Feeder M E g} (h : HasGiven longest start before spans old mid) {left rest : Option (List ℕ)} where
+  abbrev pulled : {result : Result (Option (Spanned E)) Stop} → PullsOnce old left mid result new rest after → Pulls longest start h.0 spans old left result new rest mid after
+  pulled pulls = pulls longest start h.0 spans (subst IsOpen (sym h.4) tt) h.3
+
+  -- the result of one more pull
+  pub given_row : {result : Result (Option (Spanned E)) Stop} → PullsOnce old left mid result new rest after → halt_of new ≡ stop_of result → (result ≡ Ok None → is_complete new ≡ true)
+      → ((m : Spanned E) → result ≡ Ok (Some m) → m.past ≡ place_of new) → OfGiven (λ text end. PullsOn longest start text spans result new end) before after
+  given_row {result} pulls stop last past = let p = pulled pulls in (
+    h.0 ++ p.taken,
+    p.seen,
+    given_both before mid after h.0 p.taken h.1 p.given_are,
+    row {g = g} longest start (Some ((h.0 ++ p.taken) ++ p.seen)) (Some (p.taken ++ p.seen)) (Some p.seen) spans old new
+        (record { used = h.0; seen = p.taken ++ p.seen; took = (append_assoc h.0 p.taken p.seen, refl); offset_is = h.2; stands = h.3; running = h.4 })
+        result
+        (record { taken = p.taken; seen = p.seen; took = (refl, refl); given_are = p.given_are; offset_is = p.offset_is; stands = p.stands })
+        stop last past,
+  )
+
+  -- the state of the feeder after an event
+  pub given_next : (m : Spanned E) → PullsOnce old left mid (Ok (Some m)) new rest after → halt_of new ≡ None → HasGiven longest start before (spans ++ m ∷ []) new after
+  given_next m pulls running = let p = pulled pulls in (
+    h.0 ++ p.taken,
+    given_both before mid after h.0 p.taken h.1 p.given_are,
+    omega (arith, p.offset_is, h.2, length-append h.0 p.taken),
+    p.stands,
+    running,
+  )
+
+-- the same used bytes, with another rest
+pub all_of : {E : Type 0} (format : List (Item E) → Type 0) (longest : ℕ) (given seen other : List ℕ) (spans : List (Spanned E)) (place : Place) → TookAll format longest (Some (given ++ seen)) (Some seen) spans place true None
+    → TookAll format longest (Some (given ++ other)) (Some other) spans place true None
+all_of format longest given seen other spans place t =
+    let rest : seen ≡ t.seen = let e = t.took.1 in cc in
+    let same : given ≡ t.used = append_cancel_right given t.used seen (t.took.0 ∙ ap (λ (x : List ℕ). t.used ++ x) (sym rest)) in
+    record { used = t.used; seen = other; took = (ap (λ (x : List ℕ). x ++ other) same, refl); reads = record { left = other; input_is = refl; place_is = t.reads.place_is; answer = t.reads.answer } }
+
+module _ {M E : Type 0} {g : Ghosts M E} (longest : ℕ) (start : M) (text : E → List ℕ) {W : Type 0} (contents : W → Option (List ℕ)) (faults : W → ℕ) (spans : List (Spanned E)) (f : Feeder M E g) where
+  abbrev Lines : Option (List ℕ) → W → Result (Unit {0}) ToolFault → Option (List ℕ) → W → Type 0
+  Lines = ShowsLines (AcceptsItems g.automaton start) longest (MayAsk g.automaton start) text contents faults
+
+  -- what was shown of a text that was rejected
+  pub refused : (s : Stop) (old new : W) → Wrote contents faults old (shown text spans) new → (before after : Option (List ℕ)) → PullsOn longest start before spans (Err s) f after → Lines before old (Err (Text File s)) after new
+  refused s old new w before after (all, asking) = (spans, InText all asking, w)
+
+  -- what was shown before a line that could not be written
+  pub broken : (m : Spanned E) (old mid new : W) → Wrote contents faults old (shown text spans) mid → Broke contents faults mid (shown_line text m) new → (before after : Option (List ℕ)) → PullsOn longest start before spans (Ok (Some m)) f after → Lines before old (Err Write) after new
+  broken m old mid new w b before after (more, sofar) = (spans, m, mid, sofar, w, b)

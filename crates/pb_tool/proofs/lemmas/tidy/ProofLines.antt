@@ -1,14 +1,14 @@
 -- The text of a proof whose statements are gathered one by one is its canonical text.
-use Rattle.pb_tool.proofs.Common.{ℕ, ◌++◌, ◌↔◌, ◌∙◌, ◌∷◌, ◌≡◌, [], All, ap, append-nil, append_assoc, List, Option, refl, Result, sym}
-use Rattle.pb_tool.proofs.Common.{flat_map-append, All-head, All-tail, flat_map, Proof, Statement, Conclude, Delete, End, F, Output, Pol, Rup, Soli}
-use Rattle.pb_tool.proofs.Common.{Solx, statement_bytes, IsProofOf, IsStep, statements_of, Limits, Item, events_of, gathered, ToolFault, TidiesEach}
-use Rattle.pb_tool.proofs.Common.{AsksInProofText, IsProofText, tidied_proof, TidiesProof}
+use Rattle.pb_tool.proofs.Common.{ℕ, ◌++◌, ◌↔◌, ◌∙◌, ◌∷◌, ◌≡◌, [], All, ap, append-nil, append_assoc, arith, List, Option, refl, Result, sym, flat_map-append}
+use Rattle.pb_tool.proofs.Common.{All-head, All-tail, flat_map, Proof, Statement, Conclude, End, F, Output, Pol, statement_bytes, IsProofOf, IsStep}
+use Rattle.pb_tool.proofs.Common.{statements_of, Limits, Item, events_of, gathered, ToolFault, TidiesEach, AsksInProofText, IsProofText, tidied_proof}
+use Rattle.pb_tool.proofs.Common.{TidiesProof}
 use Rattle.pb_proof.specs.contract.Gather.{asks, MayKeep}
 use Rattle.pb_proof.specs.meaning.Canonical.{lines}
 use Rattle.pb_proof.specs.declared.Statement.TheVariants.{Header}
 use Rattle.pb_tool.specs.engine.ProofText.{line, with, text_of, IsProofTextOf}
 use Rattle.pb_tool.specs.declared.commands.tidy.proof_text.ProofText.{ProofText}
-use Rattle.pb_tool.proofs.lemmas.tidy.GatheredText.{tidies_value}
+use Rattle.pb_tool.proofs.lemmas.tidy.InstanceLines.{tidies_value}
 
 -- lines, each with its line feed
 ended : (s : Statement) (rest : List Statement) → lines (s ∷ rest) ++ 10 ∷ [] ≡ flat_map line (s ∷ rest)
@@ -23,11 +23,7 @@ with_text t text = record t { steps = record t.steps { text = t.steps.text ++ te
 
 step_added : (t : ProofText) (s : Statement) → IsStep s → with t s ≡ with_text t (line s)
 step_added t (Pol ws) h = refl
-step_added t (Rup c) h = refl
-step_added t (Soli ls) h = refl
-step_added t (Solx ls) h = refl
-step_added t (Delete ids) h = refl
-step_added t s h = absurd h
+step_added t s h = grind arith
 
 steps_added : (steps rest : List Statement) (t : ProofText) → All IsStep steps → gathered with t (steps ++ rest) ≡ gathered with (with_text t (flat_map line steps)) rest
 steps_added [] rest t h = ap (λ (x : List ℕ). gathered with (record t { steps = record t.steps { text = x } }) rest) (sym (append-nil t.steps.text))

@@ -1,6 +1,5 @@
 use Rattle.pb_tool.proofs.Common.{arith}
-use Rattle.pb_tool.proofs.lemmas.file.ChosenFormat.{shows_instance, shows_proof, shows_unread, some_of}
-use Rattle.pb_tool.proofs.lemmas.file.GivenBytes.{given_shown_proof, given_shown_instance, given_unshown}
+use Rattle.pb_tool.proofs.lemmas.file.GivenBytes.{shows_instance, shows_proof, shows_unread, some_of, given_shown_proof, given_shown_instance, given_unshown}
 use Rattle.pb_tool.proofs.commands.show.show.Goals as goal
 
 pub returns-in-Ok-Proof-clause-shows : goal.returns-in-Ok-Proof-clause-shows

@@ -1,8 +1,7 @@
-use Rattle.pb_tool.proofs.Common.{◌++◌, ◌^◌, ◌∙◌, ◌∷◌, ◌≤◌, [], ap, append-nil, refl, subst, sym, part_wrote, writes_nothing, arith}
-use Rattle.pb_tool.proofs.Common.{AcceptsItems, MayAsk, place_of, Place, OfGiven, EndsAt}
-use Rattle.pb_tool.proofs.lemmas.file.GivenBytes.{given_by}
-use Rattle.pb_tool.proofs.lemmas.show.GivenStatements.{broken, given_next, given_row, given_shown, refused}
-use Rattle.pb_tool.proofs.lemmas.show.ShownStatements.{fewer, first_pull, shown_more, shows_end, so_far_within}
+use Rattle.pb_tool.proofs.Common.{◌++◌, ◌^◌, ◌∙◌, ◌∷◌, ◌≤◌, [], ap, append-nil, arith, refl, subst, sym, part_wrote, writes_nothing, AcceptsItems, MayAsk}
+use Rattle.pb_tool.proofs.Common.{place_of, Place, OfGiven, EndsAt}
+use Rattle.pb_tool.proofs.lemmas.file.GivenBytes.{given_by, given_shown}
+use Rattle.pb_tool.proofs.lemmas.show.ShownStatements.{broken, given_next, given_row, refused, fewer, first_pull, shown_more, shows_end, so_far_within}
 use Rattle.pb_tool.proofs.commands.show.show_each.Goals as goal
 
 pub loop-read-init : goal.loop-read-init

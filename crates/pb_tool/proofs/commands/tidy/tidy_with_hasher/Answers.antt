@@ -1,5 +1,4 @@
-use Rattle.pb_tool.proofs.lemmas.file.ChosenFormat.{some_of, tidies_instance, tidies_proof, tidies_unread}
-use Rattle.pb_tool.proofs.lemmas.file.GivenBytes.{given_proof, given_instance, given_unread}
+use Rattle.pb_tool.proofs.lemmas.file.GivenBytes.{some_of, tidies_instance, tidies_proof, tidies_unread, given_proof, given_instance, given_unread}
 use Rattle.pb_tool.proofs.commands.tidy.tidy_with_hasher.Goals as goal
 
 pub returns-in-Ok-Proof-clause-tidies : goal.returns-in-Ok-Proof-clause-tidies

@@ -1,5 +1,5 @@
 use Rattle.pb_tool.proofs.Common.{refl, largest}
-use Rattle.pb_tool.proofs.lemmas.tidy.FormLines.{lines_added, passes_not, passes_now}
+use Rattle.pb_tool.proofs.lemmas.tidy.StoredForms.{lines_added, passes_not, passes_now}
 use Rattle.pb_tool.proofs.commands.tidy.normal_text.Forms.add.Goals as goal
 
 pub returns-then-not-fits-clause-made : goal.returns-then-not-fits-clause-made
