@@ -29,6 +29,7 @@ pub use Rattle.pb_replay.specs.meaning.Statements.{Does, mentioned, Outcome}
 pub use Rattle.pb_sums.specs.declared.linear.Linear.{Linear}
 pub use Rattle.pb_text.proofs.lemmas.text.Parts.{part_broke, part_then, part_wrote}
 pub use Rattle.pb_text.proofs.lemmas.text.Writing.{Appends-append, broke_more, writes_nothing, writes_then}
+pub use Rattle.pb_text.specs.declared.Failed.{Failed}
 pub use Rattle.pb_text.specs.declared.Limits.{Limits}
 pub use Rattle.pb_text.specs.meaning.Writing.{Broke, one_more, Writes, Wrote}
 pub use Rattle.pb_trace.specs.Changes.{form_bytes, name_shown, term_shown}

@@ -1,7 +1,7 @@
 -- The constraints that a statement deletes, one after another.
 use Rattle.pb_trace.proofs.Common.{ℕ, ℤ, ◌++◌, ◌+◌, ◌<◌, ◌∙◌, ◌∷◌, ◌≡◌, [], ap, append-nil, append_assoc, Bool, drop, get_or, length, List, Option}
-use Rattle.pb_trace.proofs.Common.{refl, suc, sym, take, take-append-drop, drop-cons, take_more, Form, deleted_bytes, deletion_bytes, without}
-use Rattle.pb_trace.proofs.Common.{without_all}
+use Rattle.pb_trace.proofs.Common.{refl, suc, take, take-append-drop, drop-cons, take_more, Form, deleted_bytes, deletion_bytes, without, without_all}
+use Rattle.pb_trace.proofs.Common.{arith, length-map, map-set, to_z-of_z}
 
 without_all-append : (live : List (Option Form)) (xs ys : List ℤ) → without_all live (xs ++ ys) ≡ without_all (without_all live xs) ys
 without_all-append live [] ys = refl
@@ -13,20 +13,14 @@ without_more live xs i d h = ap (without_all live) (take_more xs i d h) ∙ with
 module _ (ids : Bool) (lines : List ℕ) (names : List (List ℕ)) where
   deleted-append : (live : List (Option Form)) (xs ys : List ℤ) → deleted_bytes ids lines names live (xs ++ ys) ≡ deleted_bytes ids lines names live xs ++ deleted_bytes ids lines names (without_all live xs) ys
   deleted-append live [] ys = refl
-  deleted-append live (x ∷ xs) ys =
-      ap (λ z. deletion_bytes ids lines names live x ++ z) (deleted-append (without live x) xs ys)
-      ∙ sym (append_assoc (deletion_bytes ids lines names live x) (deleted_bytes ids lines names (without live x) xs) (deleted_bytes ids lines names (without_all (without live x) xs) ys))
+  deleted-append live (x ∷ xs) ys = grind (arith, append_assoc, deleted-append (without live x) xs ys)
 
   pub deleted_more : (live : List (Option Form)) (xs : List ℤ) (i : ℕ) (d : ℤ) → i < length xs →
       deleted_bytes ids lines names live (take (i + 1) xs) ≡ deleted_bytes ids lines names live (take i xs) ++ deletion_bytes ids lines names (without_all live (take i xs)) (get_or xs i d)
-  deleted_more live xs i d h =
-      ap (deleted_bytes ids lines names live) (take_more xs i d h)
-      ∙ (deleted-append live (take i xs) (get_or xs i d ∷ [])
-      ∙ ap (λ z. deleted_bytes ids lines names live (take i xs) ++ z) (append-nil (deletion_bytes ids lines names (without_all live (take i xs)) (get_or xs i d))))
+  deleted_more live xs i d h = grind (arith, take_more xs i d h, deleted-append live (take i xs) (get_or xs i d ∷ []), append-nil)
 
   pub deleted_at : (live : List (Option Form)) (xs : List ℤ) (i : ℕ) (d : ℤ) → i < length xs → deleted_bytes ids lines names live xs
       ≡ deleted_bytes ids lines names live (take i xs) ++ (deletion_bytes ids lines names (without_all live (take i xs)) (get_or xs i d) ++ deleted_bytes ids lines names (without (without_all live (take i xs)) (get_or xs i d)) (drop (suc i) xs))
-  deleted_at live xs i d h =
-      ap (deleted_bytes ids lines names live) (sym (take-append-drop i xs))
-      ∙ (deleted-append live (take i xs) (drop i xs)
-      ∙ ap (λ z. deleted_bytes ids lines names live (take i xs) ++ deleted_bytes ids lines names (without_all live (take i xs)) z) (drop-cons xs i d h))
+  deleted_at live xs i d h = grind (arith, take-append-drop i xs, deleted-append live (take i xs) (drop i xs), drop-cons xs i d h)
+
+pub ruleset stored = (map-set, length-map, to_z-of_z, without_more)

@@ -1,10 +1,9 @@
 -- Literals that became true follow from those before them.
-use Rattle.pb_trace.proofs.Common.{ℕ, ◌++◌, ◌+◌, ◌<◌, ◌||◌, ◌∙◌, ◌∷◌, ◌≡◌, ◌≤◌, [], ap, arith, Bool, cond, eq-eqb, Err, false, get_or, inl, inr}
-use Rattle.pb_trace.proofs.Common.{length, List, None, not, Ok, Option, refl, Result, set, Some, subst, suc, sym, true, zero, Contains, MatchOption}
-use Rattle.pb_trace.proofs.Common.{OnOk, cases_Bool, cases_eq, get_or-set_other, get_or-set_same, map-append, Entry, counted, Form, IsRising, total}
-use Rattle.pb_trace.proofs.Common.{opened, AreValues, Begin, Derived, Follows, Forces, IsBroken, IsSound, Keeps, literal_of, literals, Names}
-use Rattle.pb_trace.proofs.Common.{Then, true_by, Forced, Over, Stored}
-use Rattle.pb_normal.specs.declared.numbered.NumberedLiteral.{NumberedLiteral}
+use Rattle.pb_trace.proofs.Common.{ℕ, ◌++◌, ◌+◌, ◌<◌, ◌||◌, ◌∙◌, ◌∷◌, ◌≡◌, ◌≤◌, [], ap, arith, Bool, cond, Err, get_or, inl, inr, length, List, None}
+use Rattle.pb_trace.proofs.Common.{not, Ok, Option, refl, Result, set, Some, subst, suc, sym, true, zero, Contains, MatchOption, OnOk, get_or-set_other}
+use Rattle.pb_trace.proofs.Common.{Entry, counted, Form, IsRising, total, opened, AreValues, Begin, Derived, Follows, Forces, IsBroken, IsSound, Keeps}
+use Rattle.pb_trace.proofs.Common.{cases_Bool, false, literals, Names, Then, true_by, Forced, Over, Stored}
+use Rattle.std.proofs.lemmas.Grind.{get_or-set_at}
 use Rattle.pb_normal.specs.meaning.Rules.{on, only}
 use Rattle.pb_propagate.proofs.lemmas.engine.Choices.{only-true, only-self, total-has, total-within}
 use Rattle.pb_propagate.proofs.lemmas.engine.Completing.{IsPart, opened-part}
@@ -16,23 +15,12 @@ or_false : (b : Bool) → (b || false) ≡ b
 or_false true = refl
 or_false false = refl
 
-on-append : (xs : List NumberedLiteral) (l : NumberedLiteral) (v : ℕ) (n : Bool) → on (xs ++ (l ∷ [])) v n ≡ (on xs v n || only l.variable l.negated v n)
-on-append [] l v n = or_false (only l.variable l.negated v n)
-on-append (x ∷ xs) l v n = ap (λ b. only x.variable x.negated v n || b) (on-append xs l v n) ∙ sym (or_assoc (only x.variable x.negated v n) (on xs v n) (only l.variable l.negated v n))
-  where
-    or_assoc : (a b c : Bool) → ((a || b) || c) ≡ (a || (b || c))
-    or_assoc true b c = refl
-    or_assoc false b c = refl
-
 on-push : (list : List Forced) (f : Forced) (v : ℕ) (n : Bool) → on (literals (list ++ (f ∷ []))) v n ≡ (on (literals list) v n || only f.variable f.negated v n)
-on-push list f v n = ap (λ ls. on ls v n) (map-append literal_of list (f ∷ [])) ∙ on-append (literals list) (literal_of f) v n
-
-or_left : (a b : Bool) → a ≡ true → (a || b) ≡ true
-or_left true b h = refl
-or_left false b h = absurd cc
+on-push [] f v n = grind (arith, only f.variable f.negated v n)
+on-push (x ∷ xs) f v n = grind (arith, on-push xs f v n, only x.variable x.negated v n)
 
 part-push : (list : List Forced) (f : Forced) → IsPart (literals list) (literals (list ++ (f ∷ [])))
-part-push list f v n h = on-push list f v n ∙ or_left (on (literals list) v n) (only f.variable f.negated v n) h
+part-push list f v n h = grind (arith, on-push list f v n)
 
 total-alike : (p q : ℕ → Bool → Bool) (ts : List Entry) → ((t : Entry) → Contains ts t → p t.variable t.negated ≡ q t.variable t.negated) → total p ts ≡ total q ts
 total-alike p q [] e = refl
@@ -50,13 +38,9 @@ rising-one : (m : ℕ) (ts : List Entry) (t e : Entry) → IsRising m ts → Con
 rising-one m [] t e r (k, inside, is) there same = absurd (omega (arith, inside))
 rising-one m (x ∷ xs) t e r (zero, inside, is) (zero, inside', is') same = ap (λ (y : Entry). y.negated) (sym is ∙ is')
 rising-one m (x ∷ xs) t e r (zero, inside, is) (suc j, inside', is') same =
-    let later = rising-from (x.variable + 1) xs e r.2 (j, omega (arith, inside'), is') in
-    let here : x.variable ≡ t.variable = ap (λ (y : Entry). y.variable) is in
-    absurd (omega (arith, later, here, same))
+    absurd (omega (arith, rising-from (x.variable + 1) xs e r.2 (j, omega (arith, inside'), is'), ap (λ (y : Entry). y.variable) is, same))
 rising-one m (x ∷ xs) t e r (suc k, inside, is) (zero, inside', is') same =
-    let later = rising-from (x.variable + 1) xs t r.2 (k, omega (arith, inside), is) in
-    let here : x.variable ≡ e.variable = ap (λ (y : Entry). y.variable) is' in
-    absurd (omega (arith, later, here, same))
+    absurd (omega (arith, rising-from (x.variable + 1) xs t r.2 (k, omega (arith, inside), is), ap (λ (y : Entry). y.variable) is', same))
 rising-one m (x ∷ xs) t e r (suc k, inside, is) (suc j, inside', is') same =
     rising-one (x.variable + 1) xs t e r.2 (k, omega (arith, inside), is) (j, omega (arith, inside'), is') same
 
@@ -88,32 +72,7 @@ same-push list f m ts e rising inside variable negated = total-alike (opened (li
 values-push : (values : List (Option Bool)) (list : List Forced) (f : Forced) → get_or values f.variable None ≡ None → f.variable < length values → AreValues values list
     → AreValues (set values f.variable (Some (not f.negated))) (list ++ (f ∷ []))
 values-push values list f unset inside are v n =
-    elim (cases_eq v f.variable) [
-      | inl same ↦ on-push list f v n ∙ rw same (here n)
-      | inr other ↦
-          on-push list f v n ∙ rw (not_only other) (or_false (on (literals list) v n)) ∙ are v n
-          ∙ ap (λ o. true_by o n) (sym (get_or-set_other values f.variable v (Some (not f.negated)) None other))
-    ]
-  where
-    sign : (m k : Bool) → cond m k (not k) ≡ true_by (Some (not m)) k
-    sign true true = refl
-    sign true false = refl
-    sign false true = refl
-    sign false false = refl
-
-    only_here : (m k : Bool) → only f.variable m f.variable k ≡ cond m k (not k)
-    only_here m k = rw (eq-eqb f.variable f.variable refl) refl
-
-    here : (k : Bool) → (on (literals list) f.variable k || only f.variable f.negated f.variable k) ≡ true_by (get_or (set values f.variable (Some (not f.negated))) f.variable None) k
-    here k =
-        let absent : on (literals list) f.variable k ≡ false = are f.variable k ∙ ap (λ o. true_by o k) unset in
-        rw (absent, get_or-set_same values f.variable (Some (not f.negated)) None inside) (only_here f.negated k ∙ sign f.negated k)
-
-    not_only : (v ≡ f.variable → ⊥) → only f.variable f.negated v n ≡ false
-    not_only other = elim (cases_Bool (only f.variable f.negated v n)) [
-      | inl there ↦ absurd (other (only-true f.variable f.negated v n there).0)
-      | inr none ↦ none
-    ]
+    grind (arith, f.negated, n, on-push list f v n, are v n, only-true f.variable f.negated v n, only-self, get_or-set_other, get_or-set_at)
 
 module _ (negation : Option Form) (stored : List Stored) (over : Over) where
   -- the literal of a term whose coefficient is above the slack

@@ -6,4 +6,5 @@ pub mod Naming
 pub mod ReasonLines
 pub mod Shown
 pub mod Storing
+pub mod Texts
 mod TracedLines

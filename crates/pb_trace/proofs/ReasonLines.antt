@@ -1,28 +1,28 @@
 -- Lines of reasons, one after another.
-use Rattle.pb_trace.proofs.Common.{ℕ, ◌++◌, ◌∙◌, ◌≡◌, [], ap, append-nil, append_assoc, Err, inl, inr, List, Ok, Option, refl, Result, subst, sym}
-use Rattle.pb_trace.proofs.Common.{codes, IsErr, AreDistinct, Linear, Appends-append, broke_more, writes_nothing, writes_then, Broke, one_more}
-use Rattle.pb_trace.proofs.Common.{Writes, Wrote, IsShown, live_in, derivation_bytes, Known, AreAround, AreBefore, ArePieces, AreReasons, IsText}
-use Rattle.pb_trace.proofs.Common.{IsUnshown, IsWhy, More, Nothing, piece_bytes, Rejects, Seen, Silence, words_of, WritesBefore, WritesPieces}
-use Rattle.pb_trace.proofs.Common.{WritesReasons, WritesShown, WritesSome, broken_by, end_of, Reasons}
-use Rattle.pb_text.specs.declared.Failed.{Failed}
+use Rattle.pb_trace.proofs.Common.{ℕ, ◌++◌, ◌≡◌, [], append-nil, append_assoc, Err, inl, inr, List, Ok, Option, refl, Result, codes, IsErr, AreDistinct}
+use Rattle.pb_trace.proofs.Common.{Linear, writes_nothing, writes_then, Broke, Failed, Writes, Wrote, live_in, derivation_bytes, Known, IsShownIn}
+use Rattle.pb_trace.proofs.Common.{AreAround, AreBefore, ArePieces, AreReasons, IsText, IsUnshown, IsWhy, More, Nothing, piece_bytes, Rejects, Seen}
+use Rattle.pb_trace.proofs.Common.{Silence, words_of, WritesBefore, WritesPieces, WritesReasons, WritesShown, WritesSome, broken_by, end_of, Reasons}
+use Rattle.pb_trace.proofs.Common.{Stored}
+use Rattle.pb_trace.proofs.Texts.{broke_append, texts}
+use Rattle.pb_proof.specs.declared.PolWord.{PolWord}
 use Rattle.pb_trace.specs.Rejected.{Then}
 use Rattle.pb_trace.specs.declared.broken.Broken.{Broken}
 use Rattle.pb_trace.specs.declared.broken.Broken.TheVariants as broken
 use Rattle.pb_trace.specs.declared.piece.Derivation.{Derivation}
 use Rattle.pb_trace.specs.declared.piece.Lines.{Lines}
 use Rattle.pb_trace.specs.declared.piece.Piece.{Piece}
+use Rattle.pb_trace.specs.declared.reasons.Scene.{Scene}
+use Rattle.pb_trace.specs.declared.stored.Constraints.{Constraints}
 
 module _ (known : Known) where
   joined : (x y : List ℕ) → AreReasons known x → AreReasons known y → AreReasons known (x ++ y)
-  joined x _ h Silence = subst (λ (z : List ℕ). AreReasons known z) (sym (append-nil x)) h
-  joined x _ h (More text line are is) =
-      subst (λ (z : List ℕ). AreReasons known z) (append_assoc x text (codes "  " ++ (line ++ codes "\n")))
-      (More (x ++ text) line (joined x text h are) is)
+  joined x _ h Silence = rw append-nil h
+  joined x _ h (More text line are is) = rw (← append_assoc x text (codes "  " ++ (line ++ codes "\n"))) (More (x ++ text) line (joined x text h are) is)
 
   pieces_joined : (x y : List ℕ) → ArePieces known x → ArePieces known y → ArePieces known (x ++ y)
-  pieces_joined x _ h Nothing = subst (λ (z : List ℕ). ArePieces known z) (sym (append-nil x)) h
-  pieces_joined x _ h (Then text piece are) =
-      subst (λ (z : List ℕ). ArePieces known z) (append_assoc x text (piece_bytes known piece)) (Then (x ++ text) piece (pieces_joined x text h are))
+  pieces_joined x _ h Nothing = rw append-nil h
+  pieces_joined x _ h (Then text piece are) = rw (← append_assoc x text (piece_bytes known piece)) (Then (x ++ text) piece (pieces_joined x text h are))
 
 -- a fault
 module _ {S : Type 0} (contents : S → Option (List ℕ)) (faults : S → ℕ) (p : List ℕ → Type 0) where
@@ -55,14 +55,15 @@ module _ {S : Type 0} (contents : S → Option (List ℕ)) (faults : S → ℕ) 
   one line are = More [] line Silence are
 
   pub line_cut : (a b : S) (r : Result Unit Failed) (f : Failed) → IsErr r → Writes contents faults a (codes "  ") (Err f) b → WritesReasons contents faults known a r b
-  line_cut a b (Ok u) f i h = absurd (cc i)
-  line_cut a b (Err e) f i h = (codes "  " ++ ([] ++ codes "\n"), one [] Nothing, broke_more contents faults a b (codes "  ") (codes "\n") h)
+  line_cut a b r f e h = (codes "  " ++ ([] ++ codes "\n"), one [] Nothing, broke_append contents faults a b (codes "  ") (codes "\n") r h e)
 
   pub pieces_cut : (a b c : S) (r : Result Unit Failed) (f : Failed) → IsErr r → Writes contents faults a (codes "  ") (Ok tt) b
       → WritesPieces contents faults known b (Err f) c → WritesReasons contents faults known a r c
-  pieces_cut a b c (Ok u) f i h k = absurd (cc i)
-  pieces_cut a b c (Err e) f i h (x, are, k) =
-      (codes "  " ++ (x ++ codes "\n"), one x are, writes_then contents faults a b c (codes "  ") (x ++ codes "\n") (Err e) h (broke_more contents faults b c x (codes "\n") k))
+  pieces_cut a b c r f e h (x, are, k) = (
+    codes "  " ++ (x ++ codes "\n"),
+    one x are,
+    writes_then contents faults a b c (codes "  ") (x ++ codes "\n") r h (broke_append contents faults b c x (codes "\n") r k e),
+  )
 
   pub line_end : (a b c d : S) (r : Result Unit Failed) → Writes contents faults a (codes "  ") (Ok tt) b → WritesPieces contents faults known b (Ok tt) c
       → Writes contents faults c (codes "\n") r d → WritesReasons contents faults known a r d
@@ -75,17 +76,15 @@ module _ {S : Type 0} (contents : S → Option (List ℕ)) (faults : S → ℕ) 
 
   pub before_cut : (before : Option Lines) (d : Derivation) (a b : S) (r : Result Unit Failed) (f : Failed) → IsErr r → WritesBefore contents faults known before a (Err f) b
       → WritesShown contents faults known before d a r b
-  before_cut before d a b (Ok u) f i h = absurd (cc i)
-  before_cut before d a b (Err e) f i (x, are, h) =
-      (x ++ (derivation_bytes known d ++ []), around before d x [] are Silence, broke_more contents faults a b x (derivation_bytes known d ++ []) h)
+  before_cut before d a b r f e (x, are, h) =
+      (x ++ (derivation_bytes known d ++ []), around before d x [] are Silence, broke_append contents faults a b x _ r h e)
 
   pub derivation_cut : (before : Option Lines) (d : Derivation) (a b c : S) (r : Result Unit Failed) (f : Failed) → IsErr r → WritesBefore contents faults known before a (Ok tt) b
       → Writes contents faults b (derivation_bytes known d) (Err f) c → WritesShown contents faults known before d a r c
-  derivation_cut before d a b c (Ok u) f i h k = absurd (cc i)
-  derivation_cut before d a b c (Err e) f i (x, are, h) k = (
+  derivation_cut before d a b c r f e (x, are, h) k = (
     x ++ (derivation_bytes known d ++ []),
     around before d x [] are Silence,
-    writes_then contents faults a b c x (derivation_bytes known d ++ []) (Err e) h (broke_more contents faults b c (derivation_bytes known d) [] k),
+    writes_then contents faults a b c x _ r h (broke_append contents faults b c (derivation_bytes known d) [] r k e),
   )
 
   pub shown_end : (before : Option Lines) (d : Derivation) (a b c e : S) (r : Result Unit Failed) → WritesBefore contents faults known before a (Ok tt) b
@@ -96,27 +95,21 @@ module _ {S : Type 0} (contents : S → Option (List ℕ)) (faults : S → ℕ) 
     writes_then contents faults a b e x (derivation_bytes known d ++ y) r h (writes_then contents faults b c e (derivation_bytes known d) y r k l),
   )
 
-pub why_of : (seen : Seen) (known : Known) (reasons : Reasons) → live_in known.stored ≡ seen.live → known.names ≡ seen.names → known.lines ≡ seen.lines → known.words ≡ words_of seen.statement
-    → ((goal : Linear) → IsUnshown seen.statement seen.fault goal → AreDistinct known.names → IsShown seen.limits known.names known.stored goal reasons) → (x : List ℕ) → IsText known reasons x → IsWhy seen x
-why_of seen known reasons live names lines words shown x are = record {
-  known = known;
+-- what is known, from a scene that has it
+pub why_of : (seen : Seen) (s : Scene) (c : Constraints) (stored : List Stored) (loaded : ℕ) (lines : List ℕ) (words : List PolWord) (reasons : Reasons)
+    → stored ≡ c.forms.items → live_in c.forms.items ≡ seen.live → lines ≡ seen.lines → words ≡ words_of seen.statement
+    → s.limits ≡ seen.limits → (AreDistinct seen.names → s.names ≡ seen.names) → s.constraints.now ≡ c
+    → ((goal : Linear) → IsUnshown seen.statement seen.fault goal → IsShownIn s goal reasons)
+    → (x : List ℕ) → IsText (record { names = seen.names; stored = stored; loaded = loaded; lines = lines; words = words }) reasons x → IsWhy seen x
+why_of seen s c stored loaded lines words reasons same live known_lines known_words limits names constraints shown x are = record {
+  known = record { names = seen.names; stored = stored; loaded = loaded; lines = lines; words = words };
   reasons = reasons;
-  live = live;
-  names = names;
-  lines = lines;
-  words = words;
+  live = rw same live;
+  names = refl;
+  lines = known_lines;
+  words = known_words;
   written = are;
-  shown = shown;
-}
-
--- a text, and then a prefix of another one
-broke_after : {S : Type 0} (contents : S → Option (List ℕ)) (faults : S → ℕ) (a b c : S) (x y : List ℕ) → Wrote contents faults a x b → Broke contents faults b y c → Broke contents faults a (x ++ y) c
-broke_after contents faults a b c x y h k = record {
-  prefix = x ++ k.prefix;
-  rest = k.rest;
-  text_is = ap (λ (z : List ℕ). x ++ z) k.text_is ∙ sym (append_assoc x k.prefix k.rest);
-  appends = Appends-append (contents a) (contents b) (contents c) x k.prefix h.appends k.appends;
-  faults_are = k.faults_are ∙ ap one_more h.faults_are;
+  shown = λ goal unshown distinct. rw (← limits, ← names distinct, same, ← constraints) (shown goal unshown);
 }
 
 -- the reasons of a rejection, after some bytes
@@ -137,6 +130,8 @@ module _ {S : Type 0} (contents : S → Option (List ℕ)) (faults : S → ℕ) 
   pub after_start : (start : List ℕ) (a b c : S) (r : Result Unit Broken) → Wrote contents faults a start b
       → Rejects contents faults [] b seen (end_of (broken_by r)) c → Rejects contents faults start a seen (end_of (broken_by r)) c
   after_start start a b c (Ok u) h (x, why, k) = (x, why, writes_then contents faults a b c start x (Ok tt) h k)
-  after_start start a b c (Err broken.Memory) h k = subst (λ (z : List ℕ). Wrote contents faults a z c) (append-nil start) (writes_then contents faults a b c start [] (Ok tt) h k)
-  after_start start a b c (Err broken.Write) h (inl k) = inl (subst (λ (z : List ℕ). Broke contents faults a z c) (append-nil start) (broke_after contents faults a b c start [] h k))
-  after_start start a b c (Err broken.Write) h (inr (x, why, k)) = inr (x, why, broke_after contents faults a b c start x h k)
+  after_start start a b c (Err broken.Memory) h k = rw append-nil at (writes_then contents faults a b c start [] (Ok tt) h k)
+  after_start start a b c (Err broken.Write) h (inl k) = inl (rw append-nil at (writes_then contents faults a b c start [] (Err record {}) h k))
+  after_start start a b c (Err broken.Write) h (inr (x, why, k)) = inr (x, why, writes_then contents faults a b c start x (Err record {}) h k)
+
+pub ruleset reasons = (one_piece, texts)

@@ -1,7 +1,7 @@
 -- What is stored of the constraints is what the replay has, statement by statement.
-use Rattle.pb_trace.proofs.Common.{ℕ, ℤ, ◌++◌, ◌∙◌, ◌∷◌, ◌≡◌, [], ap, append-nil, arith, drop, length, List, None, Ok, Option, refl, set, Some, subst}
-use Rattle.pb_trace.proofs.Common.{sym, common_steps, drop_all, length-set, Form, with_names, Statement, StandsFor, Problem, Deleted, place, State}
-use Rattle.pb_trace.proofs.Common.{Does, mentioned, Outcome, FirstIsEmpty, IsEmptyAt, StoresTheLive, extended, stored_after, without_all}
+use Rattle.pb_trace.proofs.Common.{ℕ, ℤ, ◌++◌, ◌∙◌, ◌∷◌, ◌≡◌, [], ap, append-nil, arith, drop, length, List, None, Ok, Option, refl, set, Some, sym}
+use Rattle.pb_trace.proofs.Common.{common_steps, drop_all, length-set, Form, with_names, Statement, Problem, Deleted, place, State, Does, mentioned}
+use Rattle.pb_trace.proofs.Common.{Outcome, FirstIsEmpty, IsEmptyAt, StoresTheLive, extended, stored_after, without_all}
 use Rattle.pb_sums.specs.declared.Literal.{Literal}
 use Rattle.pb_sums.specs.declared.Term.{Term}
 use Rattle.pb_proof.specs.meaning.Order.{stage_of}
@@ -64,14 +64,10 @@ deleted live (id ∷ ids) rest h =
 
 stored : (limit top : ℕ) (v : Problem) (s t : State) (st : Statement) → s.next ≡ stage_of st → IsEmptyAt s.next s.live → Does limit top v s st (Ok t)
     → (stored_after (extended s.live t.live) st ≡ t.live) × IsEmptyAt t.next t.live
-stored limit top v s t Header due p h =
-    let P : Stage → Type 0 = λ x. IsEmptyAt x s.live in
-    let none : s.live ≡ [] = subst P due p in
-    rw (ok-same h) (nothing_new s.live s.live refl, none)
+stored limit top v s t Header due p h = rw (ok-same h) (nothing_new s.live s.live refl, rw due at p)
 stored limit top v s t (F count) due p h =
-    let P : Stage → Type 0 = λ x. IsEmptyAt x s.live in
-    let none : s.live ≡ [] = subst P due p in
     let last = needed (needed h).1 in
+    let none = rw due at p in
     rw (ok-same last.1, none) (refl, tt)
 stored limit top v s t (Pol ws) due p h =
     let last = needed (followed h.2).2 in
@@ -80,12 +76,10 @@ stored limit top v s t (Rup linear) due p h =
     let last = needed (needed (needed h).1.2).1 in
     rw (ok-same last.1) (one_new s.live _, in_steps s.next _ due)
 stored limit top v s t (Soli given) due p h =
-    let g = followed (needed h).2 in
-    let last = needed (needed g.2).1.2 in
+    let last = needed (needed (followed (needed h).2).2).1.2 in
     rw (ok-same last.1) (one_new s.live _, in_steps s.next _ due)
 stored limit top v s t (Solx given) due p h =
-    let g = followed h in
-    let last = needed (g.2).2 in
+    let last = needed (followed h).2.2 in
     rw (ok-same last.1) (one_new s.live _, in_steps s.next _ due)
 stored limit top v s t (Delete ids) due p h =
     let rest = followed h in
@@ -97,26 +91,17 @@ stored limit top v s t (Conclude c) due p h =
     rw (ok-same last) (nothing_new s.live s.live refl, tt)
 stored limit top v s t End due p h = rw (ok-same h) (nothing_new s.live s.live refl, tt)
 
-pub first-empty : FirstIsEmpty
-first-empty r first = let P : Stage → Type 0 = λ x. IsEmptyAt x r.live in subst P first.next (sym first.live)
-
-pub stores-live : StoresTheLive
-stores-live old new st (s, before) empty steps =
-    let step = steps.0 s before in
-    let t : State = step.0 in
-    let after : StandsFor new t = step.1 in
-    let due = needed step.2 in
-    let P : Stage → Type 0 = λ x. IsEmptyAt x s.live in
-    let E : List (Option Form) → Type 0 = λ x. IsEmptyAt old.next x in
-    let here : IsEmptyAt s.next s.live = subst P (sym before.next) (subst E (sym before.live) empty) in
-    let all = stored _ _ old.problem (record s { names = with_names s.names (mentioned st) }) t st due.0 here due.1 in
-    let N : Stage → Type 0 = λ x. IsEmptyAt x new.live in
-    let M : List (Option Form) → Type 0 = λ x. IsEmptyAt t.next x in
-    (rw (← before.live, ← after.live) all.0, subst N after.next (subst M after.live all.1))
-
 -- the same for two states of an accepted statement
 pub state-stores : (limit top : ℕ) (v : Problem) (s t : State) (st : Statement) → IsEmptyAt s.next s.live → Outcome limit top v s st (Ok t)
     → (stored_after (extended s.live t.live) st ≡ t.live) × IsEmptyAt t.next t.live
 state-stores limit top v s t st empty out =
     let due = needed out in
     stored limit top v (record s { names = with_names s.names (mentioned st) }) t st due.0 empty due.1
+
+pub first-empty : FirstIsEmpty
+first-empty r first = rw (← first.next) (sym first.live)
+
+pub stores-live : StoresTheLive
+stores-live old new st (s, before) empty steps =
+    let step = steps.0 s before in
+    rw (← before.live, ← step.1.live, ← step.1.next) (state-stores _ _ old.problem s step.0 st (rw (before.next, before.live) empty) step.2)

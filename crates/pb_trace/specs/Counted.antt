@@ -69,28 +69,12 @@ counted s End = record s { others = saturated (s.others + 1) }
 
 -- the visits that a statement needed, and how many constraints it deleted
 abbrev pub visits_of : Statement → Replaying → ℕ
-visits_of Header replay = 0
-visits_of (F count) replay = 0
-visits_of (Pol ws) replay = 0
 visits_of (Rup c) replay = replay.visits
-visits_of (Soli ls) replay = 0
-visits_of (Solx ls) replay = 0
-visits_of (Delete ids) replay = 0
-visits_of Output replay = 0
-visits_of (Conclude c) replay = 0
-visits_of End replay = 0
+visits_of _ replay = 0
 
 abbrev pub deletions_of : Statement → ℕ
-deletions_of Header = 0
-deletions_of (F count) = 0
-deletions_of (Pol ws) = 0
-deletions_of (Rup c) = 0
-deletions_of (Soli ls) = 0
-deletions_of (Solx ls) = 0
 deletions_of (Delete ids) = length ids
-deletions_of Output = 0
-deletions_of (Conclude c) = 0
-deletions_of End = 0
+deletions_of _ = 0
 
 -- the constraints that are live after a statement, from the newest id then
 abbrev pub live_after : Stats → Statement → ℕ → ℕ

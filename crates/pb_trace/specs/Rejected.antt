@@ -48,16 +48,8 @@ rejected_line read = (place_bytes read.first ++ statement_bytes read.event) ++ c
 
 -- the words of a `pol`
 abbrev pub words_of : Statement → List PolWord
-words_of Header = []
-words_of (F count) = []
 words_of (Pol ws) = ws
-words_of (Rup c) = []
-words_of (Soli ls) = []
-words_of (Solx ls) = []
-words_of (Delete ids) = []
-words_of Output = []
-words_of (Conclude c) = []
-words_of End = []
+words_of _ = []
 
 -- a word, if there is one
 abbrev pub word_shown : Option PolWord → List ℕ

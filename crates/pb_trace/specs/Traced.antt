@@ -30,16 +30,8 @@ extended stored live = stored ++ drop (length stored) live
 
 -- the start of what a statement adds: `f` has a line for each constraint
 abbrev pub arrow_of : Statement → List ℕ
-arrow_of Header = codes " -> "
 arrow_of (F count) = codes "\n  -> "
-arrow_of (Pol ws) = codes " -> "
-arrow_of (Rup c) = codes " -> "
-arrow_of (Soli ls) = codes " -> "
-arrow_of (Solx ls) = codes " -> "
-arrow_of (Delete ids) = codes " -> "
-arrow_of Output = codes " -> "
-arrow_of (Conclude c) = codes " -> "
-arrow_of End = codes " -> "
+arrow_of _ = codes " -> "
 
 -- `ids`: only ids are shown. `lines`: the lines in which the constraints of the instance are written.
 module _ (ids : Bool) (lines : List ℕ) where
@@ -79,29 +71,14 @@ best_bytes (Some value) = codes " best " ++ signed_decimal value
 
 -- what follows the added constraints
 abbrev pub tail_bytes : Bool → List ℕ → List (Option Form) → Replaying → Statement → List ℕ
-tail_bytes ids lines stored replay Header = []
-tail_bytes ids lines stored replay (F count) = []
-tail_bytes ids lines stored replay (Pol ws) = []
-tail_bytes ids lines stored replay (Rup c) = []
 tail_bytes ids lines stored replay (Soli ls) = best_bytes replay.best
-tail_bytes ids lines stored replay (Solx ls) = []
 tail_bytes ids lines stored replay (Delete xs) = deleted_bytes ids lines replay.names stored xs
-tail_bytes ids lines stored replay Output = []
-tail_bytes ids lines stored replay (Conclude c) = []
-tail_bytes ids lines stored replay End = []
+tail_bytes ids lines stored replay _ = []
 
 -- the stored constraints after a statement
 abbrev pub stored_after : List (Option Form) → Statement → List (Option Form)
-stored_after stored Header = stored
-stored_after stored (F count) = stored
-stored_after stored (Pol ws) = stored
-stored_after stored (Rup c) = stored
-stored_after stored (Soli ls) = stored
-stored_after stored (Solx ls) = stored
 stored_after stored (Delete ids) = without_all stored ids
-stored_after stored Output = stored
-stored_after stored (Conclude c) = stored
-stored_after stored End = stored
+stored_after stored _ = stored
 
 module _ (ids : Bool) (lines : List ℕ) where
   -- The position, the statement, the constraints after an id, what else there is to say, and a line feed.

@@ -1,4 +1,5 @@
 //! The lines of a derivation.
+#![tactic(auto, using(crate::proofs::Texts::texts))]
 
 ghost use Rattle.std.specs.Prelude.{◌≡◌, ◌++◌, codes};
 ghost use Rattle.std.specs.Fmt.{signed_decimal};

@@ -24,6 +24,7 @@ impl Named for Replay {
 
 /// Writes the line of an accepted statement, with the constraints after an id. What the statement
 /// deletes is deleted from the stored constraints.
+#[tactic(auto, using(crate::proofs::Texts::texts))]
 pub(crate) fn write_line<S: Sink>(
     style: Style<'_>,
     read: &Spanned<Statement>,
@@ -179,6 +180,7 @@ fn write_deletion<S: Sink>(
 }
 
 /// Writes the best value of the objective so far, if there is one.
+#[tactic(auto, using(crate::proofs::Texts::texts))]
 fn write_best<S: Sink>(best: Option<i128>, out: &mut S) -> Result<(), Failed>
     ensures { Writes S.contents S.faults out.old (best_bytes best) result out.new }
 {

@@ -1,4 +1,5 @@
 //! A stored constraint as reasons show it.
+#![tactic(auto, using(crate::proofs::Texts::texts))]
 
 ghost use Rattle.std.specs.Prelude.{◌≡◌, ◌-◌, ◌++◌, codes, slice_get};
 ghost use Rattle.std.specs.Option.{option_copied};

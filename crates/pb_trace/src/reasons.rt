@@ -46,6 +46,7 @@ pub(crate) struct Scene<'a> {
 }
 
 /// The names of a replay, each with its number there.
+#[tactic(auto, using(crate::proofs::Naming::copied))]
 fn names_of(alloc: Global, replay: &Replay) -> Result<Names, AllocError>
     ensures { IfOk result (λ names. AreDistinct replay.now.names → names ≡ replay.now.names) }
 {

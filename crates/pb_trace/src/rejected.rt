@@ -1,4 +1,5 @@
 //! The lines of a rejected statement.
+#![tactic(auto, using(crate::proofs::ReasonLines::reasons))]
 
 ghost use Rattle.std.specs.Prelude.{◌≡◌, ◌-◌, slice_get};
 ghost use Rattle.std.specs.Option.{option_copied};

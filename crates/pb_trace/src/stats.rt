@@ -107,6 +107,7 @@ impl Stats {
 }
 
 /// Writes counts with their names, one a line.
+#[tactic(auto, using(crate::proofs::Texts::texts))]
 fn write_counts<S: Sink>(counts: &[(&[u8], u64)], out: &mut S) -> Result<(), Failed>
     ensures { Writes S.contents S.faults out.old
         (flat_map (λ c. count_line c.0.now c.1) counts.entry.now) result out.new }

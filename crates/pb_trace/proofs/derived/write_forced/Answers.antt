@@ -1,16 +1,9 @@
-use Rattle.pb_trace.proofs.Common.{refl, part_broke, part_then}
+use Rattle.pb_trace.proofs.Common.{arith}
+use Rattle.pb_trace.proofs.Texts.{texts}
 use Rattle.pb_trace.proofs.derived.write_forced.Goals as goal
 
-pub returns-in_err-write_bytes : goal.returns-in_err-write_bytes
-returns-in_err-write_bytes g c =
-    part_broke g.S.Sink.contents g.S.Sink.faults _ _ _ _ _ _ refl c.from_residual.ensures.0 c.in_err-write_bytes.ensures
-
 pub returns-in_err-write_numbered : goal.returns-in_err-write_numbered
-returns-in_err-write_numbered g c =
-    part_then g.S.Sink.contents g.S.Sink.faults _ _ _ _ _ _ _ refl c.in_ok-write_bytes.ensures
-    (part_broke g.S.Sink.contents g.S.Sink.faults _ _ _ _ _ _ refl c.from_residual-in_err-write_numbered.ensures.0 c.in_err-write_numbered.ensures)
+returns-in_err-write_numbered g c = grind (arith, texts)
 
 pub returns : goal.returns
-returns g c =
-    part_then g.S.Sink.contents g.S.Sink.faults _ _ _ _ _ _ _ refl c.in_ok-write_bytes.ensures
-    (part_then g.S.Sink.contents g.S.Sink.faults _ _ _ _ _ _ _ refl c.in_ok-write_numbered.ensures c.write_cause.ensures)
+returns g c = grind (arith, texts)

@@ -1,11 +1,9 @@
-use Rattle.pb_trace.proofs.Common.{refl, part_broke, part_then}
+use Rattle.pb_trace.proofs.Common.{arith}
+use Rattle.pb_trace.proofs.Texts.{texts}
 use Rattle.pb_trace.proofs.write.write_read.Goals as goal
 
 pub returns-in_err-write_place : goal.returns-in_err-write_place
-returns-in_err-write_place g c =
-    part_broke g.S.Sink.contents g.S.Sink.faults _ _ _ _ _ _ refl c.from_residual.ensures.0 c.in_err-write_place.ensures
+returns-in_err-write_place g c = grind (arith, texts)
 
 pub returns : goal.returns
-returns g c =
-    part_then g.S.Sink.contents g.S.Sink.faults _ _ _ _ _ _ _ refl c.in_ok-write_place.ensures
-    (c.write_statement.ensures)
+returns g c = grind (arith, texts)
