@@ -1,1 +1,2 @@
+mod Machine
 pub mod Values

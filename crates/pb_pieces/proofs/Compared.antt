@@ -1,14 +1,13 @@
 -- One more token, compared and given.
 use Rattle.pb_pieces.proofs.Common.{ℕ, ◌++◌, ◌+◌, ◌∙◌, ◌∷◌, ◌≡◌, ◌⊎◌, [], ap, arith, inl, inr, length, length-append, List, map, refl, Some, subst}
-use Rattle.pb_pieces.proofs.Common.{suc, sym, take, true, zero, slice_get, take-suc, length-map, map_push, Arrays, IsGivenAt, token_in, AreFirst}
+use Rattle.pb_pieces.proofs.Common.{suc, sym, take, true, zero, slice_get, length-map, map_push, Arrays, IsGivenAt, token_in, AreFirst}
 use Rattle.pb_pieces.proofs.Common.{Compared, Token, GivenToken}
+use Rattle.std.proofs.lemmas.List.{take_more}
 use Rattle.std.proofs.lemmas.Option.{get_or_from_slice_get, none-some, same_Some, slice_get_within}
 use Rattle.pb_pieces.specs.declared.matcher.Matcher.{Matcher}
 
 take_next : {A : Type 0} (xs : List A) (n : ℕ) (x : A) → slice_get xs n ≡ Some x → take (n + 1) xs ≡ take n xs ++ x ∷ []
-take_next {A} xs n x got =
-    let up : n + 1 ≡ suc n = omega arith in
-    ap (λ (m : ℕ). take m xs) up ∙ (take-suc xs n x (slice_get_within xs n x got) ∙ ap (λ (y : A). take n xs ++ y ∷ []) (get_or_from_slice_get xs n x x got))
+take_next {A} xs n x got = take_more xs n x (slice_get_within xs n x got) ∙ ap (λ (y : A). take n xs ++ y ∷ []) (get_or_from_slice_get xs n x x got)
 
 -- the next given token is this one
 pub one_more : (tokens : List Token) (t : Token) (count : ℕ) (given : List GivenToken) (g : GivenToken) → AreFirst tokens count given → slice_get given count ≡ Some g → token_in g ≡ t
@@ -55,6 +54,4 @@ module _ (a : Arrays) where
   pub given_next : (given new : List GivenToken) (g : GivenToken) (n : ℕ) → new ≡ given ++ g ∷ [] → length given ≡ n
       → ((i : ℕ) (t : Token) → slice_get (map token_in given) i ≡ Some t → IsGivenAt a i t) → IsGivenAt a n (token_in g)
       → (length new ≡ n + 1) × ((i : ℕ) (t : Token) → slice_get (map token_in new) i ≡ Some t → IsGivenAt a i t)
-  given_next given new g n is size before one =
-      subst (λ (gs : List GivenToken). (length gs ≡ n + 1) × ((i : ℕ) (t : Token) → slice_get (map token_in gs) i ≡ Some t → IsGivenAt a i t)) (sym is)
-      (length-append given (g ∷ []) ∙ ap (λ (k : ℕ). k + 1) size, given_more given g n size before one)
+  given_next given new g n is size before one = rw is (length-append given (g ∷ []) ∙ ap (λ (k : ℕ). k + 1) size, given_more given g n size before one)

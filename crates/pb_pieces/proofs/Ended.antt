@@ -14,7 +14,7 @@ use Rattle.pb_opb.specs.meaning.Reading.{ReadsInstance}
 use Rattle.pb_opb.specs.meaning.Values.{IsValueOf}
 use Rattle.pb_opb.specs.declared.Instance.{Instance}
 use Rattle.pb_proof.specs.declared.Stage.{Stage}
-use Rattle.pb_proof.specs.declared.Stage.TheVariants.{Opening, Formula, Steps, Concluding, Closing, Complete}
+use Rattle.pb_proof.specs.declared.Stage.TheVariants.{Complete}
 use Rattle.pb_replay.specs.contract.ReplayModel.{Replaying, StandsFor, verdict_at}
 use Rattle.pb_replay.specs.meaning.Statements.{Accepts}
 use Rattle.pb_replay.specs.declared.verdict.Verdict.{Verdict}
@@ -26,7 +26,7 @@ use Rattle.pb_tool.specs.meaning.Tidy.IsRefused.{InText, InRest}
 use Rattle.pb_tool.specs.declared.commands.check.checker.CheckFault.TheVariants as check
 use Rattle.pb_tool.proofs.lemmas.check.TwoSources.{whole_file}
 use Rattle.pb_tool.proofs.lemmas.file.GivenBytes.{file_then_blank}
-use Rattle.pb_pieces.proofs.Faults.{refused_at_end}
+use Rattle.pb_pieces.proofs.Faults.{accepting, refused_at_end}
 use Rattle.pb_pieces.proofs.Fed.{running, with_stands}
 
 -- a source over a slice has the bytes of the slice left
@@ -36,11 +36,7 @@ whole o s is none = ap (λ (x : Option ℕ). reported (Some o.inner.now) None x)
 -- a complete proof has the verdict of its conclusion
 concluded_as : (next : Stage) (concluded : Option Verdict) (w : Verdict) → verdict_at next concluded ≡ Some w → concluded ≡ Some w
 concluded_as Complete concluded w e = e
-concluded_as Opening concluded w e = absurd cc
-concluded_as Formula concluded w e = absurd cc
-concluded_as Steps concluded w e = absurd cc
-concluded_as Concluding concluded w e = absurd cc
-concluded_as Closing concluded w e = absurd cc
+concluded_as _ concluded w e = absurd cc
 
 same_state : {s t : State} → ◌≡◌ {A = Result State Fault} (Ok s) (Ok t) → s ≡ t
 same_state e = cc
@@ -56,16 +52,9 @@ module _ (limits : Limits) (longest : ℕ) where
     left = ends.1.reads.left
 
     abbrev accepted : IsAccepted limits longest v (first_state v) (Some fed) (Some left) place true None ends.0
-    accepted = record {
-      spans = ends.1.spans;
-      took = record {
-        used = ends.1.used;
-        seen = ends.1.reads.left;
-        took = (ends.1.reads.input_is, refl);
-        reads = subst (λ (x : List ℕ). Reads (IsProofText limits) longest x ends.1.used ends.1.spans place true None) ends.1.reads.input_is ends.1.reads;
-      };
-      accepted = subst (λ (x : State). Accepts (largest limits) (top_of limits) v (first_state v) (events_at ends.1.spans) x) (sym (same_state ends.1.accepted.1)) ends.1.accepted.2;
-    }
+    accepted =
+        accepting limits longest v fed ends.1.used left ends.1.spans place true None ends.0 ends.1.reads.input_is ends.1.reads
+        (subst (λ (x : State). Accepts (largest limits) (top_of limits) v (first_state v) (events_at ends.1.spans) x) (sym (same_state ends.1.accepted.1)) ends.1.accepted.2)
 
     left_is : drop place.offset fed ≡ left
     left_is =
@@ -80,16 +69,9 @@ module _ (limits : Limits) (longest : ℕ) where
 
     -- a rest that is not blank
     pub stray : (rest : List ℕ) (before after : Option (List ℕ)) (s : Stop) → rest ≡ drop place.offset fed → before ≡ Some rest → ReadsBlank place before (Err s) after → IsRejected limits longest v fed n (check.Text s)
-    stray rest before after s is one blank = (
-      fed,
-      [],
-      sym (append-nil fed),
-      inl (
-        after,
-        AfterProof (Some left) place ends.0 w accepted (concluded_as ends.0.next ends.0.concluded w ends.2) (subst (λ (x : Option (List ℕ)). ReadsBlank place x (Err s) after) (one ∙ ap (λ (x : List ℕ). Some x) (is ∙ left_is)) blank),
-        ends.3,
-      ),
-    )
+    stray rest before after s is one blank =
+        let b = subst (λ (x : Option (List ℕ)). ReadsBlank place x (Err s) after) (one ∙ ap (λ (x : List ℕ). Some x) (is ∙ left_is)) blank in
+        (fed, [], sym (append-nil fed), inl (after, AfterProof (Some left) place ends.0 w accepted (concluded_as ends.0.next ends.0.concluded w ends.2) b, ends.3))
 
   module _ (i fed : List ℕ) (old : Session) (new : Checking) (none : old.fault ≡ None) (s : IsSession limits longest i fed old) where
     now : IsRunning limits longest s.problem fed old

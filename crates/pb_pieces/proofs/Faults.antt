@@ -3,22 +3,20 @@ use Rattle.pb_pieces.proofs.Common.{ℕ, ◌++◌, ◌∙◌, ◌∷◌, ◌≡�
 use Rattle.pb_pieces.proofs.Common.{subst, sym, append_cancel_left, Statement, Fault, Problem, first_state, State, place_after-offset, Limits, Place}
 use Rattle.pb_pieces.proofs.Common.{Stop, Answers, Reads, place_after, reported, many, running_at, Checking, CountsSoFar, TextsAreRead, Checks}
 use Rattle.pb_pieces.proofs.Common.{IsRefusedAt, Rejects, AllocatesAt, CountsAt, fault_of, is_whole, place_in, CheckFault, AsksInProofText}
-use Rattle.pb_pieces.proofs.Common.{IsProofText, ComesTo, InProof, IsAccepted, IsReported, HasFault}
+use Rattle.pb_pieces.proofs.Common.{largest, Spanned, top_of, IsProofText, ComesTo, InProof, IsAccepted, IsReported, HasFault}
 use Rattle.pb_text.specs.meaning.Stopping.{IsAsking}
+use Rattle.pb_text.specs.meaning.Whole.{events_at}
 use Rattle.pb_text.specs.declared.place.Why.{Why}
 use Rattle.pb_text.specs.declared.place.Why.TheVariants as reason
 use Rattle.pb_text.proofs.lemmas.source.Wholes.{same_prefix}
 use Rattle.pb_replay.specs.declared.fault.Fault.TheVariants as fault
+use Rattle.pb_replay.specs.meaning.Statements.{Accepts}
 use Rattle.pb_tool.specs.declared.commands.check.checker.CheckFault.TheVariants as check
 
 -- ---- memory runs out at a byte that may allocate
 asking : (limits : Limits) (used left : List ℕ) (w : Why) → (w ≡ reason.Memory → (b : ℕ) × (more : List ℕ) × (left ≡ b ∷ more) × AsksInProofText limits used b) → IsAsking (AsksInProofText limits) used left w
-asking limits used left (reason.Byte b) h = tt
-asking limits used left reason.TooLarge h = tt
-asking limits used left reason.Ended h = tt
-asking limits used left reason.TooLong h = tt
-asking limits used left reason.Read h = tt
 asking limits used left reason.Memory h = h refl
+asking limits used left _ h = tt
 
 asked : (limits : Limits) (input used left : List ℕ) (s : Stop) → input ≡ used ++ left → s.place ≡ place_after used → AllocatesAt limits input (check.Text s) → s.why ≡ reason.Memory → (b : ℕ) × (more : List ℕ) × (left ≡ b ∷ more) × AsksInProofText limits used b
 asked limits input used left s is at asks memory =
@@ -28,25 +26,21 @@ asked limits input used left s is at asks memory =
 
 -- a name for the report of a fault
 reported_name : (names : List (List ℕ)) (e : Fault) → (name : List ℕ) × IsReported names e name
-reported_name names fault.Memory = ([], refl)
-reported_name names fault.Overflow = ([], refl)
-reported_name names (fault.FormulaCount n) = ([], refl)
-reported_name names (fault.NoSuchId z) = ([], refl)
-reported_name names fault.NotImplied = ([], refl)
-reported_name names fault.Conflict = ([], refl)
 reported_name names (fault.NotTotal n) = (get_or names n [], refl)
-reported_name names (fault.Violates n) = ([], refl)
-reported_name names fault.NoObjective = ([], refl)
-reported_name names fault.NotContradiction = ([], refl)
-reported_name names fault.SolutionLogged = ([], refl)
-reported_name names fault.NoSolution = ([], refl)
-reported_name names fault.NotBound = ([], refl)
-reported_name names fault.IdsSpent = ([], refl)
-reported_name names fault.Order = ([], refl)
+reported_name names _ = ([], refl)
 
 module _ (limits : Limits) (longest : ℕ) (v : Problem) where
   abbrev First : Result State Fault
   First = Ok (first_state v)
+
+  -- a prefix of the text that was read, and whose statements are accepted
+  abbrev pub accepting : (input used left : List ℕ) (spans : List (Spanned Statement)) (place : Place) (done : Bool) (stop : Option Stop) (last : State)
+      → input ≡ used ++ left → Reads (IsProofText limits) longest input used spans place done stop
+      → Accepts (largest limits) (top_of limits) v (first_state v) (events_at spans) last
+      → IsAccepted limits longest v (first_state v) (Some input) (Some left) place done stop last
+  accepting input used left spans place done stop last is reads accepts =
+      let read = subst (λ (x : List ℕ). Reads (IsProofText limits) longest x used spans place done stop) is reads in
+      record { spans = spans; took = record { used = used; seen = left; took = (is, refl); reads = read }; accepted = accepts }
 
   -- ---- what a checker without a fault has accepted
   abbrev pub AcceptedBy : List ℕ → List ℕ → Place → Bool → State → ℕ → Type 0
@@ -58,26 +52,10 @@ module _ (limits : Limits) (longest : ℕ) (v : Problem) where
   so_far read fed n c none counts =
       let at = running_at limits longest v First fed c.feeder c.replay c.fault none counts.0 in
       let (used, reads) = reported read limits longest v First fed c.feeder c.replay c.fault none counts.0 in
-      let (t, is, accepted) = at.accepted in (
-        reads.left,
-        t,
-        (
-          record {
-            spans = at.spans;
-            took = record {
-              used = used;
-              seen = reads.left;
-              took = (reads.input_is, refl);
-              reads = subst (λ (x : List ℕ). Reads (IsProofText limits) longest x used at.spans (place_in c) (is_whole c) None) reads.input_is reads;
-            };
-            accepted = accepted;
-          },
-          many read limits longest v First fed c.feeder c.replay c.fault none counts.0 n counts.1,
-        ),
-        reads.input_is,
-        reads.place_is,
-        reads.answer,
-      )
+      let (t, is, accepted) = at.accepted in
+      let all = accepting fed used reads.left at.spans (place_in c) (is_whole c) None t reads.input_is reads accepted in
+      let counted = many read limits longest v First fed c.feeder c.replay c.fault none counts.0 n counts.1 in
+      (reads.left, t, (all, counted), reads.input_is, reads.place_is, reads.answer)
 
   -- ---- the first fault
   text_fault : (input : List ℕ) (n : ℕ) (place : Place) (s : Stop) (here : Checks limits longest v First input place false (Some (check.Text s))) → length here.1.spans ≡ n → AllocatesAt limits input (check.Text s) → HasFault limits longest v input n (check.Text s)
@@ -85,10 +63,8 @@ module _ (limits : Limits) (longest : ℕ) (v : Problem) where
       let (t, is, accepted) = h.accepted in
       let r = h.reads in
       let at : s.place ≡ place = r.answer.1 in
-      let reads : Reads (IsProofText limits) longest (h.used ++ r.left) h.used h.spans s.place false (Some s) =
-      subst (λ (x : List ℕ). Reads (IsProofText limits) longest x h.used h.spans s.place false (Some s)) r.input_is (subst (λ (p : Place). Reads (IsProofText limits) longest input h.used h.spans p false (Some s)) (sym at) r) in
-      let all : IsAccepted limits longest v (first_state v) (Some input) (Some r.left) s.place false (Some s) t =
-      record { spans = h.spans; took = record { used = h.used; seen = r.left; took = (r.input_is, refl); reads = reads }; accepted = accepted } in
+      let reads = subst (λ (p : Place). Reads (IsProofText limits) longest input h.used h.spans p false (Some s)) (sym at) r in
+      let all = accepting input h.used r.left h.spans s.place false (Some s) t r.input_is reads accepted in
       (Some r.left, InProof t all (asking limits h.used r.left s.why (asked limits input h.used r.left s r.input_is (at ∙ r.place_is) asks)), many)
 
   step_by : (input left : List ℕ) (n : ℕ) (begins : Place) (e : Fault) (st : Statement) (state : State) (comes : ComesTo limits longest v (first_state v) (Some input) (Some left) begins st state) → length comes.spans ≡ n → Rejects limits v (Ok state) st e → HasFault limits longest v input n (check.Step begins e)

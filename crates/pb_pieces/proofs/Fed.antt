@@ -28,10 +28,8 @@ module _ (free : PrefixFree) (limits : Limits) (longest : ℕ) where
   same_used fed piece used used' spans spans' place place' false r r' =
       let s = r.answer.0 in
       let whole : used' ≡ fed ++ piece = sym (append-nil used') ∙ (ap (λ (x : List ℕ). used' ++ x) (sym r'.answer.1) ∙ sym r'.input_is) in
-      absurd (r'.answer.0.unfinished s.items s.spelled (
-        r.left ++ piece,
-        whole ∙ (ap (λ (x : List ℕ). x ++ piece) r.input_is ∙ (append_assoc used r.left piece ∙ ap (λ (x : List ℕ). x ++ (r.left ++ piece)) (sym s.used_are))),
-      ))
+      let joined = whole ∙ (ap (λ (x : List ℕ). x ++ piece) r.input_is ∙ (append_assoc used r.left piece ∙ ap (λ (x : List ℕ). x ++ (r.left ++ piece)) (sym s.used_are))) in
+      absurd (r'.answer.0.unfinished s.items s.spelled (r.left ++ piece, joined))
 
   -- what follows the used bytes
   after_used : (fed piece used used' : List ℕ) (spans spans' : List (Spanned Statement)) (place place' : Place) (done done' : Bool) (n : ℕ)

@@ -3,11 +3,10 @@ use Rattle.pb_pieces.proofs.Pulled.{flat_by}
 use Rattle.pb_pieces.proofs.read.read_events.Goals as goal
 
 pub loop-read-init : goal.loop-read-init
-loop-read-init g c = (
-  [],
-  first_pull {g = record { automaton = opb }} c.args.longest c.args.machine (g.S.Source.left c.args.input.now) c.within-feeder.result c.within-feeder.ensures.stands c.within-feeder.ensures.running (ap (λ (p : Place). p.offset) c.within-feeder.ensures.place),
-  c.requires.nothing,
-)
+loop-read-init g c =
+    let feeder = c.within-feeder.ensures in
+    let begun = first_pull {g = record { automaton = opb }} c.args.longest c.args.machine (g.S.Source.left c.args.input.now) c.within-feeder.result feeder.stands feeder.running (ap (λ (p : Place). p.offset) feeder.place) in
+    ([], begun, c.requires.nothing)
 
 pub loop-read-preserved : goal.loop-read-preserved
 loop-read-preserved g c =

@@ -17,19 +17,13 @@ returns-in-Ok-with_hasher-clause-opened c =
     c.new.ensures.counts c.new.ensures.running c.new-in-Ok-with_hasher.ensures.items
 
 pub returns-in-Err-Memory-clause-refused : goal.returns-in-Err-Memory-clause-refused
-returns-in-Err-Memory-clause-refused c = (
-  c.in-Ok.read.event,
-  file c.args.limits _ c.args.text.now _ (whole c.new-source.result c.args.text c.new-source.ensures.inner c.new-source.ensures.shown) c.unwrap_or-within.result c.unwrap_or-within.ensures c.in-Ok.read _ _ c.in-Ok.ensures.reads c.in-Ok-rest_is_blank.ensures.blank,
-  c.with_hasher.ensures.memory (c.in-Err-Memory.is ∙ ap Err c.in-Err-Memory.field-0-is),
-)
+returns-in-Err-Memory-clause-refused c =
+    let one = whole c.new-source.result c.args.text c.new-source.ensures.inner c.new-source.ensures.shown in
+    let read = file c.args.limits _ c.args.text.now _ one c.unwrap_or-within.result c.unwrap_or-within.ensures c.in-Ok.read _ _ c.in-Ok.ensures.reads c.in-Ok-rest_is_blank.ensures.blank in
+    (c.in-Ok.read.event, read, c.with_hasher.ensures.memory (c.in-Err-Memory.is ∙ ap Err c.in-Err-Memory.field-0-is))
 
 pub returns : goal.returns
-returns c = record {
-  opened = tt;
-  running = tt;
-  refused = (
-    c.in-Ok.read.event,
-    file c.args.limits _ c.args.text.now _ (whole c.new-source.result c.args.text c.new-source.ensures.inner c.new-source.ensures.shown) c.unwrap_or-within.result c.unwrap_or-within.ensures c.in-Ok.read _ _ c.in-Ok.ensures.reads c.in-Ok-rest_is_blank.ensures.blank,
-    search rules,
-  );
-}
+returns c =
+    let one = whole c.new-source.result c.args.text c.new-source.ensures.inner c.new-source.ensures.shown in
+    let read = file c.args.limits _ c.args.text.now _ one c.unwrap_or-within.result c.unwrap_or-within.ensures c.in-Ok.read _ _ c.in-Ok.ensures.reads c.in-Ok-rest_is_blank.ensures.blank in
+    record { opened = tt; running = tt; refused = (c.in-Ok.read.event, read, search rules) }

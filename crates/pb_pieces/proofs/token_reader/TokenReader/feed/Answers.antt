@@ -43,11 +43,5 @@ returns-in-Err-give-clause-stops g c longest start fed spans running reading =
     let f = rw c.in-Ok.is at c.feed.ensures in
     let m = c.in-Some-event.read in
     let r = rw c.in-Some-event.is at c.in-Err-give.ensures in
-    inr (
-      r.spent.0,
-      m,
-      c.in-Ok.fed.used,
-      r.spent.1,
-      rw c.give.ensures.feeder (given longest start fed c.args.piece.now spans c.args.self.now.feeder c.feed.new.self reading.running reading.stands c.in-Ok.fed (Some m) c.in-Some-event.is f.feeds),
-      rw c.give.ensures.feeder f.stop,
-    )
+    let at = given longest start fed c.args.piece.now spans c.args.self.now.feeder c.feed.new.self reading.running reading.stands c.in-Ok.fed (Some m) c.in-Some-event.is f.feeds in
+    inr (r.spent.0, m, c.in-Ok.fed.used, r.spent.1, rw c.give.ensures.feeder at, rw c.give.ensures.feeder f.stop)
