@@ -3,7 +3,8 @@ use Rattle.pb_c.proofs.Common.{ℕ, ◌∙◌, ◌≡◌, ap, Bool, Bor, List, N
 use Rattle.pb_text.specs.contract.OverState.{inner_of, shown_of}
 use Rattle.pb_text.specs.contract.Over.{reported}
 use Rattle.pb_text.specs.declared.over.Over.{Over}
-use Rattle.pb_tool.specs.meaning.Files.{ShowsFile, TidiesFile}
+use Rattle.pb_tool.specs.contract.Show.{ShowsFile}
+use Rattle.pb_tool.specs.contract.Tidy.{TidiesFile}
 
 -- a source over a slice has the bytes of the slice left
 pub whole : (o : Over (Bor (List ℕ))) (s : Bor (List ℕ)) → inner_of o ≡ s → shown_of o ≡ None → reported (Some o.inner.now) None o.shown ≡ Some s.now

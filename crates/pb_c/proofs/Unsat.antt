@@ -6,7 +6,7 @@ use Rattle.pb_c.proofs.Common.{Page}
 use Rattle.pb_text.specs.meaning.Writing.{Wrote}
 use Rattle.pb_text.specs.declared.place.Why.TheVariants as why
 use Rattle.pb_replay.specs.declared.fault.Fault.TheVariants as step
-use Rattle.pb_tool.specs.meaning.Tidy.{IsInstanceFile}
+use Rattle.pb_tool.specs.meaning.Files.{IsInstanceFile}
 use Rattle.pb_tool.specs.meaning.Verified.{CheckCall, Returns, verdict_line}
 use Rattle.pb_tool.specs.declared.fault.ToolFault.TheVariants.{Text, Open, Overflow, Memory, Write, Step}
 use Rattle.pb_c.specs.Unsat.{ShowsTruth, ShowsUnsat}

@@ -4,7 +4,8 @@ use Rattle.pb_text.specs.meaning.Writing.{Wrote, Broke}
 use Rattle.pb_text.specs.declared.Limits.{Limits}
 use Rattle.pb_tool.specs.contract.Faults.{exit_status, fault_line}
 use Rattle.pb_tool.specs.meaning.Decided.{IsOfTexts}
-use Rattle.pb_tool.specs.meaning.Files.{ShowsFile, TidiesFile}
+use Rattle.pb_tool.specs.contract.Show.{ShowsFile}
+use Rattle.pb_tool.specs.contract.Tidy.{TidiesFile}
 use Rattle.pb_tool.specs.meaning.Verified.{CheckCall, ChecksFiles}
 use Rattle.pb_tool.specs.declared.fault.ToolFault.{ToolFault}
 use Rattle.pb_c.specs.Options.{AreWrong, IsAsked}

@@ -7,7 +7,7 @@ use Rattle.pb_tool.specs.contract.Pieces.{HoldsOpen, place_in}
 use Rattle.pb_tool.specs.declared.commands.check.checker.CheckFault.{CheckFault}
 use Rattle.pb_tool.specs.meaning.Decided.{AreVerified}
 use Rattle.pb_tool.specs.meaning.Headline.{IsUnsatisfiable}
-use Rattle.pb_tool.specs.meaning.Tidy.{IsInstanceFile}
+use Rattle.pb_tool.specs.meaning.Files.{IsInstanceFile}
 use Rattle.pb_pieces.specs.Session.{IsInstanceOf, IsNoSession, IsSession, held_in}
 use Rattle.pb_pieces.specs.declared.session.Session.{Session}
 use Rattle.pb_pieces.specs.declared.session.OpenFault.{OpenFault}

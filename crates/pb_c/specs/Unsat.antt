@@ -5,7 +5,7 @@ use Rattle.pb_opb.specs.declared.Instance.{Instance}
 use Rattle.pb_replay.specs.meaning.Meaning.{MeansWritten}
 use Rattle.pb_replay.specs.declared.verdict.Verdict.{Verdict}
 use Rattle.pb_tool.specs.meaning.Headline.{IsUnsatisfiable}
-use Rattle.pb_tool.specs.meaning.Tidy.{IsInstanceFile}
+use Rattle.pb_tool.specs.meaning.Files.{IsInstanceFile}
 use Rattle.pb_tool.specs.meaning.Verified.{verdict_line}
 use Rattle.pb_c.specs.Options.{IsAsked}
 use Rattle.pb_c.specs.Buffer.{Puts}

@@ -21,8 +21,8 @@ use Rattle.pb_replay.specs.declared.verdict.Verdict.{Verdict}
 use Rattle.pb_tool.specs.contract.Runs.{Replays}
 use Rattle.pb_tool.specs.meaning.Decided.{AreVerified}
 use Rattle.pb_tool.specs.meaning.Headline.{VerdictsAreTrue}
-use Rattle.pb_tool.specs.meaning.Tidy.{IsInstanceFile, IsInstanceText, IsNoInstanceFile}
-use Rattle.pb_tool.specs.meaning.Tidy.IsRefused.{InText, InRest}
+use Rattle.pb_tool.specs.meaning.Files.{IsInstanceFile, IsInstanceText, IsNoInstanceFile}
+use Rattle.pb_tool.specs.meaning.Files.IsRefused.{InText, InRest}
 use Rattle.pb_tool.specs.declared.commands.check.checker.CheckFault.TheVariants as check
 use Rattle.pb_tool.proofs.lemmas.check.TwoSources.{whole_file}
 use Rattle.pb_tool.proofs.lemmas.file.GivenBytes.{file_then_blank}

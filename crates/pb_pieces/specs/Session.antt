@@ -14,7 +14,7 @@ use Rattle.pb_replay.specs.meaning.Replay.{State, first_state}
 use Rattle.pb_replay.specs.declared.fault.Fault.TheVariants.{Overflow as over}
 use Rattle.pb_replay.specs.declared.verdict.Verdict.{Verdict}
 use Rattle.pb_tool.specs.contract.Pieces.{CountsAt, fault_of, place_in}
-use Rattle.pb_tool.specs.meaning.Tidy.{IsInstanceFile, IsNoInstanceFile}
+use Rattle.pb_tool.specs.meaning.Files.{IsInstanceFile, IsNoInstanceFile}
 use Rattle.pb_tool.specs.meaning.Verified.{AfterProof, InProof, IsAccepted, IsRefusedStep, IsRefusedText}
 use Rattle.pb_tool.specs.declared.commands.check.checker.CheckFault.{CheckFault}
 use Rattle.pb_tool.specs.declared.commands.check.checker.CheckFault.TheVariants as check

@@ -98,7 +98,7 @@ pub use Rattle.pb_tool.specs.contract.Pieces.{AllocatesAt, AnyCutting, bytes_to,
 pub use Rattle.pb_tool.specs.contract.Pieces.{FeedsInTurn, HoldsOpen, is_whole, joined, MayGoOn, place_in}
 pub use Rattle.pb_tool.specs.contract.Runs.{faults_of_instance, faults_of_proof, IsNoReplay, IsReplayOf, IsReportedAs, Replays, RunsProof}
 pub use Rattle.pb_tool.specs.contract.Seen.{SawFile, SawInstance, SawNoInstance, SawNoProof, SawProof, SawText}
-pub use Rattle.pb_tool.specs.contract.Show.{EndsAt, IsRefusedAfter, IsSpelling, line_of, shown, shown_line, ShowsLines}
+pub use Rattle.pb_tool.specs.contract.Show.{EndsAt, IsRefusedAfter, IsSpelling, line_of, shown, shown_line, ShowsLines, ShowsFile}
 pub use Rattle.pb_tool.specs.contract.Stays.{HasNoFault, IsInstanceWithin, IsOutside, IsProofWithin, IsReadAsInstance, IsReadAsProof, ProofHasNoFault}
 pub use Rattle.pb_tool.specs.contract.Stays.{ProofStaysAsIs, StaysAsIs, WroteAgain}
 pub use Rattle.pb_tool.specs.contract.Watched.{Accepted, Call, GotEach, HasSeen, HasSeenUpTo, IsWatched, Rejected, ShowsEach, ShowsProof, ShowsRun}
@@ -113,10 +113,8 @@ pub use Rattle.pb_tool.specs.engine.InstanceText.{IsInstanceTextOf, line, line_i
 pub use Rattle.pb_tool.specs.engine.NormalText.{AreLines, AreMade, as_statement, form_lines, IsNoted, names_at, names_on, NamesInOrder, noted}
 pub use Rattle.pb_tool.specs.engine.Running.{Begins, HasGiven, HasRun, HasShown, IsChecked, IsRun, OfBoth, RunsTo}
 pub use Rattle.pb_tool.specs.meaning.Decided.{AnswersExactly, AreVerified, IsDecided, IsOfText, IsOfTexts, IsSame, OneAnswer}
-pub use Rattle.pb_tool.specs.meaning.Files.{AsksInProofText, IsProofFile, IsProofText, MayBeInstance, MayBeProof, ShowsFile, tidied_proof, TidiesFile}
-pub use Rattle.pb_tool.specs.meaning.Files.{TidiesProof}
-pub use Rattle.pb_tool.specs.meaning.Tidy.{AsksInInstanceText, ends_in_feed, HasNormalForm, is_bare, IsFile, IsInstanceFile, IsInstanceText, IsNoInstanceFile}
-pub use Rattle.pb_tool.specs.meaning.Tidy.{IsNoNormalFile, IsNormalFile, IsRefused, IsStopped, LacksNormalForm, tidied, Tidies, TidiesAs, WritesText}
-pub use Rattle.pb_tool.specs.meaning.Tidy.IsRefused.{InRest, InText}
+pub use Rattle.pb_tool.specs.meaning.Files.{AsksInProofText, IsProofFile, IsProofText, MayBeInstance, MayBeProof, AsksInInstanceText, IsFile, IsInstanceFile, IsInstanceText, IsNoInstanceFile, IsRefused}
+pub use Rattle.pb_tool.specs.contract.Tidy.{tidied_proof, TidiesFile, TidiesProof, ends_in_feed, HasNormalForm, is_bare, IsNoNormalFile, IsNormalFile, IsStopped, LacksNormalForm, tidied, Tidies, TidiesAs, WritesText}
+pub use Rattle.pb_tool.specs.meaning.Files.IsRefused.{InRest, InText}
 pub use Rattle.pb_tool.specs.meaning.Verified.{AfterProof, CheckCall, ChecksFiles, ComesTo, InProof, IsAccepted, IsRefusedStep, IsRefusedText, IsReported}
 pub use Rattle.pb_tool.specs.meaning.Verified.{IsVerified, Returns, verdict_line}

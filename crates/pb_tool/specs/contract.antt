@@ -11,5 +11,6 @@ pub mod Refusals
 pub mod Runs
 pub mod Seen
 pub mod Show
+pub mod Tidy
 pub mod Stays
 pub mod Watched

@@ -2,5 +2,4 @@
 pub mod Decided
 pub mod Files
 pub mod Headline
-pub mod Tidy
 pub mod Verified

@@ -7,10 +7,9 @@ ghost use Rattle.pb_text.specs.contract.NothingRead.{ReadsNothing, first_fault};
 ghost use Rattle.pb_text.specs.meaning.Pulling.{OfGiven, faults_after};
 ghost use Rattle.pb_text.specs.meaning.Stopping.{IsShown};
 ghost use Rattle.pb_text.specs.meaning.Writing.{one_more};
-ghost use Rattle.pb_tool.specs.meaning.Files.{IsProofText};
+ghost use Rattle.pb_tool.specs.meaning.Files.{IsProofText, IsNoInstanceFile, IsInstanceText, IsInstanceFile};
 ghost use Rattle.pb_tool.specs.engine.Gathered.{IsGathered, IsNotGathered};
 ghost use Rattle.pb_tool.specs.engine.Opening.{IsReadAs};
-ghost use Rattle.pb_tool.specs.meaning.Tidy.{IsNoInstanceFile, IsInstanceText, IsInstanceFile};
 ghost use Rattle.pb_tool.specs.declared.fault.Input.TheVariants.{File};
 
 use crate::fault::{Input, ToolFault, text_fault};

@@ -10,17 +10,17 @@ use Rattle.pb_tool.specs.contract.Given.{ChecksGiven}
 use Rattle.pb_tool.specs.contract.Runs.{faults_of_instance, faults_of_proof}
 use Rattle.pb_tool.specs.contract.Seen.{SawInstance, SawProof}
 use Rattle.pb_tool.specs.meaning.Headline.{TrueOf, UnsatOf}
-use Rattle.pb_tool.specs.meaning.Verified.{CheckCall, ChecksFiles}
+use Rattle.pb_tool.specs.meaning.Verified.{called, CheckCall, ChecksFiles}
 use Rattle.pb_tool.specs.declared.fault.ToolFault.{ToolFault}
 
 -- A call with an instance `i`, a proof `p` and a sink `o` returned this result, and left them as `i'`, `p'` and `o'`.
 module _ {I P W : Type 0} (of_i : Source I) (of_p : Source P) (of_o : Sink W) (limits : Limits) (longest : ℕ) (i : I) (p : P) (o : W) (result : Result Verdict ToolFault) (i' : I) (p' : P) (o' : W) where
   -- the call for the bytes that are left in the sources, and for those that their calls have given
   abbrev pub of_left : CheckCall (Option (List ℕ)) W
-  of_left = record { instance = of_i.left i; proof = of_p.left p; out = o; result = result; instance_after = of_i.left i'; proof_after = of_p.left p'; out_after = o' }
+  of_left = called (of_i.left i) (of_p.left p) o result (of_i.left i') (of_p.left p') o'
 
   abbrev pub of_given : CheckCall (List ℕ) W
-  of_given = record { instance = of_i.history i; proof = of_p.history p; out = o; result = result; instance_after = of_i.history i'; proof_after = of_p.history p'; out_after = o' }
+  of_given = called (of_i.history i) (of_p.history p) o result (of_i.history i') (of_p.history p') o'
 
   pub record Checked : Type 0 where
     pub checks : ChecksFiles limits longest of_o.contents of_o.faults of_left

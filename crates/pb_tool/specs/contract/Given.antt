@@ -5,10 +5,10 @@ use Rattle.pb_text.specs.meaning.Pulling.{OfGiven}
 use Rattle.pb_text.specs.declared.Limits.{Limits}
 use Rattle.pb_opb.specs.contract.Canonical.{event_bytes}
 use Rattle.pb_proof.specs.meaning.Canonical.{statement_bytes}
-use Rattle.pb_tool.specs.meaning.Files.{AsksInProofText, IsProofText, TidiesProof}
+use Rattle.pb_tool.specs.meaning.Files.{AsksInProofText, IsProofText, AsksInInstanceText, IsInstanceText}
+use Rattle.pb_tool.specs.contract.Tidy.{TidiesProof, Tidies}
 use Rattle.pb_tool.specs.contract.Show.{ShowsLines}
-use Rattle.pb_tool.specs.meaning.Tidy.{AsksInInstanceText, IsInstanceText, Tidies}
-use Rattle.pb_tool.specs.meaning.Verified.{CheckCall, ChecksFiles}
+use Rattle.pb_tool.specs.meaning.Verified.{called, CheckCall, ChecksFiles}
 use Rattle.pb_tool.specs.declared.fault.ToolFault.{ToolFault}
 
 module _ (limits : Limits) (longest : ℕ) {W : Type 0} (contents : W → Option (List ℕ)) (faults : W → ℕ) where
@@ -29,12 +29,5 @@ module _ (limits : Limits) (longest : ℕ) {W : Type 0} (contents : W → Option
   -- The same for `pb check`: for the bytes that the calls gave of the instance, and those of the proof.
   abbrev pub ChecksGiven : CheckCall (List ℕ) W → Type 0
   ChecksGiven c =
-      OfGiven (λ instance instance_after. OfGiven (λ proof proof_after. ChecksFiles limits longest contents faults record {
-        instance = instance;
-        proof = proof;
-        out = c.out;
-        result = c.result;
-        instance_after = instance_after;
-        proof_after = proof_after;
-        out_after = c.out_after;
-      }) c.proof c.proof_after) c.instance c.instance_after
+      OfGiven (λ i i'. OfGiven (λ p p'. ChecksFiles limits longest contents faults (called i p c.out c.result i' p' c.out_after)) c.proof c.proof_after)
+      c.instance c.instance_after

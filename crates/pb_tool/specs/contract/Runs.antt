@@ -18,8 +18,7 @@ use Rattle.pb_replay.specs.declared.fault.Fault.TheVariants.{Memory as no_memory
 use Rattle.pb_replay.specs.declared.verdict.Verdict.{Verdict}
 use Rattle.pb_replay.specs.contract.ReplayModel.{StandsFor}
 use Rattle.pb_tool.specs.contract.Checks.{KeepsNames}
-use Rattle.pb_tool.specs.meaning.Files.{AsksInProofText, IsProofFile}
-use Rattle.pb_tool.specs.meaning.Tidy.{IsInstanceFile, IsNoInstanceFile}
+use Rattle.pb_tool.specs.meaning.Files.{AsksInProofText, IsProofFile, IsInstanceFile, IsNoInstanceFile}
 use Rattle.pb_tool.specs.meaning.Verified.{ComesTo, IsAccepted, IsRefusedStep, IsRefusedText, IsReported}
 use Rattle.pb_tool.specs.declared.commands.check.checker.CheckFault.{CheckFault}
 use Rattle.pb_tool.specs.declared.commands.check.checker.CheckFault.TheVariants as check

@@ -1,5 +1,5 @@
 -- What `pb show` writes: a line for each statement that was read.
-use Rattle.std.specs.Prelude.{ℕ, ◌≤◌, List, [], ◌∷◌, ◌++◌, length, decimal, false, Option, Some, Result, Ok, Err}
+use Rattle.std.specs.Prelude.{ℕ, ◌≤◌, ◌⊎◌, List, [], ◌∷◌, ◌++◌, length, decimal, false, Option, Some, Result, Ok, Err}
 use Rattle.std.specs.List.{flat_map}
 use Rattle.pb_text.specs.meaning.Blank.{IsBlank, ReadsBlank}
 use Rattle.pb_text.specs.meaning.Pulling.{Took}
@@ -8,9 +8,13 @@ use Rattle.pb_text.specs.meaning.PullsInARow.{TookAll, TookSoFar}
 use Rattle.pb_text.specs.meaning.Spelling.{Item, place_after}
 use Rattle.pb_text.specs.meaning.Stopping.{IsAsking}
 use Rattle.pb_text.specs.meaning.Writing.{Wrote, Broke}
+use Rattle.pb_text.specs.declared.Limits.{Limits}
 use Rattle.pb_text.specs.declared.Place.{Place}
 use Rattle.pb_text.specs.declared.Spanned.{Spanned}
 use Rattle.pb_text.specs.declared.Stop.{Stop}
+use Rattle.pb_opb.specs.contract.Canonical.{event_bytes}
+use Rattle.pb_proof.specs.meaning.Canonical.{statement_bytes}
+use Rattle.pb_tool.specs.meaning.Files.{AsksInInstanceText, AsksInProofText, IsInstanceText, IsProofText, MayBeInstance, MayBeProof}
 use Rattle.pb_tool.specs.declared.fault.ToolFault.{ToolFault}
 use Rattle.pb_tool.specs.declared.fault.ToolFault.TheVariants.{Text, Open, Overflow, Memory, Write, Step}
 use Rattle.pb_tool.specs.declared.fault.Input.TheVariants.{File, Instance, Proof}
@@ -65,3 +69,10 @@ module _ {E : Type 0} (format : List (Item E) → Type 0) (longest : ℕ) where
     ShowsLines before old (Err (Overflow i)) after new = ⊥
     ShowsLines before old (Err (Memory i)) after new = ⊥
     ShowsLines before old (Err (Step place e name)) after new = ⊥
+
+-- What was read of the source, as a proof or as an instance, and what was written.
+module _ (limits : Limits) (longest : ℕ) {W : Type 0} (contents : W → Option (List ℕ)) (faults : W → ℕ) where
+  abbrev pub ShowsFile : Option (List ℕ) → W → Result Unit ToolFault → Option (List ℕ) → W → Type 0
+  ShowsFile before old result after new =
+      (MayBeProof before × ShowsLines (IsProofText limits) longest (AsksInProofText limits) statement_bytes contents faults before old result after new)
+      ⊎ (MayBeInstance before × ShowsLines (IsInstanceText limits) longest (AsksInInstanceText limits) event_bytes contents faults before old result after new)

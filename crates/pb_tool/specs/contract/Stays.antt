@@ -10,8 +10,8 @@ use Rattle.pb_opb.specs.meaning.Values.{IsInstanceValue}
 use Rattle.pb_opb.specs.declared.Instance.{Instance}
 use Rattle.pb_proof.specs.contract.Values.{IsProofValue}
 use Rattle.pb_proof.specs.declared.Proof.{Proof}
-use Rattle.pb_tool.specs.meaning.Files.{tidied_proof, BeginsWithP, IsProofFile, IsNoProofFile, TidiesFile}
-use Rattle.pb_tool.specs.meaning.Tidy.{tidied, IsInstanceFile, IsNoInstanceFile}
+use Rattle.pb_tool.specs.contract.Tidy.{tidied_proof, TidiesFile, tidied}
+use Rattle.pb_tool.specs.meaning.Files.{BeginsWithP, IsProofFile, IsNoProofFile, IsInstanceFile, IsNoInstanceFile}
 use Rattle.pb_tool.specs.declared.fault.ToolFault.{ToolFault}
 use Rattle.pb_tool.specs.declared.fault.ToolFault.TheVariants.{Text, Write}
 use Rattle.pb_tool.specs.declared.fault.Input.TheVariants.{File}

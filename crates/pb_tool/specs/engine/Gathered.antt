@@ -3,7 +3,8 @@ use Rattle.std.specs.Prelude.{ℕ, Bool, List, Option, Result}
 use Rattle.pb_text.specs.meaning.Spelling.{Item}
 use Rattle.pb_text.specs.meaning.Whole.{IsWhole, ReadsWhole}
 use Rattle.pb_text.specs.declared.Stop.{Stop}
-use Rattle.pb_tool.specs.meaning.Tidy.{IsFile, IsRefused, TidiesAs}
+use Rattle.pb_tool.specs.meaning.Files.{IsFile, IsRefused}
+use Rattle.pb_tool.specs.contract.Tidy.{TidiesAs}
 use Rattle.pb_tool.specs.declared.fault.ToolFault.{ToolFault}
 
 module _ {V E : Type 0} (format : List (Item E) → Type 0) (longest : ℕ) (with : V → E → V) (empty : V) where

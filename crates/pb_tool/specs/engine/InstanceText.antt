@@ -6,7 +6,7 @@ use Rattle.pb_opb.specs.declared.Instance.{Instance}
 use Rattle.pb_opb.specs.declared.OpbEvent.{OpbEvent}
 use Rattle.pb_opb.specs.declared.OpbEvent.TheVariants.{Header, Objective}
 use Rattle.pb_tool.specs.contract.Show.{line_of}
-use Rattle.pb_tool.specs.meaning.Tidy.{tidied}
+use Rattle.pb_tool.specs.contract.Tidy.{tidied}
 use Rattle.pb_tool.specs.declared.commands.tidy.instance_text.InstanceText.{InstanceText}
 
 -- the line of a statement

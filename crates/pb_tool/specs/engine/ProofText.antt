@@ -5,7 +5,7 @@ use Rattle.pb_proof.specs.meaning.Proofs.{IsProofOf}
 use Rattle.pb_proof.specs.declared.proof.Proof.{Proof}
 use Rattle.pb_proof.specs.declared.statement.Statement.{Statement}
 use Rattle.pb_proof.specs.declared.statement.Statement.TheVariants.{Header, F, Output, Conclude, End}
-use Rattle.pb_tool.specs.meaning.Files.{tidied_proof}
+use Rattle.pb_tool.specs.contract.Tidy.{tidied_proof}
 use Rattle.pb_tool.specs.contract.Show.{line_of}
 use Rattle.pb_tool.specs.declared.commands.tidy.proof_text.ProofText.{ProofText}
 

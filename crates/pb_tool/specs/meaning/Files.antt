@@ -1,19 +1,23 @@
--- What `pb show` and `pb tidy` ensure for a file, which is a proof or an instance.
-use Rattle.std.specs.Prelude.{◌≡◌, ◌⊎◌, ℕ, Bool, true, false, List, [], ◌∷◌, ◌++◌, Option, Result, IfSome}
+-- What a source is read as: an instance or a proof, and a blank rest.
+use Rattle.std.specs.Prelude.{◌≡◌, ◌≤◌, ℕ, List, [], ◌∷◌, ◌++◌, length, Option, Result, Ok, Err, IfSome}
+use Rattle.pb_text.specs.meaning.Blank.{IsBlank, ReadsBlank}
 use Rattle.pb_text.specs.meaning.Limits.{largest, top_of}
+use Rattle.pb_text.specs.meaning.Pulling.{Took}
+use Rattle.pb_text.specs.meaning.Reading.{byte_limit}
 use Rattle.pb_text.specs.meaning.Spelling.{Item}
-use Rattle.pb_text.specs.declared.Limits.{Limits}
-use Rattle.pb_text.specs.declared.Stop.{Stop}
 use Rattle.pb_text.specs.meaning.Whole.{IsRead}
-use Rattle.pb_opb.specs.contract.Canonical.{event_bytes}
-use Rattle.pb_proof.specs.meaning.Canonical.{proof_bytes, statement_bytes}
+use Rattle.pb_text.specs.declared.Limits.{Limits}
+use Rattle.pb_text.specs.declared.Spanned.{Spanned}
+use Rattle.pb_text.specs.declared.Stop.{Stop}
+use Rattle.pb_opb.specs.meaning.Instances.{IsInstance}
+use Rattle.pb_opb.specs.meaning.Reading.{AsksInInstance, ReadsInstance}
+use Rattle.pb_opb.specs.meaning.Values.{IsValueOf}
+use Rattle.pb_opb.specs.declared.Instance.{Instance}
+use Rattle.pb_opb.specs.declared.OpbEvent.{OpbEvent}
 use Rattle.pb_proof.specs.meaning.Proofs.{IsProof, IsProofOf}
 use Rattle.pb_proof.specs.meaning.Reading.{AsksInProof, ReadsProof}
 use Rattle.pb_proof.specs.declared.Proof.{Proof}
 use Rattle.pb_proof.specs.declared.Statement.{Statement}
-use Rattle.pb_tool.specs.contract.Show.{ShowsLines}
-use Rattle.pb_tool.specs.meaning.Tidy.{AsksInInstanceText, IsFile, IsInstanceText, IsRefused, Tidies, TidiesAs}
-use Rattle.pb_tool.specs.declared.fault.ToolFault.{ToolFault}
 
 -- the first byte of the text is `p`
 abbrev pub BeginsWithP : List ℕ → Type 0
@@ -27,6 +31,14 @@ MayBeProof source = IfSome source BeginsWithP
 abbrev pub MayBeInstance : Option (List ℕ) → Type 0
 MayBeInstance source = IfSome source (λ text. ¬ BeginsWithP text)
 
+-- the instances under the limits
+abbrev pub IsInstanceText : Limits → List (Item OpbEvent) → Type 0
+IsInstanceText limits = IsInstance (largest limits) (top_of limits)
+
+-- the bytes that may allocate in one
+abbrev pub AsksInInstanceText : Limits → List ℕ → ℕ → Type 0
+AsksInInstanceText limits = AsksInInstance (largest limits) (top_of limits)
+
 -- the proofs under the limits
 abbrev pub IsProofText : Limits → List (Item Statement) → Type 0
 IsProofText limits = IsProof (largest limits) (top_of limits)
@@ -35,32 +47,34 @@ IsProofText limits = IsProof (largest limits) (top_of limits)
 abbrev pub AsksInProofText : Limits → List ℕ → ℕ → Type 0
 AsksInProofText limits = AsksInProof (largest limits) (top_of limits)
 
--- what is written for a proof
-abbrev pub tidied_proof : Proof → List ℕ
-tidied_proof v = proof_bytes v ++ 10 ∷ []
+module _ {V : Type 0} where
+  -- The input was a text of v and a blank rest, and ended there.
+  pub record IsFile (IsReadOf : List ℕ → Spanned V → Type 0) (before after : Option (List ℕ)) (v : V) : Type 0 where
+    pub used : List ℕ
+    pub rest : List ℕ
+    pub took : Took before (used ++ rest) [] after
+    pub read : Spanned V
+    pub spelled : IsReadOf used read
+    pub blank : IsBlank rest
+    pub within : length (used ++ rest) ≤ byte_limit
+    pub value : read.event ≡ v
+
+  -- The input was rejected: it does not begin with a text of the format, or the rest after that is not blank.
+  pub data IsRefused (Reads : Option (List ℕ) → Result (Spanned V) Stop → Option (List ℕ) → Type 0) (before after : Option (List ℕ)) (s : Stop) : Type 0 where
+    InText : Reads before (Err s) after → IsRefused Reads before after s
+    InRest : (m : Spanned V) (mid : Option (List ℕ)) → Reads before (Ok m) mid → ReadsBlank m.past mid (Err s) after → IsRefused Reads before after s
 
 module _ (limits : Limits) (longest : ℕ) where
+  -- the input was an instance and a blank rest
+  abbrev pub IsInstanceFile : Option (List ℕ) → Option (List ℕ) → Instance → Type 0
+  IsInstanceFile = IsFile (IsRead (IsInstanceText limits) longest IsValueOf)
+
+  abbrev pub IsNoInstanceFile : Option (List ℕ) → Option (List ℕ) → Stop → Type 0
+  IsNoInstanceFile = IsRefused (ReadsInstance (largest limits) (top_of limits) longest)
+
   -- the input was a proof and a blank rest
   abbrev pub IsProofFile : Option (List ℕ) → Option (List ℕ) → Proof → Type 0
   IsProofFile = IsFile (IsRead (IsProofText limits) longest IsProofOf)
 
   abbrev pub IsNoProofFile : Option (List ℕ) → Option (List ℕ) → Stop → Type 0
   IsNoProofFile = IsRefused (ReadsProof (largest limits) (top_of limits) longest)
-
-  module _ {W : Type 0} (contents : W → Option (List ℕ)) (faults : W → ℕ) where
-    -- What was read of the source as a proof, and what was written. Nothing is written before the whole input was
-    -- accepted.
-    abbrev pub TidiesProof : Option (List ℕ) → W → Result Unit ToolFault → Option (List ℕ) → W → Type 0
-    TidiesProof = TidiesAs (IsRead (IsProofText limits) longest IsProofOf) (ReadsProof (largest limits) (top_of limits) longest) tidied_proof contents faults
-
-    -- With `normal` the source is read as an instance, whatever its text begins with.
-    abbrev pub TidiesFile : Bool → Option (List ℕ) → W → Result Unit ToolFault → Option (List ℕ) → W → Type 0
-    TidiesFile true before old result after new = Tidies limits longest true contents faults before old result after new
-    TidiesFile false before old result after new =
-        (MayBeProof before × TidiesProof before old result after new)
-        ⊎ (MayBeInstance before × Tidies limits longest false contents faults before old result after new)
-
-    abbrev pub ShowsFile : Option (List ℕ) → W → Result Unit ToolFault → Option (List ℕ) → W → Type 0
-    ShowsFile before old result after new =
-        (MayBeProof before × ShowsLines (IsProofText limits) longest (AsksInProofText limits) statement_bytes contents faults before old result after new)
-        ⊎ (MayBeInstance before × ShowsLines (IsInstanceText limits) longest (AsksInInstanceText limits) event_bytes contents faults before old result after new)

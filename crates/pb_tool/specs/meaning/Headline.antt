@@ -10,8 +10,7 @@ use Rattle.pb_replay.specs.meaning.Meaning.{MeansWritten}
 use Rattle.pb_replay.specs.declared.verdict.Verdict.{Verdict}
 use Rattle.pb_replay.specs.declared.verdict.Verdict.TheVariants.{Unsat}
 use Rattle.pb_tool.specs.meaning.Decided.{AreVerified, IsDecided, IsOfTexts}
-use Rattle.pb_tool.specs.meaning.Files.{IsProofFile}
-use Rattle.pb_tool.specs.meaning.Tidy.{IsInstanceFile}
+use Rattle.pb_tool.specs.meaning.Files.{IsProofFile, IsInstanceFile}
 use Rattle.pb_tool.specs.meaning.Verified.{CheckCall, ChecksFiles, IsVerified}
 
 -- What a proof that was read shows of an instance is true of the instance as it is written.

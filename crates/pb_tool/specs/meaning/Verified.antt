@@ -22,8 +22,7 @@ use Rattle.pb_replay.specs.declared.fault.Fault.TheVariants.{Memory as no_memory
 use Rattle.pb_replay.specs.declared.verdict.Verdict.{Verdict}
 use Rattle.pb_replay.specs.declared.verdict.Verdict.TheVariants as verdict
 use Rattle.pb_text.specs.meaning.Whole.{events_at}
-use Rattle.pb_tool.specs.meaning.Files.{AsksInProofText, IsProofText, IsProofFile}
-use Rattle.pb_tool.specs.meaning.Tidy.{IsInstanceFile, IsNoInstanceFile}
+use Rattle.pb_tool.specs.meaning.Files.{AsksInProofText, IsProofText, IsProofFile, IsInstanceFile, IsNoInstanceFile}
 use Rattle.pb_tool.specs.declared.fault.ToolFault.{ToolFault}
 use Rattle.pb_tool.specs.declared.fault.ToolFault.TheVariants.{Text, Open, Overflow, Memory, Write, Step}
 use Rattle.pb_tool.specs.declared.fault.Input.TheVariants.{File, Instance as of_instance, Proof as of_proof}
@@ -50,6 +49,10 @@ pub record CheckCall (S W : Type 0) : Type 0 where
   pub instance_after : S
   pub proof_after : S
   pub out_after : W
+
+-- a call by its parts: the two sources and the output before it, the result, and the three after it
+abbrev pub called : {S W : Type 0} → S → S → W → Result Verdict ToolFault → S → S → W → CheckCall S W
+called i p o result i' p' o' = record { instance = i; proof = p; out = o; result = result; instance_after = i'; proof_after = p'; out_after = o' }
 
 module _ (limits : Limits) where
   -- The instance opens, and the statements of the proof are accepted with this verdict.

@@ -7,7 +7,7 @@ ghost use Rattle.pb_tool.specs.contract.Given.{ChecksGiven};
 ghost use Rattle.pb_tool.specs.meaning.Headline.{TrueOf, UnsatOf};
 ghost use Rattle.pb_tool.specs.contract.Runs.{faults_of_instance, faults_of_proof};
 ghost use Rattle.pb_tool.specs.contract.Seen.{SawInstance, SawProof};
-ghost use Rattle.pb_tool.specs.meaning.Verified.{ChecksFiles};
+ghost use Rattle.pb_tool.specs.meaning.Verified.{called, ChecksFiles};
 ghost use Rattle.pb_tool.specs.contract.Watched.{IsWatched, IsWatchedGiven};
 
 pub(crate) mod checker;
@@ -44,26 +44,14 @@ pub fn check<I: Source, P: Source, W: Sink>(
     limits: Limits,
 ) -> Result<Verdict, ToolFault>
     requires { IfSome longest (λ n. 0 < n) }
-    ensures checks { ChecksFiles limits (unwrap_or longest (2 ^ 40)) W.contents W.faults record {
-      instance = I.left instance.old;
-      proof = P.left proof.old;
-      out = out.old;
-      result = result;
-      instance_after = I.left instance.new;
-      proof_after = P.left proof.new;
-      out_after = out.new;
-    } }
+    ensures checks { ChecksFiles limits (unwrap_or longest (2 ^ 40)) W.contents W.faults
+        (called (I.left instance.old) (P.left proof.old) out.old result (I.left instance.new)
+        (P.left proof.new) out.new) }
     // For any sources, files included: the result is right for the bytes that their calls have
     // given.
-    ensures given { ChecksGiven limits (unwrap_or longest (2 ^ 40)) W.contents W.faults record {
-      instance = I.history instance.old;
-      proof = P.history proof.old;
-      out = out.old;
-      result = result;
-      instance_after = I.history instance.new;
-      proof_after = P.history proof.new;
-      out_after = out.new;
-    } }
+    ensures given { ChecksGiven limits (unwrap_or longest (2 ^ 40)) W.contents W.faults
+        (called (I.history instance.old) (P.history proof.old) out.old result
+        (I.history instance.new) (P.history proof.new) out.new) }
     // What a verdict says is true of the instance that was read. For UNSAT, no assignment solves
     // that instance.
     ensures unsat { result ≡ Ok Verdict.Unsat →

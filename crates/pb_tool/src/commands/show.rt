@@ -8,11 +8,10 @@ ghost use Rattle.pb_text.specs.meaning.Writing.{Writes};
 ghost use Rattle.pb_opb.specs.contract.Canonical.{event_bytes};
 ghost use Rattle.pb_proof.specs.meaning.Canonical.{statement_bytes};
 ghost use Rattle.pb_tool.specs.contract.Faults.{faults_reported};
-ghost use Rattle.pb_tool.specs.meaning.Files.{AsksInProofText, IsProofText, ShowsFile};
+ghost use Rattle.pb_tool.specs.meaning.Files.{AsksInProofText, IsProofText, AsksInInstanceText, IsInstanceText};
+ghost use Rattle.pb_tool.specs.contract.Show.{ShowsFile, shown_line, EndsAt, ShowsLines};
 ghost use Rattle.pb_tool.specs.contract.Given.{ShowsGiven};
 ghost use Rattle.pb_tool.specs.contract.Seen.{SawStatements};
-ghost use Rattle.pb_tool.specs.contract.Show.{shown_line, EndsAt, ShowsLines};
-ghost use Rattle.pb_tool.specs.meaning.Tidy.{AsksInInstanceText, IsInstanceText};
 
 use crate::canonical::{Canonical, put_line, write_line};
 use crate::fault::{Input, ToolFault, text_fault};

@@ -4,11 +4,10 @@ ghost use Rattle.std.specs.Prelude.{◌≡◌, ◌<◌, ◌^◌, false, true, un
 ghost use Rattle.pb_text.specs.contract.Automaton.{AcceptsItems, MayAsk};
 ghost use Rattle.pb_text.specs.meaning.Pulling.{OfGiven};
 ghost use Rattle.pb_tool.specs.contract.Faults.{faults_reported};
-ghost use Rattle.pb_tool.specs.meaning.Files.{TidiesFile, TidiesProof};
+ghost use Rattle.pb_tool.specs.contract.Tidy.{TidiesFile, TidiesProof, Tidies};
 ghost use Rattle.pb_tool.specs.engine.Gathered.{TidiesEach};
 ghost use Rattle.pb_tool.specs.contract.Given.{TidiesGiven};
 ghost use Rattle.pb_tool.specs.contract.Seen.{SawFile};
-ghost use Rattle.pb_tool.specs.meaning.Tidy.{Tidies};
 
 mod form_lines;
 mod instance_text;

@@ -8,7 +8,7 @@ use Rattle.pb_replay.specs.declared.verdict.Verdict.{Verdict}
 use Rattle.pb_replay.specs.declared.verdict.Verdict.TheVariants.{Unsat}
 use Rattle.pb_tool.specs.meaning.Decided.{AreVerified, IsDecided, IsOfTexts}
 use Rattle.pb_tool.specs.meaning.Headline.{AreWidest, IsUnsatText, UnsatIsExact, UnsatOf}
-use Rattle.pb_tool.specs.meaning.Tidy.{IsInstanceFile}
+use Rattle.pb_tool.specs.meaning.Files.{IsInstanceFile}
 use Rattle.pb_tool.specs.meaning.Verified.{CheckCall, ChecksFiles}
 use Rattle.pb_tool.specs.declared.fault.ToolFault.{ToolFault}
 use Rattle.pb_examples.proofs.refuted.is_refuted.Goals as goal

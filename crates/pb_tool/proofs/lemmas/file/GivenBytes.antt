@@ -8,7 +8,7 @@ use Rattle.pb_tool.proofs.Common.{MayBeInstance, MayBeProof, ShowsFile, tidied_p
 use Rattle.pb_tool.proofs.Common.{IsRefused, IsStopped, tidied, Tidies, TidiesAs, WritesText, InRest}
 use Rattle.std.proofs.Math.Dec.{eqb}
 use Rattle.pb_tool.specs.contract.Show.{InText}
-use Rattle.pb_tool.specs.meaning.Tidy.IsRefused.{InText as in_text}
+use Rattle.pb_tool.specs.meaning.Files.IsRefused.{InText as in_text}
 use Rattle.pb_proof.specs.contract.Gather.{MayKeep}
 use Rattle.pb_opb.specs.meaning.Gather as opb_keeping
 use Rattle.pb_proof.specs.contract.Gather as veri_keeping

@@ -9,7 +9,7 @@ ghost use Rattle.pb_opb.specs.declared.Instance.{Instance};
 ghost use Rattle.pb_opb.specs.declared.OpbEvent.TheVariants.{Header};
 ghost use Rattle.pb_tool.specs.engine.InstanceText.{line, line_if};
 ghost use Rattle.pb_tool.specs.engine.NormalText.{AreMade, NamesInOrder};
-ghost use Rattle.pb_tool.specs.meaning.Tidy.{HasNormalForm, LacksNormalForm, WritesText, tidied};
+ghost use Rattle.pb_tool.specs.contract.Tidy.{HasNormalForm, LacksNormalForm, WritesText, tidied};
 
 use crate::canonical::write_line;
 use crate::commands::tidy::form_lines::FormLines;

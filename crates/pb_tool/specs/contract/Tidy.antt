@@ -1,24 +1,23 @@
 -- What `pb tidy` writes.
-use Rattle.std.specs.Prelude.{◌≡◌, ◌≤◌, length, ℕ, ◌==◌, Bool, true, false, cond, List, [], ◌∷◌, ◌++◌, Option, Some, None, Result, Ok, Err}
-use Rattle.pb_text.specs.meaning.Blank.{IsBlank, ReadsBlank}
+use Rattle.std.specs.Prelude.{◌≡◌, ◌⊎◌, ℕ, ◌==◌, Bool, true, false, cond, List, [], ◌∷◌, ◌++◌, Option, Some, None, Result, Ok, Err}
 use Rattle.pb_text.specs.meaning.Limits.{largest, top_of}
-use Rattle.pb_text.specs.meaning.Pulling.{Took}
-use Rattle.pb_text.specs.meaning.Reading.{byte_limit}
-use Rattle.pb_text.specs.meaning.Spelling.{Item}
+use Rattle.pb_text.specs.meaning.Whole.{IsRead}
 use Rattle.pb_text.specs.meaning.Writing.{Wrote, Broke}
 use Rattle.pb_text.specs.declared.Limits.{Limits}
 use Rattle.pb_text.specs.declared.Spanned.{Spanned}
 use Rattle.pb_text.specs.declared.Stop.{Stop}
-use Rattle.pb_text.specs.meaning.Whole.{IsRead}
 use Rattle.pb_sums.specs.declared.Term.{Term}
 use Rattle.pb_sums.specs.declared.Linear.{Linear}
 use Rattle.pb_opb.specs.contract.Canonical.{instance_bytes}
-use Rattle.pb_opb.specs.meaning.Instances.{IsInstance}
-use Rattle.pb_opb.specs.meaning.Reading.{AsksInInstance, ReadsInstance}
+use Rattle.pb_opb.specs.meaning.Reading.{ReadsInstance}
 use Rattle.pb_opb.specs.meaning.Values.{IsValueOf}
 use Rattle.pb_opb.specs.declared.Instance.{Instance}
-use Rattle.pb_opb.specs.declared.OpbEvent.{OpbEvent}
+use Rattle.pb_proof.specs.meaning.Canonical.{proof_bytes}
+use Rattle.pb_proof.specs.meaning.Proofs.{IsProofOf}
+use Rattle.pb_proof.specs.meaning.Reading.{ReadsProof}
+use Rattle.pb_proof.specs.declared.Proof.{Proof}
 use Rattle.pb_tool.specs.contract.Normalised.{IsNormalised, Overflows}
+use Rattle.pb_tool.specs.meaning.Files.{IsFile, IsInstanceFile, IsInstanceText, IsNoInstanceFile, IsProofText, IsRefused, MayBeInstance, MayBeProof}
 use Rattle.pb_tool.specs.declared.fault.ToolFault.{ToolFault}
 use Rattle.pb_tool.specs.declared.fault.ToolFault.TheVariants.{Text, Overflow, Memory, Write}
 use Rattle.pb_tool.specs.declared.fault.Input.TheVariants.{File}
@@ -37,19 +36,15 @@ with_feed text = cond (ends_in_feed text) text (text ++ 10 ∷ [])
 abbrev pub tidied : Instance → List ℕ
 tidied v = with_feed (instance_bytes v)
 
+-- what is written for a proof
+abbrev pub tidied_proof : Proof → List ℕ
+tidied_proof v = proof_bytes v ++ 10 ∷ []
+
 -- there is nothing but a header
 abbrev pub is_bare : Option (List Term) → List Linear → Bool
 is_bare None [] = true
 is_bare None (c ∷ constraints) = false
 is_bare (Some terms) constraints = false
-
--- the instances under the limits
-abbrev pub IsInstanceText : Limits → List (Item OpbEvent) → Type 0
-IsInstanceText limits = IsInstance (largest limits) (top_of limits)
-
--- the bytes that may allocate in one
-abbrev pub AsksInInstanceText : Limits → List ℕ → ℕ → Type 0
-AsksInInstanceText limits = AsksInInstance (largest limits) (top_of limits)
 
 -- what is written with `normal`: the normal form of v, if no constraint exceeds the limit
 abbrev pub HasNormalForm : ℕ → Instance → Instance → Type 0
@@ -60,23 +55,6 @@ abbrev pub LacksNormalForm : ℕ → Instance → ToolFault → Type 0
 LacksNormalForm limit v (Overflow File) = Overflows limit v
 LacksNormalForm limit v (Memory File) = ¬ Overflows limit v
 LacksNormalForm limit v _ = ⊥
-
-module _ {V : Type 0} where
-  -- The input was a text of v and a blank rest, and ended there.
-  pub record IsFile (IsReadOf : List ℕ → Spanned V → Type 0) (before after : Option (List ℕ)) (v : V) : Type 0 where
-    pub used : List ℕ
-    pub rest : List ℕ
-    pub took : Took before (used ++ rest) [] after
-    pub read : Spanned V
-    pub spelled : IsReadOf used read
-    pub blank : IsBlank rest
-    pub within : length (used ++ rest) ≤ byte_limit
-    pub value : read.event ≡ v
-
-  -- The input was rejected: it does not begin with a text of the format, or the rest after that is not blank.
-  pub data IsRefused (Reads : Option (List ℕ) → Result (Spanned V) Stop → Option (List ℕ) → Type 0) (before after : Option (List ℕ)) (s : Stop) : Type 0 where
-    InText : Reads before (Err s) after → IsRefused Reads before after s
-    InRest : (m : Spanned V) (mid : Option (List ℕ)) → Reads before (Ok m) mid → ReadsBlank m.past mid (Err s) after → IsRefused Reads before after s
 
 -- What was written: the text of a value of the input, or nothing, and then the fault says why.
 module _ {V : Type 0} (Has : V → Type 0) (IsWhy : ToolFault → Type 0) (text : V → List ℕ) {W : Type 0} (contents : W → Option (List ℕ)) (faults : W → ℕ) where
@@ -97,23 +75,29 @@ module _ {V : Type 0} (IsReadOf : List ℕ → Spanned V → Type 0) (Reads : Op
   TidiesAs before old result after new = WritesText (IsFile IsReadOf before after) (IsStopped (IsRefused Reads before after)) text contents faults old result new
 
 module _ (limits : Limits) (longest : ℕ) where
-  -- the input was an instance and a blank rest
-  abbrev pub IsInstanceFile : Option (List ℕ) → Option (List ℕ) → Instance → Type 0
-  IsInstanceFile = IsFile (IsRead (IsInstanceText limits) longest IsValueOf)
-
-  abbrev pub IsNoInstanceFile : Option (List ℕ) → Option (List ℕ) → Stop → Type 0
-  IsNoInstanceFile = IsRefused (ReadsInstance (largest limits) (top_of limits) longest)
-
   -- with `normal`: the normal form of the instance that the input was, or why there is none
   abbrev pub IsNormalFile : Option (List ℕ) → Option (List ℕ) → Instance → Type 0
-  IsNormalFile before after w = (v : Instance) × IsInstanceFile before after v × HasNormalForm (largest limits) v w
+  IsNormalFile before after w = (v : Instance) × IsInstanceFile limits longest before after v × HasNormalForm (largest limits) v w
 
   abbrev pub IsNoNormalFile : Option (List ℕ) → Option (List ℕ) → ToolFault → Type 0
-  IsNoNormalFile before after (Text File s) = IsNoInstanceFile before after s
-  IsNoNormalFile before after e = (v : Instance) × IsInstanceFile before after v × LacksNormalForm (largest limits) v e
+  IsNoNormalFile before after (Text File s) = IsNoInstanceFile limits longest before after s
+  IsNoNormalFile before after e = (v : Instance) × IsInstanceFile limits longest before after v × LacksNormalForm (largest limits) v e
 
   -- What was read of the source, and what was written. Nothing is written before the whole input was accepted and, with
   -- `normal`, every constraint was normalised.
   abbrev pub Tidies : Bool → {W : Type 0} → (W → Option (List ℕ)) → (W → ℕ) → Option (List ℕ) → W → Result Unit ToolFault → Option (List ℕ) → W → Type 0
   Tidies false contents faults before old result after new = TidiesAs (IsRead (IsInstanceText limits) longest IsValueOf) (ReadsInstance (largest limits) (top_of limits) longest) tidied contents faults before old result after new
   Tidies true contents faults before old result after new = WritesText (IsNormalFile before after) (IsNoNormalFile before after) tidied contents faults old result new
+
+  module _ {W : Type 0} (contents : W → Option (List ℕ)) (faults : W → ℕ) where
+    -- What was read of the source as a proof, and what was written. Nothing is written before the whole input was
+    -- accepted.
+    abbrev pub TidiesProof : Option (List ℕ) → W → Result Unit ToolFault → Option (List ℕ) → W → Type 0
+    TidiesProof = TidiesAs (IsRead (IsProofText limits) longest IsProofOf) (ReadsProof (largest limits) (top_of limits) longest) tidied_proof contents faults
+
+    -- With `normal` the source is read as an instance, whatever its text begins with.
+    abbrev pub TidiesFile : Bool → Option (List ℕ) → W → Result Unit ToolFault → Option (List ℕ) → W → Type 0
+    TidiesFile true before old result after new = Tidies true contents faults before old result after new
+    TidiesFile false before old result after new =
+        (MayBeProof before × TidiesProof before old result after new)
+        ⊎ (MayBeInstance before × Tidies false contents faults before old result after new)
