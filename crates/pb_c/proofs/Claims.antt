@@ -4,6 +4,8 @@ use Rattle.pb_c.proofs.Common.{Limits, refusal_status, IsUnsatisfiable, IsSessio
 use Rattle.pb_c.proofs.Common.{Stop, IsAsked, GivesNext}
 use Rattle.pb_tool.specs.declared.commands.check.checker.CheckFault.{CheckFault}
 use Rattle.pb_tool.specs.declared.commands.check.checker.CheckFault.TheVariants as check
+use Rattle.pb_text.specs.declared.place.Why.TheVariants as why
+use Rattle.pb_replay.specs.declared.fault.Fault.TheVariants as step
 use Rattle.pb_c.specs.Checker.{IsCheckerFor}
 use Rattle.pb_c.specs.Claim.{claim_of}
 use Rattle.pb_c.specs.Report.{status_of_fault}
@@ -18,9 +20,11 @@ same_value is too = cc
 
 -- no fault has the status 0
 pub stopped : (w : Why) → stop_status w ≡ 0 → ⊥
+stopped why.Memory k = omega (arith, k)
 stopped _ k = omega (arith, k)
 
 pub refused : (w : Fault) → refusal_status w ≡ 0 → ⊥
+refused step.Memory k = omega (arith, k)
 refused _ k = omega (arith, k)
 
 pub no_fault : (f : CheckFault) → status_of_fault f ≡ 0 → ⊥
@@ -35,7 +39,7 @@ unsat_of v _ k h = absurd (omega (arith, k))
 -- the session that a checker owns
 pub under : (o : Options) (i fed : List ℕ) (h : CheckerHandle) (s : Session) → h.value ≡ Some s → IsCheckerFor o i fed h
     → Under o (λ limits longest. IsSession limits longest i fed s)
-under o i fed h s held (r, is, limits, longest, asked, session) =
+under o i fed h s held (r, is, (limits, longest, asked, session)) =
     (limits, longest, asked, subst (λ (x : Session). IsSession limits (unwrap_or longest (2 ^ 40)) i fed x) (same_value is held) session)
 
 -- what holds under some limits of the options, holds under the options

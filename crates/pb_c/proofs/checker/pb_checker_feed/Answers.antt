@@ -6,7 +6,7 @@ pub returns-clause-fed : goal.returns-clause-fed
 returns-clause-fed c options i fed h =
     let (limits, longest, asked, session) = under options i fed c.args.checker.now c.deref_mut.result.now (search rules) h in
     let call = c.feed_session-status in
-    (call.new.session, search rules, limits, longest, asked, call.ensures.fed limits (unwrap_or longest (2 ^ 40)) i fed session)
+    (call.new.session, search rules, (limits, longest, asked, call.ensures.fed limits (unwrap_or longest (2 ^ 40)) i fed session))
 
 pub returns-clause-answers : goal.returns-clause-answers
 returns-clause-answers c =

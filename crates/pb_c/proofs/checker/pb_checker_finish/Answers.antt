@@ -7,7 +7,7 @@ pub returns-clause-stands : goal.returns-clause-stands
 returns-clause-stands c options i fed h =
     let (limits, longest, asked, session) = under options i fed c.args.checker.now c.deref_mut.result.now (search rules) h in
     let call = c.finish_session-status in
-    (call.new.session, search rules, limits, longest, asked, call.ensures.stands limits (unwrap_or longest (2 ^ 40)) i fed session)
+    (call.new.session, search rules, (limits, longest, asked, call.ensures.stands limits (unwrap_or longest (2 ^ 40)) i fed session))
 
 pub returns-clause-answers : goal.returns-clause-answers
 returns-clause-answers c =

@@ -10,4 +10,4 @@ returns-clause-ends c f options fed events (r, is, running, (limits, longest, as
     let same = same_value is held in
     let running = subst (λ (x : Reader). fault_of x ≡ None) same running in
     let reading = subst (λ (x : Reader). IsReader within limits fed events f x) same reading in
-    (c.finish_reader-status.new.reader, kept, limits, longest, asked, c.finish_reader-status.ensures.ends f limits within fed events running reading)
+    (c.finish_reader-status.new.reader, kept, (limits, longest, asked, c.finish_reader-status.ensures.ends f limits within fed events running reading))
