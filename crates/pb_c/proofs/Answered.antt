@@ -1,5 +1,6 @@
--- What the tool guarantees for sources over texts and for a page, in terms of the texts alone.
-use Rattle.pb_c.proofs.Common.{ℕ, ◌∙◌, ◌≡◌, ap, Bool, Bor, List, None, Option, Result, Some, subst, Limits, ToolFault, empty, faults, written, Page}
+-- What the tool guarantees for sources over texts and for a page, in terms of the texts and the result of a call.
+use Rattle.pb_c.proofs.Common.{ℕ, ◌∙◌, ◌≡◌, ap, Bool, Bor, List, None, Option, Result, Some, Limits, ToolFault, empty, faults, written, Page, ◌^◌, inr}
+use Rattle.pb_c.proofs.Common.{unwrap_or, Answers, Puts, IsAsked, Options}
 use Rattle.pb_text.specs.contract.OverState.{inner_of, shown_of}
 use Rattle.pb_text.specs.contract.Over.{reported}
 use Rattle.pb_text.specs.declared.over.Over.{Over}
@@ -14,13 +15,15 @@ module _ (limits : Limits) (longest : ℕ) where
   pub of_tidy : (normal : Bool) (input : List ℕ) (before : Option (List ℕ)) (old new : Page) (answer : Result Unit ToolFault) (after : Option (List ℕ))
       → before ≡ Some input → old ≡ empty → TidiesFile limits longest written faults normal before old answer after new
       → TidiesFile limits longest written faults normal (Some input) empty answer after new
-  of_tidy normal input before old new answer after one bare h =
-      subst (λ (x : Option (List ℕ)). TidiesFile limits longest written faults normal x empty answer after new) one
-      (subst (λ (x : Page). TidiesFile limits longest written faults normal before x answer after new) bare h)
+  of_tidy normal input before old new answer after one bare h = rw (one, bare) at h
 
   pub of_show : (input : List ℕ) (before : Option (List ℕ)) (old new : Page) (answer : Result Unit ToolFault) (after : Option (List ℕ))
       → before ≡ Some input → old ≡ empty → ShowsFile limits longest written faults before old answer after new
       → ShowsFile limits longest written faults (Some input) empty answer after new
-  of_show input before old new answer after one bare h =
-      subst (λ (x : Option (List ℕ)). ShowsFile limits longest written faults x empty answer after new) one
-      (subst (λ (x : Page). ShowsFile limits longest written faults before x answer after new) bare h)
+  of_show input before old new answer after one bare h = rw (one, bare) at h
+
+pub answers : (o : Options) (IsAnswer : Limits → ℕ → List ℕ → ℕ → Type 0) (old new : List ℕ) (whole : ℕ) (limits : Limits) (longest : Option ℕ) (text kept reported : List ℕ) (status ended : ℕ)
+    → IsAsked o longest limits → IsAnswer limits (unwrap_or longest (2 ^ 40)) text status → kept ≡ text → reported ≡ kept → ended ≡ status → Puts reported old new whole
+    → Answers o IsAnswer old ended new whole
+answers o IsAnswer old new whole limits longest text kept reported status ended asked is e f g puts =
+    (reported, puts, inr (limits, longest, asked, rw (g, f, e) is))

@@ -10,7 +10,7 @@ pub use Rattle.core.proofs.option.Made.{none_of, Some-of}
 pub use Rattle.std.proofs.GlobalToken.{dealloc_token-Testable}
 pub use Rattle.std.proofs.Math.ListN.{set}
 pub use Rattle.std.proofs.lemmas.Int.{ints, to_z-of_z}
-pub use Rattle.std.proofs.lemmas.List.{get_or-set_other, get_or-set_same, map-append, take_all, take_more, take_more_set}
+pub use Rattle.std.proofs.lemmas.List.{get_or-set_other, get_or-set_same, map-append, take_more, take_more_set}
 pub use Rattle.std.proofs.lemmas.Option.{get_or_from_slice_get, slice_get-get_or, slice_get_within}
 pub use Rattle.std.proofs.raw_atomic.Walks.{leaves, proved_at}
 pub use Rattle.std.specs.contracts.impls.GlobalAllocator.TheImpl.{ghosts}
@@ -24,7 +24,7 @@ pub use Rattle.pb_pieces.specs.declared.reader.Reader.{Reader}
 pub use Rattle.pb_pieces.specs.declared.session.Session.{Session}
 pub use Rattle.pb_replay.specs.declared.fault.Fault.{Fault}
 pub use Rattle.pb_replay.specs.declared.verdict.Verdict.{Verdict}
-pub use Rattle.pb_replay.specs.declared.verdict.Verdict.TheVariants.{Bounds, NoClaim, Sat, Unsat}
+pub use Rattle.pb_replay.specs.declared.verdict.Verdict.TheVariants.{Unsat}
 pub use Rattle.pb_replay.specs.meaning.Meaning.{MeansWritten}
 pub use Rattle.pb_text.specs.declared.Limits.{Limits}
 pub use Rattle.pb_text.specs.declared.Stop.{Stop}
@@ -36,11 +36,11 @@ pub use Rattle.pb_tool.specs.declared.fault.ToolFault.{ToolFault}
 pub use Rattle.pb_tool.specs.meaning.Headline.{IsUnsatisfiable, VerdictsAreTrue}
 pub use Rattle.pb_c.specs.Answers.{AnswerOfCheck, AnswerOfShow, AnswerOfTidy, Answers, AnswersCheck, empty, Ends, faults, written}
 pub use Rattle.pb_c.specs.Buffer.{Puts}
-pub use Rattle.pb_c.specs.Checker.{AnswersHeld, AnswersOf, Under, UsesOf}
+pub use Rattle.pb_c.specs.Checker.{AnswersHeld, Under}
 pub use Rattle.pb_c.specs.Constraint.{coefficient_high, coefficient_low, sign}
 pub use Rattle.pb_c.specs.Handle.{held_owns}
 pub use Rattle.pb_c.specs.Options.{IsAsked}
 pub use Rattle.pb_c.specs.Reader.{AnswersBy, GivesNext, report_of_reader}
-pub use Rattle.pb_c.specs.Step.{AnswersState, CountsOf}
+pub use Rattle.pb_c.specs.Step.{AnswersState}
 pub use Rattle.pb_c.specs.declared.options.Options.{Options}
 pub use Rattle.pb_c.specs.declared.page.Page.{Page}

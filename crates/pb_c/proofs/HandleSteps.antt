@@ -1,20 +1,23 @@
--- The machine values of a handle that owns a value of the row R, or nothing. N is the name of the handle's struct.
-use Rattle.pb_c.proofs.Common.{ℕ, ◌++◌, ◌∷◌, ◌≡◌, [], List, None, Option, refl, Some, subst, Al, handle_tells, Good, dealloc_token-Testable, ghosts}
+-- The machine values of any handle.
+use Rattle.pb_c.proofs.Common.{ℕ, ◌++◌, ◌∷◌, ◌≡◌, [], List, None, Option, refl, Some, subst, sym, Al, handle_tells, Good, dealloc_token-Testable, ghosts}
 use Rattle.pb_c.proofs.Common.{and_tt, box_owns, both, held_owns}
-use Rattle.pb_c.proofs.Machine.{block_ptr, drop, ent, fact_use, feq_i, feq_l, fjoin, Fml, fpack, fpick, fsep, fsplit, ftrue, given, Goal, guard}
-use Rattle.pb_c.proofs.Machine.{guard_i, has_ty, Item, layout, learn, lies_at, move, never_e, nothing, null_ptr, of_list, Ptr, ptr_val, RattleType}
-use Rattle.pb_c.proofs.Machine.{Seq, snd∗, SProp, Step, step, Testable, use1, Val, Valss, via, vstruct, WT, ‵, ◌$◌}
+use Rattle.pb_c.proofs.Machine.{block_ptr, drop, ent, fact_use, feq_i, feq_l, fjoin, fpack, fpick, fsep, fsplit, ftrue, given, Goal, guard, guard_i, has_ty}
+use Rattle.pb_c.proofs.Machine.{Item, layout, learn, lies_at, move, never_e, nothing, null_ptr, of_list, Ptr, ptr_val, RattleType, rewrite, Seq, snd∗, SProp}
+use Rattle.pb_c.proofs.Machine.{Step, step, Testable, use1, Val, Valss, via, vstruct, WT, ‵, ◌$◌}
 use mathlib.Core.Bool.{◌&&◌, true}
 use lib.Dec.{T, lit<}
 use seplogic.Ra.Ura.{Ura}
-use mir.Syntax.{Sym, impl, tnil, dnil}
+use mir.Syntax.{impl, tnil, dnil}
 use mir.Raw.{raw as bare}
 use base.Fraction.{full_share}
 use types.Logic.{Logic, sem}
 use denote.Builtin.{RawPtr}
+use denote.Exit.{hidden, under}
 use denote.Memory.{lone}
 use denote.Param.Laws.{Laws}
-use denote.Struct.Struct.{Shape, Struct, within}
+use denote.Struct.Field.{RawPtr-field}
+use denote.Struct.Owning.{Owning, row, shape}
+use denote.Struct.Struct.{Struct, exits_of, within}
 use Rattle.std.specs.contracts.alloc.Global as heap
 use Rattle.std.proofs.alloc.Global.TheLaws as heap_laws
 
@@ -31,27 +34,47 @@ pub held_good : (p : Ptr) (h : Val) → Good (layout Z) h → T (has_ty (layout 
 held_good null_ptr h fits = (and_tt (has_ty (layout Z) h) fits.0, (record { fits = lit< tt }, (fits.1, tt)))
 held_good (block_ptr b o) h fits = (and_tt (has_ty (layout Z) h) fits.0, (tt, (fits.1, tt)))
 
--- The struct's machine value: the pointer and the allocator
-abbrev fields : Sym → Shape
-fields N = record { name = N; args = []; types = []; fields = RawPtr ∷ heap.the_field.row ∷ [] }
+-- A struct with a pointer, the allocator and a value of the row R, or nothing
+pub record Handle : Type 2 where
+  pub struct : Owning
+  pub R : RattleType
+  pub parts : struct.D → Ptr × (Z.Denot × Option R.Denot)
+  pub make : Ptr → Z.Denot → Option R.Denot → struct.D
+  pub made : (p : Ptr) (a : Z.Denot) (x : Option R.Denot) → parts (make p a x) ≡ (p, (a, x))
 
-abbrev pub handle_owns : Sym → (R : RattleType) (p : Ptr) (a : Z.Denot) (x : Option R.Denot) (vs : List Val) → Fml
-handle_owns N R p a x vs = fsep ((Struct (fields N)).own_val (p, (heap.the_field.into a, tt)) vs) (held_owns R a p x)
+-- what it owns
+abbrev pub type_of : Handle → Owning
+type_of N =
+    let T = N.struct in
+    record {
+      name = T.name;
+      args = [];
+      types = [];
+      parts = RawPtr-field ∷ heap.the_field ∷ [];
+      D = T.D;
+      as_values = λ d. let q = N.parts d in (q.0, (q.1.0, tt));
+      coded = T.coded;
+      heap = λ d. let q = N.parts d in held_owns N.R q.1.0 q.0 q.1.1;
+      exit = λ k. hidden (under (λ d. let q = N.parts d in (q.0, (heap.the_field.into q.1.0, tt))) (exits_of k (RawPtr ∷ heap.the_field.row ∷ [])));
+      shr_at = T.shr_at;
+    }
 
-module _ {M : Type 1} {𝓤 : Ura M} {𝓛 : Logic 𝓤} {K : Type 0} {Γ : List (Item 𝓤)} {G : Goal 𝓤 𝓛.H} (N : Sym) (R : RattleType) where
-  pub held_out : K → (p : Ptr) (a : Z.Denot) (x : Option R.Denot) (vs : List Val)
-      → ((h : Val) → vs ≡ both (ptr_val p) h ∷ [] → Good (layout Z) h → Seq K 𝓛 (‵ (held_owns R a p x) ∷ ‵ (Z.own_val a (h ∷ [])) ∷ Γ) G)
-      → Seq K 𝓛 (‵ (handle_owns N R p a x vs) ∷ Γ) G
-  held_out t p a x vs k =
-      fsplit t $ fpick t (λ vss. fsplit t $ feq_l t (λ ev. fsplit t $ feq_l t (λ ep. fsplit t $ handle_tells al t a vss.1.0 (λ h ea fits. move t (1 ∷ []) $ drop t $ move t (1 ∷ []) $
+module _ {M : Type 1} {𝓤 : Ura M} {𝓛 : Logic 𝓤} {K : Type 0} {Γ : List (Item 𝓤)} {G : Goal 𝓤 𝓛.H} (N : Handle) where
+  pub held_out : K → (d : N.struct.D) (vs : List Val) → let q = N.parts d in
+      ((h : Val) → vs ≡ both (ptr_val q.0) h ∷ [] → Good (layout Z) h → Seq K 𝓛 (‵ (held_owns N.R q.1.0 q.0 q.1.1) ∷ ‵ (Z.own_val q.1.0 (h ∷ [])) ∷ Γ) G)
+      → Seq K 𝓛 (‵ ((row (type_of N)).own_val d vs) ∷ Γ) G
+  held_out t d vs k = let q = N.parts d in
+      fsplit t $ fpick t (λ vss. fsplit t $ feq_l t (λ ev. fsplit t $ feq_l t (λ ep. fsplit t $ handle_tells al t q.1.0 vss.1.0 (λ h ea fits. move t (1 ∷ []) $ drop t $ move t (1 ∷ []) $
       k h
-      (subst (λ (ws : List Val). vs ≡ vstruct (of_list (ptr_val p ∷ (ws ++ []))) ∷ []) ea (subst (λ (ps : List Val). vs ≡ vstruct (of_list (ps ++ (vss.1.0 ++ []))) ∷ []) ep ev)) fits))))
+      (subst (λ (ws : List Val). vs ≡ vstruct (of_list (ptr_val q.0 ∷ (ws ++ []))) ∷ []) ea (subst (λ (ps : List Val). vs ≡ vstruct (of_list (ps ++ (vss.1.0 ++ []))) ∷ []) ep ev)) fits))))
 
-  pub held_in : K → (p : Ptr) (h : Val) (a : Z.Denot) (x : Option R.Denot)
-      → Step K 𝓛 (‵ (handle_owns N R p a x (both (ptr_val p) h ∷ [])) ∷ Γ) G (‵ (held_owns R a p x) ∷ ‵ (Z.own_val a (h ∷ [])) ∷ Γ) G
+  pub held_in : K → (p : Ptr) (h : Val) (a : Z.Denot) (x : Option N.R.Denot)
+      → Step K 𝓛 (‵ ((row (type_of N)).own_val (N.make p a x) (both (ptr_val p) h ∷ [])) ∷ Γ) G (‵ (held_owns N.R a p x) ∷ ‵ (Z.own_val a (h ∷ [])) ∷ Γ) G
   held_in t p h a x = step (λ s. let v : Val = both (ptr_val p) h in
       nothing t $ move t (2 ∷ 0 ∷ []) $ fjoin t $ feq_i t (List Val) (ptr_val p ∷ []) (ptr_val p ∷ []) refl $ fjoin t $ feq_i t (List Val) (v ∷ []) (v ∷ []) refl $ fjoin t $
-      fpack t (Valss (RawPtr ∷ heap.the_field.row ∷ [])) (within (fields N) (p, (heap.the_field.into a, tt)) (v ∷ [])) (ptr_val p ∷ [], (h ∷ [], tt)) $ fjoin t $ s)
+      fpack t (Valss (RawPtr ∷ heap.the_field.row ∷ [])) (within (shape (type_of N)) (p, (heap.the_field.into a, tt)) (v ∷ [])) (ptr_val p ∷ [], (h ∷ [], tt)) $ fjoin t $
+      rewrite t 0 (λ (q : Ptr × (Z.Denot × Option N.R.Denot)).
+      ‵ (fsep ((Struct (shape (type_of N))).own_val (q.0, (heap.the_field.into q.1.0, tt)) (v ∷ [])) (held_owns N.R q.1.0 q.0 q.1.1))) (sym (N.made p a x)) refl $ s)
 
 module _ {M : Type 1} {𝓤 : Ura M} {𝓛 : Logic 𝓤} {K : Type 0} {Γ : List (Item 𝓤)} {G : Goal 𝓤 𝓛.H} (R : RattleType) (a : Z.Denot) where
   -- A handle is null and has no value, or it has one, and may be compared with null

@@ -1,10 +1,8 @@
 mod Common
 mod Answered
-mod Buffer
 mod Claims
 mod Copied
-mod Fed
 mod HandleSteps
-mod Joined
+mod HandleWalks
 mod Machine
 mod Unsat

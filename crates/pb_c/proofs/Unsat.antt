@@ -1,49 +1,19 @@
 -- What a line says holds for the instance.
-use Rattle.pb_c.proofs.Common.{ℕ, ◌^◌, ◌∙◌, ◌≡◌, arith, codes, Err, inl, inr, length, length-append, List, Ok, Option, Result, Some, subst, sym}
-use Rattle.pb_c.proofs.Common.{unwrap_or, Instance, Fault, Verdict, Bounds, NoClaim, Sat, Unsat, MeansWritten, Limits, Why, exit_status, stop_status}
-use Rattle.pb_c.proofs.Common.{refusal_status, ToolFault, IsUnsatisfiable, VerdictsAreTrue, AnswersCheck, empty, Ends, faults, written, Puts, Options}
-use Rattle.pb_c.proofs.Common.{Page}
+use Rattle.pb_c.proofs.Common.{ℕ, ◌^◌, ◌∙◌, ◌≡◌, arith, codes, Err, inl, inr, length, length-append, List, Ok, Option, Result, Some, subst, sym, unwrap_or}
+use Rattle.pb_c.proofs.Common.{Instance, Verdict, Unsat, MeansWritten, Limits, exit_status, ToolFault, IsUnsatisfiable, VerdictsAreTrue, AnswersCheck, empty}
+use Rattle.pb_c.proofs.Common.{Ends, faults, written, Puts, Options, Page}
 use Rattle.pb_text.specs.meaning.Writing.{Wrote}
-use Rattle.pb_text.specs.declared.place.Why.TheVariants as why
-use Rattle.pb_replay.specs.declared.fault.Fault.TheVariants as step
 use Rattle.pb_tool.specs.meaning.Files.{IsInstanceFile}
 use Rattle.pb_tool.specs.meaning.Verified.{CheckCall, Returns, verdict_line}
-use Rattle.pb_tool.specs.declared.fault.ToolFault.TheVariants.{Text, Open, Overflow, Memory, Write, Step}
+use Rattle.pb_tool.specs.declared.fault.ToolFault.TheVariants.{Text, Step}
+use Rattle.pb_c.proofs.Claims.{refused, stopped}
 use Rattle.pb_c.specs.Unsat.{ShowsTruth, ShowsUnsat}
 
 -- no fault has the status 0
 no_fault : (e : ToolFault) → exit_status e ≡ 0 → ⊥
-no_fault (Text input s) h = of_stop s.why h
-  where
-    of_stop : (w : Why) → stop_status w ≡ 0 → ⊥
-    of_stop (why.Byte byte) k = omega (arith, k)
-    of_stop why.TooLarge k = omega (arith, k)
-    of_stop why.Ended k = omega (arith, k)
-    of_stop why.TooLong k = omega (arith, k)
-    of_stop why.Read k = omega (arith, k)
-    of_stop why.Memory k = omega (arith, k)
-no_fault (Open input) h = omega (arith, h)
-no_fault (Overflow input) h = omega (arith, h)
-no_fault (Memory input) h = omega (arith, h)
-no_fault Write h = omega (arith, h)
-no_fault (Step place e name) h = of_step e h
-  where
-    of_step : (w : Fault) → refusal_status w ≡ 0 → ⊥
-    of_step step.Memory k = omega (arith, k)
-    of_step step.Overflow k = omega (arith, k)
-    of_step (step.FormulaCount n) k = omega (arith, k)
-    of_step (step.NoSuchId n) k = omega (arith, k)
-    of_step step.NotImplied k = omega (arith, k)
-    of_step step.Conflict k = omega (arith, k)
-    of_step (step.NotTotal n) k = omega (arith, k)
-    of_step (step.Violates n) k = omega (arith, k)
-    of_step step.NoObjective k = omega (arith, k)
-    of_step step.NotContradiction k = omega (arith, k)
-    of_step step.SolutionLogged k = omega (arith, k)
-    of_step step.NoSolution k = omega (arith, k)
-    of_step step.NotBound k = omega (arith, k)
-    of_step step.IdsSpent k = omega (arith, k)
-    of_step step.Order k = omega (arith, k)
+no_fault (Text input s) h = stopped s.why h
+no_fault (Step place e name) h = refused e h
+no_fault _ h = omega (arith, h)
 
 -- what was written to an empty page is all that is on it
 written_alone : (old new : Page) (w : Verdict) → old ≡ empty → Wrote written faults old (verdict_line w) new → new.text ≡ verdict_line w
@@ -73,10 +43,8 @@ shows_truth law o i p old new status whole (text, put, inr (limits, longest, ask
 
 -- the line of UNSAT differs from the others in its length
 no_solution : (v : Instance) (w : Verdict) → MeansWritten v w → length (verdict_line w) ≡ 15 → IsUnsatisfiable v
-no_solution v NoClaim h k = absurd (omega (arith, k))
 no_solution v Unsat h k = h
-no_solution v Sat h k = absurd (omega (arith, k))
-no_solution v (Bounds lower upper) h k = absurd (omega (arith, k, length-append (codes "verified BOUNDS ")))
+no_solution v _ h k = absurd (omega (arith, k, length-append (codes "verified BOUNDS ")))
 
 pub shows_unsat : (o : Options) (i old new : List ℕ) (status whole : ℕ) → ShowsTruth o i old status new whole → ShowsUnsat o i status new whole
 shows_unsat o i old new status whole truth zero fifteen says =

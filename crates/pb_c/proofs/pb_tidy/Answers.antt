@@ -1,5 +1,5 @@
 use Rattle.pb_c.proofs.Common.{AnswerOfTidy}
-use Rattle.pb_c.proofs.Buffer.{answers}
+use Rattle.pb_c.proofs.Answered.{answers}
 use Rattle.pb_c.proofs.pb_tidy.Goals as goal
 
 pub returns : goal.returns

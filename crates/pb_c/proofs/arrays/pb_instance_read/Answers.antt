@@ -16,43 +16,16 @@ moved_not format within longest text s {before} {after} is same h = subst (λ (x
 
 pub returns-in-Ok-new : goal.returns-in-Ok-new
 returns-in-Ok-new c =
-    let kept : c.of.result.value ≡ Some c.in-Ok.flat = search rules in
     let limits = c.in-Some.asked.limits in
     let longest = c.in-Some.asked.longest in
-    inl (
-      c.in-Ok.flat,
-      kept,
-      (
-        limits,
-        longest,
-        c.in-Some.ensures.asked,
-        (
-          _,
-          moved (IsInstance (largest limits) (top_of limits)) c.unwrap_or-within.result (unwrap_or longest (2 ^ 40)) c.args.text.now c.in-Ok.flat (whole c.new-source.result c.args.text c.new-source.ensures.inner c.new-source.ensures.shown) c.unwrap_or-within.ensures c.in-Ok.ensures.read,
-        ),
-      ),
-      refl,
-      c.of_instance.ensures,
-    )
+    let from = whole c.new-source.result c.args.text c.new-source.ensures.inner c.new-source.ensures.shown in
+    let read = moved (IsInstance (largest limits) (top_of limits)) c.unwrap_or-within.result (unwrap_or longest (2 ^ 40)) c.args.text.now c.in-Ok.flat from c.unwrap_or-within.ensures c.in-Ok.ensures.read in
+    inl (c.in-Ok.flat, search rules, (limits, longest, c.in-Some.ensures.asked, (_, read)), refl, c.of_instance.ensures)
 
 pub returns : goal.returns
 returns c =
     let limits = c.in-Some.asked.limits in
     let longest = c.in-Some.asked.longest in
-    inr (
-      c.take.ensures.left,
-      inr (inr (
-        c.in-Err.stop,
-        (
-          limits,
-          longest,
-          c.in-Some.ensures.asked,
-          (
-            _,
-            moved_not (IsInstance (largest limits) (top_of limits)) c.unwrap_or-within.result (unwrap_or longest (2 ^ 40)) c.args.text.now c.in-Err.stop (whole c.new-source.result c.args.text c.new-source.ensures.inner c.new-source.ensures.shown) c.unwrap_or-within.ensures c.in-Err.ensures.refused,
-          ),
-        ),
-        c.why_status.ensures,
-        c.of_stop.ensures,
-      )),
-    )
+    let from = whole c.new-source.result c.args.text c.new-source.ensures.inner c.new-source.ensures.shown in
+    let read = moved_not (IsInstance (largest limits) (top_of limits)) c.unwrap_or-within.result (unwrap_or longest (2 ^ 40)) c.args.text.now c.in-Err.stop from c.unwrap_or-within.ensures c.in-Err.ensures.refused in
+    inr (c.take.ensures.left, inr (inr (c.in-Err.stop, (limits, longest, c.in-Some.ensures.asked, (_, read)), c.why_status.ensures, c.of_stop.ensures)))

@@ -1,5 +1,5 @@
 use Rattle.pb_c.proofs.Common.{ℕ, ◌+◌, ◌-◌, ◌^◌, ◌∙◌, ◌≡◌, ap, length, min, rules, slice_get, Some, sym, take, joined}
-use Rattle.pb_c.proofs.Joined.{counted_next, length_next}
+use Rattle.pb_c.proofs.Copied.{counted_next, length_next}
 use Rattle.pb_c.proofs.names.bytes_in.Goals as goal
 
 pub names-preserved : goal.names-preserved

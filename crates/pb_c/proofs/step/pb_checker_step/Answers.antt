@@ -1,39 +1,27 @@
-use Rattle.pb_c.proofs.Common.{◌^◌, ◌≡◌, Option, rules, Some, subst, sym, unwrap_or, IsSession, Session, AnswersOf, UsesOf, CountsOf}
-use Rattle.pb_c.proofs.Claims.{same_value}
+use Rattle.pb_c.proofs.Common.{◌^◌, ◌≡◌, rules, Some, unwrap_or}
+use Rattle.pb_c.proofs.Claims.{under}
 use Rattle.pb_c.proofs.step.pb_checker_step.Goals as goal
 
 pub returns-clause-fed : goal.returns-clause-fed
 returns-clause-fed c options i fed h =
-    let (s, is, (limits, longest, asked, session)) = h in
-    let held : c.args.checker.now.value ≡ Some c.deref_mut.result.now = search rules in
-    let kept : c.of.result.value ≡ Some c.step_session-status.new.session = search rules in (
-      c.step_session-status.new.session,
-      kept,
-      (
-        limits,
-        longest,
-        asked,
-        c.step_session-status.ensures.fed limits (unwrap_or longest (2 ^ 40)) i fed (subst (λ (x : Session). IsSession limits (unwrap_or longest (2 ^ 40)) i fed x) (same_value is held) session),
-      ),
-    )
+    let (limits, longest, asked, session) = under options i fed c.args.checker.now c.deref_mut.result.now (search rules) h in
+    let call = c.step_session-status in
+    (call.new.session, search rules, (limits, longest, asked, call.ensures.fed limits (unwrap_or longest (2 ^ 40)) i fed session))
 
 pub returns-clause-answers : goal.returns-clause-answers
 returns-clause-answers c =
     let kept : c.of.result.value ≡ Some c.step_session-status.new.session = search rules in
-    subst (λ (x : Option Session). AnswersOf x c.step_session-status.result c.step_session-status.new.report) (sym kept) c.step_session-status.ensures.answers
+    rw kept c.step_session-status.ensures.answers
 
 pub returns-clause-used : goal.returns-clause-used
 returns-clause-used c =
     let held : c.args.checker.now.value ≡ Some c.deref_mut.result.now = search rules in
     let kept : c.of.result.value ≡ Some c.step_session-status.new.session = search rules in
-    subst (λ (x : Option Session). UsesOf x c.of.result.value c.args.piece.now c.step_session-status.result c.step_session-status.new.used) (sym held)
-    (subst (λ (x : Option Session). UsesOf (Some c.deref_mut.result.now) x c.args.piece.now c.step_session-status.result c.step_session-status.new.used) (sym kept) c.step_session-status.ensures.used)
+    rw (held, kept) c.step_session-status.ensures.used
 
 pub returns-clause-counts : goal.returns-clause-counts
 returns-clause-counts c options i fed h =
-    let (s, is, (limits, longest, asked, session)) = h in
+    let (limits, longest, asked, session) = under options i fed c.args.checker.now c.deref_mut.result.now (search rules) h in
     let held : c.args.checker.now.value ≡ Some c.deref_mut.result.now = search rules in
     let kept : c.of.result.value ≡ Some c.step_session-status.new.session = search rules in
-    subst (λ (x : Option Session). CountsOf x c.of.result.value c.step_session-status.new.ended) (sym held)
-    (subst (λ (x : Option Session). CountsOf (Some c.deref_mut.result.now) x c.step_session-status.new.ended) (sym kept)
-    (c.step_session-status.ensures.counts limits (unwrap_or longest (2 ^ 40)) i fed (subst (λ (x : Session). IsSession limits (unwrap_or longest (2 ^ 40)) i fed x) (same_value is held) session)))
+    rw (held, kept) (c.step_session-status.ensures.counts limits (unwrap_or longest (2 ^ 40)) i fed session)
