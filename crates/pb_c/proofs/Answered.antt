@@ -1,11 +1,8 @@
 -- What the tool guarantees for sources over texts and for a page, in terms of the texts and the result of a call.
 use Rattle.pb_c.proofs.Common.{ℕ, ◌∙◌, ◌≡◌, ap, Bool, Bor, List, None, Option, Result, Some, Limits, ToolFault, empty, faults, written, Page, ◌^◌, inr}
 use Rattle.pb_c.proofs.Common.{unwrap_or, Answers, Puts, IsAsked, Options}
-use Rattle.pb_text.specs.contract.OverState.{inner_of, shown_of}
-use Rattle.pb_text.specs.contract.Over.{reported}
-use Rattle.pb_text.specs.declared.over.Over.{Over}
-use Rattle.pb_tool.specs.contract.Show.{ShowsFile}
-use Rattle.pb_tool.specs.contract.Tidy.{TidiesFile}
+use Rattle.pb_text.specs.{contract.Over.reported, contract.OverState.inner_of, contract.OverState.shown_of, declared.over.Over.Over}
+use Rattle.pb_tool.specs.contract.{Show.ShowsFile, Tidy.TidiesFile}
 
 -- a source over a slice has the bytes of the slice left
 pub whole : (o : Over (Bor (List ℕ))) (s : Bor (List ℕ)) → inner_of o ≡ s → shown_of o ≡ None → reported (Some o.inner.now) None o.shown ≡ Some s.now

@@ -6,14 +6,9 @@ use Rattle.pb_tool.specs.declared.commands.check.checker.CheckFault.{CheckFault}
 use Rattle.pb_tool.specs.declared.commands.check.checker.CheckFault.TheVariants as check
 use Rattle.pb_text.specs.declared.place.Why.TheVariants as why
 use Rattle.pb_replay.specs.declared.fault.Fault.TheVariants as step
-use Rattle.pb_c.specs.Checker.{IsCheckerFor}
-use Rattle.pb_c.specs.Claim.{claim_of}
-use Rattle.pb_c.specs.Report.{status_of_fault}
+use Rattle.pb_c.specs.{Checker.IsCheckerFor, Claim.claim_of, Event.no_event, Report.status_of_fault, declared.event.Statement.Statement}
 use Rattle.pb_c.specs.declared.handle.CheckerHandle.{CheckerHandle}
-use Rattle.pb_pieces.specs.Given.{Given}
-use Rattle.pb_pieces.specs.declared.reader.Format.{Format}
-use Rattle.pb_c.specs.Event.{no_event}
-use Rattle.pb_c.specs.declared.event.Statement.{Statement}
+use Rattle.pb_pieces.specs.{Given.Given, declared.reader.Format.Format}
 
 pub same_value : {A : Type 0} {v : Option A} {x y : A} → v ≡ Some x → v ≡ Some y → x ≡ y
 same_value is too = cc

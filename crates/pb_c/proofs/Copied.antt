@@ -3,11 +3,9 @@ use Rattle.pb_c.proofs.Common.{ℕ, ℤ, ◌++◌, ◌+◌, ◌<◌, ◌∙◌, 
 use Rattle.pb_c.proofs.Common.{slice_get, Some, sym, take, true, unsigned_abs, set, ints, map-append, take_more, take_more_set, get_or_from_slice_get}
 use Rattle.pb_c.proofs.Common.{slice_get-get_or, slice_get_within, ◌≤◌, ◌⊎◌, append-nil, get_or, inl, inr, length-append, min, get_or-set_other}
 use Rattle.pb_c.proofs.Common.{get_or-set_same, joined}
-use mir.Val.{bool_byte}
 use Rattle.pb_pieces.specs.Terms.{bit}
-use Rattle.std.proofs.lemmas.Bool.{cases_lt}
-use Rattle.std.proofs.lemmas.Grind.{flat_map-append}
-use Rattle.std.proofs.lemmas.List.Folds.{length-flat_map-take}
+use Rattle.std.proofs.lemmas.{Bool.cases_lt, Grind.flat_map-append, List.Folds.length-flat_map-take}
+use mir.Val.{bool_byte}
 
 -- the first elements with one more
 pub take_next : {X : Type 0} (from : List X) (i : ℕ) (x : X) → slice_get from i ≡ Some x → take (i + 1) from ≡ take i from ++ x ∷ []

@@ -1,13 +1,12 @@
 -- What a line says holds for the instance.
+use Rattle.pb_c.proofs.Claims.{refused, stopped}
 use Rattle.pb_c.proofs.Common.{ℕ, ◌^◌, ◌∙◌, ◌≡◌, arith, codes, Err, inl, inr, length, length-append, List, Ok, Option, Result, Some, subst, sym, unwrap_or}
 use Rattle.pb_c.proofs.Common.{Instance, Verdict, Unsat, MeansWritten, Limits, exit_status, ToolFault, IsUnsatisfiable, VerdictsAreTrue, AnswersCheck, empty}
 use Rattle.pb_c.proofs.Common.{Ends, faults, written, Puts, Options, Page}
-use Rattle.pb_text.specs.meaning.Writing.{Wrote}
-use Rattle.pb_tool.specs.meaning.Files.{IsInstanceFile}
-use Rattle.pb_tool.specs.meaning.Verified.{CheckCall, Returns, verdict_line}
-use Rattle.pb_tool.specs.declared.fault.ToolFault.TheVariants.{Text, Step}
-use Rattle.pb_c.proofs.Claims.{refused, stopped}
 use Rattle.pb_c.specs.Unsat.{ShowsTruth, ShowsUnsat}
+use Rattle.pb_text.specs.meaning.Writing.{Wrote}
+use Rattle.pb_tool.specs.declared.fault.ToolFault.TheVariants.{Text, Step}
+use Rattle.pb_tool.specs.meaning.{Files.IsInstanceFile, Verified.CheckCall, Verified.Returns, Verified.verdict_line}
 
 -- no fault has the status 0
 no_fault : (e : ToolFault) → exit_status e ≡ 0 → ⊥

@@ -1,17 +1,9 @@
 -- What a call returns, in terms of what the tool returns for the same texts.
+use Rattle.pb_c.specs.{Buffer.Puts, Options.AreWrong, Options.IsAsked, declared.options.Options.Options, declared.page.Page.Page}
+use Rattle.pb_text.specs.{declared.Limits.Limits, meaning.Writing.Wrote, meaning.Writing.Broke}
+use Rattle.pb_tool.specs.contract.{Faults.exit_status, Faults.fault_line, Show.ShowsFile, Tidy.TidiesFile}
+use Rattle.pb_tool.specs.{declared.fault.ToolFault.ToolFault, meaning.Decided.IsOfTexts, meaning.Verified.CheckCall, meaning.Verified.ChecksFiles}
 use Rattle.std.specs.Prelude.{◌≡◌, ◌⊎◌, ◌^◌, ℕ, List, [], codes, Bool, Option, Some, Result, Ok, Err, unwrap_or}
-use Rattle.pb_text.specs.meaning.Writing.{Wrote, Broke}
-use Rattle.pb_text.specs.declared.Limits.{Limits}
-use Rattle.pb_tool.specs.contract.Faults.{exit_status, fault_line}
-use Rattle.pb_tool.specs.meaning.Decided.{IsOfTexts}
-use Rattle.pb_tool.specs.contract.Show.{ShowsFile}
-use Rattle.pb_tool.specs.contract.Tidy.{TidiesFile}
-use Rattle.pb_tool.specs.meaning.Verified.{CheckCall, ChecksFiles}
-use Rattle.pb_tool.specs.declared.fault.ToolFault.{ToolFault}
-use Rattle.pb_c.specs.Options.{AreWrong, IsAsked}
-use Rattle.pb_c.specs.Buffer.{Puts}
-use Rattle.pb_c.specs.declared.options.Options.{Options}
-use Rattle.pb_c.specs.declared.page.Page.{Page}
 
 -- a sink in memory, before any byte
 abbrev pub empty : Page

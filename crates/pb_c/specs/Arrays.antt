@@ -1,22 +1,13 @@
 -- What a handle on flat arrays stands for, and what the calls return.
-use Rattle.std.specs.Prelude.{◌≡◌, ◌≢◌, ◌-◌, ◌^◌, ◌⊎◌, ℕ, ℤ, List, length, min, Option, Some, None, slice_get}
-use Rattle.pb_text.specs.meaning.Limits.{largest, top_of}
-use Rattle.pb_text.specs.declared.Stop.{Stop}
-use Rattle.pb_opb.specs.meaning.Instances.{IsInstance}
-use Rattle.pb_tool.specs.contract.Faults.{stop_status}
-use Rattle.pb_tool.specs.contract.Pieces.{joined}
-use Rattle.pb_pieces.specs.Reading.{IsFlatBy, IsNotFlat}
-use Rattle.pb_pieces.specs.declared.instance.Flat.{Flat}
-use Rattle.pb_pieces.specs.declared.places.Places.{Places}
-use Rattle.pb_pieces.specs.declared.rows.Rows.{Rows}
-use Rattle.pb_pieces.specs.declared.terms.Terms.{Terms}
-use Rattle.pb_c.specs.Checker.{NameOf, Under}
-use Rattle.pb_c.specs.Options.{AreWrong}
+use Rattle.pb_c.specs.{Checker.NameOf, Checker.Under, Options.AreWrong}
 use Rattle.pb_c.specs.Report.{misused, of_instance, report_of_reason, report_of_stop, report_with, spent}
-use Rattle.pb_c.specs.declared.arrays.Sizes.{Sizes}
-use Rattle.pb_c.specs.declared.instance_handle.InstanceHandle.{InstanceHandle}
-use Rattle.pb_c.specs.declared.options.Options.{Options}
-use Rattle.pb_c.specs.declared.report.Report.{Report}
+use Rattle.pb_c.specs.declared.{arrays.Sizes.Sizes, instance_handle.InstanceHandle.InstanceHandle, options.Options.Options, report.Report.Report}
+use Rattle.pb_opb.specs.meaning.Instances.{IsInstance}
+use Rattle.pb_pieces.specs.{Reading.IsFlatBy, Reading.IsNotFlat, declared.instance.Flat.Flat, declared.places.Places.Places, declared.rows.Rows.Rows}
+use Rattle.pb_pieces.specs.declared.terms.Terms.{Terms}
+use Rattle.pb_text.specs.{declared.Stop.Stop, meaning.Limits.largest, meaning.Limits.top_of}
+use Rattle.pb_tool.specs.contract.{Faults.stop_status, Pieces.joined}
+use Rattle.std.specs.Prelude.{◌≡◌, ◌≢◌, ◌-◌, ◌^◌, ◌⊎◌, ℕ, ℤ, List, length, min, Option, Some, None, slice_get}
 
 -- the text is an instance and a blank rest, and the arrays are those of its statements
 abbrev pub AreArraysOf : Options → List ℕ → Flat → Type 0

@@ -1,11 +1,9 @@
 -- A verdict as numbers.
-use Rattle.std.specs.Prelude.{ℕ, ℤ, pos, Bool, true, false}
-use Rattle.pb_pieces.specs.Words.{high_word, low_word}
-use Rattle.pb_proof.specs.declared.conclusion.Bound.{Bound}
-use Rattle.pb_proof.specs.declared.conclusion.Bound.TheVariants.{Finite, Infinite}
-use Rattle.pb_replay.specs.declared.verdict.Verdict.{Verdict}
-use Rattle.pb_replay.specs.declared.verdict.Verdict.TheVariants.{NoClaim, Unsat, Sat, Bounds}
 use Rattle.pb_c.specs.declared.claim.Claim.{Claim}
+use Rattle.pb_pieces.specs.Words.{high_word, low_word}
+use Rattle.pb_proof.specs.declared.conclusion.Bound.{Bound, TheVariants.Finite, TheVariants.Infinite}
+use Rattle.pb_replay.specs.declared.verdict.Verdict.{Verdict, TheVariants.NoClaim, TheVariants.Unsat, TheVariants.Sat, TheVariants.Bounds}
+use Rattle.std.specs.Prelude.{ℕ, ℤ, pos, Bool, true, false}
 
 -- the kind of a claim of UNSAT
 abbrev pub unsat_kind : ℕ

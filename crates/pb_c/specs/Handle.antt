@@ -1,11 +1,9 @@
 -- What a handle owns: a box, or nothing.
-use Rattle.std.specs.Prelude.{Option, Some, None}
+use Rattle.std.specs.{Box.Ownership.box_owns, Prelude.Option, Prelude.Some, Prelude.None, contracts.impls.GlobalAllocator.TheImpl.ghosts}
+use Rattle.std.specs.declared.alloc.Global.{Global}
 use base.Fml.{Fml, ftrue, ffalse}
 use denote.RattleType.{RattleType}
 use denote.RawPtr.{Ptr, block_ptr, null_ptr}
-use Rattle.std.specs.declared.alloc.Global.{Global}
-use Rattle.std.specs.contracts.impls.GlobalAllocator.TheImpl.{ghosts}
-use Rattle.std.specs.Box.Ownership.{box_owns}
 
 module _ (R : RattleType) (a : Global) where
   -- at null nothing, and else the box with the value

@@ -1,7 +1,7 @@
 -- The names of an instance in one text.
-use Rattle.std.specs.Prelude.{◌≡◌, ◌≢◌, ◌⊎◌, ◌<◌, ℕ, List, get_or, length, take, Option, Some, None}
-use Rattle.pb_tool.specs.contract.Pieces.{joined}
 use Rattle.pb_pieces.specs.declared.instance.Flat.{Flat}
+use Rattle.pb_tool.specs.contract.Pieces.{joined}
+use Rattle.std.specs.Prelude.{◌≡◌, ◌≢◌, ◌⊎◌, ◌<◌, ℕ, List, get_or, length, take, Option, Some, None}
 
 -- each name begins where those before it end
 pub record AreStarts (names : List (List ℕ)) (starts : List ℕ) : Type 0 where

@@ -1,8 +1,7 @@
 -- What options set.
-use Rattle.std.specs.Prelude.{◌≡◌, ◌⊎◌, ◌<◌, ◌-◌, ◌^◌, ℕ, zero, suc, min, Option, Some, None}
-use Rattle.pb_text.specs.meaning.Limits.{bits_of, top_of}
-use Rattle.pb_text.specs.declared.Limits.{Limits}
 use Rattle.pb_c.specs.declared.options.Options.{Options}
+use Rattle.pb_text.specs.{declared.Limits.Limits, meaning.Limits.bits_of, meaning.Limits.top_of}
+use Rattle.std.specs.Prelude.{◌≡◌, ◌⊎◌, ◌<◌, ◌-◌, ◌^◌, ℕ, zero, suc, min, Option, Some, None}
 
 -- the limit on statements, if there is one
 abbrev pub longest_of : ℕ → Option ℕ

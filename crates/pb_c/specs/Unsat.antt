@@ -1,15 +1,10 @@
 -- What a caller may conclude from a status and a line.
-use Rattle.std.specs.Prelude.{◌≡◌, ◌^◌, ℕ, List, codes, take, Option, Some, unwrap_or}
-use Rattle.pb_text.specs.declared.Limits.{Limits}
+use Rattle.pb_c.specs.{Buffer.Puts, Options.IsAsked, declared.options.Options.Options}
 use Rattle.pb_opb.specs.declared.Instance.{Instance}
-use Rattle.pb_replay.specs.meaning.Meaning.{MeansWritten}
-use Rattle.pb_replay.specs.declared.verdict.Verdict.{Verdict}
-use Rattle.pb_tool.specs.meaning.Headline.{IsUnsatisfiable}
-use Rattle.pb_tool.specs.meaning.Files.{IsInstanceFile}
-use Rattle.pb_tool.specs.meaning.Verified.{verdict_line}
-use Rattle.pb_c.specs.Options.{IsAsked}
-use Rattle.pb_c.specs.Buffer.{Puts}
-use Rattle.pb_c.specs.declared.options.Options.{Options}
+use Rattle.pb_replay.specs.{declared.verdict.Verdict.Verdict, meaning.Meaning.MeansWritten}
+use Rattle.pb_text.specs.declared.Limits.{Limits}
+use Rattle.pb_tool.specs.meaning.{Files.IsInstanceFile, Headline.IsUnsatisfiable, Verified.verdict_line}
+use Rattle.std.specs.Prelude.{◌≡◌, ◌^◌, ℕ, List, codes, take, Option, Some, unwrap_or}
 
 -- If the status is 0, the first text is an instance under the limits of the options. The room has the line of a verdict
 -- that holds for that instance as written.

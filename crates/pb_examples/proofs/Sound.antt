@@ -1,25 +1,18 @@
 -- What a replay verifies is true of its instance.
-use Rattle.std.proofs.Common.{◌≡◌, ℕ, List, [], ◌∷◌, Option, Some, None, Result, Ok, Err, refl, subst, true, All}
-use Rattle.std.proofs.lemmas.List.Elements.{All-head, All-tail}
-use Rattle.pb_text.specs.meaning.Limits.{largest, top_of}
-use Rattle.pb_text.specs.meaning.Reading.{byte_limit}
-use Rattle.pb_text.specs.meaning.Whole.{events_at}
+use Rattle.pb_examples.specs.Fed.{Verifies}
 use Rattle.pb_opb.specs.declared.Instance.{Instance}
-use Rattle.pb_proof.specs.contract.ValueLaws.{ReadStatements}
-use Rattle.pb_proof.specs.contract.Values.{IsStatementValue}
-use Rattle.pb_proof.specs.declared.Stage.{Stage}
+use Rattle.pb_proof.specs.{contract.ValueLaws.ReadStatements, contract.Values.IsStatementValue, declared.Stage.Stage}
 use Rattle.pb_proof.specs.declared.Stage.TheVariants.{Opening, Formula, Steps, Concluding, Closing, Complete}
 use Rattle.pb_proof.specs.declared.Statement.{Statement}
-use Rattle.pb_replay.specs.contract.ReplayModel.{Replaying, StandsFor, verdict_at}
 use Rattle.pb_replay.specs.contract.Laws.{MeaningsAgree, StatementsAreSound}
-use Rattle.pb_replay.specs.meaning.Meaning.{IsProblem, IsSound, Means, MeansWritten}
-use Rattle.pb_replay.specs.meaning.Problem.{Opened, Problem}
-use Rattle.pb_replay.specs.meaning.Replay.{State}
-use Rattle.pb_replay.specs.meaning.Statements.{Accepts}
-use Rattle.pb_replay.specs.declared.fault.Fault.{Fault}
-use Rattle.pb_replay.specs.declared.verdict.Verdict.{Verdict}
+use Rattle.pb_replay.specs.contract.ReplayModel.{Replaying, StandsFor, verdict_at}
+use Rattle.pb_replay.specs.declared.{fault.Fault.Fault, verdict.Verdict.Verdict}
+use Rattle.pb_replay.specs.meaning.{Meaning.IsProblem, Meaning.IsSound, Meaning.Means, Meaning.MeansWritten, Problem.Opened, Problem.Problem}
+use Rattle.pb_replay.specs.meaning.{Replay.State, Statements.Accepts}
+use Rattle.pb_text.specs.meaning.{Limits.largest, Limits.top_of, Reading.byte_limit, Whole.events_at}
 use Rattle.pb_tool.specs.contract.Checker.{IsAt}
-use Rattle.pb_examples.specs.Fed.{Verifies}
+use Rattle.std.proofs.Common.{◌≡◌, ℕ, List, [], ◌∷◌, Option, Some, None, Result, Ok, Err, refl, subst, true, All}
+use Rattle.std.proofs.lemmas.List.Elements.{All-head, All-tail}
 
 -- a complete proof has the verdict of its conclusion
 concluded_as : (next : Stage) (concluded : Option Verdict) (w : Verdict) → verdict_at next concluded ≡ Some w → concluded ≡ Some w

@@ -1,19 +1,11 @@
 -- What a proof that comes in pieces shows.
-use Rattle.std.specs.Prelude.{◌≡◌, ◌↔◌, ℕ, List, [], Bool, IsTrue, Result, Ok}
-use Rattle.pb_text.specs.meaning.Reading.{byte_limit}
-use Rattle.pb_text.specs.declared.Limits.{Limits}
-use Rattle.pb_text.specs.declared.Place.{Place}
 use Rattle.pb_opb.specs.declared.Instance.{Instance}
-use Rattle.pb_replay.specs.contract.ReplayModel.{Replaying}
-use Rattle.pb_replay.specs.meaning.Problem.{Opened, Problem}
-use Rattle.pb_replay.specs.meaning.Replay.{State}
-use Rattle.pb_replay.specs.declared.fault.Fault.{Fault}
-use Rattle.pb_replay.specs.declared.verdict.Verdict.{Verdict}
-use Rattle.pb_replay.specs.declared.verdict.Verdict.TheVariants.{Unsat}
-use Rattle.pb_tool.specs.contract.Checker.{Checking, IsAt}
-use Rattle.pb_tool.specs.contract.Checks.{Ends}
-use Rattle.pb_tool.specs.contract.Pieces.{ChecksAt}
+use Rattle.pb_replay.specs.{contract.ReplayModel.Replaying, declared.fault.Fault.Fault, declared.verdict.Verdict.Verdict}
+use Rattle.pb_replay.specs.{declared.verdict.Verdict.TheVariants.Unsat, meaning.Problem.Opened, meaning.Problem.Problem, meaning.Replay.State}
+use Rattle.pb_text.specs.{declared.Limits.Limits, declared.Place.Place, meaning.Reading.byte_limit}
+use Rattle.pb_tool.specs.contract.{Checker.Checking, Checker.IsAt, Checks.Ends, Pieces.ChecksAt}
 use Rattle.pb_tool.specs.meaning.Headline.{IsUnsatisfiable}
+use Rattle.std.specs.Prelude.{◌≡◌, ◌↔◌, ℕ, List, [], Bool, IsTrue, Result, Ok}
 
 -- No assignment solves the instance that the replay was opened for.
 abbrev pub IsRefuted : Replaying → Type 0

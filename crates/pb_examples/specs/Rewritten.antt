@@ -1,12 +1,8 @@
 -- What reading an instance and writing it again gives.
-use Rattle.std.specs.Prelude.{◌≡◌, ℕ, ◌-◌, ◌^◌, List, ◌++◌}
-use Rattle.pb_text.specs.meaning.Spelling.{Item, bytes_of}
-use Rattle.pb_text.specs.meaning.Whole.{events_of}
-use Rattle.pb_opb.specs.contract.Canonical.{instance_bytes}
-use Rattle.pb_opb.specs.meaning.Instances.{IsInstance}
+use Rattle.pb_opb.specs.{contract.Canonical.instance_bytes, declared.Instance.Instance, declared.OpbEvent.OpbEvent, meaning.Instances.IsInstance}
 use Rattle.pb_opb.specs.meaning.Values.{IsValueOf}
-use Rattle.pb_opb.specs.declared.Instance.{Instance}
-use Rattle.pb_opb.specs.declared.OpbEvent.{OpbEvent}
+use Rattle.pb_text.specs.meaning.{Spelling.Item, Spelling.bytes_of, Whole.events_of}
+use Rattle.std.specs.Prelude.{◌≡◌, ℕ, ◌-◌, ◌^◌, List, ◌++◌}
 
 -- The bytes are a text of the instance, under the widest limits.
 abbrev pub IsTextOf : Instance → List ℕ → Type 0

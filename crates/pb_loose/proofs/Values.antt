@@ -1,17 +1,16 @@
 -- The machine values of a `Loose`. Offered to other crates.
+use Rattle.core.specs.declared.alloc.Allocator.{Ghosts}
 use Rattle.pb_loose.proofs.Machine.{◌≡◌, ℕ, List, [], ◌∷◌, ◌++◌, refl, subst, impl, tnil, dnil, bare, Val, vptr, vstruct, vcons, vnil, of_list, has_ty, WT}
 use Rattle.pb_loose.proofs.Machine.{never, fst∗, Logic, sem, Item, Goal, Seq, Step, step, ‵, ◌$◌, move, drop, fsplit, fjoin, fpick, fpack, feq_i, feq_l}
 use Rattle.pb_loose.proofs.Machine.{RattleType, Valss, RawPtr, Ptr, block_ptr, null_ptr, ptr_val, in_a_block, nothing, layout, Laws, Al, handle_tells, Good}
 use Rattle.pb_loose.proofs.Machine.{box_owns}
-use mathlib.Core.Bool.{true, ◌&&◌}
-use lib.Dec.{T}
-use seplogic.Ra.Ura.{Ura}
+use Rattle.std_alloc.proofs.ResultValues.{and_tt}
 use denote.Laws.{Is, Lawful, Typed, shows}
 use denote.Memory.{lone}
-use denote.Struct.Struct.{Struct, within}
-use denote.Struct.Owning.{shape}
-use Rattle.core.specs.declared.alloc.Allocator.{Ghosts}
-use Rattle.std_alloc.proofs.ResultValues.{and_tt}
+use denote.Struct.{Owning.shape, Struct.Struct, Struct.within}
+use lib.Dec.{T}
+use mathlib.Core.Bool.{true, ◌&&◌}
+use seplogic.Ra.Ura.{Ura}
 use Rattle.pb_loose.specs.contracts.Loose as loose
 
 abbrev pub both : Val → Val → Val

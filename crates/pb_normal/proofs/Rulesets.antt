@@ -1,20 +1,17 @@
 -- Lemmas that the goals of functions need, by the function.
+use Rattle.pb_normal.proofs.Common.{append-nil, map-set_same, le-ltb, lt-ltb, to_z-of_z, take_all}
 use Rattle.pb_normal.proofs.lemmas.names.Appearing.{distinct, in_turn, named, prefix, present}
 use Rattle.pb_normal.proofs.lemmas.names.Loaded.{after_all}
 use Rattle.pb_normal.proofs.lemmas.names.Numbering.{OnErr-always, has_name-append, number_in-append, number_in-below, number_in-get, slice_get-number}
 use Rattle.pb_normal.proofs.lemmas.names.WrittenForms.{HasNames-append, magnitude-read, magnitude-side, shift-side-le, total-raw}
-use Rattle.pb_normal.proofs.lemmas.rules.Bounds.{SumPasses-swap, overflow-Memory, overflow-Ok}
-use Rattle.pb_normal.proofs.lemmas.rules.Keeps.{Holds-alike}
+use Rattle.pb_normal.proofs.lemmas.rules.{Bounds.SumPasses-swap, Bounds.overflow-Memory, Bounds.overflow-Ok, Keeps.Holds-alike}
 use Rattle.pb_normal.proofs.lemmas.rules.Scales.{IfOk-multiplied-one, divided-one, All-multiplied, Holds-multiplied, Holds-saturated, IsWithin-multiplied}
 use Rattle.pb_normal.proofs.lemmas.rules.Scales.{Passes-degree, Passes-not, Passes-size, total-multiplied, within_quotient}
-use Rattle.pb_normal.proofs.lemmas.rules.Sums.{Holds-sum, IsSum-swapped}
-use Rattle.pb_normal.proofs.lemmas.rules.Unique.{IsSum-unique, form-unique}
-use Rattle.pb_normal.proofs.lemmas.terms.Totals.{IsRising-read, total-permutation, IsRising-from}
+use Rattle.pb_normal.proofs.lemmas.rules.{Sums.Holds-sum, Sums.IsSum-swapped, Unique.IsSum-unique, Unique.form-unique}
 use Rattle.pb_normal.proofs.lemmas.terms.KeyedTerms.{IsKeyed-get, IsKeyed-remove, get-le-total, dropped-none, size-some}
 use Rattle.pb_normal.proofs.lemmas.terms.Lookups.{Cancels-AllCancel, TermCancels-absent, TermCancels-present}
 use Rattle.pb_normal.proofs.lemmas.terms.Maps.{Holds-divided, Holds-negation, Holds-negation_back, Holds-weakened, total-le-each}
-use Rattle.pb_normal.proofs.lemmas.terms.Merging.{total-drop}
-use Rattle.pb_normal.proofs.Common.{append-nil, map-set_same, le-ltb, lt-ltb, to_z-of_z, take_all}
+use Rattle.pb_normal.proofs.lemmas.terms.{Merging.total-drop, Totals.IsRising-read, Totals.total-permutation, Totals.IsRising-from}
 use borrow.Author.Tests.{le-leb, lt-leb}
 
 pub ruleset multiply = (All-multiplied, IsWithin-multiplied, Passes-degree, Passes-not, Passes-size, overflow-Memory, overflow-Ok, within_quotient)

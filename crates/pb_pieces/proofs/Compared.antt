@@ -2,9 +2,8 @@
 use Rattle.pb_pieces.proofs.Common.{ℕ, ◌++◌, ◌+◌, ◌∙◌, ◌∷◌, ◌≡◌, ◌⊎◌, [], ap, arith, inl, inr, length, length-append, List, map, refl, Some, subst}
 use Rattle.pb_pieces.proofs.Common.{suc, sym, take, true, zero, slice_get, length-map, map_push, Arrays, IsGivenAt, token_in, AreFirst}
 use Rattle.pb_pieces.proofs.Common.{Compared, Token, GivenToken}
-use Rattle.std.proofs.lemmas.List.{take_more}
-use Rattle.std.proofs.lemmas.Option.{get_or_from_slice_get, none-some, same_Some, slice_get_within}
 use Rattle.pb_pieces.specs.declared.matcher.Matcher.{Matcher}
+use Rattle.std.proofs.lemmas.{List.take_more, Option.get_or_from_slice_get, Option.none-some, Option.same_Some, Option.slice_get_within}
 
 take_next : {A : Type 0} (xs : List A) (n : ℕ) (x : A) → slice_get xs n ≡ Some x → take (n + 1) xs ≡ take n xs ++ x ∷ []
 take_next {A} xs n x got = take_more xs n x (slice_get_within xs n x got) ∙ ap (λ (y : A). take n xs ++ y ∷ []) (get_or_from_slice_get xs n x x got)

@@ -4,30 +4,21 @@ use Rattle.pb_pieces.proofs.Common.{subst, sym, true, Vec, drop-append_seam, dro
 use Rattle.pb_pieces.proofs.Common.{Limits, Place, Spanned, Stop, ReadsBlank, largest, top_of, Reads, Checking, IsAt, EndsAfter, CountsAt, fault_of}
 use Rattle.pb_pieces.proofs.Common.{place_in, CheckFault, IsProofText, AfterProof, IsAccepted, HasFault, IsInstanceOf, IsRejected, IsRunning}
 use Rattle.pb_pieces.proofs.Common.{IsSession, Session}
-use Rattle.std.specs.declared.alloc.Global.{Global}
-use Rattle.pb_text.specs.contract.Over.{reported}
-use Rattle.pb_text.specs.contract.OverState.{inner_of, shown_of}
+use Rattle.pb_text.specs.contract.{Over.reported, OverState.inner_of, OverState.shown_of}
 use Rattle.pb_text.specs.meaning.Whole.{IsRead, events_at}
+use Rattle.std.specs.declared.alloc.Global.{Global}
 use Rattle.pb_text.specs.declared.place.Why.TheVariants as reason
-use Rattle.pb_text.specs.declared.over.Over.{Over}
-use Rattle.pb_opb.specs.meaning.Reading.{ReadsInstance}
-use Rattle.pb_opb.specs.meaning.Values.{IsValueOf}
-use Rattle.pb_opb.specs.declared.Instance.{Instance}
-use Rattle.pb_proof.specs.declared.Stage.{Stage}
-use Rattle.pb_proof.specs.declared.Stage.TheVariants.{Complete}
+use Rattle.pb_opb.specs.{declared.Instance.Instance, meaning.Reading.ReadsInstance, meaning.Values.IsValueOf}
+use Rattle.pb_proof.specs.declared.Stage.{Stage, TheVariants.Complete}
 use Rattle.pb_replay.specs.contract.ReplayModel.{Replaying, StandsFor, verdict_at}
-use Rattle.pb_replay.specs.meaning.Statements.{Accepts}
-use Rattle.pb_replay.specs.declared.verdict.Verdict.{Verdict}
-use Rattle.pb_tool.specs.contract.Runs.{Replays}
-use Rattle.pb_tool.specs.meaning.Decided.{AreVerified}
+use Rattle.pb_replay.specs.{declared.verdict.Verdict.Verdict, meaning.Statements.Accepts}
+use Rattle.pb_text.specs.declared.over.Over.{Over}
+use Rattle.pb_tool.specs.{contract.Runs.Replays, meaning.Decided.AreVerified}
+use Rattle.pb_tool.specs.meaning.Files.{IsInstanceFile, IsInstanceText, IsNoInstanceFile, IsRefused.InText, IsRefused.InRest}
 use Rattle.pb_tool.specs.meaning.Headline.{VerdictsAreTrue}
-use Rattle.pb_tool.specs.meaning.Files.{IsInstanceFile, IsInstanceText, IsNoInstanceFile}
-use Rattle.pb_tool.specs.meaning.Files.IsRefused.{InText, InRest}
 use Rattle.pb_tool.specs.declared.commands.check.checker.CheckFault.TheVariants as check
-use Rattle.pb_tool.proofs.lemmas.check.TwoSources.{whole_file}
-use Rattle.pb_tool.proofs.lemmas.file.GivenBytes.{file_then_blank}
-use Rattle.pb_pieces.proofs.Faults.{accepting, refused_at_end}
-use Rattle.pb_pieces.proofs.Fed.{running, with_stands}
+use Rattle.pb_pieces.proofs.{Faults.accepting, Faults.refused_at_end, Fed.running, Fed.with_stands}
+use Rattle.pb_tool.proofs.lemmas.{check.TwoSources.whole_file, file.GivenBytes.file_then_blank}
 
 -- a source over a slice has the bytes of the slice left
 pub whole : (o : Over (Bor (List ℕ))) (s : Bor (List ℕ)) → inner_of o ≡ s → shown_of o ≡ None → reported (Some o.inner.now) None o.shown ≡ Some s.now

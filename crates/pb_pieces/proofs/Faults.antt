@@ -4,9 +4,7 @@ use Rattle.pb_pieces.proofs.Common.{subst, sym, append_cancel_left, Statement, F
 use Rattle.pb_pieces.proofs.Common.{Stop, Answers, Reads, place_after, reported, many, running_at, Checking, CountsSoFar, TextsAreRead, Checks}
 use Rattle.pb_pieces.proofs.Common.{IsRefusedAt, Rejects, AllocatesAt, CountsAt, fault_of, is_whole, place_in, CheckFault, AsksInProofText}
 use Rattle.pb_pieces.proofs.Common.{largest, Spanned, top_of, IsProofText, ComesTo, InProof, IsAccepted, IsReported, HasFault}
-use Rattle.pb_text.specs.meaning.Stopping.{IsAsking}
-use Rattle.pb_text.specs.meaning.Whole.{events_at}
-use Rattle.pb_text.specs.declared.place.Why.{Why}
+use Rattle.pb_text.specs.{declared.place.Why.Why, meaning.Stopping.IsAsking, meaning.Whole.events_at}
 use Rattle.pb_text.specs.declared.place.Why.TheVariants as reason
 use Rattle.pb_text.proofs.lemmas.source.Wholes.{same_prefix}
 use Rattle.pb_replay.specs.declared.fault.Fault.TheVariants as fault

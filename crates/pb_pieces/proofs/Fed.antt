@@ -5,12 +5,11 @@ use Rattle.pb_pieces.proofs.Common.{take, true, drop-append-add, drop-length, dr
 use Rattle.pb_pieces.proofs.Common.{first_state, State, place_after-offset, is_complete, Limits, Place, Spanned, largest, top_of, Answers, Reads}
 use Rattle.pb_pieces.proofs.Common.{Item, reported, Checking, TextsAreRead, AllocatesAt, bytes_to, ChecksAt, CountsAt, CountsOnce, fault_of, is_whole}
 use Rattle.pb_pieces.proofs.Common.{MayGoOn, place_in, CheckFault, IsProofText, IsRejected, IsRunning, IsSession, Stands, Session}
-use Rattle.pb_text.specs.declared.place.Why.TheVariants.{Memory as no_memory}
 use Rattle.pb_proof.specs.contract.Formats.{PrefixFree}
+use Rattle.pb_text.specs.declared.place.Why.TheVariants.{Memory as no_memory}
 use Rattle.pb_tool.specs.declared.commands.check.checker.CheckFault.TheVariants as check
-use Rattle.pb_tool.specs.declared.commands.check.checker.Went.{Went}
-use Rattle.pb_tool.proofs.lemmas.check.OneRead.{one_spelt}
 use Rattle.pb_pieces.proofs.Faults.{AcceptedBy, refused_here, so_far}
+use Rattle.pb_tool.{proofs.lemmas.check.OneRead.one_spelt, specs.declared.commands.check.checker.Went.Went}
 
 -- ---- what is read of a longer text
 module _ (free : PrefixFree) (limits : Limits) (longest : ℕ) where

@@ -1,10 +1,8 @@
 -- What a feeder and a reader stand at after one more piece.
 use Rattle.pb_pieces.proofs.Common.{ℕ, ◌++◌, ◌∙◌, ◌∷◌, ◌≡◌, [], ap, append-nil, Err, List, None, Ok, Option, subst, sym, flat_map-append, bytes_with}
 use Rattle.pb_pieces.proofs.Common.{FeedsOnce, halt_of, spans_in, StandsAt, Feeder, Spanned, Stop, names_of, names_in, Token}
-use Rattle.pb_text.specs.contract.Standing.{IsOpen}
-use Rattle.pb_text.specs.declared.feeder.Fed.{Fed}
-use Rattle.pb_text.specs.declared.machine.Machine.{Ghosts}
 use Rattle.pb_pieces.specs.declared.tokenized.Tokenized.{Ghosts as Statements}
+use Rattle.pb_text.specs.{contract.Standing.IsOpen, declared.feeder.Fed.Fed, declared.machine.Machine.Ghosts}
 
 module _ {M E : Type 0} {g : Ghosts M E} (longest : ℕ) (start : M) (fed piece : List ℕ) (spans : List (Spanned E)) (old new : Feeder M E g) (running : halt_of old ≡ None) (stands : StandsAt longest start fed spans old) where
   is_open : IsOpen (halt_of old)

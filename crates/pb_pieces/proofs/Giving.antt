@@ -5,10 +5,8 @@ use Rattle.pb_pieces.proofs.Common.{Spanned, Stop, EndsAs, Reads, Item, Given, g
 use Rattle.pb_pieces.proofs.Common.{IsReading, IsShown, names_in, Stops, Event, TokenReader}
 use Rattle.std.proofs.lemmas.List.Folds.{flat_map-map}
 use Rattle.pb_text.proofs.lemmas.text.Formats as formats
+use Rattle.pb_pieces.specs.{Reader.names_in as names_given, TokenReader.GivesFor, declared.tokenized.Tokenized.Ghosts as Statements}
 use Rattle.pb_text.specs.declared.place.Why.TheVariants.{Memory}
-use Rattle.pb_pieces.specs.Reader.{names_in as names_given}
-use Rattle.pb_pieces.specs.TokenReader.{GivesFor}
-use Rattle.pb_pieces.specs.declared.tokenized.Tokenized.{Ghosts as Statements}
 
 -- a feeder that stands at an input has read it
 abbrev pub Standing : {M E : Type 0} → Automaton M E → Type 0

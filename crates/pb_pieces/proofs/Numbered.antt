@@ -2,8 +2,7 @@
 use Rattle.pb_pieces.proofs.Common.{ℕ, ◌++◌, ◌∙◌, ◌∷◌, ◌≡◌, [], ap, append-nil, append_assoc, List, map, None, Option, refl, Some, subst}
 use Rattle.pb_pieces.proofs.Common.{sym, flat_map-append, map_push, HasNames-push, with_names-push, HasNames}
 use Rattle.pb_pieces.proofs.Common.{number_in, with_name, with_names, Adds, AreTokens, name_in, names_of, number_of, HoldTokens, Token}
-use Rattle.pb_pieces.specs.declared.named_tokens.NamedTokens.{NamedTokens}
-use Rattle.pb_pieces.proofs.Numbers.{keeps}
+use Rattle.pb_pieces.{proofs.Numbers.keeps, specs.declared.named_tokens.NamedTokens.NamedTokens}
 
 abbrev pub numbers : List (List ℕ) → List Token → List ℕ
 numbers ks tokens = map (λ t. number_of ks t.name) tokens

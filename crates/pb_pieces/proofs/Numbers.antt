@@ -1,9 +1,7 @@
 -- Terms keep the numbers of their names.
 use Rattle.pb_pieces.proofs.Common.{ℕ, ◌++◌, ◌∙◌, ◌∷◌, ◌≡◌, [], ap, cond, false, List, map, refl, subst, sym, true, map-append, HasNames-push}
 use Rattle.pb_pieces.proofs.Common.{number_in-append, with_names-push, has_name, HasNames, number_in, with_name, with_names, Term, HoldNamed}
-use Rattle.pb_pieces.specs.Flat.{names_of}
-use Rattle.pb_pieces.specs.Terms.{HoldTerms}
-use Rattle.pb_pieces.specs.declared.flat.Named.{Named}
+use Rattle.pb_pieces.specs.{Flat.names_of, Terms.HoldTerms, declared.flat.Named.Named}
 
 -- a name that is there keeps its number
 pub keeps : (q k : List ℕ) (ks : List (List ℕ)) → has_name ks q ≡ true → number_in (with_name ks k) q ≡ number_in ks q

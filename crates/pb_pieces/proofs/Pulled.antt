@@ -1,8 +1,8 @@
 -- An instance that is pulled from a source, into flat arrays.
 use Rattle.pb_pieces.proofs.Common.{ℕ, ◌++◌, [], Bool, Err, false, IfErr, IfOk, List, None, Ok, Option, Result, Some, true, OpbEvent, Place, Spanned}
 use Rattle.pb_pieces.proofs.Common.{Stop, ReadsBlank, TookAll, Reads, Item, rest_within, IsFlatOf, InRest, InText, Unstored, Flat}
-use Rattle.pb_text.proofs.lemmas.source.PullsInARow.{took_join}
 use Rattle.pb_pieces.specs.Reading.{IsFlatBy, IsNotFlat}
+use Rattle.pb_text.proofs.lemmas.source.PullsInARow.{took_join}
 
 pub flat_by : (format : List (Item OpbEvent) → Type 0) (longest : ℕ) (before mid after : Option (List ℕ)) (spans : List (Spanned OpbEvent)) (place : Place) (f : Flat)
     → TookAll format longest before mid spans place true None → ReadsBlank place mid (Ok tt) after → IsFlatOf spans f → IsFlatBy format longest before after f

@@ -5,9 +5,8 @@ use Rattle.pb_pieces.proofs.Common.{Ends, GivesFor, GivesOne, IsReader, new_inst
 use Rattle.pb_pieces.proofs.Common.{IsReading, Stops, Event, TokenReader}
 use Rattle.pb_pieces.specs.declared.reader.Format.{Format}
 use Rattle.pb_pieces.specs.declared.reader.Format.TheVariants as format
-use Rattle.pb_pieces.specs.declared.reader.Reader.TheVariants.{Instance, Proof}
-use Rattle.pb_pieces.specs.declared.token_reader.Taken.{Taken}
 use Rattle.pb_pieces.proofs.Giving.{Next, ended, next, stops}
+use Rattle.pb_pieces.specs.declared.{reader.Reader.TheVariants.Instance, reader.Reader.TheVariants.Proof, token_reader.Taken.Taken}
 
 module _ (limits : Limits) (longest : ℕ) (fed : List ℕ) (events : List Given) (piece : List ℕ) where
   -- a reader of an instance

@@ -1,17 +1,13 @@
 -- A statement of an instance or of a proof.
-use Rattle.std.specs.Prelude.{ℕ, ◌≤◌, List, []}
-use Rattle.pb_text.specs.meaning.Blank.{IsInLine}
+use Rattle.pb_opb.specs.{contract.Canonical.event_bytes, declared.OpbEvent.OpbEvent, meaning.Instances.IsTail}
 use Rattle.pb_sums.specs.contract.Canonical.{AreTerms, IsLinear}
-use Rattle.pb_opb.specs.contract.Canonical.{event_bytes}
-use Rattle.pb_opb.specs.meaning.Instances.{IsTail}
-use Rattle.pb_opb.specs.declared.OpbEvent.{OpbEvent}
+use Rattle.pb_text.specs.meaning.Blank.{IsInLine}
+use Rattle.std.specs.Prelude.{ℕ, ◌≤◌, List, []}
 use Rattle.pb_opb.specs.declared.OpbEvent.TheVariants as opb
-use Rattle.pb_proof.specs.contract.Values.{IsStatementValue}
-use Rattle.pb_proof.specs.meaning.Canonical.{statement_bytes}
+use Rattle.pb_proof.specs.{contract.Values.IsStatementValue, meaning.Canonical.statement_bytes}
 use Rattle.pb_pieces.specs.OpbTokens as instance
 use Rattle.pb_pieces.specs.ProofTokens as proof
-use Rattle.pb_pieces.specs.Tokens.{Token}
-use Rattle.pb_pieces.specs.declared.any_statement.AnyStatement.{AnyStatement}
+use Rattle.pb_pieces.specs.{Tokens.Token, declared.any_statement.AnyStatement.AnyStatement}
 use Rattle.pb_pieces.specs.declared.any_statement.AnyStatement.TheVariants.{Instance, Proof}
 use Rattle.pb_pieces.specs.declared.tokenized.EventKind.{EventKind}
 

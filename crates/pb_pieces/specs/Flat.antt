@@ -1,9 +1,8 @@
 -- An instance in flat arrays.
-use Rattle.std.specs.Prelude.{◌≡◌, ℕ, List, [], map}
-use Rattle.pb_sums.specs.declared.Term.{Term}
 use Rattle.pb_normal.specs.meaning.Names.{HasNames, number_in, with_names}
-use Rattle.pb_pieces.specs.Terms.{HoldTerms}
-use Rattle.pb_pieces.specs.declared.flat.Named.{Named}
+use Rattle.pb_pieces.specs.{Terms.HoldTerms, declared.flat.Named.Named}
+use Rattle.pb_sums.specs.declared.Term.{Term}
+use Rattle.std.specs.Prelude.{◌≡◌, ℕ, List, [], map}
 
 abbrev pub names_of : List Term → List (List ℕ)
 names_of = map (λ t. t.literal.name)

@@ -1,10 +1,7 @@
 -- A statement as it is given to programs in other languages.
+use Rattle.pb_pieces.specs.{Tokens.Token, declared.tokenized.EventKind.EventKind, declared.tokenized.Tokenized.Ghosts as Statements}
+use Rattle.pb_text.specs.declared.place.{Place.Place, Spanned.Spanned}
 use Rattle.std.specs.Prelude.{ℕ, List}
-use Rattle.pb_text.specs.declared.place.Place.{Place}
-use Rattle.pb_text.specs.declared.place.Spanned.{Spanned}
-use Rattle.pb_pieces.specs.Tokens.{Token}
-use Rattle.pb_pieces.specs.declared.tokenized.EventKind.{EventKind}
-use Rattle.pb_pieces.specs.declared.tokenized.Tokenized.{Ghosts as Statements}
 
 -- what a statement is, its tokens and its free text, where it begins, and the position past it
 pub record Given : Type 0 where

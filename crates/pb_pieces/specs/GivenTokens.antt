@@ -1,9 +1,7 @@
 -- The tokens of a statement in the arrays of a caller.
+use Rattle.pb_pieces.specs.{Tokens.Token, Tokens.token, Tokens.token_code, Words.high_word, Words.low_word}
+use Rattle.pb_pieces.specs.declared.{given_token.GivenToken.GivenToken, token_arrays.TokenArrays.TokenArrays}
 use Rattle.std.specs.Prelude.{◌≡◌, ℕ, ℤ, ◌+◌, ◌-◌, nat_le, List, take, drop, length, Option, Some, None, slice_get, unwrap_or, if◌then◌else◌}
-use Rattle.pb_pieces.specs.Tokens.{Token, token, token_code}
-use Rattle.pb_pieces.specs.Words.{high_word, low_word}
-use Rattle.pb_pieces.specs.declared.given_token.GivenToken.{GivenToken}
-use Rattle.pb_pieces.specs.declared.token_arrays.TokenArrays.{TokenArrays}
 
 abbrev pub token_in : GivenToken → Token
 token_in g = token g.kind g.number g.name

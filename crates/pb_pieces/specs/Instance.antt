@@ -1,18 +1,11 @@
 -- An instance in flat arrays.
-use Rattle.std.specs.Prelude.{ℕ, ◌+◌, pos, List, [], ◌∷◌, ◌++◌, length}
-use Rattle.std.specs.List.{flat_map}
-use Rattle.pb_text.specs.declared.Spanned.{Spanned}
-use Rattle.pb_sums.specs.declared.Term.{Term}
-use Rattle.pb_sums.specs.declared.linear.Relation.{Relation}
-use Rattle.pb_sums.specs.declared.linear.Relation.TheVariants.{AtLeast, Equal}
-use Rattle.pb_opb.specs.declared.OpbEvent.{OpbEvent}
-use Rattle.pb_opb.specs.declared.OpbEvent.TheVariants.{Header, Comment, Objective, Constraint}
-use Rattle.pb_pieces.specs.Flat.{HoldNamed}
-use Rattle.pb_pieces.specs.Places.{HoldPlaces}
-use Rattle.pb_pieces.specs.Rows.{HoldRows}
-use Rattle.pb_pieces.specs.declared.places.Span.{Span}
+use Rattle.pb_opb.specs.declared.OpbEvent.{OpbEvent, TheVariants.Header, TheVariants.Comment, TheVariants.Objective, TheVariants.Constraint}
+use Rattle.pb_pieces.specs.{Flat.HoldNamed, Places.HoldPlaces, Rows.HoldRows, declared.instance.Flat.Flat, declared.places.Span.Span}
 use Rattle.pb_pieces.specs.declared.rows.Row.{Row}
-use Rattle.pb_pieces.specs.declared.instance.Flat.{Flat}
+use Rattle.pb_sums.specs.declared.{Term.Term, linear.Relation.Relation, linear.Relation.TheVariants.AtLeast, linear.Relation.TheVariants.Equal}
+use Rattle.pb_text.specs.declared.Spanned.{Spanned}
+use Rattle.std.specs.List.{flat_map}
+use Rattle.std.specs.Prelude.{ℕ, ◌+◌, pos, List, [], ◌∷◌, ◌++◌, length}
 
 abbrev pub kind_code : Relation → ℕ
 kind_code AtLeast = 1

@@ -1,11 +1,9 @@
 -- A statement that is made from the arrays of a caller.
-use Rattle.std.specs.Prelude.{◌≡◌, ℕ, List}
-use Rattle.pb_text.specs.meaning.Limits.{largest, top_of}
-use Rattle.pb_text.specs.declared.Limits.{Limits}
 use Rattle.pb_pieces.specs.AnyStatement.{IsAnyValue, kind_in, text_in, tokens_in}
-use Rattle.pb_pieces.specs.GivenTokens.{AreGiven, Arrays}
-use Rattle.pb_pieces.specs.declared.any_statement.AnyStatement.{AnyStatement}
+use Rattle.pb_pieces.specs.{GivenTokens.AreGiven, GivenTokens.Arrays, declared.any_statement.AnyStatement.AnyStatement}
 use Rattle.pb_pieces.specs.declared.tokenized.EventKind.{EventKind}
+use Rattle.pb_text.specs.{declared.Limits.Limits, meaning.Limits.largest, meaning.Limits.top_of}
+use Rattle.std.specs.Prelude.{◌≡◌, ℕ, List}
 
 -- The statement has this kind, exactly the tokens of the arrays and this free text. It meets the rules under the limits.
 pub record IsMadeOf (limits : Limits) (kind : EventKind) (a : Arrays) (text : List ℕ) (s : AnyStatement) : Type 0 where

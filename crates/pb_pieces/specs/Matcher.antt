@@ -1,9 +1,6 @@
 -- How tokens compare with those that a caller gives.
+use Rattle.pb_pieces.specs.{GivenTokens.token_in, Tokens.Token, declared.given_token.GivenToken.GivenToken, declared.matcher.Matcher.Matcher}
 use Rattle.std.specs.Prelude.{◌≡◌, ◌≤◌, ℕ, true, List, length, map, take}
-use Rattle.pb_pieces.specs.GivenTokens.{token_in}
-use Rattle.pb_pieces.specs.Tokens.{Token}
-use Rattle.pb_pieces.specs.declared.given_token.GivenToken.{GivenToken}
-use Rattle.pb_pieces.specs.declared.matcher.Matcher.{Matcher}
 
 -- the first given tokens are these
 pub record AreFirst (tokens : List Token) (count : ℕ) (given : List GivenToken) : Type 0 where

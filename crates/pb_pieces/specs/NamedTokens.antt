@@ -1,11 +1,9 @@
 -- The tokens of statements, with the names that they are numbered by.
-use Rattle.std.specs.Prelude.{◌≡◌, ℕ, List, [], ◌∷◌, ◌++◌, Bool, true, false, Option, Some, None, map, pos}
-use Rattle.std.specs.List.{flat_map}
 use Rattle.pb_normal.specs.meaning.Names.{HasNames, number_in, with_names}
-use Rattle.pb_sums.specs.declared.Literal.{Literal}
-use Rattle.pb_sums.specs.declared.Term.{Term}
-use Rattle.pb_pieces.specs.Tokens.{HoldTokens, Token, token}
-use Rattle.pb_pieces.specs.declared.tokens.TokenKind.{TokenKind}
+use Rattle.pb_pieces.specs.{Tokens.HoldTokens, Tokens.Token, Tokens.token, declared.tokens.TokenKind.TokenKind}
+use Rattle.pb_sums.specs.declared.{Literal.Literal, Term.Term}
+use Rattle.std.specs.List.{flat_map}
+use Rattle.std.specs.Prelude.{◌≡◌, ℕ, List, [], ◌∷◌, ◌++◌, Bool, true, false, Option, Some, None, map, pos}
 use Rattle.pb_pieces.specs.declared.tokens.TokenKind.TheVariants as kind
 use Rattle.pb_pieces.specs.declared.named_tokens.NamedTokens.{NamedTokens}
 

@@ -1,7 +1,6 @@
 -- The positions of statements in arrays.
+use Rattle.pb_pieces.specs.declared.places.{Places.Places, Span.Span}
 use Rattle.std.specs.Prelude.{◌≡◌, List, map}
-use Rattle.pb_pieces.specs.declared.places.Places.{Places}
-use Rattle.pb_pieces.specs.declared.places.Span.{Span}
 
 -- the arrays have these positions
 pub record HoldPlaces (spans : List Span) (p : Places) : Type 0 where

@@ -1,17 +1,10 @@
 -- The instance that a source had, in flat arrays.
-use Rattle.std.specs.Prelude.{◌≡◌, ℕ, ◌≤◌, List, [], ◌++◌, length, true, false, Option, Some, None, Err}
-use Rattle.pb_text.specs.meaning.Blank.{IsBlank, ReadsBlank}
-use Rattle.pb_text.specs.meaning.Pulling.{Took}
-use Rattle.pb_text.specs.meaning.PullsInARow.{TookAll}
-use Rattle.pb_text.specs.meaning.Reading.{IsSpelled, byte_limit}
-use Rattle.pb_text.specs.meaning.Spelling.{Item}
-use Rattle.pb_text.specs.declared.Place.{Place}
-use Rattle.pb_text.specs.declared.Spanned.{Spanned}
-use Rattle.pb_text.specs.declared.Stop.{Stop}
-use Rattle.pb_text.specs.declared.place.Why.TheVariants.{Memory}
 use Rattle.pb_opb.specs.declared.OpbEvent.{OpbEvent}
-use Rattle.pb_pieces.specs.Instance.{IsFlatOf}
-use Rattle.pb_pieces.specs.declared.instance.Flat.{Flat}
+use Rattle.pb_pieces.specs.{Instance.IsFlatOf, declared.instance.Flat.Flat}
+use Rattle.pb_text.specs.declared.{Place.Place, Spanned.Spanned, Stop.Stop, place.Why.TheVariants.Memory}
+use Rattle.pb_text.specs.meaning.{Blank.IsBlank, Blank.ReadsBlank, Pulling.Took, PullsInARow.TookAll, Reading.IsSpelled, Reading.byte_limit}
+use Rattle.pb_text.specs.meaning.Spelling.{Item}
+use Rattle.std.specs.Prelude.{◌≡◌, ℕ, ◌≤◌, List, [], ◌++◌, length, true, false, Option, Some, None, Err}
 
 -- The source had a text of the format and a blank rest, and ended there. The arrays are those of its statements.
 pub record IsFlatBy (format : List (Item OpbEvent) → Type 0) (longest : ℕ) (before after : Option (List ℕ)) (f : Flat) : Type 0 where

@@ -1,8 +1,6 @@
 -- The objective and the constraints of an instance in arrays.
+use Rattle.pb_pieces.specs.{Words.high_word, Words.low_word, declared.rows.Row.Row, declared.rows.Rows.Rows}
 use Rattle.std.specs.Prelude.{◌≡◌, List, map}
-use Rattle.pb_pieces.specs.Words.{high_word, low_word}
-use Rattle.pb_pieces.specs.declared.rows.Rows.{Rows}
-use Rattle.pb_pieces.specs.declared.rows.Row.{Row}
 
 -- the arrays have these rows
 pub record HoldRows (rows : List Row) (r : Rows) : Type 0 where

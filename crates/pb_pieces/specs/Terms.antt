@@ -1,8 +1,7 @@
 -- The terms of an instance in arrays.
-use Rattle.std.specs.Prelude.{◌≡◌, ℕ, Bool, true, false, List, map}
+use Rattle.pb_pieces.specs.{Words.high_word, Words.low_word, declared.terms.Terms.Terms}
 use Rattle.pb_sums.specs.declared.Term.{Term}
-use Rattle.pb_pieces.specs.Words.{high_word, low_word}
-use Rattle.pb_pieces.specs.declared.terms.Terms.{Terms}
+use Rattle.std.specs.Prelude.{◌≡◌, ℕ, Bool, true, false, List, map}
 
 abbrev pub bit : Bool → ℕ
 bit true = 1

@@ -1,17 +1,11 @@
 -- How a reader relates to the text that it was fed.
-use Rattle.std.specs.Prelude.{◌≡◌, ◌⊎◌, ℕ, List, [], ◌∷◌, ◌++◌, map, take, Option, Some, None}
-use Rattle.std.specs.List.{flat_map}
-use Rattle.pb_text.specs.contract.Feeding.{StandsAt, halt_of}
-use Rattle.pb_text.specs.declared.machine.Machine.{Ghosts}
-use Rattle.pb_text.specs.declared.place.Spanned.{Spanned}
-use Rattle.pb_text.specs.declared.place.Stop.{Stop}
-use Rattle.pb_text.specs.declared.place.Why.TheVariants.{Memory}
 use Rattle.pb_pieces.specs.NamedTokens.{AreTokens, names_of, number_of}
-use Rattle.pb_pieces.specs.Tokens.{HoldTokens, Token}
-use Rattle.pb_pieces.specs.declared.token_reader.Event.{Event}
-use Rattle.pb_pieces.specs.declared.token_reader.Taken.{Taken}
-use Rattle.pb_pieces.specs.declared.token_reader.TokenReader.{TokenReader}
-use Rattle.pb_pieces.specs.declared.tokenized.Tokenized.{Ghosts as Statements}
+use Rattle.pb_pieces.specs.{Tokens.HoldTokens, Tokens.Token, declared.token_reader.Event.Event, declared.token_reader.Taken.Taken}
+use Rattle.pb_pieces.specs.declared.{token_reader.TokenReader.TokenReader, tokenized.Tokenized.Ghosts as Statements}
+use Rattle.pb_text.specs.{contract.Feeding.StandsAt, contract.Feeding.halt_of, declared.machine.Machine.Ghosts, declared.place.Spanned.Spanned}
+use Rattle.pb_text.specs.declared.place.{Stop.Stop, Why.TheVariants.Memory}
+use Rattle.std.specs.List.{flat_map}
+use Rattle.std.specs.Prelude.{◌≡◌, ◌⊎◌, ℕ, List, [], ◌∷◌, ◌++◌, map, take, Option, Some, None}
 
 -- the names of these statements, in order
 abbrev pub names_in : {E : Type 0} → Statements E → List (Spanned E) → List (List ℕ)

@@ -1,9 +1,8 @@
 -- The tokens of a statement in arrays.
-use Rattle.std.specs.Prelude.{◌≡◌, ℕ, ℤ, List, Option, map}
-use Rattle.pb_pieces.specs.Words.{high_word, low_word}
-use Rattle.pb_pieces.specs.declared.tokens.TokenKind.{TokenKind}
+use Rattle.pb_pieces.specs.{Words.high_word, Words.low_word, declared.tokens.TokenKind.TokenKind}
 use Rattle.pb_pieces.specs.declared.tokens.TokenKind.TheVariants.{Term, NegatedTerm, Literal, NegatedLiteral, AtLeast, Equal, Count, Id, Add, Multiply, Divide, Saturate, Weaken, Bound, Infinite, Solution}
 use Rattle.pb_pieces.specs.declared.tokens.Tokens.{Tokens}
+use Rattle.std.specs.Prelude.{◌≡◌, ℕ, ℤ, List, Option, map}
 
 -- what a token is, its number, or 0, and the bytes of its name, if it has one
 pub record Token : Type 0 where

@@ -1,8 +1,8 @@
 -- The constraints that a statement adds, one after another.
 use Rattle.pb_trace.proofs.Common.{ℕ, ◌++◌, ◌+◌, ◌-◌, ◌<◌, ◌∷◌, ◌≡◌, ◌≤◌, [], ap, append-nil, append_assoc, arith, Bool, drop, get_or, length, List}
 use Rattle.pb_trace.proofs.Common.{None, Option, suc, take, zero, get_or-drop, length-drop, take_more, Form, constraint_in, added_bytes, found_bytes}
-use Rattle.std.specs.List.{range_with_len}
 use Rattle.std.proofs.lemmas.List.Concat.{flat_map-append, flat_map-cons}
+use Rattle.std.specs.List.{range_with_len}
 
 -- the constraint with the next id
 pub constraint_next : (live : List (Option Form)) (i : ℕ) → constraint_in live (i + 1) ≡ get_or live i None

@@ -1,7 +1,7 @@
 -- Names that are copied.
+use Rattle.pb_normal.proofs.lemmas.names.Numbering.{number_in-append, number_in-below, number_in-get}
 use Rattle.pb_trace.proofs.Common.{ℕ, ◌+◌, ◌≡◌, [], arith, drop, false, List, slice_get, Some, take, take-append-drop, length-take-le, take_more}
 use Rattle.pb_trace.proofs.Common.{get_or_from_slice_get, slice_get_within, AreDistinct, has_name, with_name}
-use Rattle.pb_normal.proofs.lemmas.names.Numbering.{number_in-append, number_in-below, number_in-get}
 
 -- a name is not among those before it
 absent : (names : List (List ℕ)) (i : ℕ) (x : List ℕ) → AreDistinct names → slice_get names i ≡ Some x → has_name (take i names) x ≡ false

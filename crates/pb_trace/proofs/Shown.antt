@@ -1,11 +1,10 @@
 -- The text of a form, in parts.
+use Rattle.pb_normal.specs.meaning.Written.{term_of, linear_of}
+use Rattle.pb_sums.specs.contract.Canonical.{term_bytes, further_bytes, head_bytes, linear_bytes}
 use Rattle.pb_trace.proofs.Common.{ℕ, ◌++◌, ◌+◌, ◌<◌, ◌∙◌, ◌∷◌, ◌≡◌, [], ap, append_assoc, arith, get_or, length, List, map, None, Option, refl}
 use Rattle.pb_trace.proofs.Common.{slice_get, sym, unwrap_or, common_steps, All-head, All-tail, unwrap_or-slice_get, All, flat_map, Entry, Form}
-use Rattle.pb_trace.proofs.Common.{form_bytes, term_shown}
+use Rattle.pb_trace.proofs.{Common.form_bytes, Common.term_shown, Texts.texts}
 use Rattle.std.proofs.lemmas.List.Concat.{flat_map-cons}
-use Rattle.pb_trace.proofs.Texts.{texts}
-use Rattle.pb_sums.specs.contract.Canonical.{term_bytes, further_bytes, head_bytes, linear_bytes}
-use Rattle.pb_normal.specs.meaning.Written.{term_of, linear_of}
 
 -- a term with a space after it
 abbrev pub entry_bytes : List (List ℕ) → Entry → List ℕ

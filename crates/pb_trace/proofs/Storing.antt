@@ -1,21 +1,17 @@
 -- What is stored of the constraints is what the replay has, statement by statement.
+use Rattle.pb_proof.specs.declared.{Bound.Bound, Bound.TheVariants.Finite, Bound.TheVariants.Infinite, Conclusion.Conclusion}
+use Rattle.pb_proof.specs.declared.Conclusion.TheVariants.{NoClaim, Unsat, Sat, Bounds}
+use Rattle.pb_proof.specs.declared.Stage.{Stage, TheVariants.Steps}
+use Rattle.pb_proof.specs.declared.Statement.TheVariants.{Header, F, Pol, Rup, Soli, Solx, Delete, Output, Conclude, End}
+use Rattle.pb_proof.specs.meaning.Order.{stage_of}
+use Rattle.pb_replay.proofs.lemmas.conclusions.Concluded.{contradicted-has}
+use Rattle.pb_replay.proofs.lemmas.meaning.Accepting.{needed, followed, ok-same}
+use Rattle.pb_replay.specs.meaning.Answer.{Answer}
+use Rattle.pb_replay.specs.meaning.Conclusions.{none_left, named, lower_bound, upper_bound, Concludes}
+use Rattle.pb_sums.specs.declared.{Literal.Literal, Term.Term}
 use Rattle.pb_trace.proofs.Common.{ℕ, ℤ, ◌++◌, ◌∙◌, ◌∷◌, ◌≡◌, [], ap, append-nil, arith, drop, length, List, None, Ok, Option, refl, set, Some, sym}
 use Rattle.pb_trace.proofs.Common.{common_steps, drop_all, length-set, Form, with_names, Statement, Problem, Deleted, place, State, Does, mentioned}
 use Rattle.pb_trace.proofs.Common.{Outcome, FirstIsEmpty, IsEmptyAt, StoresTheLive, extended, stored_after, without_all}
-use Rattle.pb_sums.specs.declared.Literal.{Literal}
-use Rattle.pb_sums.specs.declared.Term.{Term}
-use Rattle.pb_proof.specs.meaning.Order.{stage_of}
-use Rattle.pb_proof.specs.declared.Bound.{Bound}
-use Rattle.pb_proof.specs.declared.Bound.TheVariants.{Finite, Infinite}
-use Rattle.pb_proof.specs.declared.Conclusion.{Conclusion}
-use Rattle.pb_proof.specs.declared.Conclusion.TheVariants.{NoClaim, Unsat, Sat, Bounds}
-use Rattle.pb_proof.specs.declared.Stage.{Stage}
-use Rattle.pb_proof.specs.declared.Stage.TheVariants.{Steps}
-use Rattle.pb_proof.specs.declared.Statement.TheVariants.{Header, F, Pol, Rup, Soli, Solx, Delete, Output, Conclude, End}
-use Rattle.pb_replay.specs.meaning.Answer.{Answer}
-use Rattle.pb_replay.specs.meaning.Conclusions.{none_left, named, lower_bound, upper_bound, Concludes}
-use Rattle.pb_replay.proofs.lemmas.meaning.Accepting.{needed, followed, ok-same}
-use Rattle.pb_replay.proofs.lemmas.conclusions.Concluded.{contradicted-has}
 
 -- an accepted conclusion continues
 left_next : (s : State) (id : Option ℤ) (next : Answer State) (t : State) → none_left s id next (Ok t) → next (Ok t)

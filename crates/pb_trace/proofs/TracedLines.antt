@@ -1,13 +1,11 @@
 -- The lines of accepted statements, one after another.
-use Rattle.pb_trace.proofs.Common.{ℕ, ◌++◌, ◌∙◌, ◌∷◌, ◌≡◌, [], ap, Err, List, Ok, Option, refl, Result, subst, sym, Form, Statement, Problem, first_state, State}
-use Rattle.pb_trace.proofs.Common.{Outcome, part_wrote, writes_nothing, Limits, Wrote, IsEmptyAt, lines_of, TracesEachLine, extended, line_bytes}
-use Rattle.pb_trace.proofs.Common.{stored_after, TracesCall, Tracing}
-use Rattle.std.specs.Result.{IsErr}
-use Rattle.pb_text.specs.meaning.Limits.{largest, top_of}
-use Rattle.pb_text.specs.declared.Spanned.{Spanned}
+use Rattle.pb_text.specs.{declared.Spanned.Spanned, meaning.Limits.largest, meaning.Limits.top_of}
 use Rattle.pb_tool.specs.contract.Watched.{Call, Accepted, Rejected, GotEach, ShowsEach}
 use Rattle.pb_tool.specs.declared.ToolFault.{ToolFault}
-use Rattle.pb_trace.proofs.Storing.{state-stores}
+use Rattle.pb_trace.proofs.Common.{ℕ, ◌++◌, ◌∙◌, ◌∷◌, ◌≡◌, [], ap, Err, List, Ok, Option, refl, Result, subst, sym, Form, Statement, Problem, first_state, State}
+use Rattle.pb_trace.proofs.Common.{Outcome, part_wrote, writes_nothing, Limits, Wrote, IsEmptyAt, lines_of, TracesEachLine, extended, line_bytes}
+use Rattle.pb_trace.proofs.{Common.stored_after, Common.TracesCall, Common.Tracing, Storing.state-stores}
+use Rattle.std.specs.Result.{IsErr}
 
 module _ {S : Type 0} (contents : S → Option (List ℕ)) (faults : S → ℕ) where
   -- after a fault nothing changes

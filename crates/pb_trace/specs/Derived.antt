@@ -1,31 +1,18 @@
 -- The literals that became true, each with what forced it: a derivation.
-use Rattle.std.specs.Prelude.{◌≡◌, ◌⊎◌, ℕ, ◌+◌, ◌-◌, ◌<◌, ◌≤◌, Bool, false, not, if◌then◌else◌, List, ◌∷◌, [], ◌++◌, length, map, set, get_or, slice_get, IsTrue, Option, Some, None, MatchOption}
-use Rattle.std.specs.Option.{option_copied}
-use Rattle.pb_normal.specs.declared.entry.Entry.{Entry}
-use Rattle.pb_normal.specs.declared.numbered.NumberedLiteral.{NumberedLiteral}
-use Rattle.pb_normal.specs.meaning.Form.{Form, total}
-use Rattle.pb_normal.specs.meaning.Names.{with_names}
-use Rattle.pb_normal.specs.meaning.Rules.{negation_of, on}
+use Rattle.pb_normal.specs.declared.{entry.Entry.Entry, numbered.NumberedLiteral.NumberedLiteral, side.Side.TheVariants.AtLeast}
+use Rattle.pb_normal.specs.meaning.{Form.Form, Form.total, Names.with_names, Rules.negation_of, Rules.on}
 use Rattle.pb_normal.specs.meaning.Written.{IsSideOf, magnitude, names_of}
-use Rattle.pb_normal.specs.declared.side.Side.TheVariants.{AtLeast}
-use Rattle.pb_sums.specs.declared.linear.Linear.{Linear}
-use Rattle.pb_text.specs.declared.Limits.{Limits}
-use Rattle.pb_text.specs.meaning.Limits.{largest}
-use Rattle.std.specs.Int.RustNames.{unsigned_abs}
 use Rattle.pb_propagate.specs.meaning.Propagation.{MayPropagate, opened}
-use Rattle.pb_trace.specs.declared.piece.Derivation.{Derivation}
-use Rattle.pb_trace.specs.declared.piece.Reasons.{Reasons}
+use Rattle.pb_sums.specs.declared.linear.Linear.{Linear}
+use Rattle.pb_text.specs.{declared.Limits.Limits, meaning.Limits.largest}
+use Rattle.pb_trace.specs.declared.piece.{Derivation.Derivation, Reasons.Reasons}
 use Rattle.pb_trace.specs.declared.piece.Reasons.TheVariants.{Nothing, Plain, Shown}
-use Rattle.pb_trace.specs.declared.propagation.Base.{Base}
-use Rattle.pb_trace.specs.declared.propagation.Forced.{Forced}
-use Rattle.pb_trace.specs.declared.propagation.Over.{Over}
-use Rattle.pb_trace.specs.declared.propagation.Over.TheVariants.{Live, All, First}
-use Rattle.pb_trace.specs.declared.propagation.Propagation.{Propagation}
-use Rattle.pb_trace.specs.declared.propagation.Reason.{Reason}
-use Rattle.pb_trace.specs.declared.propagation.Reason.TheVariants.{Given, Negation, Id}
-use Rattle.pb_trace.specs.declared.reasons.Scene.{Scene}
-use Rattle.pb_trace.specs.declared.stored.Constraints.{Constraints}
-use Rattle.pb_trace.specs.declared.stored.Stored.{Stored}
+use Rattle.pb_trace.specs.declared.propagation.{Base.Base, Forced.Forced, Over.Over}
+use Rattle.pb_trace.specs.declared.propagation.{Over.TheVariants.Live, Over.TheVariants.All, Over.TheVariants.First, Propagation.Propagation}
+use Rattle.pb_trace.specs.declared.propagation.Reason.{Reason, TheVariants.Given, TheVariants.Negation, TheVariants.Id}
+use Rattle.pb_trace.specs.declared.{reasons.Scene.Scene, stored.Constraints.Constraints, stored.Stored.Stored}
+use Rattle.std.specs.{Int.RustNames.unsigned_abs, Option.option_copied}
+use Rattle.std.specs.Prelude.{◌≡◌, ◌⊎◌, ℕ, ◌+◌, ◌-◌, ◌<◌, ◌≤◌, Bool, false, not, if◌then◌else◌, List, ◌∷◌, [], ◌++◌, length, map, set, get_or, slice_get, IsTrue, Option, Some, None, MatchOption}
 
 abbrev pub literal_of : Forced → NumberedLiteral
 literal_of f = record { variable = f.variable; negated = f.negated }

@@ -1,17 +1,14 @@
 -- What is stored of the constraints is what the replay has, and what is written for a proof.
-use Rattle.std.specs.Prelude.{◌≡◌, ℕ, Bool, List, [], ◌∷◌, ◌++◌, Option, Ok}
-use Rattle.pb_text.specs.meaning.Writing.{Wrote}
-use Rattle.pb_text.specs.declared.Limits.{Limits}
-use Rattle.pb_text.specs.declared.Spanned.{Spanned}
+use Rattle.pb_normal.specs.meaning.Form.{Form}
 use Rattle.pb_proof.specs.declared.Stage.{Stage}
 use Rattle.pb_proof.specs.declared.Stage.TheVariants.{Opening, Formula, Steps, Concluding, Closing, Complete}
 use Rattle.pb_proof.specs.declared.Statement.{Statement}
-use Rattle.pb_normal.specs.meaning.Form.{Form}
 use Rattle.pb_replay.specs.contract.ReplayModel.{Replaying, StandsFor, StepsAs}
-use Rattle.pb_replay.specs.meaning.Problem.{Problem}
-use Rattle.pb_replay.specs.meaning.Replay.{State, first_state}
+use Rattle.pb_replay.specs.meaning.{Problem.Problem, Replay.State, Replay.first_state}
+use Rattle.pb_text.specs.{declared.Limits.Limits, declared.Spanned.Spanned, meaning.Writing.Wrote}
 use Rattle.pb_tool.specs.contract.Watched.{Call, Accepted, Rejected, GotEach, ShowsEach}
 use Rattle.pb_trace.specs.Traced.{Tracing, TracesCall, extended, line_bytes, stored_after}
+use Rattle.std.specs.Prelude.{◌≡◌, ℕ, Bool, List, [], ◌∷◌, ◌++◌, Option, Ok}
 
 -- before `f` there is no constraint
 abbrev pub IsEmptyAt : Stage → List (Option Form) → Type 0

@@ -1,5 +1,4 @@
-use Rattle.pb_c.proofs.Common.{AnswerOfCheck}
-use Rattle.pb_c.proofs.Answered.{answers}
+use Rattle.pb_c.proofs.{Answered.answers, Common.AnswerOfCheck}
 use Rattle.pb_c.proofs.check_into.Goals as goal
 
 pub returns : goal.returns

@@ -1,5 +1,4 @@
-use Rattle.pb_c.proofs.Common.{AnswerOfShow}
-use Rattle.pb_c.proofs.Answered.{answers}
+use Rattle.pb_c.proofs.{Answered.answers, Common.AnswerOfShow}
 use Rattle.pb_c.proofs.pb_show.Goals as goal
 
 pub returns : goal.returns

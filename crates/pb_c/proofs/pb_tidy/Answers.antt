@@ -1,5 +1,4 @@
-use Rattle.pb_c.proofs.Common.{AnswerOfTidy}
-use Rattle.pb_c.proofs.Answered.{answers}
+use Rattle.pb_c.proofs.{Answered.answers, Common.AnswerOfTidy}
 use Rattle.pb_c.proofs.pb_tidy.Goals as goal
 
 pub returns : goal.returns

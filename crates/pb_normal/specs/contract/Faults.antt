@@ -1,7 +1,6 @@
 -- The text of a fault of a form.
+use Rattle.pb_normal.specs.declared.fault.NormalFault.{NormalFault, TheVariants.Overflow, TheVariants.Memory}
 use Rattle.std.specs.Prelude.{ℕ, List, codes}
-use Rattle.pb_normal.specs.declared.fault.NormalFault.{NormalFault}
-use Rattle.pb_normal.specs.declared.fault.NormalFault.TheVariants.{Overflow, Memory}
 
 abbrev pub fault_text : NormalFault → List ℕ
 fault_text Overflow = codes "overflow"

@@ -1,11 +1,7 @@
 -- The hasher that keys give.
-use Rattle.std.specs.Hash.DefaultHasher.{initial}
-use Rattle.std.specs.declared.hash.DefaultHasher.{DefaultHasher}
-use Rattle.std.specs.RandomState.{initial_hasher}
-use Rattle.pb_normal.specs.contract.NameHasher.{keyed}
-use Rattle.pb_normal.specs.declared.hash_keys.HashKeys.{HashKeys}
-use Rattle.pb_normal.specs.declared.hash_keys.HashKeys.TheVariants.{Fixed, Random}
-use Rattle.pb_normal.specs.declared.names.hasher.NameHasher.{NameHasher}
+use Rattle.pb_normal.specs.{contract.NameHasher.keyed, declared.hash_keys.HashKeys.HashKeys}
+use Rattle.pb_normal.specs.declared.{hash_keys.HashKeys.TheVariants.Fixed, hash_keys.HashKeys.TheVariants.Random, names.hasher.NameHasher.NameHasher}
+use Rattle.std.specs.{Hash.DefaultHasher.initial, RandomState.initial_hasher, declared.hash.DefaultHasher.DefaultHasher}
 
 -- the SipHash that has these keys
 abbrev pub sip_by : HashKeys → DefaultHasher

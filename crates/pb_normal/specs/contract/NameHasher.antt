@@ -1,10 +1,9 @@
 -- What a `NameHasher` computes. No result depends on it.
 use Rattle.std.specs.Prelude.{ℕ, zero, suc, ◌+◌, ◌-◌, ◌*◌, ◌/◌, ◌%◌, ◌^◌, [], ◌∷◌, List, length, take, drop, if◌then◌else◌, nat_le, nat_lt, slice_index, bit_or, bit_xor}
 use Rattle.std.specs.Hash.DefaultHasher as sip
-use Rattle.std.specs.Hash.FoldHasher.{folded_multiply, shl}
-use Rattle.std.specs.Int.{from_le_bytes, w32, w64}
-use Rattle.std.specs.declared.hash.DefaultHasher.{DefaultHasher}
 use Rattle.pb_normal.specs.declared.names.hasher.NameHasher.{NameHasher}
+use Rattle.std.specs.Hash.FoldHasher.{folded_multiply, shl}
+use Rattle.std.specs.{Int.from_le_bytes, Int.w32, Int.w64, declared.hash.DefaultHasher.DefaultHasher}
 
 -- its two secret words are what the SipHash answers at once, and after the byte 1
 unfoldable pub keyed : DefaultHasher → NameHasher

@@ -1,8 +1,7 @@
 -- What an addition of two lists of terms preserves, for any choice of the literals that count
-use Rattle.std.specs.Prelude.{◌≡◌, ℕ, ◌+◌, Bool, not, List}
 use Rattle.pb_normal.specs.declared.entry.Entry.{Entry}
-use Rattle.pb_normal.specs.meaning.Form.{Form, total, negative, IsRising, IsNormal}
-use Rattle.pb_normal.specs.meaning.Rules.{IsSum}
+use Rattle.pb_normal.specs.meaning.{Form.Form, Form.total, Form.negative, Form.IsRising, Form.IsNormal, Rules.IsSum}
+use Rattle.std.specs.Prelude.{◌≡◌, ℕ, ◌+◌, Bool, not, List}
 
 -- the negations of the literals that count
 abbrev pub flip : (ℕ → Bool → Bool) → ℕ → Bool → Bool

@@ -1,8 +1,6 @@
 -- Codes of literals: twice the variable, and 1 more if the literal is negated
+use Rattle.pb_normal.specs.{declared.entry.Entry.Entry, declared.terms.coded_term.CodedTerm.CodedTerm, meaning.Rules.with_coefficient}
 use Rattle.std.specs.Prelude.{◌≡◌, ℕ, ◌<◌, ◌/◌, ◌%◌, ◌^◌, ◌==◌}
-use Rattle.pb_normal.specs.declared.terms.coded_term.CodedTerm.{CodedTerm}
-use Rattle.pb_normal.specs.declared.entry.Entry.{Entry}
-use Rattle.pb_normal.specs.meaning.Rules.{with_coefficient}
 
 -- the term of a code alone has coefficient 1
 abbrev pub decoded : ℕ → Entry

@@ -1,9 +1,8 @@
 -- Terms as they are stored
-use Rattle.std.specs.Prelude.{List, map}
-use Rattle.pb_normal.specs.declared.entry.Entry.{Entry}
-use Rattle.pb_normal.specs.declared.terms.Stored.{Stored}
+use Rattle.pb_normal.specs.declared.{entry.Entry.Entry, terms.Stored.Stored}
 use Rattle.pb_normal.specs.declared.terms.Stored.TheVariants.{Codes, Few, Narrow, Wide}
 use Rattle.pb_normal.specs.engine.Codes.{decoded, weighed}
+use Rattle.std.specs.Prelude.{List, map}
 
 abbrev pub entries_of : Stored → List Entry
 entries_of (Codes codes) = map decoded codes.items

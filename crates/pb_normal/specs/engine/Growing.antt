@@ -1,9 +1,7 @@
 -- The form of a list or of a tree
-use Rattle.pb_normal.specs.meaning.Form.{Form}
-use Rattle.pb_normal.specs.declared.kind.Listing.{Listing}
+use Rattle.pb_normal.specs.declared.kind.{Kind.Kind, Kind.TheVariants.Listing as Listed, Kind.TheVariants.Tree, Listing.Listing}
 use Rattle.pb_normal.specs.declared.kind.Listing.TheVariants.{Held, Made}
-use Rattle.pb_normal.specs.declared.kind.Kind.{Kind}
-use Rattle.pb_normal.specs.declared.kind.Kind.TheVariants.{Listing as Listed, Tree}
+use Rattle.pb_normal.specs.meaning.Form.{Form}
 
 abbrev pub listing_form : Listing → Form
 listing_form (Held f) = f.now

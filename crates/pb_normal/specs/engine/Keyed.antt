@@ -1,11 +1,8 @@
 -- Terms in a map by their variables
-use Rattle.std.specs.Prelude.{◌≡◌, ℕ, ◌<◌, ◌≤◌, [], ◌∷◌, Option, IfSome, All}
-use Rattle.std.specs.BTreeMap.{BTreeMap, get, values}
-use Rattle.std.specs.Option.{option_to_list}
-use Rattle.std.specs.Ordering.{nat_cmp}
-use Rattle.pb_normal.specs.declared.entry.Entry.{Entry}
-use Rattle.pb_normal.specs.engine.Adds.{Adds}
+use Rattle.pb_normal.specs.{declared.entry.Entry.Entry, engine.Adds.Adds}
 use Rattle.pb_normal.specs.meaning.Form.{Form, IsNormal, each, total}
+use Rattle.std.specs.{BTreeMap.BTreeMap, BTreeMap.get, BTreeMap.values, Option.option_to_list, Ordering.nat_cmp}
+use Rattle.std.specs.Prelude.{◌≡◌, ℕ, ◌<◌, ◌≤◌, [], ◌∷◌, Option, IfSome, All}
 
 -- the key is the variable of the term, and its coefficient is not 0
 abbrev pub IsAtItsKey : ℕ × Entry → Type 0

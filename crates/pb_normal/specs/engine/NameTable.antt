@@ -1,11 +1,8 @@
 -- Names in one list of bytes, and chains by which a name is found.
+use Rattle.pb_normal.specs.{contract.NameHasher.finish, contract.NameHasher.write, declared.names.entry.NameEntry.NameEntry}
+use Rattle.pb_normal.specs.{declared.names.hasher.NameHasher.NameHasher, declared.names.table.NameTable.NameTable, meaning.Names.AreDistinct}
 use Rattle.std.specs.Prelude.{◌≡◌, ◌≢◌, ◌<◌, ◌≤◌, ℕ, suc, ◌-◌, ◌/◌, ◌^◌, List, [], ◌∷◌, All, drop, get_or, length, map, take, bit_and}
 use Rattle.std.specs.Str.{IsUtf8}
-use Rattle.pb_normal.specs.contract.NameHasher.{finish, write}
-use Rattle.pb_normal.specs.declared.names.entry.NameEntry.{NameEntry}
-use Rattle.pb_normal.specs.declared.names.hasher.NameHasher.{NameHasher}
-use Rattle.pb_normal.specs.declared.names.table.NameTable.{NameTable}
-use Rattle.pb_normal.specs.meaning.Names.{AreDistinct}
 
 abbrev pub ends_of : List NameEntry → List ℕ
 ends_of entries = map (λ (e : NameEntry). e.end) entries

@@ -1,13 +1,9 @@
 -- Written constraints as forms: which sides each constraint loads as, the names that appear, and which constraints fit.
-use Rattle.std.specs.Prelude.{ℕ, ◌+◌, ◌≤◌, unsigned_abs, List, [], ◌∷◌, map}
+use Rattle.pb_normal.specs.declared.side.Side.{Side, TheVariants.AtLeast as least, TheVariants.AtMost as most}
+use Rattle.pb_normal.specs.meaning.{Form.Form, Written.names_of, Written.magnitude, Written.IsSideOf}
+use Rattle.pb_sums.specs.declared.linear.{Linear.Linear, Relation.Relation, Relation.TheVariants.AtLeast, Relation.TheVariants.Equal}
 use Rattle.std.specs.List.{flat_map, AllZip}
-use Rattle.pb_sums.specs.declared.linear.Linear.{Linear}
-use Rattle.pb_sums.specs.declared.linear.Relation.{Relation}
-use Rattle.pb_sums.specs.declared.linear.Relation.TheVariants.{AtLeast, Equal}
-use Rattle.pb_normal.specs.declared.side.Side.{Side}
-use Rattle.pb_normal.specs.declared.side.Side.TheVariants.{AtLeast as least, AtMost as most}
-use Rattle.pb_normal.specs.meaning.Form.{Form}
-use Rattle.pb_normal.specs.meaning.Written.{names_of, magnitude, IsSideOf}
+use Rattle.std.specs.Prelude.{ℕ, ◌+◌, ◌≤◌, unsigned_abs, List, [], ◌∷◌, map}
 
 -- the names that are written in constraints, with repetitions
 abbrev pub constraint_names : List Linear → List (List ℕ)

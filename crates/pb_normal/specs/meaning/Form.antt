@@ -1,6 +1,6 @@
 -- Forms: positive coefficients on literals, one literal for each variable, and a degree.
-use Rattle.std.specs.Prelude.{◌≡◌, ℕ, ◌+◌, ◌<◌, ◌≤◌, ◌^◌, ◌==◌, ℤ, pos, negsuc, ◌-ℤ◌, ◌≤ℤ◌, unsigned_abs, Bool, true, not, ◌&&◌, ◌↔◌, if◌then◌else◌, List, [], ◌∷◌, slice_get, Some, All}
 use Rattle.pb_normal.specs.declared.entry.Entry.{Entry}
+use Rattle.std.specs.Prelude.{◌≡◌, ℕ, ◌+◌, ◌<◌, ◌≤◌, ◌^◌, ◌==◌, ℤ, pos, negsuc, ◌-ℤ◌, ◌≤ℤ◌, unsigned_abs, Bool, true, not, ◌&&◌, ◌↔◌, if◌then◌else◌, List, [], ◌∷◌, slice_get, Some, All}
 
 -- an entry's coefficient if its literal counts, and 0 otherwise
 abbrev pub counted : (ℕ → Bool → Bool) → Entry → ℕ

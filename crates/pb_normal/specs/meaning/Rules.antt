@@ -1,9 +1,8 @@
 -- The rules of cutting planes on forms: the sum as a relation, all others as functions.
-use Rattle.std.specs.Prelude.{◌≡◌, ℕ, ◌+◌, ◌-◌, ◌*◌, ◌<◌, ◌==◌, nat_lt, pos, ◌+ℤ◌, Bool, not, false, ◌&&◌, ◌||◌, if◌then◌else◌, ◌⊎◌, List, [], ◌∷◌, map, filter, min, get_or}
-use Rattle.std.specs.Int.{div_ceil}
-use Rattle.pb_normal.specs.declared.entry.Entry.{Entry}
-use Rattle.pb_normal.specs.declared.numbered.NumberedLiteral.{NumberedLiteral}
+use Rattle.pb_normal.specs.declared.{entry.Entry.Entry, numbered.NumberedLiteral.NumberedLiteral}
 use Rattle.pb_normal.specs.meaning.Form.{Form, total, size, low, bound, coefficient, at_least_0, IsOrdered}
+use Rattle.std.specs.Int.{div_ceil}
+use Rattle.std.specs.Prelude.{◌≡◌, ℕ, ◌+◌, ◌-◌, ◌*◌, ◌<◌, ◌==◌, nat_lt, pos, ◌+ℤ◌, Bool, not, false, ◌&&◌, ◌||◌, if◌then◌else◌, ◌⊎◌, List, [], ◌∷◌, map, filter, min, get_or}
 
 -- The sum of two forms: coefficients and bounds are added, and the degree is bound plus low, at least 0.
 pub record IsSum (f g r : Form) : Type 0 where

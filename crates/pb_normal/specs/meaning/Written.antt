@@ -1,14 +1,9 @@
 -- Written constraints: signed coefficients on literals by name. Terms may repeat a name and may be zero.
+use Rattle.pb_normal.specs.declared.{entry.Entry.Entry, side.Side.Side, side.Side.TheVariants.AtLeast as least, side.Side.TheVariants.AtMost as most}
+use Rattle.pb_normal.specs.meaning.Form.{Form, Holds, IsOrdered, coefficient, low, at_least_0}
+use Rattle.pb_sums.specs.declared.linear.{Linear.Linear, Relation.Relation, Relation.TheVariants.AtLeast, Relation.TheVariants.Equal, Term.Term}
 use Rattle.std.specs.Prelude.{◌≡◌, ℕ, ◌+◌, ◌<◌, ℤ, pos, ◌+ℤ◌, ◌-ℤ◌, ◌≤ℤ◌, neg_ℤ, unsigned_abs, Bool, not, ◌↔◌, if◌then◌else◌, List, [], ◌∷◌, map, length, slice_get, get_or, Some, All}
 use Rattle.std.specs.Str.{bytes_eq}
-use Rattle.pb_sums.specs.declared.linear.Term.{Term}
-use Rattle.pb_sums.specs.declared.linear.Linear.{Linear}
-use Rattle.pb_sums.specs.declared.linear.Relation.{Relation}
-use Rattle.pb_sums.specs.declared.linear.Relation.TheVariants.{AtLeast, Equal}
-use Rattle.pb_normal.specs.declared.side.Side.{Side}
-use Rattle.pb_normal.specs.declared.side.Side.TheVariants.{AtLeast as least, AtMost as most}
-use Rattle.pb_normal.specs.declared.entry.Entry.{Entry}
-use Rattle.pb_normal.specs.meaning.Form.{Form, Holds, IsOrdered, coefficient, low, at_least_0}
 
 -- the names of the terms
 abbrev pub names_of : List Term → List (List ℕ)

@@ -1,13 +1,10 @@
 -- The one text that is written for an instance.
-use Rattle.std.specs.Prelude.{ℕ, ◌+◌, nat_le, List, [], ◌∷◌, ◌++◌, map, length, take, drop, Option, Some, None, decimal, codes}
-use Rattle.std.specs.List.{prefix_len}
-use Rattle.pb_sums.specs.contract.Canonical.{head_bytes, linear_bytes}
-use Rattle.pb_sums.specs.declared.linear.Term.{Term}
-use Rattle.pb_sums.specs.declared.linear.Linear.{Linear}
-use Rattle.pb_opb.specs.meaning.Instances.{variable_word, constraint_word, min_word}
-use Rattle.pb_opb.specs.declared.event.OpbEvent.{OpbEvent}
-use Rattle.pb_opb.specs.declared.event.OpbEvent.TheVariants.{Header, Comment, Objective, Constraint}
+use Rattle.pb_opb.specs.declared.event.OpbEvent.{OpbEvent, TheVariants.Header, TheVariants.Comment, TheVariants.Objective, TheVariants.Constraint}
 use Rattle.pb_opb.specs.declared.instance.Instance.{Instance}
+use Rattle.pb_opb.specs.meaning.Instances.{variable_word, constraint_word, min_word}
+use Rattle.pb_sums.specs.{contract.Canonical.head_bytes, contract.Canonical.linear_bytes, declared.linear.Linear.Linear, declared.linear.Term.Term}
+use Rattle.std.specs.List.{prefix_len}
+use Rattle.std.specs.Prelude.{ℕ, ◌+◌, nat_le, List, [], ◌∷◌, ◌++◌, map, length, take, drop, Option, Some, None, decimal, codes}
 use Rattle.pb_opb.specs.declared.instance.Comment as comment
 
 -- The lines of statements, without a line feed.

@@ -1,8 +1,7 @@
 -- What a machine of instances stores.
-use Rattle.std.specs.Prelude.{◌≡◌}
+use Rattle.pb_opb.specs.{declared.machine.OpbMachine.TheInside.Inside, engine.State.OpbState}
 use Rattle.pb_text.specs.meaning.Limits.{largest, top_of}
-use Rattle.pb_opb.specs.engine.State.{OpbState}
-use Rattle.pb_opb.specs.declared.machine.OpbMachine.TheInside.{Inside}
+use Rattle.std.specs.Prelude.{◌≡◌}
 
 -- the state that its fields form
 abbrev pub state_of : Inside → OpbState

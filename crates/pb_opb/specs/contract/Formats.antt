@@ -1,11 +1,8 @@
 -- The laws of the format of instances.
-use Rattle.std.specs.Prelude.{ℕ, List, ◌↔◌}
-use Rattle.pb_text.specs.contract.Automaton.{AcceptsItems}
-use Rattle.pb_text.specs.contract.FormatLaws.{IsOneText, FixesSpans, IsPrefixFree, Widens}
+use Rattle.pb_opb.specs.{declared.event.OpbEvent.OpbEvent, engine.State.opb, engine.State.begin, meaning.Instances.IsInstance}
+use Rattle.pb_text.specs.contract.{Automaton.AcceptsItems, FormatLaws.IsOneText, FormatLaws.FixesSpans, FormatLaws.IsPrefixFree, FormatLaws.Widens}
 use Rattle.pb_text.specs.meaning.Spelling.{Item}
-use Rattle.pb_opb.specs.meaning.Instances.{IsInstance}
-use Rattle.pb_opb.specs.engine.State.{opb, begin}
-use Rattle.pb_opb.specs.declared.event.OpbEvent.{OpbEvent}
+use Rattle.std.specs.Prelude.{ℕ, List, ◌↔◌}
 
 -- A new machine accepts the instances, and nothing else.
 abbrev pub ReadsInstances : Type 0

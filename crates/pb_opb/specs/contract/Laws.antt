@@ -1,15 +1,9 @@
 -- The laws of instances and their texts.
-use Rattle.std.specs.Prelude.{◌≡◌, ℕ, ◌^◌, ◌<◌, ◌≤◌, List, [], ◌∷◌, length}
-use Rattle.pb_text.specs.meaning.Spelling.{Item, bytes_of}
-use Rattle.pb_text.specs.meaning.Whole.{events_of}
-use Rattle.pb_text.specs.declared.Spanned.{Spanned}
-use Rattle.pb_text.specs.meaning.Whole.{IsRead}
-use Rattle.pb_opb.specs.meaning.Instances.{IsInstance}
+use Rattle.pb_opb.specs.{contract.Canonical.instance_bytes, declared.event.OpbEvent.OpbEvent, declared.event.OpbEvent.TheVariants.Header}
+use Rattle.pb_opb.specs.{declared.instance.Instance.Instance, meaning.Instances.IsInstance}
 use Rattle.pb_opb.specs.meaning.Values.{IsValueOf, IsInstanceValue, objectives_in, variables_in}
-use Rattle.pb_opb.specs.contract.Canonical.{instance_bytes}
-use Rattle.pb_opb.specs.declared.event.OpbEvent.{OpbEvent}
-use Rattle.pb_opb.specs.declared.event.OpbEvent.TheVariants.{Header}
-use Rattle.pb_opb.specs.declared.instance.Instance.{Instance}
+use Rattle.pb_text.specs.{declared.Spanned.Spanned, meaning.Spelling.Item, meaning.Spelling.bytes_of, meaning.Whole.events_of, meaning.Whole.IsRead}
+use Rattle.std.specs.Prelude.{◌≡◌, ℕ, ◌^◌, ◌<◌, ◌≤◌, List, [], ◌∷◌, length}
 
 -- The canonical text of a value that meets the rules is a text of an instance with that value.
 abbrev pub CanonicalInstance : Type 0

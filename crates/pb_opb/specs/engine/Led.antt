@@ -1,7 +1,6 @@
 -- Lines with a line feed before each.
+use Rattle.pb_opb.specs.{contract.Canonical.event_bytes, declared.event.OpbEvent.OpbEvent}
 use Rattle.std.specs.Prelude.{ℕ, List, [], ◌∷◌, ◌++◌}
-use Rattle.pb_opb.specs.contract.Canonical.{event_bytes}
-use Rattle.pb_opb.specs.declared.event.OpbEvent.{OpbEvent}
 
 abbrev pub led_lines : List OpbEvent → List ℕ
 led_lines [] = []

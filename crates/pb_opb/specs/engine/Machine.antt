@@ -1,12 +1,10 @@
 -- The machine of an instance: what it does with one byte.
-use Rattle.std.specs.Prelude.{ℕ, ◌+◌, ◌-◌, ◌*◌, cond, ◌&&◌, List, length, slice_index, nat_eq, nat_le}
-use Rattle.pb_text.specs.meaning.Classes.{is_blank, is_white, is_digit}
-use Rattle.pb_opb.specs.meaning.Instances.{variable_word, constraint_word, min_word}
-use Rattle.pb_opb.specs.declared.phase.Field.{Field}
-use Rattle.pb_opb.specs.declared.phase.Field.TheVariants.{Variables, Constraints}
-use Rattle.pb_opb.specs.declared.phase.Phase.{Phase}
 use Rattle.pb_opb.specs.declared.phase.Action.{Action}
 use Rattle.pb_opb.specs.declared.phase.Action.TheVariants.{To, Declare, BeginTail, Keep, EndHeader, EndTail, EndComment, BeginSum, Give, Stop}
+use Rattle.pb_opb.specs.declared.phase.{Field.Field, Field.TheVariants.Variables, Field.TheVariants.Constraints, Phase.Phase}
+use Rattle.pb_opb.specs.meaning.Instances.{variable_word, constraint_word, min_word}
+use Rattle.pb_text.specs.meaning.Classes.{is_blank, is_white, is_digit}
+use Rattle.std.specs.Prelude.{ℕ, ◌+◌, ◌-◌, ◌*◌, cond, ◌&&◌, List, length, slice_index, nat_eq, nat_le}
 
 abbrev pub word_of : Field → List ℕ
 word_of Variables = variable_word

@@ -1,13 +1,11 @@
 -- The invariant of the state of a machine of instances.
-use Rattle.std.specs.Prelude.{◌≡◌, ℕ, ◌<◌, ◌≤◌, ◌^◌, false, [], length}
-use Rattle.pb_text.specs.contract.Automaton.{IsState}
-use Rattle.pb_sums.specs.engine.State.{sums}
-use Rattle.pb_sums.specs.declared.Spaces.TheVariants.{White}
-use Rattle.pb_opb.specs.engine.Machine.{word_of}
-use Rattle.pb_opb.specs.engine.State.{OpbState, linears, objectives}
-use Rattle.pb_opb.specs.declared.phase.Phase.{Phase}
 use Rattle.pb_opb.specs.declared.phase.Action.{Action}
 use Rattle.pb_opb.specs.declared.phase.Action.TheVariants.{To, Declare, BeginTail, EndHeader, Give}
+use Rattle.pb_opb.specs.{declared.phase.Phase.Phase, engine.Machine.word_of}
+use Rattle.pb_opb.specs.engine.State.{OpbState, linears, objectives}
+use Rattle.pb_sums.specs.{declared.Spaces.TheVariants.White, engine.State.sums}
+use Rattle.pb_text.specs.contract.Automaton.{IsState}
+use Rattle.std.specs.Prelude.{◌≡◌, ℕ, ◌<◌, ◌≤◌, ◌^◌, false, [], length}
 
 -- a word was not read to its end, and a count is at most top
 abbrev pub PhaseFits : ℕ → Phase → Type 0

@@ -1,16 +1,11 @@
 -- The states of a machine of instances, and its automaton.
-use Rattle.std.specs.Prelude.{ℕ, zero, suc, ◌+◌, ◌-◌, ◌^◌, min, Bool, true, false, List, [], ◌∷◌, ◌++◌, length}
-use Rattle.pb_opb.specs.declared.phase.Field.{Field}
-use Rattle.pb_sums.specs.declared.Part.{Part}
-use Rattle.pb_text.specs.contract.Automaton.{Automaton, Next, Go, End, Refuse}
-use Rattle.pb_sums.specs.engine.State.{SumState, sums, first}
-use Rattle.pb_sums.specs.declared.Spaces.TheVariants.{White}
-use Rattle.pb_sums.specs.declared.SumEvent.{SumEvent}
-use Rattle.pb_opb.specs.engine.Machine.{transition}
-use Rattle.pb_opb.specs.declared.event.OpbEvent.{OpbEvent}
-use Rattle.pb_opb.specs.declared.phase.Phase.{Phase}
-use Rattle.pb_opb.specs.declared.phase.Action.{Action}
+use Rattle.pb_opb.specs.declared.{event.OpbEvent.OpbEvent, phase.Action.Action}
 use Rattle.pb_opb.specs.declared.phase.Action.TheVariants.{To, Declare, BeginTail, Keep, EndHeader, EndTail, EndComment, BeginSum, Give, Stop}
+use Rattle.pb_opb.specs.{declared.phase.Field.Field, declared.phase.Phase.Phase, engine.Machine.transition}
+use Rattle.pb_sums.specs.declared.{Part.Part, Spaces.TheVariants.White, SumEvent.SumEvent}
+use Rattle.pb_sums.specs.engine.State.{SumState, sums, first}
+use Rattle.pb_text.specs.contract.Automaton.{Automaton, Next, Go, End, Refuse}
+use Rattle.std.specs.Prelude.{ℕ, zero, suc, ◌+◌, ◌-◌, ◌^◌, min, Bool, true, false, List, [], ◌∷◌, ◌++◌, length}
 
 -- what a machine stores: its limits, the counts of its header, the phase, the bytes of a tail or a comment, and the
 -- machine of sums

@@ -1,9 +1,7 @@
 -- An instance, built statement by statement.
+use Rattle.pb_opb.specs.declared.event.OpbEvent.{OpbEvent, TheVariants.Header, TheVariants.Comment, TheVariants.Objective, TheVariants.Constraint}
+use Rattle.pb_opb.specs.{declared.instance.Instance.Instance, meaning.Values.comment_at}
 use Rattle.std.specs.Prelude.{ℕ, ◌+◌, ◌-◌, ◌^◌, Bool, true, false, nat_le, IsTrue, List, [], ◌∷◌, ◌++◌, Some, None}
-use Rattle.pb_opb.specs.meaning.Values.{comment_at}
-use Rattle.pb_opb.specs.declared.event.OpbEvent.{OpbEvent}
-use Rattle.pb_opb.specs.declared.event.OpbEvent.TheVariants.{Header, Comment, Objective, Constraint}
-use Rattle.pb_opb.specs.declared.instance.Instance.{Instance}
 
 -- the instance with one more statement, after this many objectives and constraints
 abbrev pub with : ℕ → Instance → OpbEvent → Instance

@@ -1,14 +1,8 @@
 -- What is read as an instance, under limits.
-use Rattle.std.specs.Prelude.{ℕ, List, Option, Result}
-use Rattle.pb_text.specs.meaning.Asking.{AsksOnly}
-use Rattle.pb_text.specs.meaning.Whole.{ReadsValue}
-use Rattle.pb_text.specs.declared.Spanned.{Spanned}
-use Rattle.pb_text.specs.declared.Stop.{Stop}
-use Rattle.pb_opb.specs.meaning.Asking.{Asks}
-use Rattle.pb_opb.specs.meaning.Gather.{MayKeep}
-use Rattle.pb_opb.specs.meaning.Instances.{IsInstance}
+use Rattle.pb_opb.specs.{declared.instance.Instance.Instance, meaning.Asking.Asks, meaning.Gather.MayKeep, meaning.Instances.IsInstance}
 use Rattle.pb_opb.specs.meaning.Values.{IsValueOf}
-use Rattle.pb_opb.specs.declared.instance.Instance.{Instance}
+use Rattle.pb_text.specs.{declared.Spanned.Spanned, declared.Stop.Stop, meaning.Asking.AsksOnly, meaning.Whole.ReadsValue}
+use Rattle.std.specs.Prelude.{ℕ, List, Option, Result}
 
 module _ (limit top : ℕ) where
   -- the bytes of an instance that may allocate

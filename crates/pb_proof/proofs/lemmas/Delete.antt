@@ -7,10 +7,10 @@ use Rattle.pb_proof.proofs.Common.{le-leb, reads_after, Walks, walks_then, digit
 use Rattle.pb_proof.proofs.Common.{delete_first, delete_last, step, LineEnd, Digits as DigitsOf, delete_transition as transition, ◌-◌, ◌^◌, ◌↔◌, suc, zero}
 use Rattle.pb_proof.proofs.Common.{min-le_left, ReadsOn, is_state, IsOfOne, one_state, never, IsState, Refuse, reads_before, unmarked, IsDeleteInOrder, admits}
 use Rattle.pb_proof.proofs.Common.{end_or_refuse, go_or_refuse, Admits, keeps, AreDigits, Digits, Runs, value_from, begins_id}
-use Rattle.pb_proof.specs.meaning.Lines.{Minus as Sign}
-use Rattle.pb_proof.specs.engine.line.Delete.{act, digits, next_action, is_midway, is_done, ActionFits, PhaseFits}
 use Rattle.pb_proof.proofs.lemmas.line.Ends.{NumberMeans, number_means, number_blank, number_digit, positive, not_zero, TakesBlanks, MayEnd, closing_feeds}
 use Rattle.pb_proof.proofs.lemmas.line.Ends.{blanks1_lead, line_reads, listed_walks, reads_exactly, digits_text, text_run}
+use Rattle.pb_proof.specs.engine.line.Delete.{act, digits, next_action, is_midway, is_done, ActionFits, PhaseFits}
+use Rattle.pb_proof.specs.meaning.Lines.{Minus as Sign}
 use Rattle.pb_proof.proofs.lemmas.line.Ends as ends
 
 module _ (top : ℕ) where

@@ -4,10 +4,10 @@ use Rattle.pb_proof.proofs.Common.{On, digits-grown, digits-one, after_it, grown
 use Rattle.pb_proof.proofs.Common.{Letter, NumberByte, Digit, Semicolon, FormulaPhase, Start, number_byte, formula_automaton, FormulaState, LineEnd, SpellsCount}
 use Rattle.pb_proof.proofs.Common.{◌<◌, ap, arith, le-leb, Leads, leads_then, reads_after, digits_lead, TakesDigits, Go, ReadsStatement, formula_last, formula_first}
 use Rattle.pb_proof.proofs.Common.{◌↔◌, ReadsOn, is_state, IsOfOne, one_state, IsState, unmarked, ActionFits, IsFormulaInOrder, Digits as DigitsOf, FormulaAction}
-use Rattle.pb_proof.specs.declared.line.formula.phase.FormulaPhase.TheVariants.{Gap, Digits, Tail, Closing, Done}
-use Rattle.pb_proof.specs.engine.line.Formula.{act, transition, digits, next_action, is_in_number, at, is_midway, is_done, PhaseFits}
 use Rattle.pb_proof.proofs.lemmas.line.Ends.{NumberMeans, number_means, number_blank, number_digit, TakesBlanks, Feeds, MayEnd, closing_feeds, blanks1_lead}
 use Rattle.pb_proof.proofs.lemmas.line.Ends.{line_reads, reads_exactly}
+use Rattle.pb_proof.specs.declared.line.formula.phase.FormulaPhase.TheVariants.{Gap, Digits, Tail, Closing, Done}
+use Rattle.pb_proof.specs.engine.line.Formula.{act, transition, digits, next_action, is_in_number, at, is_midway, is_done, PhaseFits}
 use Rattle.pb_proof.proofs.lemmas.line.Ends as ends
 
 module _ (top : ℕ) where

@@ -9,18 +9,14 @@ use Rattle.pb_proof.proofs.Common.{ended_lines, lines, proof_bytes, statement_by
 use Rattle.pb_proof.proofs.Common.{SpellsLiteral, signed, OneValue, ProofValues, StatementValues, AreLiterals, IfGiven, IsBound, IsConclusion, IsFactor, IsId}
 use Rattle.pb_proof.proofs.Common.{IsWord, Soli, Solx, false, nat_le, None, Some, true, false≢true, leb-false, lt-leb, bytes, place_after, spans_of}
 use Rattle.pb_proof.proofs.Common.{spans_since, events_at, BeginProof, ReadStatements, ReadsBack, rules}
-use Rattle.pb_text.specs.declared.Stop.{Stop}
-use Rattle.pb_proof.specs.contract.Gather.{with, asks, MayKeep, nothing}
-use Rattle.pb_proof.specs.meaning.Reading.{AsksInProof}
-use Rattle.pb_proof.specs.declared.read.gather.ProofSoFar.{ProofSoFar}
-use Rattle.pb_sums.proofs.lemmas.values.Larger.{spells_larger}
-use Rattle.pb_proof.proofs.lemmas.line.Texts.{Has, line_bytes, line_has}
 use Rattle.pb_proof.proofs.lemmas.Written.{ended_none, ended-cons, lines-ended}
-use Rattle.pb_sums.proofs.lemmas.values.Within.{number-within as value-within, linear-within}
+use Rattle.pb_proof.proofs.lemmas.line.Texts.{Has, line_bytes, line_has}
+use Rattle.pb_proof.specs.contract.Gather.{with, asks, MayKeep, nothing}
+use Rattle.pb_proof.specs.{declared.read.gather.ProofSoFar.ProofSoFar, meaning.Reading.AsksInProof}
+use Rattle.pb_sums.proofs.lemmas.values.{Larger.spells_larger, Within.number-within as value-within, Within.linear-within}
+use Rattle.pb_text.{proofs.lemmas.source.Wholes.spans_events, proofs.lemmas.text.Short.place_after-offset, specs.declared.Place.Place}
+use Rattle.pb_text.specs.declared.Stop.{Stop}
 use Rattle.pb_text.specs.meaning.Reading.{ended_within, IsUnderWay, IsSpelled}
-use Rattle.pb_text.specs.declared.Place.{Place}
-use Rattle.pb_text.proofs.lemmas.text.Short.{place_after-offset}
-use Rattle.pb_text.proofs.lemmas.source.Wholes.{spans_events}
 use Rattle.pb_text.proofs.lemmas.source.Unkept as stopped
 use Rattle.pb_text.proofs.lemmas.text.Formats as formats
 

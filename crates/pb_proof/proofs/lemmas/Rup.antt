@@ -10,9 +10,9 @@ use Rattle.pb_proof.proofs.Common.{Admits, is_large, IsState, is_digit, Item, Is
 use Rattle.pb_proof.proofs.Common.{SumPhase as Phase, SumAction as Action}
 use Rattle.pb_proof.proofs.lemmas.line.Ends.{TakesBlanks, blanks1_lead, closing_feeds, feed_reads, gapped, first_blank, further_blank, blank_more}
 use Rattle.pb_proof.proofs.lemmas.line.Ends.{feed_after_blanks}
+use Rattle.pb_sums.specs.declared.linear.Term.{Term}
 use Rattle.pb_sums.specs.engine.Machine.{Work, Outcome, act, flushed, transition, kind, letter_at, is_numeric}
 use Rattle.pb_sums.specs.engine.State.{over, units}
-use Rattle.pb_sums.specs.declared.linear.Term.{Term}
 use Rattle.pb_text.proofs.lemmas.machine.Living.{before}
 
 -- what the sum machine reads

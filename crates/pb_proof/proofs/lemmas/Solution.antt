@@ -7,9 +7,9 @@ use Rattle.pb_proof.proofs.Common.{LineEnd, Listed, append-nil, append_assoc, ma
 use Rattle.pb_proof.proofs.Common.{solution_at, solution_first, solution_last, ◌+◌, ◌-◌, ◌^◌, ◌↔◌, ◌≤◌, length, length-append, sym, min-le_left, add-grows}
 use Rattle.pb_proof.proofs.Common.{begin-grows, to-grows, reads_before, ReadsOn, is_state, IsOfOne, one_state, never, IsState, Refuse, SolutionAction, is_begun}
 use Rattle.pb_proof.proofs.Common.{IsSolutionInOrder, ◌<◌, ◌||◌, get_or, min, take, take_more, admits, end_or_refuse, go_or_refuse, Admits, adds, is_more}
-use Rattle.pb_proof.specs.engine.line.Solution.{act, transition, next_action, before, step, is_midway, is_done, units, in_hand, ready, all_units}
 use Rattle.pb_proof.proofs.lemmas.line.Ends.{NameMeans, name_means, name_blank, name_letter, name_inner, TakesBlanks, MayEnd, closing_feeds, blanks1_lead}
 use Rattle.pb_proof.proofs.lemmas.line.Ends.{line_reads, listed_walks, reads_exactly}
+use Rattle.pb_proof.specs.engine.line.Solution.{act, transition, next_action, before, step, is_midway, is_done, units, in_hand, ready, all_units}
 use Rattle.pb_sums.proofs.lemmas.machine.Counts.{counted}
 use Rattle.pb_proof.proofs.lemmas.line.Ends as ends
 

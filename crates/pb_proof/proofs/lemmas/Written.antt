@@ -2,8 +2,7 @@
 use Rattle.pb_proof.proofs.Common.{bounds_word, conclusion_word, ℕ, ◌++◌, ◌+◌, ◌-◌, ◌<◌, ◌∙◌, ◌∷◌, ◌≡◌, ◌≤◌, [], ap, append-nil, append_assoc, arith, drop}
 use Rattle.pb_proof.proofs.Common.{get_or, length, List, refl, suc, sym, take, take-append-drop, drop-cons, drop_all, take_more, Proof, Statement, Conclude, F}
 use Rattle.pb_proof.proofs.Common.{Header, Output, lines, proof_bytes, statement_bytes}
-use Rattle.pb_proof.specs.meaning.Canonical.{listed_bytes}
-use Rattle.pb_proof.specs.engine.line.Ended.{ended_lines}
+use Rattle.pb_proof.specs.{engine.line.Ended.ended_lines, meaning.Canonical.listed_bytes}
 
 -- pieces one after another
 module _ {A : Type 0} (piece : A → List ℕ) (joined : List A → List ℕ) (none : joined [] ≡ []) (cons : (x : A) (xs : List A) → joined (x ∷ xs) ≡ piece x ++ joined xs) where

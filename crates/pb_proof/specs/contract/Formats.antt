@@ -1,11 +1,8 @@
 -- The laws of the format of proofs.
-use Rattle.std.specs.Prelude.{ℕ, List, ◌↔◌}
-use Rattle.pb_text.specs.contract.Automaton.{AcceptsItems}
-use Rattle.pb_text.specs.contract.FormatLaws.{IsOneText, FixesSpans, IsPrefixFree, Widens}
+use Rattle.pb_proof.specs.{declared.statement.Statement.Statement, engine.machine.State.proofs, engine.machine.State.begin, meaning.Proofs.IsProof}
+use Rattle.pb_text.specs.contract.{Automaton.AcceptsItems, FormatLaws.IsOneText, FormatLaws.FixesSpans, FormatLaws.IsPrefixFree, FormatLaws.Widens}
 use Rattle.pb_text.specs.meaning.Spelling.{Item}
-use Rattle.pb_proof.specs.meaning.Proofs.{IsProof}
-use Rattle.pb_proof.specs.engine.machine.State.{proofs, begin}
-use Rattle.pb_proof.specs.declared.statement.Statement.{Statement}
+use Rattle.std.specs.Prelude.{ℕ, List, ◌↔◌}
 
 -- A new machine accepts exactly the proofs.
 abbrev pub ReadsProofs : Type 0

@@ -1,8 +1,6 @@
 -- A proof, built from its statements one at a time.
+use Rattle.pb_proof.specs.declared.{conclusion.Conclusion.TheVariants.NoClaim, proof.Proof.Proof, statement.Statement.Statement}
 use Rattle.std.specs.Prelude.{Bool, true, false, IsTrue, List, [], ◌∷◌, ◌++◌, None}
-use Rattle.pb_proof.specs.declared.conclusion.Conclusion.TheVariants.{NoClaim}
-use Rattle.pb_proof.specs.declared.proof.Proof.{Proof}
-use Rattle.pb_proof.specs.declared.statement.Statement.{Statement}
 
 -- the proof with one more statement
 abbrev pub with : Proof → Statement → Proof

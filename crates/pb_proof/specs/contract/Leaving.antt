@@ -1,7 +1,7 @@
 -- How many expressions postfix words take and leave.
-use Rattle.std.specs.Prelude.{◌≡◌, ℕ, ◌+◌, ◌-◌, ◌≤◌, ◌↔◌, List, [], ◌∷◌}
-use Rattle.pb_proof.specs.meaning.Postfix.{Tree, words, IsPostfix}
 use Rattle.pb_proof.specs.declared.word.PolWord.{PolWord}
+use Rattle.pb_proof.specs.meaning.Postfix.{Tree, words, IsPostfix}
+use Rattle.std.specs.Prelude.{◌≡◌, ℕ, ◌+◌, ◌-◌, ◌≤◌, ◌↔◌, List, [], ◌∷◌}
 
 -- how many finished expressions a word takes
 abbrev pub takes : PolWord → ℕ

@@ -1,17 +1,10 @@
 -- The laws of proofs and their values.
-use Rattle.std.specs.Prelude.{◌≡◌, ℕ, ◌^◌, ◌<◌, List, [], ◌++◌, All, Bool, true, Option}
-use Rattle.pb_text.specs.meaning.Reading.{Reads}
-use Rattle.pb_text.specs.meaning.Spelling.{Letter, Item, bytes_of}
-use Rattle.pb_text.specs.meaning.Whole.{events_at, events_of, IsRead}
-use Rattle.pb_text.specs.declared.Place.{Place}
-use Rattle.pb_text.specs.declared.Spanned.{Spanned}
-use Rattle.pb_text.specs.declared.Stop.{Stop}
-use Rattle.pb_proof.specs.meaning.Lines.{SpellsStatement}
+use Rattle.pb_proof.specs.{contract.Values.IsStatementValue, contract.Values.IsProofValue, declared.proof.Proof.Proof}
+use Rattle.pb_proof.specs.{declared.statement.Statement.Statement, meaning.Canonical.proof_bytes, meaning.Lines.SpellsStatement}
 use Rattle.pb_proof.specs.meaning.Proofs.{statements_of, IsProof, IsProofOf}
-use Rattle.pb_proof.specs.contract.Values.{IsStatementValue, IsProofValue}
-use Rattle.pb_proof.specs.meaning.Canonical.{proof_bytes}
-use Rattle.pb_proof.specs.declared.proof.Proof.{Proof}
-use Rattle.pb_proof.specs.declared.statement.Statement.{Statement}
+use Rattle.pb_text.specs.{declared.Place.Place, declared.Spanned.Spanned, declared.Stop.Stop, meaning.Reading.Reads}
+use Rattle.pb_text.specs.meaning.{Spelling.Letter, Spelling.Item, Spelling.bytes_of, Whole.events_at, Whole.events_of, Whole.IsRead}
+use Rattle.std.specs.Prelude.{◌≡◌, ℕ, ◌^◌, ◌<◌, List, [], ◌++◌, All, Bool, true, Option}
 
 -- The canonical text of a proof that meets the rules is a text of that proof.
 abbrev pub CanonicalProof : Type 0

@@ -1,16 +1,8 @@
 -- The rules that statements and proofs meet.
+use Rattle.pb_proof.specs.declared.{conclusion.Bound.Bound, conclusion.Conclusion.Conclusion, proof.Proof.Proof, statement.Statement.Statement}
+use Rattle.pb_proof.specs.{declared.word.PolWord.PolWord, meaning.Postfix.IsPostfix, meaning.Proofs.IsStep}
+use Rattle.pb_sums.specs.{contract.Canonical.IsLinear, declared.Literal.Literal, declared.Relation.TheVariants.AtLeast, meaning.Sums.IsName}
 use Rattle.std.specs.Prelude.{◌≡◌, ℕ, ℤ, pos, ◌<◌, ◌≤◌, ◌≤ℤ◌, nat_abs, List, length, All, Option, Some, None}
-use Rattle.pb_sums.specs.meaning.Sums.{IsName}
-use Rattle.pb_sums.specs.contract.Canonical.{IsLinear}
-use Rattle.pb_sums.specs.declared.Literal.{Literal}
-use Rattle.pb_sums.specs.declared.Relation.TheVariants.{AtLeast}
-use Rattle.pb_proof.specs.meaning.Postfix.{IsPostfix}
-use Rattle.pb_proof.specs.meaning.Proofs.{IsStep}
-use Rattle.pb_proof.specs.declared.word.PolWord.{PolWord}
-use Rattle.pb_proof.specs.declared.conclusion.Bound.{Bound}
-use Rattle.pb_proof.specs.declared.conclusion.Conclusion.{Conclusion}
-use Rattle.pb_proof.specs.declared.proof.Proof.{Proof}
-use Rattle.pb_proof.specs.declared.statement.Statement.{Statement}
 
 -- if there is one, it meets the rule
 abbrev pub IfGiven : {A : Type 0} → (A → Type 0) → Option A → Type 0

@@ -1,16 +1,11 @@
 -- The one text that is written for a proof.
-use Rattle.std.specs.Fmt.{signed_decimal}
-use Rattle.std.specs.Prelude.{ℕ, ℤ, List, [], ◌∷◌, ◌++◌, Option, Some, None, decimal, codes}
-use Rattle.pb_sums.specs.meaning.Sums.{literal_bytes}
-use Rattle.pb_sums.specs.contract.Canonical.{linear_bytes}
-use Rattle.pb_sums.specs.declared.Literal.{Literal}
+use Rattle.pb_proof.specs.declared.{conclusion.Bound.Bound, conclusion.Conclusion.Conclusion, proof.Proof.Proof, statement.Statement.Statement}
+use Rattle.pb_proof.specs.declared.word.PolWord.{PolWord}
 use Rattle.pb_proof.specs.meaning.Lines.{pseudo_word, proof_word, version_word, two_word, f_word, pol_word, rup_word, soli_word, solx_word, del_word, id_word, output_word, conclusion_word, end_word, none_word, unsat_word, sat_word, bounds_word, inf_word}
 use Rattle.pb_proof.specs.meaning.Proofs.{statements_of}
-use Rattle.pb_proof.specs.declared.word.PolWord.{PolWord}
-use Rattle.pb_proof.specs.declared.conclusion.Bound.{Bound}
-use Rattle.pb_proof.specs.declared.conclusion.Conclusion.{Conclusion}
-use Rattle.pb_proof.specs.declared.proof.Proof.{Proof}
-use Rattle.pb_proof.specs.declared.statement.Statement.{Statement}
+use Rattle.pb_sums.specs.{contract.Canonical.linear_bytes, declared.Literal.Literal, meaning.Sums.literal_bytes}
+use Rattle.std.specs.Fmt.{signed_decimal}
+use Rattle.std.specs.Prelude.{ℕ, ℤ, List, [], ◌∷◌, ◌++◌, Option, Some, None, decimal, codes}
 
 abbrev pub literal_line : Literal → List ℕ
 literal_line l = literal_bytes l.negated l.name

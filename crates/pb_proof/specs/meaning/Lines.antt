@@ -1,17 +1,11 @@
 -- The statements of a proof, and their texts.
-use Rattle.std.specs.Prelude.{◌≡◌, ℕ, ℤ, pos, ◌<◌, ◌≤◌, Bool, true, false, List, [], ◌∷◌, length, ◌⊎◌, Option, Some, None, codes}
+use Rattle.pb_proof.specs.declared.{conclusion.Bound.Bound, conclusion.Conclusion.Conclusion, statement.Statement.Statement, word.PolWord.PolWord}
+use Rattle.pb_proof.specs.meaning.Postfix.{IsPostfix}
+use Rattle.pb_sums.specs.declared.{Linear.Linear, Literal.Literal, Relation.TheVariants.AtLeast, Spaces.TheVariants.Blank}
+use Rattle.pb_sums.specs.meaning.Sums.{IsName, SpellsLiteral, SpellsLinear}
 use Rattle.pb_text.specs.meaning.Languages.{Language, ◌⋅◌, Empty, Byte, Bytes, Blanks0, Blanks1}
 use Rattle.pb_text.specs.meaning.Numbers.{Digits, Number, Count, signed}
-use Rattle.pb_sums.specs.meaning.Sums.{IsName, SpellsLiteral, SpellsLinear}
-use Rattle.pb_sums.specs.declared.Literal.{Literal}
-use Rattle.pb_sums.specs.declared.Linear.{Linear}
-use Rattle.pb_sums.specs.declared.Relation.TheVariants.{AtLeast}
-use Rattle.pb_sums.specs.declared.Spaces.TheVariants.{Blank}
-use Rattle.pb_proof.specs.meaning.Postfix.{IsPostfix}
-use Rattle.pb_proof.specs.declared.word.PolWord.{PolWord}
-use Rattle.pb_proof.specs.declared.conclusion.Bound.{Bound}
-use Rattle.pb_proof.specs.declared.conclusion.Conclusion.{Conclusion}
-use Rattle.pb_proof.specs.declared.statement.Statement.{Statement}
+use Rattle.std.specs.Prelude.{◌≡◌, ℕ, ℤ, pos, ◌<◌, ◌≤◌, Bool, true, false, List, [], ◌∷◌, length, ◌⊎◌, Option, Some, None, codes}
 
 -- The fixed words.
 abbrev pub pseudo_word : List ℕ

@@ -1,10 +1,8 @@
 -- The order of the statements of a proof.
-use Rattle.std.specs.Prelude.{◌≡◌, ℕ, List, [], ◌∷◌}
-use Rattle.pb_text.specs.meaning.Spelling.{Item}
-use Rattle.pb_proof.specs.meaning.Lines.{SpellsStatement}
+use Rattle.pb_proof.specs.{declared.machine.phase.Stage.Stage, declared.statement.Statement.Statement, meaning.Lines.SpellsStatement}
 use Rattle.pb_proof.specs.meaning.Proofs.{IsGap}
-use Rattle.pb_proof.specs.declared.machine.phase.Stage.{Stage}
-use Rattle.pb_proof.specs.declared.statement.Statement.{Statement}
+use Rattle.pb_text.specs.meaning.Spelling.{Item}
+use Rattle.std.specs.Prelude.{◌≡◌, ℕ, List, [], ◌∷◌}
 
 -- the stage of a statement, and the stage after it
 abbrev pub stage_of : Statement → Stage

@@ -1,11 +1,7 @@
 -- Proofs in VeriPB: their statements, with the white space and comments before them.
+use Rattle.pb_proof.specs.{declared.proof.Proof.Proof, declared.statement.Statement.Statement, meaning.Lines.SpellsStatement}
+use Rattle.pb_text.specs.meaning.{Blank.IsBlank, Blank.in_comment, Spelling.Item, Whole.events_of}
 use Rattle.std.specs.Prelude.{◌≡◌, ℕ, false, List, [], ◌∷◌, ◌++◌, All}
-use Rattle.pb_text.specs.meaning.Blank.{IsBlank, in_comment}
-use Rattle.pb_text.specs.meaning.Spelling.{Item}
-use Rattle.pb_text.specs.meaning.Whole.{events_of}
-use Rattle.pb_proof.specs.meaning.Lines.{SpellsStatement}
-use Rattle.pb_proof.specs.declared.proof.Proof.{Proof}
-use Rattle.pb_proof.specs.declared.statement.Statement.{Statement}
 
 -- white space and comments; each comment has its line feed
 abbrev pub IsGap : List ℕ → Type 0

@@ -1,13 +1,7 @@
 -- What is read of a proof, under limits.
+use Rattle.pb_proof.specs.{contract.Gather.MayKeep, declared.proof.Proof.Proof, meaning.Asking.Asks, meaning.Proofs.IsProof, meaning.Proofs.IsProofOf}
+use Rattle.pb_text.specs.{declared.Spanned.Spanned, declared.Stop.Stop, meaning.Asking.AsksOnly, meaning.Whole.ReadsValue}
 use Rattle.std.specs.Prelude.{ℕ, List, Option, Result}
-use Rattle.pb_text.specs.meaning.Asking.{AsksOnly}
-use Rattle.pb_text.specs.meaning.Whole.{ReadsValue}
-use Rattle.pb_text.specs.declared.Spanned.{Spanned}
-use Rattle.pb_text.specs.declared.Stop.{Stop}
-use Rattle.pb_proof.specs.meaning.Asking.{Asks}
-use Rattle.pb_proof.specs.contract.Gather.{MayKeep}
-use Rattle.pb_proof.specs.meaning.Proofs.{IsProof, IsProofOf}
-use Rattle.pb_proof.specs.declared.proof.Proof.{Proof}
 
 module _ (limit top : ℕ) where
   -- the bytes of a proof at which reading it may allocate

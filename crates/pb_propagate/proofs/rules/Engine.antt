@@ -1,24 +1,16 @@
 -- Lemmas that the goals of functions need, by the file or the function.
 use Rattle.pb_propagate.proofs.lemmas.clauses.Heads.{heads-is, listed-small}
 use Rattle.pb_propagate.proofs.lemmas.engine.Advances.{advances-then, advances-visit, costs-then, on-err}
-use Rattle.pb_propagate.proofs.lemmas.engine.Bridge.{opposed-clash}
-use Rattle.pb_propagate.proofs.lemmas.engine.Literals.{has-none, sum-bounded}
-use Rattle.pb_propagate.proofs.lemmas.engine.Runs.{place-inside, Counted-put}
-use Rattle.pb_propagate.proofs.lemmas.engine.Reasoned.{reasons-derive, run-reasons-rooted}
-use Rattle.pb_propagate.proofs.lemmas.engine.Rests.{half, slots-terms}
-use Rattle.pb_propagate.proofs.lemmas.engine.Propagated.{shape-at}
+use Rattle.pb_propagate.proofs.lemmas.engine.{Bridge.opposed-clash, Literals.has-none, Literals.sum-bounded, Propagated.shape-at}
+use Rattle.pb_propagate.proofs.lemmas.engine.{Reasoned.reasons-derive, Reasoned.run-reasons-rooted, Rests.half, Rests.slots-terms}
+use Rattle.pb_propagate.proofs.lemmas.{engine.Runs.place-inside, engine.Runs.Counted-put, root.Kept.conflict-few, root.Kept.listed-inside}
 use Rattle.pb_propagate.proofs.lemmas.root.Questions.{adopted-denied, denied-derives, denied-next, root-few, updated-most}
-use Rattle.pb_propagate.proofs.lemmas.root.Kept.{conflict-few, listed-inside}
 use Rattle.pb_propagate.proofs.lemmas.root.Ready.{puts-as, updated-ready}
 use Rattle.pb_propagate.proofs.lemmas.root.Retracted.{due-some, needless-terms, replaced-released, shortened-same, some-sized, terms-inside}
-use Rattle.pb_propagate.proofs.lemmas.root.Rooted.{clash-joined}
-use Rattle.pb_propagate.proofs.lemmas.store.Changes.{forms-length}
+use Rattle.pb_propagate.proofs.lemmas.{root.Rooted.clash-joined, store.Changes.forms-length, store.Links.entries-length}
 use Rattle.pb_propagate.proofs.lemmas.store.Placed.{at-inside, numbered-left, numbered-length, numbered-none, taken-by}
-use Rattle.pb_propagate.proofs.lemmas.store.Links.{entries-length}
 use Rattle.pb_propagate.proofs.lemmas.store.Stored.{stored-small}
-use Rattle.std.proofs.Common.{get_or-set_same, length-append}
-use Rattle.std.proofs.lemmas.Bool.{both_ways}
-use Rattle.std.proofs.lemmas.List.{length-map, length-take-le}
+use Rattle.std.proofs.{Common.get_or-set_same, Common.length-append, lemmas.Bool.both_ways, lemmas.List.length-map, lemmas.List.length-take-le}
 use Rattle.std.proofs.lemmas.Option.{slice_get-get_or}
 
 pub ruleset completion = (clash-joined, opposed-clash, updated-ready)

@@ -1,8 +1,7 @@
 -- Propagation over a set of forms. A list of literals has the newest first. Only the set of its literals matters.
-use Rattle.std.specs.Prelude.{◌≡◌, ℕ, ◌+◌, ◌<◌, Bool, true, false, not, ◌⊎◌, List, [], ◌∷◌, Contains, Option, Some}
-use Rattle.pb_normal.specs.declared.numbered.NumberedLiteral.{NumberedLiteral}
-use Rattle.pb_normal.specs.meaning.Form.{Form, Holds, total}
+use Rattle.pb_normal.specs.{declared.numbered.NumberedLiteral.NumberedLiteral, meaning.Form.Form, meaning.Form.Holds, meaning.Form.total}
 use Rattle.pb_normal.specs.meaning.Rules.{negation_of, on, only}
+use Rattle.std.specs.Prelude.{◌≡◌, ℕ, ◌+◌, ◌<◌, Bool, true, false, not, ◌⊎◌, List, [], ◌∷◌, Contains, Option, Some}
 
 -- the literals that a list does not falsify
 abbrev pub opened : List NumberedLiteral → ℕ → Bool → Bool

@@ -1,25 +1,15 @@
 -- What a replay stores, as a problem and a state
-use Rattle.std.specs.Prelude.{◌≡◌, ℕ, ℤ, zero, suc, ◌<◌, ◌≤◌, ◌≤ℤ◌, ◌⊎◌, false, if◌then◌else◌, is_some, List, [], ◌∷◌, ◌++◌, All, Contains, length, take, get_or, Option, Some, None, option_map, Result, Ok, Err, OnOk}
-use Rattle.pb_text.specs.meaning.Limits.{largest, top_of}
-use Rattle.pb_text.specs.declared.Limits.{Limits}
+use Rattle.pb_normal.specs.meaning.{Form.Form, Names.with_names, Written.magnitude}
 use Rattle.pb_opb.specs.declared.Instance.{Instance}
-use Rattle.pb_proof.specs.declared.Statement.{Statement}
-use Rattle.pb_proof.specs.declared.Stage.{Stage}
-use Rattle.pb_proof.specs.declared.Stage.TheVariants.{Complete}
-use Rattle.pb_normal.specs.meaning.Form.{Form}
-use Rattle.pb_normal.specs.meaning.Names.{with_names}
-use Rattle.pb_normal.specs.meaning.Written.{magnitude}
-use Rattle.pb_replay.specs.declared.fault.Fault.{Fault}
-use Rattle.pb_replay.specs.declared.fault.Fault.TheVariants.{Memory, NotTotal}
-use Rattle.pb_replay.specs.declared.verdict.Verdict.{Verdict}
-use Rattle.pb_replay.specs.declared.state.Running.{Running}
-use Rattle.pb_replay.specs.meaning.Answer.{Answer}
-use Rattle.pb_replay.specs.meaning.Problem.{Problem, Opened, objective_of}
+use Rattle.pb_proof.specs.declared.{Stage.Stage, Stage.TheVariants.Complete, Statement.Statement}
+use Rattle.pb_propagate.specs.{engine.engine.Live.Standing, meaning.Propagation.Live}
+use Rattle.pb_replay.specs.declared.{fault.Fault.Fault, fault.Fault.TheVariants.Memory, fault.Fault.TheVariants.NotTotal, state.Running.Running}
+use Rattle.pb_replay.specs.{declared.verdict.Verdict.Verdict, meaning.Answer.Answer}
+use Rattle.pb_replay.specs.meaning.{Meaning.IsNamePrefix, Meaning.IsProblem, Meaning.IsSound, Problem.Problem, Problem.Opened, Problem.objective_of}
 use Rattle.pb_replay.specs.meaning.Replay.{State, Logged, added, first_state}
-use Rattle.pb_propagate.specs.engine.engine.Live.{Standing}
-use Rattle.pb_propagate.specs.meaning.Propagation.{Live}
 use Rattle.pb_replay.specs.meaning.Statements.{Does, Outcome, PassesFirst, mentioned}
-use Rattle.pb_replay.specs.meaning.Meaning.{IsNamePrefix, IsProblem, IsSound}
+use Rattle.pb_text.specs.{declared.Limits.Limits, meaning.Limits.largest, meaning.Limits.top_of}
+use Rattle.std.specs.Prelude.{◌≡◌, ℕ, ℤ, zero, suc, ◌<◌, ◌≤◌, ◌≤ℤ◌, ◌⊎◌, false, if◌then◌else◌, is_some, List, [], ◌∷◌, ◌++◌, All, Contains, length, take, get_or, Option, Some, None, option_map, Result, Ok, Err, OnOk}
 
 -- the least value of those that were logged
 abbrev pub IsBest : List Logged → Option ℤ → Type 0

@@ -1,22 +1,17 @@
 -- The bounds of a conclusion, as the code tests them
-use Rattle.std.specs.Prelude.{◌≡◌, ℕ, ℤ, ◌≤ℤ◌, ◌⊎◌, pos, ◌-ℤ◌, ◌∷◌, ◌++◌, List, [], Contains, Option, Some, None, Result, Ok, Err}
-use Rattle.pb_text.specs.meaning.Limits.{largest, top_of}
-use Rattle.pb_sums.specs.declared.Term.{Term}
-use Rattle.pb_proof.specs.declared.Bound.{Bound}
-use Rattle.pb_proof.specs.declared.Bound.TheVariants.{Finite, Infinite}
-use Rattle.pb_normal.specs.declared.numbered.NumberedLiteral.{NumberedLiteral}
-use Rattle.pb_normal.specs.declared.Side.{Side}
-use Rattle.pb_normal.specs.declared.Side.TheVariants.{AtLeast as least, AtMost as most}
-use Rattle.pb_normal.specs.meaning.Form.{Form}
+use Rattle.pb_normal.specs.declared.Side.{Side, TheVariants.AtLeast as least, TheVariants.AtMost as most}
+use Rattle.pb_normal.specs.{declared.numbered.NumberedLiteral.NumberedLiteral, meaning.Form.Form}
 use Rattle.pb_normal.specs.meaning.Rules.{negation_of, IsContradiction, SumIsContradiction}
-use Rattle.pb_replay.specs.declared.fault.Fault.{Fault}
-use Rattle.pb_replay.specs.declared.fault.Fault.TheVariants.{Memory, NoObjective, NoSolution, NotBound}
+use Rattle.pb_proof.specs.declared.Bound.{Bound, TheVariants.Finite, TheVariants.Infinite}
+use Rattle.pb_replay.specs.contract.ReplayModel.{IsBest, Returns, problem_of, state_of}
+use Rattle.pb_replay.specs.declared.fault.Fault.{Fault, TheVariants.Memory, TheVariants.NoObjective, TheVariants.NoSolution, TheVariants.NotBound}
 use Rattle.pb_replay.specs.declared.state.Running.{Running}
 use Rattle.pb_replay.specs.meaning.Answer.{Answer, gives, need, found}
-use Rattle.pb_replay.specs.meaning.Problem.{Problem}
+use Rattle.pb_replay.specs.meaning.{Conclusions.IsShownBy, Conclusions.lower_bound, Conclusions.objective_with, Problem.Problem}
 use Rattle.pb_replay.specs.meaning.Replay.{Logged, IsLive, Shown, normal_form, added}
-use Rattle.pb_replay.specs.meaning.Conclusions.{IsShownBy, lower_bound, objective_with}
-use Rattle.pb_replay.specs.contract.ReplayModel.{IsBest, Returns, problem_of, state_of}
+use Rattle.pb_sums.specs.declared.Term.{Term}
+use Rattle.pb_text.specs.meaning.Limits.{largest, top_of}
+use Rattle.std.specs.Prelude.{◌≡◌, ℕ, ℤ, ◌≤ℤ◌, ◌⊎◌, pos, ◌-ℤ◌, ◌∷◌, ◌++◌, List, [], Contains, Option, Some, None, Result, Ok, Err}
 
 -- the form of one side of the objective, compared with a degree
 abbrev pub HasObjective : ℕ → List (List ℕ) → Option (List Term) → Side → ℤ → Answer Form

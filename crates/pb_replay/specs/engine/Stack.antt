@@ -1,13 +1,11 @@
 -- The words of an expression on a stack of forms, the last one first. Their result is that of the expression.
-use Rattle.std.specs.Prelude.{ℕ, unsigned_abs, List, [], ◌∷◌, Option}
+use Rattle.pb_normal.specs.meaning.{Form.Form, Names.number_in}
+use Rattle.pb_normal.specs.meaning.Rules.{IsSum, multiplied, divided, saturated, weakened, axiom_on}
 use Rattle.pb_proof.specs.declared.PolWord.{PolWord}
 use Rattle.pb_proof.specs.declared.PolWord.TheVariants.{Id, Axiom, Add, Multiply, Divide, Saturate, Weaken}
-use Rattle.pb_normal.specs.meaning.Form.{Form}
-use Rattle.pb_normal.specs.meaning.Names.{number_in}
-use Rattle.pb_normal.specs.meaning.Rules.{IsSum, multiplied, divided, saturated, weakened, axiom_on}
 use Rattle.pb_replay.specs.declared.fault.Fault.TheVariants.{NoSuchId}
-use Rattle.pb_replay.specs.meaning.Answer.{Answer, gives, found, some, after}
-use Rattle.pb_replay.specs.meaning.Replay.{IsLive, limited}
+use Rattle.pb_replay.specs.meaning.{Answer.Answer, Answer.gives, Answer.found, Answer.some, Answer.after, Replay.IsLive, Replay.limited}
+use Rattle.std.specs.Prelude.{ℕ, unsigned_abs, List, [], ◌∷◌, Option}
 
 module _ (limit : ℕ) (names : List (List ℕ)) (live : List (Option Form)) where
   -- a word that finds its operands

@@ -1,22 +1,15 @@
 -- Which conclusions are accepted
-use Rattle.std.specs.Prelude.{◌≡◌, ℕ, ℤ, ◌≤ℤ◌, List, [], Contains, Option, Some, None}
-use Rattle.pb_sums.specs.declared.Literal.{Literal}
-use Rattle.pb_sums.specs.declared.Term.{Term}
-use Rattle.pb_sums.specs.declared.Linear.{Linear}
-use Rattle.pb_sums.specs.declared.Relation.TheVariants.{AtLeast}
-use Rattle.pb_proof.specs.declared.Bound.{Bound}
-use Rattle.pb_proof.specs.declared.Bound.TheVariants.{Finite, Infinite}
-use Rattle.pb_proof.specs.declared.Conclusion.{Conclusion}
-use Rattle.pb_proof.specs.declared.Conclusion.TheVariants.{NoClaim, Unsat, Sat, Bounds}
-use Rattle.pb_normal.specs.declared.Side.TheVariants.{AtLeast as least}
-use Rattle.pb_normal.specs.meaning.Form.{Form}
+use Rattle.pb_normal.specs.{declared.Side.TheVariants.AtLeast as least, meaning.Form.Form}
 use Rattle.pb_normal.specs.meaning.Rules.{negation_of, IsContradiction, SumIsContradiction}
+use Rattle.pb_proof.specs.declared.{Bound.Bound, Bound.TheVariants.Finite, Bound.TheVariants.Infinite, Conclusion.Conclusion}
+use Rattle.pb_proof.specs.declared.Conclusion.TheVariants.{NoClaim, Unsat, Sat, Bounds}
 use Rattle.pb_replay.specs.declared.fault.Fault.TheVariants.{NoSuchId, NoObjective, NotContradiction, SolutionLogged, NoSolution, NotBound}
 use Rattle.pb_replay.specs.declared.verdict.Verdict.{Verdict}
+use Rattle.pb_sums.specs.declared.{Linear.Linear, Literal.Literal, Relation.TheVariants.AtLeast, Term.Term}
+use Rattle.std.specs.Prelude.{◌≡◌, ℕ, ℤ, ◌≤ℤ◌, List, [], Contains, Option, Some, None}
 use Rattle.pb_replay.specs.declared.verdict.Verdict.TheVariants as verdict
-use Rattle.pb_replay.specs.meaning.Answer.{Answer, gives, need, found}
-use Rattle.pb_replay.specs.meaning.Problem.{Problem}
 use Rattle.pb_propagate.specs.meaning.Propagation.{IsRup, Live}
+use Rattle.pb_replay.specs.meaning.{Answer.Answer, Answer.gives, Answer.need, Answer.found, Problem.Problem}
 use Rattle.pb_replay.specs.meaning.Replay.{State, Logged, IsLive, Shown, normal_form, numbered}
 
 -- the verdict of a conclusion, without its justification

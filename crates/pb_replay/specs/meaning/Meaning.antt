@@ -1,18 +1,13 @@
 -- What a verdict means, and what is true of every state
-use Rattle.std.specs.Prelude.{◌≡◌, ℕ, ◌<◌, ℤ, ◌≤ℤ◌, Bool, List, ◌++◌, length, Contains, Some}
-use Rattle.pb_sums.specs.declared.Term.{Term}
-use Rattle.pb_proof.specs.declared.Bound.{Bound}
-use Rattle.pb_proof.specs.declared.Bound.TheVariants.{Finite, Infinite}
+use Rattle.pb_normal.specs.meaning.{Names.AreDistinct, Names.HasNames, Rules.assignment, Written.names_of, Written.by_number}
 use Rattle.pb_opb.specs.declared.Instance.{Instance}
-use Rattle.pb_normal.specs.meaning.Names.{AreDistinct, HasNames}
-use Rattle.pb_normal.specs.meaning.Rules.{assignment}
-use Rattle.pb_normal.specs.meaning.Written.{names_of, by_number}
-use Rattle.pb_replay.specs.meaning.Replay.{Logged}
-use Rattle.pb_replay.specs.declared.verdict.Verdict.{Verdict}
-use Rattle.pb_replay.specs.declared.verdict.Verdict.TheVariants.{NoClaim, Unsat, Sat, Bounds}
-use Rattle.pb_replay.specs.meaning.Problem.{Problem, objective_of, Solves, written_value}
+use Rattle.pb_proof.specs.declared.Bound.{Bound, TheVariants.Finite, TheVariants.Infinite}
 use Rattle.pb_propagate.specs.meaning.Propagation.{HoldAll, Live}
+use Rattle.pb_replay.specs.declared.verdict.Verdict.{Verdict, TheVariants.NoClaim, TheVariants.Unsat, TheVariants.Sat, TheVariants.Bounds}
+use Rattle.pb_replay.specs.meaning.{Problem.Problem, Problem.objective_of, Problem.Solves, Problem.written_value, Replay.Logged}
 use Rattle.pb_replay.specs.meaning.Replay.{State, value, by_name}
+use Rattle.pb_sums.specs.declared.Term.{Term}
+use Rattle.std.specs.Prelude.{◌≡◌, ℕ, ◌<◌, ℤ, ◌≤ℤ◌, Bool, List, ◌++◌, length, Contains, Some}
 
 -- what a verdict means for solutions S and their values w
 module _ {A : Type 0} (S : A → Type 0) (w : A → ℤ) where

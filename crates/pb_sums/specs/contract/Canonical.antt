@@ -1,15 +1,10 @@
 -- The one text that is written for a value.
+use Rattle.pb_sums.specs.declared.linear.{Linear.Linear, Literal.Literal, Relation.Relation, Relation.TheVariants.AtLeast, Relation.TheVariants.Equal}
+use Rattle.pb_sums.specs.{declared.linear.Term.Term, meaning.Sums.IsName, meaning.Sums.literal_bytes}
+use Rattle.pb_text.specs.{declared.Place.Place, meaning.Languages.unmarked}
+use Rattle.pb_text.specs.meaning.Spelling.{Letter, plain, digits_of}
 use Rattle.std.specs.Fmt.{signed_decimal}
 use Rattle.std.specs.Prelude.{ℕ, suc, ◌≤◌, List, [], ◌∷◌, ◌++◌, ℤ, pos, negsuc, nat_abs, decimal, codes}
-use Rattle.pb_text.specs.meaning.Spelling.{Letter, plain, digits_of}
-use Rattle.pb_text.specs.meaning.Languages.{unmarked}
-use Rattle.pb_text.specs.declared.Place.{Place}
-use Rattle.pb_sums.specs.meaning.Sums.{IsName, literal_bytes}
-use Rattle.pb_sums.specs.declared.linear.Literal.{Literal}
-use Rattle.pb_sums.specs.declared.linear.Term.{Term}
-use Rattle.pb_sums.specs.declared.linear.Relation.{Relation}
-use Rattle.pb_sums.specs.declared.linear.Relation.TheVariants.{AtLeast, Equal}
-use Rattle.pb_sums.specs.declared.linear.Linear.{Linear}
 
 -- The value rules: magnitudes within the limit, and names of the grammar.
 abbrev pub IsTerm : ℕ → Term → Type 0

@@ -1,7 +1,6 @@
 -- What names store.
+use Rattle.pb_sums.specs.declared.{name.Name.TheInside.Inside as InName, short.ShortText.TheInside.Inside as InShort}
 use Rattle.std.specs.Prelude.{◌≡◌}
-use Rattle.pb_sums.specs.declared.name.Name.TheInside.{Inside as InName}
-use Rattle.pb_sums.specs.declared.short.ShortText.TheInside.{Inside as InShort}
 
 -- only the stored text, as contracts see it
 abbrev pub NameKeeps : Type 0

@@ -1,16 +1,11 @@
 -- The laws of the grammar and of the machine.
-use Rattle.std.specs.Prelude.{◌≡◌, ℕ, ◌≤◌, ◌<◌, ◌^◌, List, [], ◌++◌, ◌↔◌, false}
+use Rattle.pb_sums.specs.contract.Canonical.{AreTerms, IsLinear, sum_bytes, sum_text, linear_bytes, linear_text}
+use Rattle.pb_sums.specs.declared.{linear.Linear.Linear, linear.SumEvent.SumEvent, linear.Term.Term, sum_kind.Part.Part, sum_kind.Spaces.Spaces}
+use Rattle.pb_sums.specs.engine.{Machine.finished, State.SumState, State.sums, State.first, State.last, State.with_work, State.IsInOrder}
+use Rattle.pb_sums.specs.meaning.Sums.{Spells, SpellsSum, SpellsLinear}
 use Rattle.pb_text.specs.contract.Automaton.{ReadsStatement, IsState}
 use Rattle.pb_text.specs.meaning.Spelling.{Letter, bytes}
-use Rattle.pb_sums.specs.meaning.Sums.{Spells, SpellsSum, SpellsLinear}
-use Rattle.pb_sums.specs.engine.State.{SumState, sums, first, last, with_work, IsInOrder}
-use Rattle.pb_sums.specs.engine.Machine.{finished}
-use Rattle.pb_sums.specs.contract.Canonical.{AreTerms, IsLinear, sum_bytes, sum_text, linear_bytes, linear_text}
-use Rattle.pb_sums.specs.declared.linear.Term.{Term}
-use Rattle.pb_sums.specs.declared.linear.Linear.{Linear}
-use Rattle.pb_sums.specs.declared.linear.SumEvent.{SumEvent}
-use Rattle.pb_sums.specs.declared.sum_kind.Spaces.{Spaces}
-use Rattle.pb_sums.specs.declared.sum_kind.Part.{Part}
+use Rattle.std.specs.Prelude.{◌≡◌, ℕ, ◌≤◌, ◌<◌, ◌^◌, List, [], ◌++◌, ◌↔◌, false}
 
 -- A new machine reads exactly the grammar, and then it has ended.
 abbrev pub ReadsGrammar : Type 0

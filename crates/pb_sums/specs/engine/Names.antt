@@ -1,7 +1,6 @@
 -- The bytes of a name, stored inline or allocated.
+use Rattle.pb_sums.specs.declared.name.Kept.{Kept, TheVariants.Short, TheVariants.Long}
 use Rattle.std.specs.Prelude.{ℕ, List, string_bytes}
-use Rattle.pb_sums.specs.declared.name.Kept.{Kept}
-use Rattle.pb_sums.specs.declared.name.Kept.TheVariants.{Short, Long}
 
 abbrev pub bytes_of : Kept → List ℕ
 bytes_of (Short text) = text

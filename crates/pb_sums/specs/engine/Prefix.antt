@@ -1,14 +1,9 @@
 -- Names and numbers at the start of a text.
-use Rattle.std.specs.Prelude.{◌≡◌, ◌≢◌, ◌⊎◌, ◌<◌, ◌≤◌, ℕ, ℤ, ◌+◌, ◌-◌, Bool, IsTrue, true, false, List, [], ◌∷◌, Option, Some, None, length, take, drop, get_or}
-use Rattle.pb_text.specs.meaning.Classes.{is_letter, is_name_byte}
-use Rattle.pb_text.specs.contract.Digits.{HasDigits}
-use Rattle.pb_text.specs.meaning.Languages.{Each}
+use Rattle.pb_sums.specs.{contract.Canonical.relation_bytes, declared.linear.Relation.Relation, declared.phase.Phase.Phase}
+use Rattle.pb_sums.specs.{declared.sum_kind.Part.Part, meaning.Sums.allows}
+use Rattle.pb_text.specs.{contract.Digits.HasDigits, meaning.Classes.is_letter, meaning.Classes.is_name_byte, meaning.Languages.Each}
 use Rattle.pb_text.specs.meaning.Numbers.{signed}
-use Rattle.pb_sums.specs.contract.Canonical.{relation_bytes}
-use Rattle.pb_sums.specs.meaning.Sums.{allows}
-use Rattle.pb_sums.specs.declared.sum_kind.Part.{Part}
-use Rattle.pb_sums.specs.declared.linear.Relation.{Relation}
-use Rattle.pb_sums.specs.declared.phase.Phase.{Phase}
+use Rattle.std.specs.Prelude.{◌≡◌, ◌≢◌, ◌⊎◌, ◌<◌, ◌≤◌, ℕ, ℤ, ◌+◌, ◌-◌, Bool, IsTrue, true, false, List, [], ◌∷◌, Option, Some, None, length, take, drop, get_or}
 
 -- a sign, or none
 abbrev pub IsSign : Bool → List ℕ → Type 0

@@ -1,14 +1,10 @@
 -- The states of a machine of sums, and its automaton.
-use Rattle.std.specs.Prelude.{◌≡◌, ℕ, ◌+◌, ◌-◌, ◌^◌, min, Bool, true, false, ◌||◌, ◌⊎◌, IsTrue, Option, None, Some, List, [], ◌∷◌, length}
-use Rattle.pb_text.specs.contract.Automaton.{Automaton, Next, Go, End, Refuse}
+use Rattle.pb_sums.specs.declared.{linear.SumEvent.SumEvent, linear.Term.Term, phase.Action.Action}
+use Rattle.pb_sums.specs.declared.phase.{Action.TheVariants.EndSum, Action.TheVariants.EndLinear, Action.TheVariants.Stop, Phase.Phase}
+use Rattle.pb_sums.specs.declared.sum_kind.{Part.Part, Spaces.Spaces}
 use Rattle.pb_sums.specs.engine.Machine.{Work, Outcome, fresh, finished, step, transition, kind, letter_at, is_numeric, is_in_number, is_midway, is_done, act, adds, flushed, is_more, PhaseFits}
-use Rattle.pb_sums.specs.declared.linear.Term.{Term}
-use Rattle.pb_sums.specs.declared.linear.SumEvent.{SumEvent}
-use Rattle.pb_sums.specs.declared.sum_kind.Spaces.{Spaces}
-use Rattle.pb_sums.specs.declared.sum_kind.Part.{Part}
-use Rattle.pb_sums.specs.declared.phase.Phase.{Phase}
-use Rattle.pb_sums.specs.declared.phase.Action.{Action}
-use Rattle.pb_sums.specs.declared.phase.Action.TheVariants.{EndSum, EndLinear, Stop}
+use Rattle.pb_text.specs.contract.Automaton.{Automaton, Next, Go, End, Refuse}
+use Rattle.std.specs.Prelude.{◌≡◌, ℕ, ◌+◌, ◌-◌, ◌^◌, min, Bool, true, false, ◌||◌, ◌⊎◌, IsTrue, Option, None, Some, List, [], ◌∷◌, length}
 
 -- what a machine reads, the largest magnitude of its numbers, and what it stores
 pub record SumState : Type 0 where

@@ -1,15 +1,9 @@
 -- Parts of a term at the start of a text, and what a machine does with them, whatever it reads.
-use Rattle.std.specs.Prelude.{◌≡◌, ℕ, ℤ, Bool, true, false, List, [], ◌∷◌, ◌++◌, None}
+use Rattle.pb_sums.specs.declared.{linear.Linear.Linear, linear.Literal.Literal, linear.Relation.Relation, linear.Term.Term, phase.Phase.Phase}
+use Rattle.pb_sums.specs.declared.sum_kind.{Part.Part, Spaces.Spaces}
+use Rattle.pb_sums.specs.engine.{Prefix.role, Prefix.after_number, State.SumState, State.sums, State.first}
 use Rattle.pb_text.specs.contract.Automaton.{Runs}
-use Rattle.pb_sums.specs.engine.Prefix.{role, after_number}
-use Rattle.pb_sums.specs.engine.State.{SumState, sums, first}
-use Rattle.pb_sums.specs.declared.linear.Literal.{Literal}
-use Rattle.pb_sums.specs.declared.linear.Linear.{Linear}
-use Rattle.pb_sums.specs.declared.linear.Relation.{Relation}
-use Rattle.pb_sums.specs.declared.linear.Term.{Term}
-use Rattle.pb_sums.specs.declared.sum_kind.Spaces.{Spaces}
-use Rattle.pb_sums.specs.declared.sum_kind.Part.{Part}
-use Rattle.pb_sums.specs.declared.phase.Phase.{Phase}
+use Rattle.std.specs.Prelude.{◌≡◌, ℕ, ℤ, Bool, true, false, List, [], ◌∷◌, ◌++◌, None}
 
 -- the states in which a term may begin, or the digits of its coefficient
 abbrev pub begins_term : Phase → Bool

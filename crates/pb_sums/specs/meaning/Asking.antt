@@ -1,8 +1,7 @@
 -- When a literal may allocate, in terms of the bytes so far and the next one.
-use Rattle.std.specs.Prelude.{◌≡◌, ℕ, false, List, [], ◌∷◌, ◌++◌, IsTrue, ◌⊎◌}
-use Rattle.pb_text.specs.meaning.Classes.{is_letter, is_name_byte}
-use Rattle.pb_text.specs.meaning.Languages.{Each}
 use Rattle.pb_sums.specs.meaning.Sums.{IsName}
+use Rattle.pb_text.specs.meaning.{Classes.is_letter, Classes.is_name_byte, Languages.Each}
+use Rattle.std.specs.Prelude.{◌≡◌, ℕ, false, List, [], ◌∷◌, ◌++◌, IsTrue, ◌⊎◌}
 
 -- the text ends in these bytes
 abbrev pub EndsIn : List ℕ → List ℕ → Type 0

@@ -1,17 +1,12 @@
 -- Names, terms, sums and linear texts.
-use Rattle.std.specs.Prelude.{◌≡◌, ℕ, Bool, true, false, List, [], ◌∷◌, IsTrue, ◌&&◌, ◌||◌, nat_eq, codes}
+use Rattle.pb_sums.specs.declared.linear.{Linear.Linear, Literal.Literal, Relation.Relation, Relation.TheVariants.AtLeast, Relation.TheVariants.Equal}
+use Rattle.pb_sums.specs.declared.linear.Term.{Term}
 use Rattle.pb_text.specs.meaning.Classes.{is_blank, is_letter, is_name_byte}
 use Rattle.pb_text.specs.meaning.Languages.{Language, ◌⋅◌, Empty, Byte, Bytes, Each, Many, Some}
-use Rattle.pb_text.specs.meaning.Numbers.{Number}
-use Rattle.pb_text.specs.meaning.Spelling.{Item}
-use Rattle.pb_sums.specs.declared.linear.Literal.{Literal}
-use Rattle.pb_sums.specs.declared.linear.Term.{Term}
-use Rattle.pb_sums.specs.declared.linear.Relation.{Relation}
-use Rattle.pb_sums.specs.declared.linear.Relation.TheVariants.{AtLeast, Equal}
-use Rattle.pb_sums.specs.declared.linear.Linear.{Linear}
+use Rattle.pb_text.specs.meaning.{Numbers.Number, Spelling.Item}
+use Rattle.std.specs.Prelude.{◌≡◌, ℕ, Bool, true, false, List, [], ◌∷◌, IsTrue, ◌&&◌, ◌||◌, nat_eq, codes}
 use Rattle.pb_sums.specs.declared.linear.SumEvent as event
-use Rattle.pb_sums.specs.declared.sum_kind.Spaces.{Spaces}
-use Rattle.pb_sums.specs.declared.sum_kind.Spaces.TheVariants.{White, Blank}
+use Rattle.pb_sums.specs.declared.sum_kind.Spaces.{Spaces, TheVariants.White, TheVariants.Blank}
 use Rattle.pb_sums.specs.declared.sum_kind.Part as part
 
 abbrev pub takes_line_feeds : Spaces → Bool

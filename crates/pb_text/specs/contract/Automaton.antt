@@ -1,8 +1,7 @@
 -- What a machine is: a step from state to state for each byte, and what a state accepts.
-use Rattle.std.specs.Prelude.{◌≡◌, ℕ, ◌+◌, ◌≤◌, ◌<◌, List, [], ◌∷◌, length, take, get_or, Bool, true, false, ◌&&◌, IsTrue, Option, None, Some}
-use Rattle.pb_text.specs.meaning.Classes.{is_digit}
+use Rattle.pb_text.specs.{declared.machine.Push.Push, meaning.Classes.is_digit}
 use Rattle.pb_text.specs.meaning.Spelling.{Letter, Item, bytes_of}
-use Rattle.pb_text.specs.declared.machine.Push.{Push}
+use Rattle.std.specs.Prelude.{◌≡◌, ℕ, ◌+◌, ◌≤◌, ◌<◌, List, [], ◌∷◌, length, take, get_or, Bool, true, false, ◌&&◌, IsTrue, Option, None, Some}
 use Rattle.pb_text.specs.declared.machine.Push.TheVariants as push
 
 -- After a byte, the machine continues, has ended a statement with an event, or rejects the byte.

@@ -1,7 +1,6 @@
 -- Digits at the start of a text.
+use Rattle.pb_text.specs.meaning.{Classes.is_digit, Languages.Each}
 use Rattle.std.specs.Prelude.{◌≡◌, ◌<◌, ◌≤◌, ◌^◌, ℕ, ◌+◌, ◌-◌, ◌*◌, IsTrue, false, List, [], ◌∷◌, length, take, get_or}
-use Rattle.pb_text.specs.meaning.Classes.{is_digit}
-use Rattle.pb_text.specs.meaning.Languages.{Each}
 
 -- the value of a number followed by these digits
 abbrev pub value_from : ℕ → List ℕ → ℕ

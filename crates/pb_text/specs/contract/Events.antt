@@ -1,17 +1,10 @@
 -- What the events of a source yield in order.
-use Rattle.std.specs.Prelude.{◌≡◌, ◌<◌, ℕ, ◌+◌, ◌-◌, List, Bool, true, Option, Some, None, Result, Ok, IfErr}
-use Rattle.std.specs.Option.{option_transpose}
-use Rattle.std.specs.Iterator.{Count, at_most}
-use Rattle.pb_text.specs.meaning.Reading.{byte_limit}
 use Rattle.pb_text.specs.contract.Feeding.{StandsAt, WantsMemory, stop_of, place_of, halt_of, is_complete}
-use Rattle.pb_text.specs.meaning.Pulling.{Pulls, faults_after}
-use Rattle.pb_text.specs.meaning.PullsInARow.{HasPulled, PullsOn}
+use Rattle.pb_text.specs.declared.{events.Events.Events, feeder.Feeder.Feeder, machine.Machine.Ghosts, place.Spanned.Spanned, place.Stop.Stop}
+use Rattle.pb_text.specs.meaning.{Pulling.Pulls, Pulling.faults_after, PullsInARow.HasPulled, PullsInARow.PullsOn, Reading.byte_limit}
 use Rattle.pb_text.specs.meaning.Stopping.{IsShown}
-use Rattle.pb_text.specs.declared.place.Spanned.{Spanned}
-use Rattle.pb_text.specs.declared.place.Stop.{Stop}
-use Rattle.pb_text.specs.declared.events.Events.{Events}
-use Rattle.pb_text.specs.declared.feeder.Feeder.{Feeder}
-use Rattle.pb_text.specs.declared.machine.Machine.{Ghosts}
+use Rattle.std.specs.{Iterator.Count, Iterator.at_most, Option.option_transpose}
+use Rattle.std.specs.Prelude.{◌≡◌, ◌<◌, ℕ, ◌+◌, ◌-◌, List, Bool, true, Option, Some, None, Result, Ok, IfErr}
 
 abbrev pub source_of : {S M E : Type 0} {g : Ghosts M E} → Events S M E g → S
 source_of e = e.source.now

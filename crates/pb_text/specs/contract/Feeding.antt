@@ -1,16 +1,9 @@
 -- What a feed says about the whole input.
+use Rattle.pb_text.specs.contract.{Automaton.AcceptsItems, Standing.Stands, Standing.IsOpen, Standing.IsUnread}
+use Rattle.pb_text.specs.declared.{feeder.Fed.Fed, feeder.Feeder.Feeder, machine.Machine.Ghosts, place.Place.Place, place.Spanned.Spanned}
+use Rattle.pb_text.specs.declared.place.{Stop.Stop, Why.TheVariants.Memory}
+use Rattle.pb_text.specs.meaning.{Reading.IsPrefix, Reading.HasOpen, Spelling.place_after}
 use Rattle.std.specs.Prelude.{◌≡◌, ℕ, ◌+◌, ◌-◌, ◌<◌, ◌≤◌, List, [], ◌∷◌, ◌++◌, length, slice_get, take, Bool, IsTrue, Option, Some, None, Result, Ok, Err}
-use Rattle.pb_text.specs.meaning.Spelling.{place_after}
-use Rattle.pb_text.specs.contract.Automaton.{AcceptsItems}
-use Rattle.pb_text.specs.meaning.Reading.{IsPrefix, HasOpen}
-use Rattle.pb_text.specs.contract.Standing.{Stands, IsOpen, IsUnread}
-use Rattle.pb_text.specs.declared.place.Place.{Place}
-use Rattle.pb_text.specs.declared.place.Spanned.{Spanned}
-use Rattle.pb_text.specs.declared.place.Stop.{Stop}
-use Rattle.pb_text.specs.declared.place.Why.TheVariants.{Memory}
-use Rattle.pb_text.specs.declared.machine.Machine.{Ghosts}
-use Rattle.pb_text.specs.declared.feeder.Fed.{Fed}
-use Rattle.pb_text.specs.declared.feeder.Feeder.{Feeder}
 
 -- the state of a feeder's machine
 abbrev pub state_of : {M E : Type 0} {g : Ghosts M E} → Feeder M E g → M

@@ -1,7 +1,6 @@
 -- What lists and texts store.
+use Rattle.pb_text.specs.declared.sequence.{Bytes.TheInside.Inside as InBytes, Sequence.TheInside.Inside as InSequence}
 use Rattle.std.specs.Prelude.{◌≡◌}
-use Rattle.pb_text.specs.declared.sequence.Sequence.TheInside.{Inside as InSequence}
-use Rattle.pb_text.specs.declared.sequence.Bytes.TheInside.{Inside as InBytes}
 
 -- only the vector of the values, as contracts see it
 abbrev pub SequenceKeeps : Type 0 → Type 0

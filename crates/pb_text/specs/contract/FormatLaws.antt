@@ -1,7 +1,6 @@
 -- The laws of a format whose numbers have limits: a largest coefficient and a largest count.
+use Rattle.pb_text.specs.meaning.{Reading.HasFixedSpans, Spelling.Item, Spelling.bytes_of}
 use Rattle.std.specs.Prelude.{◌≡◌, ℕ, ◌≤◌, List, [], ◌++◌}
-use Rattle.pb_text.specs.meaning.Reading.{HasFixedSpans}
-use Rattle.pb_text.specs.meaning.Spelling.{Item, bytes_of}
 
 module _ {E : Type 0} (format : ℕ → ℕ → List (Item E) → Type 0) where
   -- A text is parsed in one way.

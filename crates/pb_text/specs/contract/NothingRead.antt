@@ -1,10 +1,7 @@
 -- A read of a source that failed before its first byte.
+use Rattle.pb_text.specs.declared.place.{Place.Place, Stop.Stop, Why.TheVariants.Read}
+use Rattle.pb_text.specs.meaning.{Reading.Reads, Spelling.Item}
 use Rattle.std.specs.Prelude.{ℕ, List, [], false, Some}
-use Rattle.pb_text.specs.meaning.Spelling.{Item}
-use Rattle.pb_text.specs.meaning.Reading.{Reads}
-use Rattle.pb_text.specs.declared.place.Place.{Place}
-use Rattle.pb_text.specs.declared.place.Stop.{Stop}
-use Rattle.pb_text.specs.declared.place.Why.TheVariants.{Read}
 
 -- the position of the first byte
 abbrev pub first_place : Place

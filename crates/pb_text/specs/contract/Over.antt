@@ -1,8 +1,7 @@
 -- A source over a buffered reader.
-use Rattle.std.specs.Prelude.{ℕ, zero, suc, ◌≤◌, List, Option, Some, None, Result, Ok, Err}
+use Rattle.pb_text.specs.{contract.Source.StartWith, contract.Source.HaveEnded, declared.source.Failed.Failed}
 use Rattle.std.specs.Io.KnownBytes.{Keeps}
-use Rattle.pb_text.specs.contract.Source.{StartWith, HaveEnded}
-use Rattle.pb_text.specs.declared.source.Failed.{Failed}
+use Rattle.std.specs.Prelude.{ℕ, zero, suc, ◌≤◌, List, Option, Some, None, Result, Ok, Err}
 
 -- The bytes that the reader reports as left. A reader that has shown a byte and does not let it be taken reports none.
 abbrev pub reported : Option (List ℕ) → Option ℕ → Option ℕ → Option (List ℕ)

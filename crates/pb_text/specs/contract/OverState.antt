@@ -1,6 +1,6 @@
 -- What a source or sink over a reader or a writer stores.
-use Rattle.std.specs.Prelude.{ℕ, List, Bool, Option}
 use Rattle.pb_text.specs.declared.over.Over.{Over}
+use Rattle.std.specs.Prelude.{ℕ, List, Bool, Option}
 
 abbrev pub inner_of : {T : Type 0} → Over T → T
 inner_of o = o.inner

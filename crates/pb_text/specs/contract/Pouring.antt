@@ -1,10 +1,7 @@
 -- What is poured from a source into a feeder.
+use Rattle.pb_text.specs.contract.{Feeding.StandsAt, Feeding.spans_in, Feeding.place_of, Source.Lost}
+use Rattle.pb_text.specs.declared.{feeder.Feeder.Feeder, machine.Machine.Ghosts, place.Spanned.Spanned}
 use Rattle.std.specs.Prelude.{◌≡◌, ◌+◌, ◌<◌, ℕ, List, ◌++◌, length, Option, Some, None, Result, Ok, Err}
-use Rattle.pb_text.specs.contract.Source.{Lost}
-use Rattle.pb_text.specs.contract.Feeding.{StandsAt, spans_in, place_of}
-use Rattle.pb_text.specs.declared.place.Spanned.{Spanned}
-use Rattle.pb_text.specs.declared.feeder.Feeder.{Feeder}
-use Rattle.pb_text.specs.declared.machine.Machine.{Ghosts}
 
 -- the event that a call returned, if any
 abbrev pub brought : {E F : Type 0} → Result (Option (Spanned E)) F → Option (Spanned E)

@@ -1,13 +1,8 @@
 -- What a pull says of its feeder and its source.
+use Rattle.pb_text.specs.contract.{Feeding.StandsAt, Feeding.WantsMemory, Feeding.place_of, Feeding.halt_of, Feeding.is_complete, Standing.IsOpen}
+use Rattle.pb_text.specs.declared.{feeder.Feeder.Feeder, machine.Machine.Ghosts, place.Spanned.Spanned, place.Stop.Stop}
+use Rattle.pb_text.specs.meaning.{Pulling.Pulls, PullsInARow.HasPulled, PullsInARow.PullsOn}
 use Rattle.std.specs.Prelude.{◌≡◌, ◌<◌, ℕ, List, true, Option, Some, None, Result, Ok, Err}
-use Rattle.pb_text.specs.contract.Standing.{IsOpen}
-use Rattle.pb_text.specs.contract.Feeding.{StandsAt, WantsMemory, place_of, halt_of, is_complete}
-use Rattle.pb_text.specs.meaning.Pulling.{Pulls}
-use Rattle.pb_text.specs.meaning.PullsInARow.{HasPulled, PullsOn}
-use Rattle.pb_text.specs.declared.place.Spanned.{Spanned}
-use Rattle.pb_text.specs.declared.place.Stop.{Stop}
-use Rattle.pb_text.specs.declared.feeder.Feeder.{Feeder}
-use Rattle.pb_text.specs.declared.machine.Machine.{Ghosts}
 
 module _ {M E : Type 0} {g : Ghosts M E} where
   -- The pull of a feeder that was fed any input.

@@ -1,8 +1,6 @@
 -- The text of a position and of a stop.
+use Rattle.pb_text.specs.declared.place.{Place.Place, Stop.Stop, Why.Why}
 use Rattle.std.specs.Prelude.{ℕ, ◌/◌, ◌%◌, List, [], ◌∷◌, ◌++◌, codes, decimal, slice_index}
-use Rattle.pb_text.specs.declared.place.Place.{Place}
-use Rattle.pb_text.specs.declared.place.Stop.{Stop}
-use Rattle.pb_text.specs.declared.place.Why.{Why}
 use Rattle.pb_text.specs.declared.place.Why.TheVariants as why
 
 -- a position, through its colon and space

@@ -1,6 +1,6 @@
 -- When a machine may leave a byte untaken.
-use Rattle.std.specs.Prelude.{◌≡◌, ◌⊎◌, ℕ, IsTrue}
 use Rattle.pb_text.specs.contract.Automaton.{Automaton, End}
+use Rattle.std.specs.Prelude.{◌≡◌, ◌⊎◌, ℕ, IsTrue}
 
 -- The byte may allocate, or it ends no statement.
 abbrev pub MayStay : {S E : Type 0} → Automaton S E → S → ℕ → Type 0

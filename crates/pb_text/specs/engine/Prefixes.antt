@@ -1,11 +1,8 @@
 -- What a feeder says of a prefix of a piece that it takes at once.
-use Rattle.std.specs.Prelude.{◌≡◌, ℕ, ◌+◌, ◌<◌, ◌≤◌, List, ◌++◌, length, take, false, Some, None}
 use Rattle.pb_text.specs.contract.Automaton.{IsState}
 use Rattle.pb_text.specs.contract.Feeding.{StandsAt, spans_in, state_of, place_of, halt_of, is_complete}
-use Rattle.pb_text.specs.declared.place.Spanned.{Spanned}
-use Rattle.pb_text.specs.declared.machine.Machine.{Ghosts}
-use Rattle.pb_text.specs.declared.feeder.Fed.{Fed}
-use Rattle.pb_text.specs.declared.feeder.Feeder.{Feeder}
+use Rattle.pb_text.specs.declared.{feeder.Fed.Fed, feeder.Feeder.Feeder, machine.Machine.Ghosts, place.Spanned.Spanned}
+use Rattle.std.specs.Prelude.{◌≡◌, ℕ, ◌+◌, ◌<◌, ◌≤◌, List, ◌++◌, length, take, false, Some, None}
 
 -- It took these bytes of the piece, at most through the end of a statement, and did not stop.
 pub record TakesPrefix {M E : Type 0} {g : Ghosts M E} (old : Feeder M E g) (piece : List ℕ) (fed : Fed E) (new : Feeder M E g) : Type 0 where

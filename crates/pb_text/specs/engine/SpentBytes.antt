@@ -1,7 +1,6 @@
 -- The offset where the next byte is past the limit, and what was spent on a statement.
+use Rattle.pb_text.specs.{declared.place.Place.Place, meaning.Reading.byte_limit}
 use Rattle.std.specs.Prelude.{◌≡◌, ℕ, ◌+◌, ◌≤◌, min, Option, None, Some}
-use Rattle.pb_text.specs.meaning.Reading.{byte_limit}
-use Rattle.pb_text.specs.declared.place.Place.{Place}
 
 -- the offset of the first byte past the limit on all bytes, or on those of the statement that began at first
 abbrev pub end_of : ℕ → Option Place → ℕ

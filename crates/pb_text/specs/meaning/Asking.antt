@@ -1,6 +1,6 @@
 -- Where a read may allocate, in terms of texts alone.
-use Rattle.std.specs.Prelude.{◌≡◌, ℕ, List, ◌∷◌, ◌++◌}
 use Rattle.pb_text.specs.meaning.Spelling.{Item, bytes, bytes_of}
+use Rattle.std.specs.Prelude.{◌≡◌, ℕ, List, ◌∷◌, ◌++◌}
 
 -- After these bytes of a text, the next one is in a statement, at a position that may allocate. `Asks` says this of the
 -- statement, its bytes so far and the next byte.

@@ -1,14 +1,8 @@
 -- White space and comments.
-use Rattle.std.specs.Prelude.{◌≡◌, ◌≢◌, ℕ, ◌+◌, ◌<◌, ◌≤◌, List, [], ◌∷◌, ◌++◌, length, reverse, Bool, false, not, ◌&&◌, ◌||◌, nat_eq, IsTrue, Option, Result, Ok, Err}
-use Rattle.pb_text.specs.meaning.Classes.{is_white}
-use Rattle.pb_text.specs.meaning.Languages.{Each}
-use Rattle.pb_text.specs.meaning.Spelling.{place_past}
-use Rattle.pb_text.specs.meaning.Reading.{byte_limit}
-use Rattle.pb_text.specs.meaning.Pulling.{Took}
-use Rattle.pb_text.specs.declared.place.Place.{Place}
-use Rattle.pb_text.specs.declared.place.Stop.{Stop}
-use Rattle.pb_text.specs.declared.place.Why.{Why}
+use Rattle.pb_text.specs.declared.place.{Place.Place, Stop.Stop, Why.Why}
 use Rattle.pb_text.specs.declared.place.Why.TheVariants.{Byte, TooLarge, Ended, TooLong, Read, Memory}
+use Rattle.pb_text.specs.meaning.{Classes.is_white, Languages.Each, Pulling.Took, Reading.byte_limit, Spelling.place_past}
+use Rattle.std.specs.Prelude.{◌≡◌, ◌≢◌, ℕ, ◌+◌, ◌<◌, ◌≤◌, List, [], ◌∷◌, ◌++◌, length, reverse, Bool, false, not, ◌&&◌, ◌||◌, nat_eq, IsTrue, Option, Result, Ok, Err}
 
 -- no byte is a line feed
 abbrev pub IsInLine : List ℕ → Type 0

@@ -1,7 +1,6 @@
 -- Languages: sets of texts over letters.
+use Rattle.pb_text.specs.meaning.{Classes.is_blank, Spelling.Letter, Spelling.plain}
 use Rattle.std.specs.Prelude.{◌≡◌, ℕ, ◌+◌, true, false, List, [], ◌∷◌, ◌++◌, IsTrue}
-use Rattle.pb_text.specs.meaning.Classes.{is_blank}
-use Rattle.pb_text.specs.meaning.Spelling.{Letter, plain}
 
 -- a byte that is no digit of a number
 abbrev pub unmarked : ℕ → Letter

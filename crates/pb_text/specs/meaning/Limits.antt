@@ -1,6 +1,6 @@
 -- The limits on numbers.
-use Rattle.std.specs.Prelude.{ℕ, ◌-◌, ◌^◌, ◌<◌, ◌≤◌}
 use Rattle.pb_text.specs.declared.limits.Limits.{Limits}
+use Rattle.std.specs.Prelude.{ℕ, ◌-◌, ◌^◌, ◌<◌, ◌≤◌}
 
 -- numbers that are valid limits: bits, and a top
 abbrev pub AreLimits : ℕ → ℕ → Type 0

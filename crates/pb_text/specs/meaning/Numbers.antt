@@ -1,6 +1,6 @@
 -- Numbers in decimal digits.
-use Rattle.std.specs.Prelude.{◌≡◌, ℕ, ◌+◌, ◌*◌, ◌^◌, ◌<◌, ◌≤◌, Bool, true, false, List, [], ◌∷◌, length, map, ◌⊎◌, ℤ, pos, neg_ℤ}
 use Rattle.pb_text.specs.meaning.Languages.{digit, Language, ◌⋅◌, Empty, Byte, Each}
+use Rattle.std.specs.Prelude.{◌≡◌, ℕ, ◌+◌, ◌*◌, ◌^◌, ◌<◌, ◌≤◌, Bool, true, false, List, [], ◌∷◌, length, map, ◌⊎◌, ℤ, pos, neg_ℤ}
 
 -- The value of digits, the first one the most significant: the sum of each digit times its power of ten.
 abbrev pub value : List ℕ → ℕ

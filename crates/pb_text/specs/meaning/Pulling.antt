@@ -1,13 +1,8 @@
 -- What a pull takes from a source.
-use Rattle.std.specs.Prelude.{◌≡◌, ◌+◌, ℕ, List, ◌++◌, length, Option, Some, None, Result, Ok, Err}
+use Rattle.pb_text.specs.{contract.Feeding.StandsAt, contract.Feeding.spans_taken, declared.feeder.Feeder.Feeder, declared.machine.Machine.Ghosts}
+use Rattle.pb_text.specs.declared.place.{Spanned.Spanned, Stop.Stop, Why.Why, Why.TheVariants.Read}
 use Rattle.pb_text.specs.meaning.Writing.{one_more}
-use Rattle.pb_text.specs.contract.Feeding.{StandsAt, spans_taken}
-use Rattle.pb_text.specs.declared.place.Spanned.{Spanned}
-use Rattle.pb_text.specs.declared.place.Stop.{Stop}
-use Rattle.pb_text.specs.declared.place.Why.{Why}
-use Rattle.pb_text.specs.declared.place.Why.TheVariants.{Read}
-use Rattle.pb_text.specs.declared.feeder.Feeder.{Feeder}
-use Rattle.pb_text.specs.declared.machine.Machine.{Ghosts}
+use Rattle.std.specs.Prelude.{◌≡◌, ◌+◌, ℕ, List, ◌++◌, length, Option, Some, None, Result, Ok, Err}
 
 -- the input that a pull has processed: after an event what it took, and otherwise also what it saw
 abbrev pub input_pulled : {E : Type 0} → Result (Option (Spanned E)) Stop → List ℕ → List ℕ → List ℕ

@@ -1,16 +1,8 @@
 -- Consecutive pulls: together, what they have taken from a source is a read of it.
+use Rattle.pb_text.specs.contract.{Automaton.AcceptsItems, Automaton.MayAsk, Feeding.StandsAt, Feeding.place_of, Feeding.halt_of}
+use Rattle.pb_text.specs.declared.{feeder.Feeder.Feeder, machine.Machine.Ghosts, place.Place.Place, place.Spanned.Spanned, place.Stop.Stop}
+use Rattle.pb_text.specs.meaning.{Pulling.Took, Reading.Reads, Spelling.Item, Stopping.IsAsking}
 use Rattle.std.specs.Prelude.{◌≡◌, ℕ, List, [], ◌∷◌, ◌++◌, length, Bool, true, false, Option, Some, None, Result, Ok, Err}
-use Rattle.pb_text.specs.meaning.Spelling.{Item}
-use Rattle.pb_text.specs.meaning.Stopping.{IsAsking}
-use Rattle.pb_text.specs.contract.Automaton.{AcceptsItems, MayAsk}
-use Rattle.pb_text.specs.meaning.Reading.{Reads}
-use Rattle.pb_text.specs.contract.Feeding.{StandsAt, place_of, halt_of}
-use Rattle.pb_text.specs.meaning.Pulling.{Took}
-use Rattle.pb_text.specs.declared.place.Place.{Place}
-use Rattle.pb_text.specs.declared.place.Spanned.{Spanned}
-use Rattle.pb_text.specs.declared.place.Stop.{Stop}
-use Rattle.pb_text.specs.declared.feeder.Feeder.{Feeder}
-use Rattle.pb_text.specs.declared.machine.Machine.{Ghosts}
 
 -- The feeder began with this machine and has not stopped. It was fed the bytes taken from the source, and has returned
 -- these spans.

@@ -1,12 +1,9 @@
 -- What a read of a text must give: the spans, the bytes used and the result. It depends only on the text and its format.
-use Rattle.std.specs.Prelude.{◌≡◌, ◌≢◌, ◌⊎◌, ℕ, ◌+◌, ◌-◌, ◌≤◌, ◌<◌, ◌^◌, min, List, [], ◌∷◌, ◌++◌, length, take, filter, nat_le, Bool, true, false, IsTrue, cond, Option, None, Some, Result, Ok, Err}
+use Rattle.pb_text.specs.declared.place.{Place.Place, Spanned.Spanned, Stop.Stop, Why.Why}
+use Rattle.pb_text.specs.declared.place.Why.TheVariants.{Byte, TooLarge, Ended, TooLong, Read, Memory}
 use Rattle.pb_text.specs.meaning.Classes.{is_digit}
 use Rattle.pb_text.specs.meaning.Spelling.{Letter, Item, letters_of, bytes_of, spans_of, place_after}
-use Rattle.pb_text.specs.declared.place.Place.{Place}
-use Rattle.pb_text.specs.declared.place.Spanned.{Spanned}
-use Rattle.pb_text.specs.declared.place.Stop.{Stop}
-use Rattle.pb_text.specs.declared.place.Why.{Why}
-use Rattle.pb_text.specs.declared.place.Why.TheVariants.{Byte, TooLarge, Ended, TooLong, Read, Memory}
+use Rattle.std.specs.Prelude.{◌≡◌, ◌≢◌, ◌⊎◌, ℕ, ◌+◌, ◌-◌, ◌≤◌, ◌<◌, ◌^◌, min, List, [], ◌∷◌, ◌++◌, length, take, filter, nat_le, Bool, true, false, IsTrue, cond, Option, None, Some, Result, Ok, Err}
 
 abbrev pub IsPrefix : List ℕ → List ℕ → Type 0
 IsPrefix prefix text = (rest : List ℕ) × (text ≡ prefix ++ rest)

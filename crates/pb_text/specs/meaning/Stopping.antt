@@ -1,7 +1,7 @@
 -- What a stop says about memory, and about what a source has shown.
-use Rattle.std.specs.Prelude.{◌≡◌, ℕ, List, ◌∷◌, Bool, true, Option, Some}
 use Rattle.pb_text.specs.declared.place.Why.{Why}
 use Rattle.pb_text.specs.declared.place.Why.TheVariants.{Byte, TooLarge, Ended, TooLong, Read, Memory}
+use Rattle.std.specs.Prelude.{◌≡◌, ℕ, List, ◌∷◌, Bool, true, Option, Some}
 
 -- If out of memory, the next byte may allocate.
 abbrev pub IsAsking : (List ℕ → ℕ → Type 0) → List ℕ → List ℕ → Why → Type 0

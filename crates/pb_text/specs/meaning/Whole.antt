@@ -1,12 +1,7 @@
 -- A whole read: the events of one text are collected in a value.
+use Rattle.pb_text.specs.declared.place.{Spanned.Spanned, Stop.Stop, Why.TheVariants.Memory}
+use Rattle.pb_text.specs.meaning.{Pulling.Took, Reading.Reads, Reading.IsSpelled, Spelling.Item, Spelling.place_after, Stopping.IsAsking}
 use Rattle.std.specs.Prelude.{◌≡◌, ℕ, List, [], ◌∷◌, ◌++◌, map, Bool, false, IsTrue, Option, None, Some, Result, Ok, Err}
-use Rattle.pb_text.specs.meaning.Stopping.{IsAsking}
-use Rattle.pb_text.specs.meaning.Spelling.{Item, place_after}
-use Rattle.pb_text.specs.meaning.Reading.{Reads, IsSpelled}
-use Rattle.pb_text.specs.meaning.Pulling.{Took}
-use Rattle.pb_text.specs.declared.place.Spanned.{Spanned}
-use Rattle.pb_text.specs.declared.place.Stop.{Stop}
-use Rattle.pb_text.specs.declared.place.Why.TheVariants.{Memory}
 
 -- the value with these events added in order
 abbrev pub gathered : {V E : Type 0} → (V → E → V) → V → List E → V

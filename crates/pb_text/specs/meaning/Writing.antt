@@ -1,7 +1,7 @@
 -- What a write leaves in its sink: the whole text, or after a fault a prefix of it.
-use Rattle.std.specs.Prelude.{◌≡◌, ℕ, ◌+◌, ◌-◌, ◌^◌, ◌<◌, ◌≤◌, min, List, ◌++◌, length, take, Option, Result, Ok, Err}
-use Rattle.std.specs.Io.KnownBytes.{Appends, Keeps}
 use Rattle.pb_text.specs.declared.source.Failed.{Failed}
+use Rattle.std.specs.Io.KnownBytes.{Appends, Keeps}
+use Rattle.std.specs.Prelude.{◌≡◌, ℕ, ◌+◌, ◌-◌, ◌^◌, ◌<◌, ◌≤◌, min, List, ◌++◌, length, take, Option, Result, Ok, Err}
 
 -- the count of faults after one more: the count saturates
 abbrev pub one_more : ℕ → ℕ

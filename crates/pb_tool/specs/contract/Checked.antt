@@ -1,17 +1,10 @@
 -- What a check of two sources ensures, in one record: its fields are the facts that `check` names.
-use Rattle.std.specs.Prelude.{◌≡◌, ℕ, IfOk, List, Option, Result, Ok}
-use Rattle.pb_text.specs.meaning.Pulling.{OfGiven}
-use Rattle.pb_text.specs.declared.Limits.{Limits}
-use Rattle.pb_text.specs.declared.sink.Sink.{Ghosts as Sink}
-use Rattle.pb_text.specs.declared.source.Source.{Ghosts as Source}
-use Rattle.pb_replay.specs.declared.verdict.Verdict.{Verdict}
-use Rattle.pb_replay.specs.declared.verdict.Verdict.TheVariants.{Unsat}
-use Rattle.pb_tool.specs.contract.Given.{ChecksGiven}
-use Rattle.pb_tool.specs.contract.Runs.{faults_of_instance, faults_of_proof}
-use Rattle.pb_tool.specs.contract.Seen.{SawInstance, SawProof}
-use Rattle.pb_tool.specs.meaning.Headline.{TrueOf, UnsatOf}
+use Rattle.pb_replay.specs.declared.verdict.Verdict.{Verdict, TheVariants.Unsat}
+use Rattle.pb_text.specs.{declared.Limits.Limits, declared.sink.Sink.Ghosts as Sink, declared.source.Source.Ghosts as Source, meaning.Pulling.OfGiven}
+use Rattle.pb_tool.specs.contract.{Given.ChecksGiven, Runs.faults_of_instance, Runs.faults_of_proof, Seen.SawInstance, Seen.SawProof}
+use Rattle.pb_tool.specs.{declared.fault.ToolFault.ToolFault, meaning.Headline.TrueOf, meaning.Headline.UnsatOf}
 use Rattle.pb_tool.specs.meaning.Verified.{called, CheckCall, ChecksFiles}
-use Rattle.pb_tool.specs.declared.fault.ToolFault.{ToolFault}
+use Rattle.std.specs.Prelude.{◌≡◌, ℕ, IfOk, List, Option, Result, Ok}
 
 -- A call with an instance `i`, a proof `p` and a sink `o` returned this result, and left them as `i'`, `p'` and `o'`.
 module _ {I P W : Type 0} (of_i : Source I) (of_p : Source P) (of_o : Sink W) (limits : Limits) (longest : ℕ) (i : I) (p : P) (o : W) (result : Result Verdict ToolFault) (i' : I) (p' : P) (o' : W) where

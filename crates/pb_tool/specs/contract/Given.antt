@@ -1,15 +1,12 @@
 -- What is ensured for any source, files included. It is what is ensured for a source whose bytes are known, with the
 -- bytes that the calls have given.
-use Rattle.std.specs.Prelude.{◌⊎◌, ℕ, Bool, true, false, List, Option, Result}
-use Rattle.pb_text.specs.meaning.Pulling.{OfGiven}
-use Rattle.pb_text.specs.declared.Limits.{Limits}
 use Rattle.pb_opb.specs.contract.Canonical.{event_bytes}
 use Rattle.pb_proof.specs.meaning.Canonical.{statement_bytes}
+use Rattle.pb_text.specs.{declared.Limits.Limits, meaning.Pulling.OfGiven}
+use Rattle.pb_tool.specs.{contract.Show.ShowsLines, contract.Tidy.TidiesProof, contract.Tidy.Tidies, declared.fault.ToolFault.ToolFault}
 use Rattle.pb_tool.specs.meaning.Files.{AsksInProofText, IsProofText, AsksInInstanceText, IsInstanceText}
-use Rattle.pb_tool.specs.contract.Tidy.{TidiesProof, Tidies}
-use Rattle.pb_tool.specs.contract.Show.{ShowsLines}
 use Rattle.pb_tool.specs.meaning.Verified.{called, CheckCall, ChecksFiles}
-use Rattle.pb_tool.specs.declared.fault.ToolFault.{ToolFault}
+use Rattle.std.specs.Prelude.{◌⊎◌, ℕ, Bool, true, false, List, Option, Result}
 
 module _ (limits : Limits) (longest : ℕ) {W : Type 0} (contents : W → Option (List ℕ)) (faults : W → ℕ) where
   -- With `normal` the source is read as an instance. Otherwise it is read as a proof or as an instance. A peek at its

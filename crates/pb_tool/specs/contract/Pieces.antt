@@ -1,28 +1,16 @@
 -- What a feed says of a checker.
-use Rattle.std.specs.Prelude.{◌≡◌, ◌≢◌, ◌<◌, ◌≤◌, ℕ, List, [], ◌∷◌, ◌+◌, ◌++◌, cond, length, take, Bool, true, false, Option, Some, None, Result, Ok, Err}
-use Rattle.std.specs.List.{flat_map}
-use Rattle.pb_text.specs.contract.Feeding.{place_of, state_of, is_complete}
-use Rattle.pb_text.specs.meaning.Limits.{largest, top_of}
-use Rattle.pb_text.specs.meaning.Reading.{HasOpen, IsPrefix}
+use Rattle.pb_proof.specs.{declared.Statement.Statement, engine.machine.State.proofs, meaning.Proofs.IsProof}
+use Rattle.pb_replay.specs.declared.{fault.Fault.Fault, fault.Fault.TheVariants.NotTotal, verdict.Verdict.Verdict}
+use Rattle.pb_replay.specs.meaning.{Problem.Problem, Replay.State}
+use Rattle.pb_text.specs.contract.{Feeding.place_of, Feeding.state_of, Feeding.is_complete, Standing.Counts}
+use Rattle.pb_text.specs.declared.{Limits.Limits, Place.Place, place.Why.TheVariants.Read, place.Why.TheVariants.Memory}
+use Rattle.pb_text.specs.meaning.{Limits.largest, Limits.top_of, Reading.HasOpen, Reading.IsPrefix}
 use Rattle.pb_text.specs.meaning.Spelling.{Item, bytes_of, place_after}
-use Rattle.pb_text.specs.contract.Standing.{Counts}
-use Rattle.pb_text.specs.declared.Limits.{Limits}
-use Rattle.pb_text.specs.declared.Place.{Place}
-use Rattle.pb_text.specs.declared.place.Why.TheVariants.{Read, Memory}
-use Rattle.pb_proof.specs.meaning.Proofs.{IsProof}
-use Rattle.pb_proof.specs.engine.machine.State.{proofs}
-use Rattle.pb_proof.specs.declared.Statement.{Statement}
-use Rattle.pb_replay.specs.meaning.Problem.{Problem}
-use Rattle.pb_replay.specs.meaning.Replay.{State}
-use Rattle.pb_replay.specs.declared.fault.Fault.{Fault}
-use Rattle.pb_replay.specs.declared.fault.Fault.TheVariants.{NotTotal}
-use Rattle.pb_replay.specs.declared.verdict.Verdict.{Verdict}
-use Rattle.pb_tool.specs.contract.Checker.{Checking, ChecksSoFar, CountsSoFar}
-use Rattle.pb_tool.specs.contract.Checks.{Checks, EndsAfter}
+use Rattle.pb_tool.specs.contract.{Checker.Checking, Checker.ChecksSoFar, Checker.CountsSoFar, Checks.Checks, Checks.EndsAfter}
+use Rattle.pb_tool.specs.declared.commands.check.checker.{CheckFault.CheckFault, CheckFault.TheVariants.Text, CheckFault.TheVariants.Step, Went.Went}
 use Rattle.pb_tool.specs.meaning.Files.{AsksInProofText}
-use Rattle.pb_tool.specs.declared.commands.check.checker.Went.{Went}
-use Rattle.pb_tool.specs.declared.commands.check.checker.CheckFault.{CheckFault}
-use Rattle.pb_tool.specs.declared.commands.check.checker.CheckFault.TheVariants.{Text, Step}
+use Rattle.std.specs.List.{flat_map}
+use Rattle.std.specs.Prelude.{◌≡◌, ◌≢◌, ◌<◌, ◌≤◌, ℕ, List, [], ◌∷◌, ◌+◌, ◌++◌, cond, length, take, Bool, true, false, Option, Some, None, Result, Ok, Err}
 
 -- why it stopped, if it did
 abbrev pub fault_of : Checking → Option CheckFault

@@ -1,7 +1,6 @@
 -- The reason in the line of a rejected statement.
+use Rattle.pb_replay.specs.{contract.Faults.fault_text, declared.fault.Fault.Fault}
 use Rattle.std.specs.Prelude.{ℕ, List, ◌++◌, codes}
-use Rattle.pb_replay.specs.contract.Faults.{fault_text}
-use Rattle.pb_replay.specs.declared.fault.Fault.{Fault}
 use Rattle.pb_replay.specs.declared.fault.Fault.TheVariants as fault
 
 -- why a statement was rejected: the text of the replay's fault, except that `NotTotal` gives the name itself

@@ -1,23 +1,15 @@
 -- What `pb show` writes: a line for each statement that was read.
-use Rattle.std.specs.Prelude.{ℕ, ◌≤◌, ◌⊎◌, List, [], ◌∷◌, ◌++◌, length, decimal, false, Option, Some, Result, Ok, Err}
-use Rattle.std.specs.List.{flat_map}
-use Rattle.pb_text.specs.meaning.Blank.{IsBlank, ReadsBlank}
-use Rattle.pb_text.specs.meaning.Pulling.{Took}
-use Rattle.pb_text.specs.meaning.Reading.{IsSpelled, byte_limit}
-use Rattle.pb_text.specs.meaning.PullsInARow.{TookAll, TookSoFar}
-use Rattle.pb_text.specs.meaning.Spelling.{Item, place_after}
-use Rattle.pb_text.specs.meaning.Stopping.{IsAsking}
-use Rattle.pb_text.specs.meaning.Writing.{Wrote, Broke}
-use Rattle.pb_text.specs.declared.Limits.{Limits}
-use Rattle.pb_text.specs.declared.Place.{Place}
-use Rattle.pb_text.specs.declared.Spanned.{Spanned}
-use Rattle.pb_text.specs.declared.Stop.{Stop}
 use Rattle.pb_opb.specs.contract.Canonical.{event_bytes}
 use Rattle.pb_proof.specs.meaning.Canonical.{statement_bytes}
-use Rattle.pb_tool.specs.meaning.Files.{AsksInInstanceText, AsksInProofText, IsInstanceText, IsProofText, MayBeInstance, MayBeProof}
-use Rattle.pb_tool.specs.declared.fault.ToolFault.{ToolFault}
+use Rattle.pb_text.specs.declared.{Limits.Limits, Place.Place, Spanned.Spanned, Stop.Stop}
+use Rattle.pb_text.specs.meaning.{Blank.IsBlank, Blank.ReadsBlank, Pulling.Took, PullsInARow.TookAll, PullsInARow.TookSoFar}
+use Rattle.pb_text.specs.meaning.{Reading.IsSpelled, Reading.byte_limit, Spelling.Item, Spelling.place_after, Stopping.IsAsking}
+use Rattle.pb_text.specs.meaning.Writing.{Wrote, Broke}
+use Rattle.pb_tool.specs.declared.fault.{Input.TheVariants.File, Input.TheVariants.Instance, Input.TheVariants.Proof, ToolFault.ToolFault}
 use Rattle.pb_tool.specs.declared.fault.ToolFault.TheVariants.{Text, Open, Overflow, Memory, Write, Step}
-use Rattle.pb_tool.specs.declared.fault.Input.TheVariants.{File, Instance, Proof}
+use Rattle.pb_tool.specs.meaning.Files.{AsksInInstanceText, AsksInProofText, IsInstanceText, IsProofText, MayBeInstance, MayBeProof}
+use Rattle.std.specs.List.{flat_map}
+use Rattle.std.specs.Prelude.{ℕ, ◌≤◌, ◌⊎◌, List, [], ◌∷◌, ◌++◌, length, decimal, false, Option, Some, Result, Ok, Err}
 
 module _ {E : Type 0} (text : E → List ℕ) where
   -- the canonical text of a statement and a line feed

@@ -1,20 +1,13 @@
 -- What `pb tidy` reads of a text that it wrote.
-use Rattle.std.specs.Prelude.{◌≡◌, ℕ, ◌^◌, ◌<◌, false, List, [], length, Option, Some, Result, Ok, Err}
-use Rattle.pb_text.specs.meaning.Limits.{largest, top_of}
-use Rattle.pb_text.specs.meaning.Writing.{Wrote, Broke}
-use Rattle.pb_text.specs.declared.Limits.{Limits}
-use Rattle.pb_text.specs.declared.Stop.{Stop}
-use Rattle.pb_text.specs.declared.Why.{Why}
+use Rattle.pb_opb.specs.{declared.Instance.Instance, meaning.Values.IsInstanceValue}
+use Rattle.pb_proof.specs.{contract.Values.IsProofValue, declared.Proof.Proof}
+use Rattle.pb_text.specs.declared.{Limits.Limits, Stop.Stop, Why.Why}
 use Rattle.pb_text.specs.declared.Why.TheVariants.{Byte, TooLarge, Ended, TooLong, Read, Memory}
-use Rattle.pb_opb.specs.meaning.Values.{IsInstanceValue}
-use Rattle.pb_opb.specs.declared.Instance.{Instance}
-use Rattle.pb_proof.specs.contract.Values.{IsProofValue}
-use Rattle.pb_proof.specs.declared.Proof.{Proof}
+use Rattle.pb_text.specs.meaning.{Limits.largest, Limits.top_of, Writing.Wrote, Writing.Broke}
 use Rattle.pb_tool.specs.contract.Tidy.{tidied_proof, TidiesFile, tidied}
+use Rattle.pb_tool.specs.declared.fault.{Input.TheVariants.File, ToolFault.ToolFault, ToolFault.TheVariants.Text, ToolFault.TheVariants.Write}
 use Rattle.pb_tool.specs.meaning.Files.{BeginsWithP, IsProofFile, IsNoProofFile, IsInstanceFile, IsNoInstanceFile}
-use Rattle.pb_tool.specs.declared.fault.ToolFault.{ToolFault}
-use Rattle.pb_tool.specs.declared.fault.ToolFault.TheVariants.{Text, Write}
-use Rattle.pb_tool.specs.declared.fault.Input.TheVariants.{File}
+use Rattle.std.specs.Prelude.{◌≡◌, ℕ, ◌^◌, ◌<◌, false, List, [], length, Option, Some, Result, Ok, Err}
 
 -- Not a fault of a text of this many bytes: the source failed, memory ran out, or the text is longer than the reader
 -- allows.

@@ -1,26 +1,13 @@
 -- What `pb tidy` writes.
-use Rattle.std.specs.Prelude.{◌≡◌, ◌⊎◌, ℕ, ◌==◌, Bool, true, false, cond, List, [], ◌∷◌, ◌++◌, Option, Some, None, Result, Ok, Err}
-use Rattle.pb_text.specs.meaning.Limits.{largest, top_of}
-use Rattle.pb_text.specs.meaning.Whole.{IsRead}
-use Rattle.pb_text.specs.meaning.Writing.{Wrote, Broke}
-use Rattle.pb_text.specs.declared.Limits.{Limits}
-use Rattle.pb_text.specs.declared.Spanned.{Spanned}
-use Rattle.pb_text.specs.declared.Stop.{Stop}
-use Rattle.pb_sums.specs.declared.Term.{Term}
-use Rattle.pb_sums.specs.declared.Linear.{Linear}
-use Rattle.pb_opb.specs.contract.Canonical.{instance_bytes}
-use Rattle.pb_opb.specs.meaning.Reading.{ReadsInstance}
-use Rattle.pb_opb.specs.meaning.Values.{IsValueOf}
-use Rattle.pb_opb.specs.declared.Instance.{Instance}
-use Rattle.pb_proof.specs.meaning.Canonical.{proof_bytes}
-use Rattle.pb_proof.specs.meaning.Proofs.{IsProofOf}
-use Rattle.pb_proof.specs.meaning.Reading.{ReadsProof}
-use Rattle.pb_proof.specs.declared.Proof.{Proof}
-use Rattle.pb_tool.specs.contract.Normalised.{IsNormalised, Overflows}
+use Rattle.pb_opb.specs.{contract.Canonical.instance_bytes, declared.Instance.Instance, meaning.Reading.ReadsInstance, meaning.Values.IsValueOf}
+use Rattle.pb_proof.specs.{declared.Proof.Proof, meaning.Canonical.proof_bytes, meaning.Proofs.IsProofOf, meaning.Reading.ReadsProof}
+use Rattle.pb_sums.specs.declared.{Linear.Linear, Term.Term}
+use Rattle.pb_text.specs.declared.{Limits.Limits, Spanned.Spanned, Stop.Stop}
+use Rattle.pb_text.specs.meaning.{Limits.largest, Limits.top_of, Whole.IsRead, Writing.Wrote, Writing.Broke}
+use Rattle.pb_tool.specs.{contract.Normalised.IsNormalised, contract.Normalised.Overflows, declared.fault.Input.TheVariants.File}
+use Rattle.pb_tool.specs.declared.fault.ToolFault.{ToolFault, TheVariants.Text, TheVariants.Overflow, TheVariants.Memory, TheVariants.Write}
 use Rattle.pb_tool.specs.meaning.Files.{IsFile, IsInstanceFile, IsInstanceText, IsNoInstanceFile, IsProofText, IsRefused, MayBeInstance, MayBeProof}
-use Rattle.pb_tool.specs.declared.fault.ToolFault.{ToolFault}
-use Rattle.pb_tool.specs.declared.fault.ToolFault.TheVariants.{Text, Overflow, Memory, Write}
-use Rattle.pb_tool.specs.declared.fault.Input.TheVariants.{File}
+use Rattle.std.specs.Prelude.{◌≡◌, ◌⊎◌, ℕ, ◌==◌, Bool, true, false, cond, List, [], ◌∷◌, ◌++◌, Option, Some, None, Result, Ok, Err}
 
 -- the last byte is a line feed
 abbrev pub ends_in_feed : List ℕ → Bool

@@ -1,28 +1,17 @@
 -- What a check shows a watch: a call for each statement of the proof, in order.
-use Rattle.std.specs.Prelude.{◌≡◌, ◌⊎◌, ℕ, List, [], ◌∷◌, ◌++◌, Bool, true, false, Option, Some, None, Result, Ok, Err}
-use Rattle.pb_text.specs.meaning.Limits.{largest, top_of}
-use Rattle.pb_text.specs.meaning.Pulling.{OfGiven}
-use Rattle.pb_text.specs.meaning.PullsInARow.{TookAll, TookSoFar}
-use Rattle.pb_text.specs.declared.Limits.{Limits}
-use Rattle.pb_text.specs.declared.Place.{Place}
-use Rattle.pb_text.specs.declared.Spanned.{Spanned}
-use Rattle.pb_text.specs.declared.Stop.{Stop}
 use Rattle.pb_opb.specs.declared.Instance.{Instance}
 use Rattle.pb_proof.specs.declared.Statement.{Statement}
-use Rattle.pb_replay.specs.contract.ReplayModel.{Replaying, StandsFor}
-use Rattle.pb_replay.specs.meaning.Problem.{Problem, Opened}
-use Rattle.pb_replay.specs.meaning.Replay.{State, first_state}
-use Rattle.pb_replay.specs.meaning.Statements.{Outcome}
-use Rattle.pb_replay.specs.declared.fault.Fault.{Fault}
-use Rattle.pb_replay.specs.declared.fault.Fault.TheVariants.{Memory as no_memory, NotTotal}
-use Rattle.pb_replay.specs.declared.verdict.Verdict.{Verdict}
-use Rattle.pb_tool.specs.contract.Checks.{KeepsNames}
+use Rattle.pb_replay.specs.{contract.ReplayModel.Replaying, contract.ReplayModel.StandsFor, declared.fault.Fault.Fault}
+use Rattle.pb_replay.specs.declared.{fault.Fault.TheVariants.Memory as no_memory, fault.Fault.TheVariants.NotTotal, verdict.Verdict.Verdict}
+use Rattle.pb_replay.specs.meaning.{Problem.Problem, Problem.Opened, Replay.State, Replay.first_state, Statements.Outcome}
+use Rattle.pb_text.specs.declared.{Limits.Limits, Place.Place, Spanned.Spanned, Stop.Stop}
+use Rattle.pb_text.specs.meaning.{Limits.largest, Limits.top_of, Pulling.OfGiven, PullsInARow.TookAll, PullsInARow.TookSoFar}
+use Rattle.pb_tool.specs.{contract.Checks.KeepsNames, declared.commands.check.checker.CheckFault.CheckFault}
 use Rattle.pb_tool.specs.meaning.Files.{IsProofText, IsInstanceFile}
-use Rattle.pb_tool.specs.declared.commands.check.checker.CheckFault.{CheckFault}
+use Rattle.std.specs.Prelude.{◌≡◌, ◌⊎◌, ℕ, List, [], ◌∷◌, ◌++◌, Bool, true, false, Option, Some, None, Result, Ok, Err}
 use Rattle.pb_tool.specs.declared.commands.check.checker.CheckFault.TheVariants as check
-use Rattle.pb_tool.specs.declared.fault.ToolFault.{ToolFault}
+use Rattle.pb_tool.specs.declared.fault.{Input.TheVariants.Instance as of_instance, Input.TheVariants.Proof as of_proof, ToolFault.ToolFault}
 use Rattle.pb_tool.specs.declared.fault.ToolFault.TheVariants.{Text, Overflow, Memory, Write, Step}
-use Rattle.pb_tool.specs.declared.fault.Input.TheVariants.{Instance as of_instance, Proof as of_proof}
 
 -- A call of a watch: a statement with its span, and the replay after it. A rejected one comes with its fault.
 pub data Call : Type 0 where

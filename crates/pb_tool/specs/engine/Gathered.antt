@@ -1,11 +1,7 @@
 -- A file whose statements are gathered one by one, and what is ensured for the text of these.
+use Rattle.pb_text.specs.{declared.Stop.Stop, meaning.Spelling.Item, meaning.Whole.IsWhole, meaning.Whole.ReadsWhole}
+use Rattle.pb_tool.specs.{contract.Tidy.TidiesAs, declared.fault.ToolFault.ToolFault, meaning.Files.IsFile, meaning.Files.IsRefused}
 use Rattle.std.specs.Prelude.{ℕ, Bool, List, Option, Result}
-use Rattle.pb_text.specs.meaning.Spelling.{Item}
-use Rattle.pb_text.specs.meaning.Whole.{IsWhole, ReadsWhole}
-use Rattle.pb_text.specs.declared.Stop.{Stop}
-use Rattle.pb_tool.specs.meaning.Files.{IsFile, IsRefused}
-use Rattle.pb_tool.specs.contract.Tidy.{TidiesAs}
-use Rattle.pb_tool.specs.declared.fault.ToolFault.{ToolFault}
 
 module _ {V E : Type 0} (format : List (Item E) → Type 0) (longest : ℕ) (with : V → E → V) (empty : V) where
   -- The input was a text of the format and a blank rest, and the value is that of its statements.

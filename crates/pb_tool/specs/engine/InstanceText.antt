@@ -1,13 +1,9 @@
 -- The text of an instance, built as its statements come.
-use Rattle.std.specs.Prelude.{◌≡◌, ℕ, Bool, true, false, List, [], ◌++◌, Option, Some, None}
-use Rattle.pb_opb.specs.contract.Canonical.{event_bytes}
-use Rattle.pb_opb.specs.meaning.Values.{IsValueOf}
-use Rattle.pb_opb.specs.declared.Instance.{Instance}
-use Rattle.pb_opb.specs.declared.OpbEvent.{OpbEvent}
+use Rattle.pb_opb.specs.{contract.Canonical.event_bytes, declared.Instance.Instance, declared.OpbEvent.OpbEvent}
 use Rattle.pb_opb.specs.declared.OpbEvent.TheVariants.{Header, Objective}
-use Rattle.pb_tool.specs.contract.Show.{line_of}
-use Rattle.pb_tool.specs.contract.Tidy.{tidied}
-use Rattle.pb_tool.specs.declared.commands.tidy.instance_text.InstanceText.{InstanceText}
+use Rattle.pb_opb.specs.meaning.Values.{IsValueOf}
+use Rattle.pb_tool.specs.{contract.Show.line_of, contract.Tidy.tidied, declared.commands.tidy.instance_text.InstanceText.InstanceText}
+use Rattle.std.specs.Prelude.{◌≡◌, ℕ, Bool, true, false, List, [], ◌++◌, Option, Some, None}
 
 -- the line of a statement
 abbrev pub line : OpbEvent → List ℕ

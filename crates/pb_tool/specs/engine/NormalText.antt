@@ -1,25 +1,18 @@
 -- The normal form of an instance, built as its statements come.
-use Rattle.std.specs.Prelude.{◌≡◌, ℕ, List, [], ◌∷◌, ◌++◌, length, Option, Some, None}
-use Rattle.std.specs.List.{flat_map}
-use Rattle.pb_text.specs.meaning.Limits.{largest}
-use Rattle.pb_text.specs.declared.Limits.{Limits}
-use Rattle.pb_sums.specs.declared.Term.{Term}
-use Rattle.pb_sums.specs.declared.Linear.{Linear}
-use Rattle.pb_opb.specs.meaning.Values.{IsValueOf, last_or, variables_in, objectives_in, constraints_in}
-use Rattle.pb_opb.specs.declared.Instance.{Instance}
-use Rattle.pb_opb.specs.declared.OpbEvent.{OpbEvent}
+use Rattle.pb_normal.specs.meaning.{Constraints.AreFormsOf, Constraints.constraint_names, Constraints.sides_in, Form.Form}
+use Rattle.pb_normal.specs.meaning.{Names.HasNames, Names.with_names, Written.linear_of, Written.names_of}
+use Rattle.pb_opb.specs.declared.{Instance.Instance, OpbEvent.OpbEvent}
 use Rattle.pb_opb.specs.declared.OpbEvent.TheVariants.{Header, Comment, Objective, Constraint}
-use Rattle.pb_normal.specs.meaning.Constraints.{AreFormsOf, constraint_names, sides_in}
-use Rattle.pb_normal.specs.meaning.Form.{Form}
-use Rattle.pb_normal.specs.meaning.Names.{HasNames, with_names}
-use Rattle.pb_normal.specs.meaning.Written.{linear_of, names_of}
+use Rattle.pb_opb.specs.meaning.Values.{IsValueOf, last_or, variables_in, objectives_in, constraints_in}
 use Rattle.pb_replay.specs.meaning.Problem.{objective_of}
-use Rattle.pb_tool.specs.engine.InstanceText.{line}
-use Rattle.pb_tool.specs.contract.Normalised.{SomePasses}
-use Rattle.pb_tool.specs.declared.commands.tidy.form_lines.FormLines.{FormLines}
-use Rattle.pb_tool.specs.declared.commands.tidy.normal_text.Forms.{Forms}
-use Rattle.pb_tool.specs.declared.commands.tidy.normal_text.Standing.{Standing}
+use Rattle.pb_sums.specs.declared.{Linear.Linear, Term.Term}
+use Rattle.pb_text.specs.{declared.Limits.Limits, meaning.Limits.largest}
+use Rattle.pb_tool.specs.{contract.Normalised.SomePasses, declared.commands.tidy.form_lines.FormLines.FormLines}
+use Rattle.pb_tool.specs.declared.commands.tidy.normal_text.{Forms.Forms, Standing.Standing}
 use Rattle.pb_tool.specs.declared.commands.tidy.normal_text.Standing.TheVariants.{Stored, Lost, Overflows}
+use Rattle.pb_tool.specs.engine.InstanceText.{line}
+use Rattle.std.specs.List.{flat_map}
+use Rattle.std.specs.Prelude.{◌≡◌, ℕ, List, [], ◌∷◌, ◌++◌, length, Option, Some, None}
 
 -- the lines of forms, written out with the names
 abbrev pub form_lines : List (List ℕ) → List Form → List ℕ

@@ -1,7 +1,6 @@
 -- The format that a source is read as.
+use Rattle.pb_tool.specs.{declared.file.Format.Format, meaning.Files.MayBeProof, meaning.Files.MayBeInstance}
 use Rattle.std.specs.Prelude.{ℕ, List, Option}
-use Rattle.pb_tool.specs.meaning.Files.{MayBeProof, MayBeInstance}
-use Rattle.pb_tool.specs.declared.file.Format.{Format}
 use Rattle.pb_tool.specs.declared.file.Format.TheVariants as format
 
 -- the source may have this format

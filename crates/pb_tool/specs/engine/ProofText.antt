@@ -1,13 +1,9 @@
 -- The text of a proof, built as its statements come.
-use Rattle.std.specs.Prelude.{◌≡◌, ℕ, List, ◌++◌}
-use Rattle.pb_proof.specs.meaning.Canonical.{statement_bytes}
-use Rattle.pb_proof.specs.meaning.Proofs.{IsProofOf}
-use Rattle.pb_proof.specs.declared.proof.Proof.{Proof}
-use Rattle.pb_proof.specs.declared.statement.Statement.{Statement}
+use Rattle.pb_proof.specs.declared.{proof.Proof.Proof, statement.Statement.Statement}
 use Rattle.pb_proof.specs.declared.statement.Statement.TheVariants.{Header, F, Output, Conclude, End}
-use Rattle.pb_tool.specs.contract.Tidy.{tidied_proof}
-use Rattle.pb_tool.specs.contract.Show.{line_of}
-use Rattle.pb_tool.specs.declared.commands.tidy.proof_text.ProofText.{ProofText}
+use Rattle.pb_proof.specs.meaning.{Canonical.statement_bytes, Proofs.IsProofOf}
+use Rattle.pb_tool.specs.{contract.Show.line_of, contract.Tidy.tidied_proof, declared.commands.tidy.proof_text.ProofText.ProofText}
+use Rattle.std.specs.Prelude.{◌≡◌, ℕ, List, ◌++◌}
 
 -- the line of a statement
 abbrev pub line : Statement → List ℕ

@@ -1,26 +1,15 @@
 -- A checker that runs through the proof of a source: what held when it began, what holds after each statement, and what
 -- the run comes to.
-use Rattle.std.specs.Prelude.{◌≡◌, ℕ, List, [], ◌++◌, length, Option, Some, None, Result, Ok, Err}
-use Rattle.pb_text.specs.contract.Feeding.{StandsAt, place_of, halt_of}
-use Rattle.pb_text.specs.meaning.Limits.{largest, top_of}
-use Rattle.pb_text.specs.meaning.Pulling.{OfGiven}
-use Rattle.pb_text.specs.meaning.PullsInARow.{HasPulled}
-use Rattle.pb_text.specs.meaning.Whole.{events_at}
-use Rattle.pb_text.specs.declared.Feeder.{Feeder}
-use Rattle.pb_text.specs.declared.Machine.{Ghosts}
-use Rattle.pb_text.specs.declared.Place.{Place}
-use Rattle.pb_text.specs.declared.Spanned.{Spanned}
-use Rattle.pb_proof.specs.engine.machine.State.{begin}
-use Rattle.pb_proof.specs.declared.Statement.{Statement}
-use Rattle.pb_replay.specs.meaning.Replay.{State}
+use Rattle.pb_proof.specs.{declared.Statement.Statement, engine.machine.State.begin}
+use Rattle.pb_replay.specs.{contract.ReplayModel.Replaying, contract.ReplayModel.StandsFor, declared.verdict.Verdict.Verdict, meaning.Replay.State}
 use Rattle.pb_replay.specs.meaning.Statements.{Accepts}
-use Rattle.pb_replay.specs.contract.ReplayModel.{Replaying, StandsFor}
-use Rattle.pb_replay.specs.declared.verdict.Verdict.{Verdict}
-use Rattle.pb_tool.specs.contract.Checker.{Checking}
-use Rattle.pb_tool.specs.contract.Runs.{Replays, RunsProof}
+use Rattle.pb_text.specs.contract.Feeding.{StandsAt, place_of, halt_of}
+use Rattle.pb_text.specs.declared.{Feeder.Feeder, Machine.Ghosts, Place.Place, Spanned.Spanned}
+use Rattle.pb_text.specs.meaning.{Limits.largest, Limits.top_of, Pulling.OfGiven, PullsInARow.HasPulled, Whole.events_at}
+use Rattle.pb_tool.specs.contract.{Checker.Checking, Runs.Replays, Runs.RunsProof}
 use Rattle.pb_tool.specs.contract.Watched.{Call, GotEach, ShowsEach, ShowsProof, ShowsRun}
-use Rattle.pb_tool.specs.declared.commands.check.checker.CheckFault.{CheckFault}
-use Rattle.pb_tool.specs.declared.fault.ToolFault.{ToolFault}
+use Rattle.pb_tool.specs.declared.{commands.check.checker.CheckFault.CheckFault, fault.ToolFault.ToolFault}
+use Rattle.std.specs.Prelude.{◌≡◌, ℕ, List, [], ◌++◌, length, Option, Some, None, Result, Ok, Err}
 
 -- The feeder began with this machine and has not stopped. It was fed what the calls have given since a history.
 abbrev pub HasGiven : {M E : Type 0} {g : Ghosts M E} → ℕ → M → List ℕ → List (Spanned E) → Feeder M E g → List ℕ → Type 0

@@ -1,23 +1,12 @@
 -- What a source is read as: an instance or a proof, and a blank rest.
-use Rattle.std.specs.Prelude.{◌≡◌, ◌≤◌, ℕ, List, [], ◌∷◌, ◌++◌, length, Option, Result, Ok, Err, IfSome}
-use Rattle.pb_text.specs.meaning.Blank.{IsBlank, ReadsBlank}
-use Rattle.pb_text.specs.meaning.Limits.{largest, top_of}
-use Rattle.pb_text.specs.meaning.Pulling.{Took}
-use Rattle.pb_text.specs.meaning.Reading.{byte_limit}
-use Rattle.pb_text.specs.meaning.Spelling.{Item}
-use Rattle.pb_text.specs.meaning.Whole.{IsRead}
-use Rattle.pb_text.specs.declared.Limits.{Limits}
-use Rattle.pb_text.specs.declared.Spanned.{Spanned}
-use Rattle.pb_text.specs.declared.Stop.{Stop}
-use Rattle.pb_opb.specs.meaning.Instances.{IsInstance}
-use Rattle.pb_opb.specs.meaning.Reading.{AsksInInstance, ReadsInstance}
-use Rattle.pb_opb.specs.meaning.Values.{IsValueOf}
-use Rattle.pb_opb.specs.declared.Instance.{Instance}
-use Rattle.pb_opb.specs.declared.OpbEvent.{OpbEvent}
-use Rattle.pb_proof.specs.meaning.Proofs.{IsProof, IsProofOf}
+use Rattle.pb_opb.specs.{declared.Instance.Instance, declared.OpbEvent.OpbEvent, meaning.Instances.IsInstance}
+use Rattle.pb_opb.specs.meaning.{Reading.AsksInInstance, Reading.ReadsInstance, Values.IsValueOf}
+use Rattle.pb_proof.specs.{declared.Proof.Proof, declared.Statement.Statement, meaning.Proofs.IsProof, meaning.Proofs.IsProofOf}
 use Rattle.pb_proof.specs.meaning.Reading.{AsksInProof, ReadsProof}
-use Rattle.pb_proof.specs.declared.Proof.{Proof}
-use Rattle.pb_proof.specs.declared.Statement.{Statement}
+use Rattle.pb_text.specs.declared.{Limits.Limits, Spanned.Spanned, Stop.Stop}
+use Rattle.pb_text.specs.meaning.{Blank.IsBlank, Blank.ReadsBlank, Limits.largest, Limits.top_of, Pulling.Took, Reading.byte_limit, Spelling.Item}
+use Rattle.pb_text.specs.meaning.Whole.{IsRead}
+use Rattle.std.specs.Prelude.{◌≡◌, ◌≤◌, ℕ, List, [], ◌∷◌, ◌++◌, length, Option, Result, Ok, Err, IfSome}
 
 -- the first byte of the text is `p`
 abbrev pub BeginsWithP : List ℕ → Type 0

@@ -1,31 +1,20 @@
 -- What `pb check` returns for an instance and a proof, and what it writes.
-use Rattle.std.specs.Prelude.{◌≡◌, ◌⊎◌, ℕ, List, [], ◌∷◌, ◌++◌, codes, get_or, string_bytes, Bool, true, false, Option, Some, None, Result, Ok, Err}
-use Rattle.pb_text.specs.meaning.Blank.{ReadsBlank}
-use Rattle.pb_text.specs.meaning.Limits.{largest, top_of}
-use Rattle.pb_text.specs.meaning.PullsInARow.{TookAll, TookSoFar}
-use Rattle.pb_text.specs.meaning.Stopping.{IsAsking}
-use Rattle.pb_text.specs.meaning.Writing.{Wrote, Broke}
-use Rattle.pb_text.specs.declared.Limits.{Limits}
-use Rattle.pb_text.specs.declared.Place.{Place}
-use Rattle.pb_text.specs.declared.Spanned.{Spanned}
-use Rattle.pb_text.specs.declared.Stop.{Stop}
 use Rattle.pb_opb.specs.declared.Instance.{Instance}
-use Rattle.pb_proof.specs.meaning.Canonical.{bound_bytes}
-use Rattle.pb_proof.specs.meaning.Proofs.{statements_of}
-use Rattle.pb_proof.specs.declared.Proof.{Proof}
-use Rattle.pb_proof.specs.declared.Statement.{Statement}
-use Rattle.pb_replay.specs.meaning.Problem.{FitsAll, Problem, Opened}
-use Rattle.pb_replay.specs.meaning.Replay.{State, first_state}
-use Rattle.pb_replay.specs.meaning.Statements.{Outcome, Accepts, MayWantAt}
-use Rattle.pb_replay.specs.declared.fault.Fault.{Fault}
-use Rattle.pb_replay.specs.declared.fault.Fault.TheVariants.{Memory as no_memory, Overflow as over, NotTotal}
+use Rattle.pb_proof.specs.{declared.Proof.Proof, declared.Statement.Statement, meaning.Canonical.bound_bytes, meaning.Proofs.statements_of}
+use Rattle.pb_replay.specs.declared.fault.Fault.{Fault, TheVariants.Memory as no_memory, TheVariants.Overflow as over, TheVariants.NotTotal}
 use Rattle.pb_replay.specs.declared.verdict.Verdict.{Verdict}
+use Rattle.pb_replay.specs.meaning.{Problem.FitsAll, Problem.Problem, Problem.Opened, Replay.State, Replay.first_state}
+use Rattle.pb_replay.specs.meaning.Statements.{Outcome, Accepts, MayWantAt}
+use Rattle.pb_text.specs.declared.{Limits.Limits, Place.Place, Spanned.Spanned, Stop.Stop}
+use Rattle.pb_text.specs.meaning.{Blank.ReadsBlank, Limits.largest, Limits.top_of, PullsInARow.TookAll, PullsInARow.TookSoFar, Stopping.IsAsking}
+use Rattle.pb_text.specs.meaning.Writing.{Wrote, Broke}
+use Rattle.std.specs.Prelude.{◌≡◌, ◌⊎◌, ℕ, List, [], ◌∷◌, ◌++◌, codes, get_or, string_bytes, Bool, true, false, Option, Some, None, Result, Ok, Err}
 use Rattle.pb_replay.specs.declared.verdict.Verdict.TheVariants as verdict
 use Rattle.pb_text.specs.meaning.Whole.{events_at}
-use Rattle.pb_tool.specs.meaning.Files.{AsksInProofText, IsProofText, IsProofFile, IsInstanceFile, IsNoInstanceFile}
+use Rattle.pb_tool.specs.declared.fault.Input.TheVariants.{File, Instance as of_instance, Proof as of_proof}
 use Rattle.pb_tool.specs.declared.fault.ToolFault.{ToolFault}
 use Rattle.pb_tool.specs.declared.fault.ToolFault.TheVariants.{Text, Open, Overflow, Memory, Write, Step}
-use Rattle.pb_tool.specs.declared.fault.Input.TheVariants.{File, Instance as of_instance, Proof as of_proof}
+use Rattle.pb_tool.specs.meaning.Files.{AsksInProofText, IsProofText, IsProofFile, IsInstanceFile, IsNoInstanceFile}
 
 -- the line of a verdict, with its line feed
 abbrev pub verdict_line : Verdict → List ℕ

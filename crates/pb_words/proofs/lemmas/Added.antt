@@ -1,8 +1,7 @@
 -- What one more argument makes of a command.
+use Rattle.clap.specs.{Words.App, Words.Rule, declared.builder.Command.TheViews.out-Command as fields_of}
 use Rattle.pb_words.proofs.Common.{◌≡◌, ◌∙◌, ap, false, Result, Ok, Err, IfOk, ◌||◌, AddsArg, app_of, rule_of, with_rule, Command, Arg}
 use Rattle.std.specs.declared.alloc.AllocError.{AllocError}
-use Rattle.clap.specs.Words.{App, Rule}
-use Rattle.clap.specs.declared.builder.Command.TheViews.{out-Command as fields_of}
 
 -- the command as a parse sees it
 pub added_app : (old new : Command) (a : Arg) (above : App) (rule : Rule) → AddsArg old a new → app_of old ≡ above → rule_of a ≡ rule → a.global ≡ false

@@ -1,16 +1,14 @@
 -- Valid arguments do not name a subcommand `help`.
+use Rattle.clap.specs.Faults.{fault_of, other_fault, step_fault, turn_fault, walk_fault, word_fault}
+use Rattle.clap.specs.{Kinds.Kinds, Kinds.or_else, Lexer.long_of, Lexer.short_of, Walk.walked}
 use Rattle.pb_words.proofs.Common.{◌≡◌, ℕ, Bool, true, false, cond, List, [], ◌∷◌, ◌++◌, Option, Some, None, refl, sym, ap, ◌∙◌, subst, codes, is_some, inl}
 use Rattle.pb_words.proofs.Common.{inr, ⊎_elim, get_or, fold, find, ◌⊎◌, bytes_eq, bytes_eq-Decides, Row, answers_to, Held, Names, Outcome, Rule, Step, Text}
 use Rattle.pb_words.proofs.Common.{Waiting, Walk, after_flag, after_step, arg_by_index, done, idle, long_met, long_or_other, next, nothing_held, option, plain}
 use Rattle.pb_words.proofs.Common.{plain_word, positional, refused, short_or_plain, subcommand, subcommand_met, subcommand_or_other, to_positional, trailing}
 use Rattle.pb_words.proofs.Common.{value, waits, walk, walk_from, walked_from, word_met, bundle, arg_by_long, App, Shape, argument_words, built, entered}
 use Rattle.pb_words.proofs.Common.{label_of, names_of, rows_at, subcommand_of, IsReader, pb_command}
-use Rattle.clap.specs.Walk.{walked}
-use Rattle.std.specs.Prelude.{option_map}
 use Rattle.std.proofs.lemmas.Bool.{false≢true, or_cases}
-use Rattle.clap.specs.Kinds.{Kinds, or_else}
-use Rattle.clap.specs.Lexer.{long_of, short_of}
-use Rattle.clap.specs.Faults.{fault_of, other_fault, step_fault, turn_fault, walk_fault, word_fault}
+use Rattle.std.specs.Prelude.{option_map}
 
 -- ---- if two lists of kinds are empty together, the first is empty
 

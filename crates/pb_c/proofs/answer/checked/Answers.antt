@@ -1,5 +1,4 @@
-use Rattle.pb_c.proofs.Common.{Err, Ok, refl}
-use Rattle.pb_c.proofs.Answered.{whole}
+use Rattle.pb_c.proofs.{Answered.whole, Common.Err, Common.Ok, Common.refl}
 use Rattle.pb_c.proofs.answer.checked.Goals as goal
 
 pub returns-in-Ok : goal.returns-in-Ok

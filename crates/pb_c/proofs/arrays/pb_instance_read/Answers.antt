@@ -1,11 +1,8 @@
-use Rattle.pb_c.proofs.Common.{ℕ, ◌^◌, ◌≡◌, inl, inr, List, Option, refl, rules, Some, subst, unwrap_or, Stop}
-use Rattle.pb_text.specs.meaning.Limits.{largest, top_of}
-use Rattle.pb_text.specs.meaning.Spelling.{Item}
-use Rattle.pb_opb.specs.meaning.Instances.{IsInstance}
-use Rattle.pb_opb.specs.declared.OpbEvent.{OpbEvent}
-use Rattle.pb_pieces.specs.Reading.{IsFlatBy, IsNotFlat}
-use Rattle.pb_pieces.specs.declared.instance.Flat.{Flat}
 use Rattle.pb_c.proofs.Answered.{whole}
+use Rattle.pb_c.proofs.Common.{ℕ, ◌^◌, ◌≡◌, inl, inr, List, Option, refl, rules, Some, subst, unwrap_or, Stop}
+use Rattle.pb_opb.specs.{declared.OpbEvent.OpbEvent, meaning.Instances.IsInstance}
+use Rattle.pb_pieces.specs.{Reading.IsFlatBy, Reading.IsNotFlat, declared.instance.Flat.Flat}
+use Rattle.pb_text.specs.meaning.{Limits.largest, Limits.top_of, Spelling.Item}
 use Rattle.pb_c.proofs.arrays.pb_instance_read.Goals as goal
 
 moved : (format : List (Item OpbEvent) → Type 0) (within longest : ℕ) (text : List ℕ) (f : Flat) {before after : Option (List ℕ)} → before ≡ Some text → within ≡ longest → IsFlatBy format within before after f → IsFlatBy format longest (Some text) after f

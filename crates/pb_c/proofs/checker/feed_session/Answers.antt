@@ -1,5 +1,4 @@
-use Rattle.pb_c.proofs.Common.{◌∙◌, refl, sym}
-use Rattle.pb_c.proofs.Claims.{no_fault}
+use Rattle.pb_c.proofs.{Claims.no_fault, Common.◌∙◌, Common.refl, Common.sym}
 use Rattle.pb_c.proofs.checker.feed_session.Goals as goal
 
 pub returns-in-Ok-clause-used : goal.returns-in-Ok-clause-used

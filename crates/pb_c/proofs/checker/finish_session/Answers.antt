@@ -1,5 +1,4 @@
-use Rattle.pb_c.proofs.Common.{◌∙◌, sym}
-use Rattle.pb_c.proofs.Claims.{no_fault}
+use Rattle.pb_c.proofs.{Claims.no_fault, Common.◌∙◌, Common.sym}
 use Rattle.pb_c.proofs.checker.finish_session.Goals as goal
 
 pub returns-in-Ok-clause-claims : goal.returns-in-Ok-clause-claims

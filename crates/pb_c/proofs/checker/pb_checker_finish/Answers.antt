@@ -1,6 +1,6 @@
+use Rattle.pb_c.proofs.Claims.{under, unsat_of}
 use Rattle.pb_c.proofs.Common.{◌^◌, ◌∙◌, ◌≡◌, ap, rules, Some, sym, unwrap_or, Session}
 use Rattle.pb_c.specs.declared.claim.Claim.{Claim}
-use Rattle.pb_c.proofs.Claims.{under, unsat_of}
 use Rattle.pb_c.proofs.checker.pb_checker_finish.Goals as goal
 
 pub returns-clause-stands : goal.returns-clause-stands

@@ -1,6 +1,6 @@
 use Rattle.pb_c.proofs.Common.{ℕ, ◌++◌, ◌+◌, ◌∙◌, ◌≡◌, ◌≤◌, ap, ap₂, arith, length, List, None, rules, slice_get, Some, sym, take, joined}
-use Rattle.std.proofs.lemmas.Slice.{take-put_mid}
 use Rattle.pb_c.proofs.Copied.{inside_some, joined_next, joined_within, length_next, starts_next}
+use Rattle.std.proofs.lemmas.Slice.{take-put_mid}
 use Rattle.pb_c.proofs.names.join_names.Goals as goal
 
 pub slice_bounds-copy_from_slice-end : goal.slice_bounds-copy_from_slice-end

@@ -1,5 +1,5 @@
-use Rattle.pb_c.proofs.Common.{◌^◌, ◌≡◌, None, rules, Some, subst, unwrap_or, fault_of, IsReader, Reader}
 use Rattle.pb_c.proofs.Claims.{same_value, fed_under}
+use Rattle.pb_c.proofs.Common.{◌^◌, ◌≡◌, None, rules, Some, subst, unwrap_or, fault_of, IsReader, Reader}
 use Rattle.pb_c.proofs.reader.pb_reader_feed.Goals as goal
 
 pub returns-clause-feeds : goal.returns-clause-feeds

@@ -1,5 +1,5 @@
-use Rattle.pb_c.proofs.Common.{◌^◌, ◌≡◌, None, rules, Some, subst, unwrap_or, fault_of, IsReader, Reader}
 use Rattle.pb_c.proofs.Claims.{same_value}
+use Rattle.pb_c.proofs.Common.{◌^◌, ◌≡◌, None, rules, Some, subst, unwrap_or, fault_of, IsReader, Reader}
 use Rattle.pb_c.proofs.reader.pb_reader_finish.Goals as goal
 
 pub returns-clause-ends : goal.returns-clause-ends

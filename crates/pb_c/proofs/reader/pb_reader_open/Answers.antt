@@ -1,6 +1,5 @@
 use Rattle.pb_c.proofs.Common.{◌∙◌, ◌≡◌, inl, None, Option, refl, rules, Some, subst, sym, fault_of, Reader, Stop, AnswersBy, report_of_reader}
-use Rattle.pb_c.specs.Reader.{AnswersOf}
-use Rattle.pb_c.specs.declared.report.Report.{Report}
+use Rattle.pb_c.specs.{Reader.AnswersOf, declared.report.Report.Report}
 use Rattle.pb_c.proofs.reader.pb_reader_open.Goals as goal
 
 answers : (h : Option Reader) (r : Reader) (report : Report) → h ≡ Some r → fault_of r ≡ None → report ≡ report_of_reader r → AnswersOf h 0 report

@@ -1,5 +1,5 @@
-use Rattle.pb_c.proofs.Common.{◌^◌, ◌≡◌, rules, Some, unwrap_or}
 use Rattle.pb_c.proofs.Claims.{under}
+use Rattle.pb_c.proofs.Common.{◌^◌, ◌≡◌, rules, Some, unwrap_or}
 use Rattle.pb_c.proofs.step.pb_checker_step.Goals as goal
 
 pub returns-clause-fed : goal.returns-clause-fed

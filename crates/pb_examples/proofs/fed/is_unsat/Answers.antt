@@ -1,10 +1,9 @@
-use Rattle.std.proofs.Common.{arith, ◌≡◌, ◌∙◌, ℕ, ◌+◌, ◌<◌, List, [], ◌∷◌, ◌++◌, None, Option, Bool, true, IsTrue, Bor, get_or, length, take, ap, refl, sym, subst}
-use Rattle.std.specs.List.{flat_map}
-use Rattle.std.proofs.lemmas.Grind.{flat_map-append}
-use Rattle.std.proofs.lemmas.List.{append-nil, take_all, take_more}
 use Rattle.pb_text.specs.meaning.Reading.{byte_limit}
 use Rattle.pb_tool.specs.contract.Pieces.{ChecksAt, MayGoOn, place_in}
 use Rattle.pb_tool.specs.declared.commands.check.checker.CheckFault.{CheckFault}
+use Rattle.std.proofs.Common.{arith, ◌≡◌, ◌∙◌, ℕ, ◌+◌, ◌<◌, List, [], ◌∷◌, ◌++◌, None, Option, Bool, true, IsTrue, Bor, get_or, length, take, ap, refl, sym, subst}
+use Rattle.std.proofs.lemmas.{Grind.flat_map-append, List.append-nil, List.take_all, List.take_more}
+use Rattle.std.specs.List.{flat_map}
 use Rattle.pb_examples.proofs.fed.is_unsat.Goals as goal
 
 abbrev joined : List (Bor (List ℕ)) → List ℕ

@@ -1,11 +1,8 @@
+use Rattle.pb_replay.specs.{declared.fault.Fault.Fault, meaning.Problem.Problem, meaning.Replay.State}
+use Rattle.pb_text.specs.{declared.Limits.Limits, meaning.Reading.byte_limit}
+use Rattle.pb_tool.specs.contract.Pieces.{ChecksAt, fault_of}
 use Rattle.std.proofs.Common.{◌≡◌, None, Result, [], take}
 use Rattle.std.specs.List.{flat_map}
-use Rattle.pb_text.specs.declared.Limits.{Limits}
-use Rattle.pb_text.specs.meaning.Reading.{byte_limit}
-use Rattle.pb_replay.specs.meaning.Problem.{Problem}
-use Rattle.pb_replay.specs.meaning.Replay.{State}
-use Rattle.pb_replay.specs.declared.fault.Fault.{Fault}
-use Rattle.pb_tool.specs.contract.Pieces.{ChecksAt, fault_of}
 use Rattle.pb_examples.proofs.fed.is_unsat.Given as goal
 
 -- The checker was fed the pieces so far, and has no fault.

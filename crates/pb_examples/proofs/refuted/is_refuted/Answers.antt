@@ -1,16 +1,11 @@
-use Rattle.std.proofs.Common.{◌≡◌, ◌∙◌, ◌↔◌, None, Result, ℕ, List, Option, Some, Ok, Bor, Bool, IsTrue, refl, sym, ap, subst}
-use Rattle.pb_text.specs.contract.OverState.{inner_of, shown_of}
-use Rattle.pb_text.specs.contract.Over.{reported}
-use Rattle.pb_text.specs.meaning.Reading.{byte_limit}
-use Rattle.pb_text.specs.declared.Limits.{Limits}
-use Rattle.pb_text.specs.declared.over.Over.{Over}
-use Rattle.pb_replay.specs.declared.verdict.Verdict.{Verdict}
-use Rattle.pb_replay.specs.declared.verdict.Verdict.TheVariants.{Unsat}
-use Rattle.pb_tool.specs.meaning.Decided.{AreVerified, IsDecided, IsOfTexts}
-use Rattle.pb_tool.specs.meaning.Headline.{AreWidest, IsUnsatText, UnsatIsExact, UnsatOf}
-use Rattle.pb_tool.specs.meaning.Files.{IsInstanceFile}
-use Rattle.pb_tool.specs.meaning.Verified.{CheckCall, ChecksFiles}
+use Rattle.pb_replay.specs.declared.verdict.Verdict.{Verdict, TheVariants.Unsat}
+use Rattle.pb_text.specs.{contract.Over.reported, contract.OverState.inner_of, contract.OverState.shown_of, declared.Limits.Limits}
+use Rattle.pb_text.specs.{declared.over.Over.Over, meaning.Reading.byte_limit}
 use Rattle.pb_tool.specs.declared.fault.ToolFault.{ToolFault}
+use Rattle.pb_tool.specs.meaning.{Decided.AreVerified, Decided.IsDecided, Decided.IsOfTexts, Files.IsInstanceFile}
+use Rattle.pb_tool.specs.meaning.Headline.{AreWidest, IsUnsatText, UnsatIsExact, UnsatOf}
+use Rattle.pb_tool.specs.meaning.Verified.{CheckCall, ChecksFiles}
+use Rattle.std.proofs.Common.{◌≡◌, ◌∙◌, ◌↔◌, None, Result, ℕ, List, Option, Some, Ok, Bor, Bool, IsTrue, refl, sym, ap, subst}
 use Rattle.pb_examples.proofs.refuted.is_refuted.Goals as goal
 use Rattle.pb_examples.proofs.refuted.is_refuted.Goals.{in-Unsat, in_default}
 

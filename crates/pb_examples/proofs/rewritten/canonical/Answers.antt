@@ -1,20 +1,11 @@
+use Rattle.pb_examples.specs.Rewritten.{IsRewritten, IsTextOf}
+use Rattle.pb_opb.specs.{contract.Canonical.instance_bytes, contract.Laws.CanonicalInstance, contract.Laws.InstanceValues, declared.Instance.Instance}
+use Rattle.pb_opb.specs.{declared.OpbEvent.OpbEvent, meaning.Instances.IsInstance, meaning.Reading.ReadsInstance, meaning.Values.IsValueOf}
+use Rattle.pb_text.specs.{contract.Over.reported, contract.OverState.inner_of, contract.OverState.shown_of, declared.Spanned.Spanned}
+use Rattle.pb_text.specs.{declared.over.Over.Over, meaning.Reading.byte_limit, meaning.Spelling.Item, meaning.Spelling.bytes_of}
+use Rattle.pb_text.specs.meaning.Whole.{events_of}
 use Rattle.std.proofs.Common.{arith, ◌≡◌, ◌∙◌, None, ℕ, ◌-◌, ◌^◌, ◌<◌, List, [], ◌++◌, sym, Vec, Option, Some, Ok, Bor, ap, subst}
 use Rattle.std.specs.declared.alloc.Global.{Global}
-use Rattle.pb_text.specs.contract.OverState.{inner_of, shown_of}
-use Rattle.pb_text.specs.contract.Over.{reported}
-use Rattle.pb_text.specs.meaning.Reading.{byte_limit}
-use Rattle.pb_text.specs.meaning.Spelling.{Item, bytes_of}
-use Rattle.pb_text.specs.meaning.Whole.{events_of}
-use Rattle.pb_text.specs.declared.Spanned.{Spanned}
-use Rattle.pb_text.specs.declared.over.Over.{Over}
-use Rattle.pb_opb.specs.contract.Canonical.{instance_bytes}
-use Rattle.pb_opb.specs.meaning.Instances.{IsInstance}
-use Rattle.pb_opb.specs.meaning.Reading.{ReadsInstance}
-use Rattle.pb_opb.specs.contract.Laws.{CanonicalInstance, InstanceValues}
-use Rattle.pb_opb.specs.meaning.Values.{IsValueOf}
-use Rattle.pb_opb.specs.declared.Instance.{Instance}
-use Rattle.pb_opb.specs.declared.OpbEvent.{OpbEvent}
-use Rattle.pb_examples.specs.Rewritten.{IsRewritten, IsTextOf}
 use Rattle.pb_examples.proofs.rewritten.canonical.Goals as goal
 
 -- the text of a source over a slice is the slice

@@ -9,10 +9,9 @@ use Rattle.pb_loose.proofs.Machine.{Stays, stay_dropped, walk_of, fm, box_out, b
 use Rattle.std_alloc.proofs.BoxSteps.Form as box
 use Rattle.pb_loose.proofs.Values.{both, loose_good, loose_in}
 use Rattle.std_alloc.specs.contracts.boxed.Box.into_raw_with_allocator as callee
-use Rattle.std_alloc.proofs.boxed.Box.into_raw_with_allocator.Met.{met}
-use Rattle.pb_loose.specs.contracts.Loose.of.{ended, clauses}
-use Rattle.pb_loose.specs.contracts.Loose.of.Key.{name as #self}
 use Rattle.pb_loose.proofs.Loose.of.Statement.{statement}
+use Rattle.pb_loose.specs.contracts.Loose.of.{ended, clauses, Key.name as #self}
+use Rattle.std_alloc.proofs.boxed.Box.into_raw_with_allocator.Met.{met}
 use Rattle.pb_loose.proofs.Loose.of.Code as code
 
 pub of_spec : {M : Type 1} → statement M

@@ -1,6 +1,6 @@
 use Rattle.pb_normal.proofs.Common.{ℕ, ◌+◌, ◌/◌, [], arith, drop, length, rules, take, take-append-drop, take_rest, Adds}
-use Rattle.pb_normal.proofs.lemmas.terms.Totals.{size-Adds, Adds-halves, total-halves}
 use Rattle.pb_normal.proofs.collect.+added_up.Goals.{In_ok-both}
+use Rattle.pb_normal.proofs.lemmas.terms.Totals.{size-Adds, Adds-halves, total-halves}
 use Rattle.pb_normal.proofs.collect.+added_up.Goals as goal
 
 pub added_up-requires : goal.added_up-requires

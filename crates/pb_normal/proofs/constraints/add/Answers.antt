@@ -1,5 +1,4 @@
-use Rattle.pb_normal.proofs.Common.{arith}
-use Rattle.pb_normal.proofs.lemmas.names.Loaded.{second_loaded}
+use Rattle.pb_normal.proofs.{Common.arith, lemmas.names.Loaded.second_loaded}
 use Rattle.pb_normal.proofs.constraints.add.Goals as goal
 
 pub returns-in-Equal-clause-forms : goal.returns-in-Equal-clause-forms

@@ -1,5 +1,4 @@
-use Rattle.pb_normal.proofs.Common.{refl}
-use Rattle.pb_normal.proofs.lemmas.terms.Totals.{total-decoded}
+use Rattle.pb_normal.proofs.{Common.refl, lemmas.terms.Totals.total-decoded}
 use Rattle.pb_normal.proofs.form.size_of.Goals as goal
 
 pub returns-in-Codes : goal.returns-in-Codes

@@ -1,5 +1,5 @@
-use Rattle.pb_normal.proofs.lemmas.rules.Keeps.{IsOver-sum, IsOver-mapped, IsOver-filtered, IsOver-opposite, IsOver-below}
 use Rattle.pb_normal.proofs.Common.{◌*◌, min, div_ceil}
+use Rattle.pb_normal.proofs.lemmas.rules.Keeps.{IsOver-sum, IsOver-mapped, IsOver-filtered, IsOver-opposite, IsOver-below}
 use Rattle.pb_normal.proofs.laws.rules_keep_variables.Goals as goal
 
 pub returns : goal.returns

@@ -5,12 +5,9 @@ use Rattle.pb_normal.proofs.Common.{map-set, subst, sym, chain_at, chain_of, IsC
 use Rattle.pb_normal.proofs.Common.{IfSome, length-append, map, map-append, None, Ok, Err, OnOk, Option, Result, true, get_or_from_slice_get, slice_get_within}
 use Rattle.pb_normal.proofs.Common.{AreDistinct, has_name, hash_by, IsTable, listed, number_in, drop-append-le, get_or-map, length-drop, take-append-le}
 use Rattle.pb_normal.proofs.Common.{get_or-set_other, get_or-set_same, length-set, drop-append_seam, map-set_same, NameEntry, IsUtf8}
-use Rattle.std.proofs.Math.ListN.{set}
-use Rattle.std.specs.Prelude.{IfNone}
-use Rattle.std.specs.declared.vec.Vec.{Vec}
-use Rattle.pb_normal.specs.declared.names.hasher.NameHasher.{NameHasher}
-use Rattle.pb_normal.specs.declared.names.table.NameTable.{NameTable}
 use Rattle.pb_normal.proofs.lemmas.names.Numbering.{AreDistinct-push, has_name-get, number_in-get, slice_get-number}
+use Rattle.pb_normal.specs.declared.names.{hasher.NameHasher.NameHasher, table.NameTable.NameTable}
+use Rattle.std.{proofs.Math.ListN.set, specs.Prelude.IfNone, specs.declared.vec.Vec.Vec}
 
 pub text_within : (start : ℕ) (ends bytes : List ℕ) (i : ℕ) → i < length ends → slice_get (texts start ends bytes) i ≡ Some (take (get_or ends i 0 - get_or (start ∷ ends) i 0) (drop (get_or (start ∷ ends) i 0) bytes))
 text_within start [] bytes i lt = absurd (omega (arith, lt))

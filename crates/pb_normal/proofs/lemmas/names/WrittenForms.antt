@@ -7,12 +7,10 @@ use Rattle.pb_normal.proofs.Common.{AtLeast, AtMost, Adds, is_below_0, raw_of, s
 use Rattle.pb_normal.proofs.Common.{negated_of, negative, plain_of, total, true_at, AreDistinct, has_name, HasNames, number_in, by_number, IsFormOf, IsSideOf}
 use Rattle.pb_normal.proofs.Common.{linear_of, magnitude, names_of, on_negations, SameAsForm, SameAsForms, SameSolutions, side_number, side_terms, term_of}
 use Rattle.pb_normal.proofs.Common.{true_sum, written_on, map-append, take_more}
-use Rattle.pb_sums.specs.declared.linear.Relation.TheVariants.{AtLeast as relation_least, Equal as relation_equal}
-use Rattle.pb_normal.proofs.lemmas.terms.Totals.{size-Adds}
-use Rattle.pb_normal.proofs.lemmas.rules.Sums.{at_least_0-is, turned}
-use Rattle.pb_normal.proofs.lemmas.rules.Unique.{Balanced, IsRising-same, same_form}
-use Rattle.pb_normal.proofs.lemmas.rules.Keeps.{total-balanced, total-past, All-below}
 use Rattle.pb_normal.proofs.lemmas.names.Numbering.{slice_get-number, number_in-below, number_in-get, number_in-append, has_name-append, AreDistinct-prefix}
+use Rattle.pb_normal.proofs.lemmas.rules.{Keeps.total-balanced, Keeps.total-past, Keeps.All-below, Sums.at_least_0-is, Sums.turned}
+use Rattle.pb_normal.proofs.lemmas.{rules.Unique.Balanced, rules.Unique.IsRising-same, rules.Unique.same_form, terms.Totals.size-Adds}
+use Rattle.pb_sums.specs.declared.linear.Relation.TheVariants.{AtLeast as relation_least, Equal as relation_equal}
 
 pub total-raw : (names : List (List ℕ)) (ts : List Term) → total each (map (raw_of names) ts) ≡ magnitude ts
 total-raw names [] = refl

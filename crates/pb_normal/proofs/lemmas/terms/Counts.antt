@@ -1,10 +1,8 @@
 -- Literals that count once each.
 use Rattle.pb_normal.proofs.Common.{nat_tests, ℕ, ◌+◌, ◌<◌, ◌^◌, ◌∷◌, ◌≡◌, [], arith, Bool, cond, false, length, List, map, not, refl, true, Entry, Adds, flip}
 use Rattle.pb_normal.proofs.Common.{each, IsNormal, IsRising, total, IsCountOf, on, only, unit_of, with_coefficient}
+use Rattle.pb_normal.proofs.lemmas.{rules.Unique.none_below, terms.Maps.IsRising-map, terms.Variables.total-same}
 use Rattle.pb_normal.specs.declared.numbered.NumberedLiteral.{NumberedLiteral}
-use Rattle.pb_normal.proofs.lemmas.rules.Unique.{none_below}
-use Rattle.pb_normal.proofs.lemmas.terms.Maps.{IsRising-map}
-use Rattle.pb_normal.proofs.lemmas.terms.Variables.{total-same}
 
 abbrev pub ones : List Entry → List Entry
 ones ts = map (λ t. with_coefficient t 1) ts

@@ -3,13 +3,10 @@ use Rattle.pb_normal.proofs.Common.{cond_both, ℕ, ◌++◌, ◌+◌, ◌<◌, 
 use Rattle.pb_normal.proofs.Common.{take, nat_cmp_total, ranked, All-cons, All-head, All-tail, sum_by-insert_entry, sum_by-remove_entry, BTreeMap, get}
 use Rattle.pb_normal.proofs.Common.{insert_entry, is_at, values, All, AllByRecursion, keys_of, lookup, remove_entry, values_of, option_map, option_to_list}
 use Rattle.pb_normal.proofs.Common.{unwrap_or, nat_cmp, take_read, Entry, Adds, IsAtItsKey, IsKeyed, counted, each, IsRising, plain_of, total, eqb, not}
-use Rattle.pb_normal.proofs.Common.{nat_tests, filter, of_variable}
-use Rattle.std.specs.List.Sorted.{IsStrictlySortedBy}
-use Rattle.std.specs.BTreeMap.{IsOrdered}
-use Rattle.std.proofs.lemmas.Map.Keys.{sorted_head, sorted_tail}
+use Rattle.pb_normal.proofs.{Common.nat_tests, Common.filter, Common.of_variable, lemmas.rules.Sums.turned, lemmas.rules.Unique.IsRising-same}
 use Rattle.pb_normal.proofs.lemmas.terms.Totals.{total-sum, total-prefix, total-append, Adds-apart, size-Adds}
-use Rattle.pb_normal.proofs.lemmas.rules.Sums.{turned}
-use Rattle.pb_normal.proofs.lemmas.rules.Unique.{IsRising-same}
+use Rattle.std.proofs.lemmas.Map.Keys.{sorted_head, sorted_tail}
+use Rattle.std.specs.{BTreeMap.IsOrdered, List.Sorted.IsStrictlySortedBy}
 
 pub All-insert : (k : ℕ) (t : Entry) (es : List (ℕ × Entry)) → IsAtItsKey (k, t) → All IsAtItsKey es → All IsAtItsKey (insert_entry nat_cmp es k t)
 All-insert k t [] new h = All-cons IsAtItsKey (k, t) [] new h

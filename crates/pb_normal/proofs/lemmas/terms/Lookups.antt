@@ -3,10 +3,10 @@ use Rattle.pb_normal.proofs.Common.{ℕ, ◌++◌, ◌+◌, ◌<◌, ◌∙◌, 
 use Rattle.pb_normal.proofs.Common.{None, Option, refl, Some, sym, take, ranked, All-head, All-tail, lookup_tail, BTreeMap, get, insert_entry, is_at, values}
 use Rattle.pb_normal.proofs.Common.{nat_cmp_is, All, AllByRecursion, keys_of, lookup, remove_entry, values_of, option_to_list, is_eq, nat_cmp, take_read, Entry}
 use Rattle.pb_normal.proofs.Common.{Adds, Cancels, IsAtItsKey, IsKeyed, TermCancels, each, IsRising, total}
-use Rattle.std.specs.List.Sorted.{IsStrictlySortedBy}
 use Rattle.pb_normal.proofs.lemmas.terms.KeyedTerms.{All-insert, All-remove, IsKeyed-get, Replaces-put, Replaces-drop, Adds-replaced, values-removed}
 use Rattle.pb_normal.proofs.lemmas.terms.Maps.{IsRising-filter}
 use Rattle.pb_normal.proofs.lemmas.terms.Totals.{Adds-apart, IsRising-from, IsRising-positive, total-append, total-prefix}
+use Rattle.std.specs.List.Sorted.{IsStrictlySortedBy}
 
 -- a change at one key leaves the lookups of larger ones
 miss : (q k : ℕ) → k < q → is_eq (nat_cmp q k) ≡ false

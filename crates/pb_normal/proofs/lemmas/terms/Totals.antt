@@ -1,8 +1,7 @@
 -- Totals of lists of terms, lists with rising variables, and what is collected from two halves.
 use Rattle.pb_normal.proofs.Common.{drop, drop_read, get_or, length, take, take-append-drop, ℕ, ◌*◌, ◌++◌, ◌+◌, ◌<◌, ◌∷◌, ◌≡◌, ◌≤◌, [], arith, Bool, List, refl}
 use Rattle.pb_normal.proofs.Common.{Entry, Adds, flip, each, IsRising, negative, total, ◌-◌, ◌∙◌, IsPermutation, sym, drop_more, sum_by, counted, map, decoded}
-use Rattle.std.proofs.lemmas.List.Sorted.{sum_by-IsPermutation}
-use Rattle.std.proofs.lemmas.List.Sums.{sum_by-cons}
+use Rattle.std.proofs.lemmas.List.{Sorted.sum_by-IsPermutation, Sums.sum_by-cons}
 
 pub total-append : (p : ℕ → Bool → Bool) (xs ys : List Entry) → total p (xs ++ ys) ≡ total p xs + total p ys
 total-append p [] ys = omega arith

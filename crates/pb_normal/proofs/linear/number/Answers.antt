@@ -1,6 +1,5 @@
 use Rattle.pb_normal.proofs.Common.{◌<◌, ◌∙◌, arith, length, rules, to_z-of_z, w128, take, take_read, AfterPrefix, names_of, take_more_set}
-use Rattle.pb_normal.proofs.lemmas.names.Numbering.{Numbering-push, AfterPrefix-from, OnErr-always}
-use Rattle.pb_normal.proofs.lemmas.names.WrittenForms.{magnitude-read}
+use Rattle.pb_normal.proofs.lemmas.names.{Numbering.Numbering-push, Numbering.AfterPrefix-from, Numbering.OnErr-always, WrittenForms.magnitude-read}
 use Rattle.pb_normal.proofs.linear.number.Goals as goal
 
 pub returns-in_err-variable-clause-err : goal.returns-in_err-variable-clause-err

@@ -1,5 +1,4 @@
-use Rattle.pb_normal.proofs.Common.{◌≡◌, length, take}
-use Rattle.pb_normal.proofs.lemmas.names.Numbering.{Numbering}
+use Rattle.pb_normal.proofs.{Common.◌≡◌, Common.length, Common.take, lemmas.names.Numbering.Numbering}
 use Rattle.pb_normal.proofs.linear.number.Given as goal
 
 abbrev pub invariant-terms : goal.invariant-terms

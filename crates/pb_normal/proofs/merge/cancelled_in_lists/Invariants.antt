@@ -1,5 +1,4 @@
-use Rattle.pb_normal.proofs.Common.{◌+◌, ◌-◌, length, List, Entry}
-use Rattle.pb_normal.proofs.lemmas.terms.Merging.{Merging}
+use Rattle.pb_normal.proofs.{Common.◌+◌, Common.◌-◌, Common.length, Common.List, Common.Entry, lemmas.terms.Merging.Merging}
 use Rattle.pb_normal.proofs.merge.cancelled_in_lists.Given as goal
 
 abbrev pub invariant-merge : goal.invariant-merge

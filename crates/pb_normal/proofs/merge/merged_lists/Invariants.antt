@@ -1,5 +1,4 @@
-use Rattle.pb_normal.proofs.Common.{◌+◌, ◌-◌, length}
-use Rattle.pb_normal.proofs.lemmas.terms.Merging.{Merging}
+use Rattle.pb_normal.proofs.{Common.◌+◌, Common.◌-◌, Common.length, lemmas.terms.Merging.Merging}
 use Rattle.pb_normal.proofs.merge.merged_lists.Given as goal
 
 abbrev pub invariant-merge : goal.invariant-merge

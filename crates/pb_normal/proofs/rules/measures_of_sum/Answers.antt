@@ -1,6 +1,4 @@
-use Rattle.pb_normal.proofs.Common.{arith, Form}
-use Rattle.pb_normal.proofs.lemmas.terms.Totals.{size-Adds}
-use Rattle.pb_normal.proofs.lemmas.rules.Bounds.{SumMeasures-from}
+use Rattle.pb_normal.proofs.{Common.arith, Common.Form, lemmas.rules.Bounds.SumMeasures-from, lemmas.terms.Totals.size-Adds}
 use Rattle.pb_normal.proofs.rules.measures_of_sum.Goals as goal
 
 pub overflow_mul-result : goal.overflow_mul-result

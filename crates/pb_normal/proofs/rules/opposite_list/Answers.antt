@@ -1,5 +1,4 @@
-use Rattle.pb_normal.proofs.Common.{arith, refl, opposite, map_more}
-use Rattle.pb_normal.proofs.lemmas.terms.Merging.{no_entry}
+use Rattle.pb_normal.proofs.{Common.arith, Common.refl, Common.opposite, Common.map_more, lemmas.terms.Merging.no_entry}
 use Rattle.pb_normal.proofs.rules.opposite_list.Goals as goal
 
 pub terms-preserved : goal.terms-preserved

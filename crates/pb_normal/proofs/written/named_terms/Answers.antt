@@ -1,6 +1,5 @@
 use Rattle.pb_normal.proofs.Common.{◌≡◌, arith, pos, to_z, fits_signed_from_abs, to_z_pos, w128}
-use Rattle.pb_normal.proofs.lemmas.terms.Merging.{total-read, no_entry}
-use Rattle.pb_normal.proofs.lemmas.names.WrittenForms.{terms_push}
+use Rattle.pb_normal.proofs.lemmas.{names.WrittenForms.terms_push, terms.Merging.total-read, terms.Merging.no_entry}
 use Rattle.pb_normal.proofs.written.named_terms.Goals as goal
 
 pub overflow_cast-t : goal.overflow_cast-t

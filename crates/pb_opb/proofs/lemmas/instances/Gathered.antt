@@ -3,9 +3,8 @@ use Rattle.pb_opb.proofs.Common.{ℕ, ◌++◌, ◌+◌, ◌∷◌, ◌≡◌, [
 use Rattle.pb_opb.proofs.Common.{gathered, IsRead, IsWhole, MayHold, StopsIn, OpbEvent, Comment, Constraint, Instance, counted_statements, ended_with, MayKeep}
 use Rattle.pb_opb.proofs.Common.{nothing, with, comments_in, constraints_in, IsValueOf, last_or, objectives_in, tails_in, variables_in}
 use Rattle.pb_text.proofs.lemmas.source.Unkept as stopped
+use Rattle.pb_opb.specs.{declared.gather.InstanceSoFar.InstanceSoFar, meaning.Gather.asks}
 use Rattle.pb_text.specs.declared.Stop.{Stop}
-use Rattle.pb_opb.specs.meaning.Gather.{asks}
-use Rattle.pb_opb.specs.declared.gather.InstanceSoFar.{InstanceSoFar}
 
 abbrev pub one_more : InstanceSoFar → OpbEvent → InstanceSoFar
 one_more b e = record { instance = with b.ended b.instance e; ended = ended_with b.ended e }

@@ -2,9 +2,9 @@
 use Rattle.pb_opb.proofs.Common.{SumEvent, Part, ℕ, ◌∷◌, ◌≤◌, [], arith, Bool, false, List, refl, suc, true, zero, Term, White, Spells, after_it, inside, ◌⋅◌}
 use Rattle.pb_opb.proofs.Common.{Blanks0, Blanks1, Byte, Bytes, Language, Count, Item, Letter, OpbEvent, Comment, Constraint, Header, Objective}
 use Rattle.pb_opb.proofs.Common.{constraint_word, IsBegun, IsInstance, SpellsHeader, SpellsObjective, variable_word}
-use Rattle.pb_sums.proofs.lemmas.values.Larger.{spells_larger}
 use Rattle.pb_opb.proofs.lemmas.instances.Counted.{IsEntry, IsCounted, counted, body_of}
 use Rattle.pb_opb.proofs.lemmas.machine.Objectives.{MinPrefix, objective_of, objective_parts}
+use Rattle.pb_sums.proofs.lemmas.values.Larger.{spells_larger}
 
 module _ (top top' : ℕ) (h : top ≤ top') where
   abbrev Grows : (ℕ → Language) → Type 0

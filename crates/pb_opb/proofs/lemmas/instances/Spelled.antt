@@ -7,8 +7,7 @@ use Rattle.pb_opb.proofs.Common.{event_bytes, header_bytes, in_order, lines, obj
 use Rattle.pb_opb.proofs.Common.{constraint_word, min_word, SpellsComment, SpellsHeader, SpellsObjective, variable_word, AreLinears}
 use Rattle.pb_sums.proofs.lemmas.values.CanonicalLaws.{linear-spelled, sum-spelled, bytes-linear, bytes-sum}
 use Rattle.pb_opb.specs.declared.instance.Comment as comment
-use Rattle.pb_opb.proofs.lemmas.instances.Counted.{IsCounted}
-use Rattle.pb_opb.proofs.lemmas.instances.Texts.{led-lines, led-between}
+use Rattle.pb_opb.proofs.lemmas.instances.{Counted.IsCounted, Texts.led-lines, Texts.led-between}
 
 -- The texts of statements.
 abbrev pub star : List Letter

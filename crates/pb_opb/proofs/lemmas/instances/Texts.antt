@@ -2,8 +2,7 @@
 use Rattle.pb_opb.proofs.Common.{ℕ, ◌++◌, ◌+◌, ◌<◌, ◌∙◌, ◌∷◌, ◌≡◌, [], ap, append-nil, append_assoc, arith, drop, get_or, length, List, None, Option, refl}
 use Rattle.pb_opb.proofs.Common.{Some, suc, sym, take, zero, drop-cons, take_more, linear_bytes, sum_bytes, Linear, Term, body_events, comment_events}
 use Rattle.pb_opb.proofs.Common.{constraint_events, due, event_bytes, in_order, lines, objective_bytes, objective_events, OpbEvent, Constraint, Objective}
-use Rattle.pb_opb.proofs.Common.{Instance, led_lines}
-use Rattle.pb_opb.specs.declared.instance.Comment.{Comment}
+use Rattle.pb_opb.{proofs.Common.Instance, proofs.Common.led_lines, specs.declared.instance.Comment.Comment}
 
 -- `min: `, the sum, ` ;`
 pub objective_parts : (xs : List Term) → 0 < length xs → objective_bytes xs ≡ (109 ∷ 105 ∷ 110 ∷ 58 ∷ 32 ∷ []) ++ (sum_bytes xs ++ (32 ∷ 59 ∷ []))

@@ -8,9 +8,9 @@ use Rattle.pb_opb.proofs.Common.{Constraints, Variables, Phase, transition, act,
 use Rattle.pb_opb.proofs.Common.{constraint_word, IsInstance, IsTail}
 use Rattle.pb_text.specs.meaning.Asking.{AsksOnly}
 use Rattle.pb_text.proofs.lemmas.machine.Asked as asked
-use Rattle.pb_sums.proofs.lemmas.machine.Asked.{sums_asked, first_asks_nothing}
-use Rattle.pb_opb.specs.meaning.Asking.{MinLead, Asks}
 use Rattle.pb_opb.proofs.lemmas.machine.Bodies.{InGap, gap_given, nothing_read, instance_each}
+use Rattle.pb_opb.specs.meaning.Asking.{MinLead, Asks}
+use Rattle.pb_sums.proofs.lemmas.machine.Asked.{sums_asked, first_asks_nothing}
 use Rattle.pb_opb.proofs.lemmas.machine.EntryPrefix as entry
 use Rattle.pb_opb.proofs.lemmas.machine.Stands.{line_grown, tail_grown, idle}
 use Rattle.pb_opb.proofs.lemmas.machine.HeaderPrefix as header

@@ -3,14 +3,9 @@ use Rattle.pb_opb.proofs.Common.{Phase, ℕ, ◌&&◌, ◌↔◌, ◌∙◌, ◌
 use Rattle.pb_opb.proofs.Common.{cond_both, SumEvent, sums, SumState, refuse_or_end, refuse_or_go, never, AcceptsItems, End, Go, Next, ReadsStatement, Refuse}
 use Rattle.pb_opb.proofs.Common.{SkipsGap, is_white, Each, Item, Letter, OpbEvent, Header, Action, act, begin, linears, opb, OpbState, over}
 use Rattle.pb_opb.proofs.Common.{IsBegun, IsInstance}
-use Rattle.pb_opb.proofs.lemmas.instances.Counted.{IsEntry, IsCounted, counted, body_of}
-use Rattle.pb_opb.proofs.lemmas.instances.Larger.{entry_grows}
-use Rattle.pb_opb.proofs.lemmas.machine.EntryPrefix.{entry_only}
-use Rattle.pb_opb.proofs.lemmas.machine.EntryWalk.{entry_reads}
-use Rattle.pb_opb.proofs.lemmas.machine.HeaderPrefix.{IsHeader, header_only}
-use Rattle.pb_opb.proofs.lemmas.machine.HeaderWalk.{header_reads}
-use Rattle.pb_opb.proofs.lemmas.machine.Stands.{idle}
-use Rattle.pb_opb.proofs.lemmas.machine.States.{done_stops}
+use Rattle.pb_opb.proofs.lemmas.instances.{Counted.IsEntry, Counted.IsCounted, Counted.counted, Counted.body_of, Larger.entry_grows}
+use Rattle.pb_opb.proofs.lemmas.machine.{EntryPrefix.entry_only, EntryWalk.entry_reads, HeaderPrefix.IsHeader, HeaderPrefix.header_only}
+use Rattle.pb_opb.proofs.lemmas.machine.{HeaderWalk.header_reads, Stands.idle, States.done_stops}
 
 -- what a byte of the white space before a statement may lead to
 abbrev pub InGap : (OpbState → Type 0) → Next OpbState OpbEvent → Type 0

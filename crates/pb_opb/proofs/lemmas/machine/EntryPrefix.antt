@@ -5,9 +5,8 @@ use Rattle.pb_opb.proofs.Common.{Spells, ends_walk, Keeps, On, reported, Walks, 
 use Rattle.pb_opb.proofs.Common.{further, word_grown, word_whole, End, Go, Next, ReadsStatement, Refuse, IsInLine, is_white, ◌⋅◌, Byte, Bytes, Language}
 use Rattle.pb_opb.proofs.Common.{unmarked, Letter, plain, OpbEvent, Action, BeginSum, To, Phase, transition, act, after, is_in_number, linears, objectives, opb}
 use Rattle.pb_opb.proofs.Common.{OpbState, over, statement_of, min_word, SpellsObjective, Whites0}
-use Rattle.pb_opb.proofs.lemmas.instances.Counted.{IsEntry}
+use Rattle.pb_opb.proofs.lemmas.{instances.Counted.IsEntry, machine.Objectives.MinPrefix, machine.Objectives.objective_of}
 use Rattle.pb_opb.proofs.lemmas.machine.Stands.{one_byte, line_grown, idle}
-use Rattle.pb_opb.proofs.lemmas.machine.Objectives.{MinPrefix, objective_of}
 
 abbrev IsWhite : ℕ → Type 0
 IsWhite b = IsTrue (is_white b)

@@ -3,8 +3,7 @@ use Rattle.pb_opb.proofs.Common.{Part, ℕ, ◌++◌, ◌-◌, ◌∙◌, ◌∷
 use Rattle.pb_opb.proofs.Common.{reads_grammar, Linear, SumEvent, Term, White, last, sums, SumState, Spaces0, Spells, SpellsLinear, SpellsSum, Leads}
 use Rattle.pb_opb.proofs.Common.{leads_then, longer, reads_after, Walks, Go, ReadsStatement, IsInLine, is_white, ◌⋅◌, Byte, Bytes, unmarked, Letter, plain}
 use Rattle.pb_opb.proofs.Common.{OpbEvent, Comment, Constraint, Objective, Give, To, Phase, transition, act, linears, objectives, opb, OpbState, min_word}
-use Rattle.pb_opb.proofs.Common.{SpellsComment, SpellsObjective, Whites0}
-use Rattle.pb_opb.proofs.lemmas.instances.Counted.{IsEntry}
+use Rattle.pb_opb.proofs.{Common.SpellsComment, Common.SpellsObjective, Common.Whites0, lemmas.instances.Counted.IsEntry}
 use Rattle.pb_opb.proofs.lemmas.machine.FirstLetters.{spaces_white, IsDark, sum-dark, linear_first}
 use Rattle.pb_opb.proofs.lemmas.machine.GivenBytes.{gives_objective, gives_constraint, given_reads}
 use Rattle.pb_opb.proofs.lemmas.machine.Objectives.{MinPrefix, objective_parts}

@@ -1,14 +1,11 @@
 -- What the machine reads, in terms of instances.
 use Rattle.pb_opb.proofs.Common.{ℕ, Bool, List, Option, AcceptsItems, MayAsk, Spanned, Item, IsRead, StopsIn, OpbEvent, Instance, begin, opb, MayKeep}
 use Rattle.pb_opb.proofs.Common.{IsInstance, IsValueOf}
-use Rattle.pb_text.specs.meaning.Reading.{Reads}
-use Rattle.pb_text.specs.declared.Place.{Place}
-use Rattle.pb_text.specs.declared.Stop.{Stop}
+use Rattle.pb_text.specs.{declared.Place.Place, declared.Stop.Stop, meaning.Reading.Reads}
 use Rattle.pb_text.proofs.lemmas.text.Formats as formats
-use Rattle.pb_text.proofs.lemmas.source.Unkept.{stops_in}
+use Rattle.pb_opb.proofs.lemmas.machine.{Asked.asks_only, Bodies.instance_only, Bodies.instance_each}
 use Rattle.pb_opb.specs.meaning.Reading.{AsksInInstance}
-use Rattle.pb_opb.proofs.lemmas.machine.Asked.{asks_only}
-use Rattle.pb_opb.proofs.lemmas.machine.Bodies.{instance_only, instance_each}
+use Rattle.pb_text.proofs.lemmas.source.Unkept.{stops_in}
 
 module _ (limit top longest : ℕ) where
   abbrev accepted : List (Item OpbEvent) → Type 0

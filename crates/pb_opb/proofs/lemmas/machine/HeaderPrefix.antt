@@ -5,8 +5,8 @@ use Rattle.pb_opb.proofs.Common.{after_it, grown, many-grown, next, none_yet, so
 use Rattle.pb_opb.proofs.Common.{word_whole, ReadsStatement, is_blank, is_digit, ◌⋅◌, Blanks0, Blanks1, Byte, Bytes, digit, Language, unmarked, Count, Digits}
 use Rattle.pb_opb.proofs.Common.{Letter, plain, OpbEvent, Header, Action, To, Field, Constraints, Variables, Phase, after_count, transition, word_of, act}
 use Rattle.pb_opb.proofs.Common.{begin, is_in_number, opb, OpbState, constraint_word, IsTail, SpellsHeader, variable_word}
-use Rattle.std.proofs.lemmas.Grind.{common_steps}
 use Rattle.pb_opb.proofs.lemmas.machine.Stands.{one_byte, tail_grown, idle}
+use Rattle.std.proofs.lemmas.Grind.{common_steps}
 
 abbrev IsBlank : ℕ → Type 0
 IsBlank b = IsTrue (is_blank b)

@@ -4,10 +4,9 @@ use Rattle.pb_opb.proofs.Common.{List, nat_eq, refl, subst, sym, true, get_or-ap
 use Rattle.pb_opb.proofs.Common.{Go, ReadsStatement, is_blank, ◌⋅◌, Blanks0, Blanks1, Byte, Bytes, Language, unmarked, Count, Letter, plain, Header, To, Field}
 use Rattle.pb_opb.proofs.Common.{Constraints, Variables, Phase, spell, transition, word_of, act, begin, opb, OpbState, constraint_word, IsTail, SpellsHeader}
 use Rattle.pb_opb.proofs.Common.{variable_word}
-use Rattle.std.proofs.lemmas.Bool.Decides.{nat_tests}
-use Rattle.std.proofs.lemmas.Grind.{common_steps}
-use Rattle.pb_text.proofs.lemmas.numbers.DigitWalks.{TakesDigits, digits_lead}
 use Rattle.pb_opb.proofs.lemmas.machine.Stands.{stands, idle, stays_many, Keeps, line_reads}
+use Rattle.pb_text.proofs.lemmas.numbers.DigitWalks.{TakesDigits, digits_lead}
+use Rattle.std.proofs.lemmas.{Bool.Decides.nat_tests, Grind.common_steps}
 
 spell_next : (w prefix left : List ℕ) (b : ℕ) (more whole : Phase) (x : Bool) → w ≡ prefix ++ b ∷ left → nat_eq (length prefix + 1) (length w) ≡ x
     → spell w (length prefix) b more whole ≡ To (cond x whole more)

@@ -1,8 +1,7 @@
 -- What holds for each state that a machine of instances can be in.
 use Rattle.pb_opb.proofs.Common.{ℕ, ◌+◌, ◌≡◌, ◌≤◌, arith, Bool, false, length-append, true, SumEvent, sums, SumState, End, Go, IsState, Next, Refuse, OpbEvent}
 use Rattle.pb_opb.proofs.Common.{Action, Give, Keep, Stop, To, Phase, transition, Holds, IsIdle, IsInOrder, act, is_done, is_in_number, is_within, opb}
-use Rattle.pb_opb.proofs.Common.{OpbState, over, phase_owing}
-use Rattle.pb_opb.proofs.lemmas.machine.Alive.{live}
+use Rattle.pb_opb.proofs.{Common.OpbState, Common.over, Common.phase_owing, lemmas.machine.Alive.live}
 
 abbrev N : Type 0
 N = Next OpbState OpbEvent

@@ -1,10 +1,8 @@
 -- Runs that are taken at once: bytes of a line that are stored, and bytes that are given to the machine of sums.
 use Rattle.pb_opb.proofs.Common.{ℕ, ◌++◌, ◌∷◌, ◌≡◌, [], ap, append-nil, append_assoc, arith, false, List, nat_eq, None, Option, subst, take, true, IfSome}
 use Rattle.pb_opb.proofs.Common.{not-true, Go, Runs, IsInLine, IsInOrder, keeps_line, opb, OpbState, ◌∙◌, refl, sym, sums, SumState, giving, over}
+use Rattle.pb_opb.proofs.lemmas.machine.{GivenBytes.IsGiving, GivenBytes.gives_at, GivenBytes.given_step, Pushed.goes_order, States.is_state}
 use Rattle.std.specs.Option.{unwrap_or}
-use Rattle.pb_opb.proofs.lemmas.machine.States.{is_state}
-use Rattle.pb_opb.proofs.lemmas.machine.GivenBytes.{IsGiving, gives_at, given_step}
-use Rattle.pb_opb.proofs.lemmas.machine.Pushed.{goes_order}
 
 abbrev pub keeping : OpbState → List ℕ → OpbState
 keeping s text = record s { text = text }

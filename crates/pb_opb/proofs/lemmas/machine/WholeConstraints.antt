@@ -2,11 +2,9 @@
 use Rattle.pb_opb.proofs.Common.{OpbEvent, Part, SumEvent, ℕ, ◌<◌, ◌∙◌, ◌∷◌, ◌≡◌, [], ap, arith, Bool, false, get_or, inl, length, List, refl, Some, subst, suc}
 use Rattle.pb_opb.proofs.Common.{sym, take, true, zero, first_is_state, Linear, White, last, sums, SumState, begins, begins_with, End, Go, TakesStatement, Give}
 use Rattle.pb_opb.proofs.Common.{Phase, transition, Holds, IsInOrder, act, giving, is_within, linears, opb, OpbState, over, phase_owing, remaining_after}
-use Rattle.pb_sums.specs.engine.TermParts.{LeadsToLinear}
+use Rattle.pb_opb.proofs.lemmas.machine.{Pushed.give_order, Pushed.end_order, Pushed.end_step, States.is_state, Taken.runs_given}
 use Rattle.pb_sums.proofs.lemmas.machine.WholeTexts.{before_semicolon, linear_ends, linear_some}
-use Rattle.pb_opb.proofs.lemmas.machine.Pushed.{give_order, end_order, end_step}
-use Rattle.pb_opb.proofs.lemmas.machine.States.{is_state}
-use Rattle.pb_opb.proofs.lemmas.machine.Taken.{runs_given}
+use Rattle.pb_sums.specs.engine.TermParts.{LeadsToLinear}
 
 -- a byte that is given between two statements begins a constraint
 given_constraint : (top : ℕ) (may : Bool) (b : ℕ) (p : Phase) → transition top (Phase.Between may) b ≡ Give p → p ≡ Phase.Constraint

@@ -4,10 +4,8 @@ use Rattle.pb_proof.proofs.Common.{Walks, bytes-append, ReadsStatement, bytes, L
 use Rattle.pb_proof.proofs.Common.{ConclusionState, showing_value, solution_automaton, AsksConclusion, AsksShown, conclusion_transition as transition}
 use Rattle.pb_proof.proofs.Common.{ConclusionPhase as Phase, ConclusionAction as Action}
 use Rattle.pb_proof.proofs.lemmas.conclusion.Prefix as conclusion_prefix
-use Rattle.pb_proof.proofs.lemmas.Carried.{reads_out}
-use Rattle.pb_proof.proofs.lemmas.conclusion.Theorems.{shown_nests, same_shown}
-use Rattle.pb_proof.proofs.lemmas.conclusion.Steps.{OnAction, on_transition}
-use Rattle.pb_proof.proofs.lemmas.line.Asks.{solution_asked}
+use Rattle.pb_proof.proofs.lemmas.{Carried.reads_out, conclusion.Steps.OnAction, conclusion.Steps.on_transition}
+use Rattle.pb_proof.proofs.lemmas.{conclusion.Theorems.shown_nests, conclusion.Theorems.same_shown, line.Asks.solution_asked}
 
 -- only within shown literals
 asks_shown : (s : ConclusionState) (p : Phase) (b : ℕ) (m : Action) → OnAction s p m → asks s b m ≡ true → (x : Showing) × (p ≡ Phase.Shown x)

@@ -10,12 +10,11 @@ use Rattle.pb_proof.proofs.Common.{Word, after_bound, after_id, begin_bound, bet
 use Rattle.pb_proof.proofs.Common.{PhaseFits, spell, word_of, conclusion_at, conclusion_automaton, ConclusionState, is_in_number, solution_automaton}
 use Rattle.pb_proof.proofs.Common.{solution_first, SolutionState, inf_word, conclusion_next as next_action, conclusion_transition as transition}
 use Rattle.pb_proof.proofs.Common.{conclusion_giving as giving, conclusion_act as act, conclusion_over as over, ConclusionPhase as Phase}
-use Rattle.pb_proof.proofs.Common.{ConclusionAction as Action}
-use Rattle.pb_proof.specs.meaning.Lines.{Minus}
+use Rattle.pb_proof.proofs.{Common.ConclusionAction as Action, lemmas.Solution.solution_reads, lemmas.Solution.solution_of_one}
 use Rattle.pb_proof.proofs.lemmas.conclusion.Steps.{continues}
 use Rattle.pb_proof.proofs.lemmas.line.Ends.{Gapped, Closing, blank_more, blank_closing, semicolon_after_blanks, line_after_blanks, line_closing, gapped}
 use Rattle.pb_proof.proofs.lemmas.line.Ends.{gapped_some, first_blank, further_blank, blanks_begin, blanks_go_on, positive}
-use Rattle.pb_proof.proofs.lemmas.Solution.{solution_reads, solution_of_one}
+use Rattle.pb_proof.specs.meaning.Lines.{Minus}
 
 module _ (limit top : ℕ) where
   -- a conclusion without literals, after the first blanks

@@ -9,9 +9,8 @@ use Rattle.pb_proof.proofs.Common.{ConclusionPhase as Phase, ConclusionAction as
 use Rattle.pb_proof.proofs.Common.{Some, take, take-append-drop, get_or-append_seam, eq-eqb, nat_tests, length-take-le, Leads, Walks, walks_then, blank_digit}
 use Rattle.pb_proof.proofs.Common.{is_digit, ◌⋅◌, Bytes, Language, signed, Letter, plain, Finite, word_of, conclusion_value, ◌*◌, inl, inr, None, le-leb}
 use Rattle.pb_proof.proofs.Common.{digits_lead, digit_blank, digit_byte, unmarked, Digits, Number, is_in_number, inf_word, SpellsBound, SpellsId}
+use Rattle.pb_proof.proofs.lemmas.{Solution.solution_of_one, line.Ends.TakesBlanks, line.Ends.MayEnd, line.Ends.closing_feeds, line.Ends.not_zero}
 use Rattle.pb_proof.specs.engine.line.ConclusionState.{Holds}
-use Rattle.pb_proof.proofs.lemmas.Solution.{solution_of_one}
-use Rattle.pb_proof.proofs.lemmas.line.Ends.{TakesBlanks, MayEnd, closing_feeds, not_zero}
 
 abbrev N : Type 0
 N = Next ConclusionState Conclusion

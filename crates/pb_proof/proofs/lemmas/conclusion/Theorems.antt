@@ -10,16 +10,14 @@ use Rattle.pb_proof.proofs.Common.{ReadsOn, is_state, IsOfOne, IsState, signed, 
 use Rattle.pb_proof.proofs.Common.{IsConclusionInOrder, kept, spent, IsSolutionInOrder, inf_word, ◌&&◌, IsTrue, admits, end_or_refuse, go_or_refuse, refuses}
 use Rattle.pb_proof.proofs.Common.{Admits, End, is_large, Next, Refuse, Limits, is_digit, largest, top_of, asks, is_in_number}
 use Rattle.pb_proof.proofs.Common.{conclusion_transition as transition, conclusion_act as act, conclusion_over as over, ConclusionAction as Action}
+use Rattle.pb_proof.proofs.lemmas.{Carried.Nests, Carried.reads_in, Solution.solution_reads, Solution.solution_of_one}
+use Rattle.pb_proof.proofs.lemmas.conclusion.Prefix.{Body, line_shown}
 use Rattle.pb_proof.proofs.lemmas.conclusion.Steps.{Opens, before_opens, spaced_opens, bound_carries, AtId, id_carries, at, Carries, carries_then, Is}
 use Rattle.pb_proof.proofs.lemmas.conclusion.Steps.{leads_carry, word_leads, start_blanks, bounded_blanks, id_blanks, Follows, follows_blanks, after_blanks_of}
 use Rattle.pb_proof.proofs.lemmas.conclusion.Steps.{between_blanks, may_end, id_steps, id_follows, infinity_leads, infinity_left, signed_step, id_step}
 use Rattle.pb_proof.proofs.lemmas.conclusion.Steps.{first_id_step, signed_id_step, word_left, continues, ends, nothing_spent, give_phase, idle_order}
-use Rattle.pb_proof.proofs.lemmas.conclusion.Prefix.{Body, line_shown}
 use Rattle.pb_proof.proofs.lemmas.line.Ends.{TakesBlanks, blanks1_lead, blanks0_lead, after_blanks, line_reads, nil_last, reads_exactly}
-use Rattle.pb_proof.proofs.lemmas.Carried.{Nests, reads_in}
-use Rattle.pb_proof.proofs.lemmas.Solution.{solution_reads, solution_of_one}
-use Rattle.pb_proof.specs.engine.line.Conclusion.{is_done}
-use Rattle.pb_proof.specs.engine.line.ConclusionState.{Holds}
+use Rattle.pb_proof.specs.engine.line.{Conclusion.is_done, ConclusionState.Holds}
 use Rattle.std.proofs.Math.Pow.{pow_mono}
 use Rattle.pb_proof.proofs.lemmas.conclusion.Prefix as prefixes
 

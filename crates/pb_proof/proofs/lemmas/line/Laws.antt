@@ -3,14 +3,14 @@ use Rattle.pb_proof.proofs.Common.{ℕ, ◌<◌, ◌^◌, ◌≡◌, false, List
 use Rattle.pb_proof.proofs.Common.{Statement, conclusion_automaton, conclusion_first, conclusion_last, formula_automaton, formula_last, formula_first}
 use Rattle.pb_proof.proofs.Common.{delete_automaton, delete_first, delete_last, solution_automaton, solution_first, solution_last, line_automaton, line_first}
 use Rattle.pb_proof.proofs.Common.{SpellsRest, rules, pol_automaton, pol_first, pol_last, rup_automaton, rup_first, rup_last, Automaton, Part}
-use Rattle.pb_proof.specs.declared.machine.phase.LineKind.TheVariants.{Formula, Pol, Rup, Soli, Solx, Delete, Conclusion}
 use Rattle.pb_proof.proofs.lemmas.Carried.{Carries, reads_in, reads_out, state_in, begins_in}
+use Rattle.pb_proof.proofs.lemmas.Delete.{delete_of_one, delete_reads, delete_is_state}
 use Rattle.pb_proof.proofs.lemmas.Formula.{formula_reads, formula_is_state, formula_of_one}
 use Rattle.pb_proof.proofs.lemmas.Rup.{rup_reads, rup_is_state, rup_begins, rup_first_in_order}
-use Rattle.pb_proof.proofs.lemmas.pol.Theorems.{pol_reads, pol_is_state, pol_first_in_order, of_one}
 use Rattle.pb_proof.proofs.lemmas.Solution.{solution_of_one, solution_reads, solution_is_state}
-use Rattle.pb_proof.proofs.lemmas.Delete.{delete_of_one, delete_reads, delete_is_state}
 use Rattle.pb_proof.proofs.lemmas.conclusion.Theorems.{conclusion_of_one, conclusion_reads, conclusion_is_state}
+use Rattle.pb_proof.proofs.lemmas.pol.Theorems.{pol_reads, pol_is_state, pol_first_in_order, of_one}
+use Rattle.pb_proof.specs.declared.machine.phase.LineKind.TheVariants.{Formula, Pol, Rup, Soli, Solx, Delete, Conclusion}
 use Rattle.pb_text.proofs.lemmas.machine.Living.{BeginsAtOnce}
 
 pub formula_carries : Carries formula_automaton line_automaton LineMachine.Formula Statement.F

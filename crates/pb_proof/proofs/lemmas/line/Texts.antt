@@ -11,9 +11,8 @@ use Rattle.pb_proof.proofs.Common.{Blank, IsName, SpellsLinear, SpellsLiteral, d
 use Rattle.pb_proof.proofs.Common.{IfGiven, IsBound, IsConclusion, IsFactor, IsId, IsStatementValue, IsWord, Factor, Feed, IdShown, LineEnd, Listed}
 use Rattle.pb_proof.proofs.Common.{LiteralsShown, SpellsBound, SpellsConclusion, SpellsConclusionLine, SpellsCount, SpellsId, SpellsIds, SpellsLiterals}
 use Rattle.pb_proof.proofs.Common.{SpellsRup, SpellsShown, SpellsStatement, SpellsWord, SpellsWords}
+use Rattle.pb_proof.proofs.lemmas.{Written.listed_none, Written.listed-cons, line.Ends.fed, line.Ends.ended}
 use Rattle.pb_proof.specs.meaning.Canonical.{count_bytes}
-use Rattle.pb_proof.proofs.lemmas.Written.{listed_none, listed-cons}
-use Rattle.pb_proof.proofs.lemmas.line.Ends.{fed, ended}
 
 abbrev pub line_bytes : Statement → List ℕ
 line_bytes Statement.End = statement_bytes Statement.End

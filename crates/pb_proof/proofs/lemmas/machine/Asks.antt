@@ -7,14 +7,11 @@ use Rattle.pb_proof.proofs.Common.{proof_transition as transition, proof_within 
 use Rattle.pb_text.specs.meaning.Asking.{AsksOnly}
 use Rattle.pb_text.proofs.lemmas.machine.Asked as asked
 use Rattle.pb_proof.specs.engine.machine.State as state
-use Rattle.pb_proof.specs.engine.machine.State.{asks}
-use Rattle.pb_proof.proofs.lemmas.Carried.{Carries, walks_out, reads_out}
-use Rattle.pb_proof.proofs.lemmas.machine.Complete.{line_nests, is_giving}
-use Rattle.pb_proof.proofs.lemmas.conclusion.Asks.{conclusion_asked}
-use Rattle.pb_proof.proofs.lemmas.line.Laws.{formula_carries, pol_carries, rup_carries, soli_carries, solx_carries, delete_carries, conclusion_carries, line_only}
+use Rattle.pb_proof.proofs.lemmas.{Carried.Carries, Carried.walks_out, Carried.reads_out, conclusion.Asks.conclusion_asked}
 use Rattle.pb_proof.proofs.lemmas.line.Asks.{delete_asked, solution_asked, rup_asked}
-use Rattle.pb_proof.proofs.lemmas.pol.Asks.{pol_asked}
-use Rattle.pb_proof.proofs.lemmas.machine.Exact.{reads_proofs, comment_reads}
+use Rattle.pb_proof.proofs.lemmas.line.Laws.{formula_carries, pol_carries, rup_carries, soli_carries, solx_carries, delete_carries, conclusion_carries, line_only}
+use Rattle.pb_proof.proofs.lemmas.machine.{Complete.line_nests, Complete.is_giving, Exact.reads_proofs, Exact.comment_reads}
+use Rattle.pb_proof.{proofs.lemmas.pol.Asks.pol_asked, specs.engine.machine.State.asks}
 use Rattle.pb_proof.proofs.lemmas.machine.Sound as sound
 
 module _ (limit top : ℕ) where

@@ -7,10 +7,9 @@ use Rattle.pb_proof.proofs.Common.{Closing, Complete, Formula, Opening, Steps, S
 use Rattle.pb_proof.proofs.Common.{next_stage, proofs, ProofState, meets, next_action, sol_word, words_of, Feed, LineEnd, SpellsStatement, stage_after}
 use Rattle.pb_proof.proofs.Common.{stage_of, proof_spell as spell, proof_transition as transition, ProofAction as Action, ProofPhase as Phase, Stage}
 use Rattle.pb_proof.proofs.lemmas.Carried.{Nests, reads_in}
-use Rattle.pb_proof.proofs.lemmas.line.Laws.{line_begins, line_each, line_fresh}
-use Rattle.pb_proof.proofs.lemmas.line.Ends.{Feeds, feed_reads, MayEnd, line_reads}
-use Rattle.pb_proof.proofs.lemmas.machine.Sound.{stage_keyword}
 use Rattle.pb_proof.proofs.lemmas.Spaced.{Spaced, One, chooses, KeywordWords, keyword_each}
+use Rattle.pb_proof.proofs.lemmas.line.{Ends.Feeds, Ends.feed_reads, Ends.MayEnd, Ends.line_reads, Laws.line_begins, Laws.line_each, Laws.line_fresh}
+use Rattle.pb_proof.proofs.lemmas.machine.Sound.{stage_keyword}
 
 -- In the words, the byte after a space is not a blank.
 abbrev dark_first : List ℕ → Bool

@@ -6,12 +6,9 @@ use Rattle.pb_proof.proofs.Common.{ProofState, enter, IsGap, go_or_end, one_stat
 use Rattle.pb_proof.proofs.Common.{IsStaged, stage_after, stage_of, proof_within as is_within, ProofAction as Action, ProofPhase as Phase, ◌↔◌, All, IsTrue}
 use Rattle.pb_proof.proofs.Common.{All-cons, All-head, All-nil, All-tail, one_spelling, events_of, Conclusion, Closing, Formula, Steps, Proof, Conclude, Delete}
 use Rattle.pb_proof.proofs.Common.{F, Header, Output, Pol, Rup, Soli, Solx, begin, SpellsStatement, AreSpelled, BeginsAtOnce, IsProof, IsStep, statements_of}
-use Rattle.pb_proof.proofs.Common.{proof_transition as transition}
+use Rattle.pb_proof.proofs.{Common.proof_transition as transition, lemmas.machine.Complete.statement_each, lemmas.machine.Sound.statement_only}
+use Rattle.pb_proof.specs.{contract.Formats.OneProof, engine.machine.State.is_done}
 use Rattle.pb_text.proofs.lemmas.text.Blanks.{blank_passes, in_comment-snoc, IsBlank-snoc, passes_at}
-use Rattle.pb_proof.proofs.lemmas.machine.Complete.{statement_each}
-use Rattle.pb_proof.proofs.lemmas.machine.Sound.{statement_only}
-use Rattle.pb_proof.specs.contract.Formats.{OneProof}
-use Rattle.pb_proof.specs.engine.machine.State.{is_done}
 
 abbrev pub Inside : Action → Type 0
 Inside (Action.To p) = is_within p ≡ true

@@ -7,9 +7,9 @@ use Rattle.pb_proof.proofs.Common.{Statement, line_automaton, line_first, Spells
 use Rattle.pb_proof.proofs.Common.{meets, next_action, sol_word, step_keyword, words_of, conclusion_word, f_word, pol_word, rup_word, soli_word}
 use Rattle.pb_proof.proofs.Common.{solx_word, SpellsStatement, stage_after, stage_of, proof_spell as spell, proof_between as between}
 use Rattle.pb_proof.proofs.Common.{proof_transition as transition, proof_over as over, ProofPhase as Phase, ProofAction as Action}
-use Rattle.pb_proof.proofs.lemmas.line.Laws.{line_only, line_begins, line_fresh}
-use Rattle.pb_proof.proofs.lemmas.line.Ends.{Gapped, Closing as Closed, blank_more, semicolon_after_blanks, blank_closing, line_after_blanks, line_closing, feed_after_blanks, gapped}
 use Rattle.pb_proof.proofs.lemmas.Spaced.{Spaced, one_met, spaced_more, spaced_blank, KeywordWords, keyword_only, some_byte}
+use Rattle.pb_proof.proofs.lemmas.line.Ends.{Gapped, Closing as Closed, blank_more, semicolon_after_blanks, blank_closing, line_after_blanks, line_closing, feed_after_blanks, gapped}
+use Rattle.pb_proof.proofs.lemmas.line.Laws.{line_only, line_begins, line_fresh}
 
 -- the stage of a statement, by its first words and by the kind of its line
 abbrev pub stage_keyword : Keyword → Stage

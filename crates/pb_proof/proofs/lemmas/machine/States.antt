@@ -7,15 +7,13 @@ use Rattle.pb_proof.proofs.Common.{proofs, ProofState, next_action, words_of, co
 use Rattle.pb_proof.proofs.Common.{ProofPhase as Phase, ◌&&◌, ◌-◌, ◌≤◌, ap, IsTrue, nat_eq, Option, Some, cond_both, same_Some, admits_before, admits_final}
 use Rattle.pb_proof.proofs.Common.{admitted_on, refuses, never, further, Admits, End, Go, Next, Refuse, is_blank, asked, is_complete, step_line, enter, meets}
 use Rattle.pb_proof.proofs.Common.{pass, step_keyword, proof_spell as spell, proof_between as between, proof_transition as transition, proof_over as over}
-use Rattle.pb_proof.proofs.Common.{proof_within as is_within, ProofAction as Action}
-use Rattle.pb_proof.proofs.lemmas.line.Laws.{line_begins, line_fresh, line_first_state}
-use Rattle.pb_text.proofs.lemmas.machine.Living.{before}
-use Rattle.pb_proof.proofs.lemmas.machine.Complete.{spelt, header_end, output_end, step_on, step_last, line_nests, is_giving, meets_any}
-use Rattle.pb_proof.proofs.lemmas.Carried.{reads_in}
-use Rattle.pb_proof.proofs.lemmas.machine.Exact.{no_gap, finishes, ordered_each}
+use Rattle.pb_proof.proofs.{Common.proof_within as is_within, Common.ProofAction as Action, lemmas.Carried.reads_in}
 use Rattle.pb_proof.proofs.lemmas.Spaced.{Spaced, One, chooses, KeywordWords, keyword_only, some_byte}
-use Rattle.pb_proof.proofs.lemmas.line.Ends.{fed, ended}
+use Rattle.pb_proof.proofs.lemmas.line.{Ends.fed, Ends.ended, Laws.line_begins, Laws.line_fresh, Laws.line_first_state}
+use Rattle.pb_proof.proofs.lemmas.machine.Complete.{spelt, header_end, output_end, step_on, step_last, line_nests, is_giving, meets_any}
+use Rattle.pb_proof.proofs.lemmas.machine.Exact.{no_gap, finishes, ordered_each}
 use Rattle.pb_proof.specs.engine.machine.State.{asks, is_done}
+use Rattle.pb_text.proofs.lemmas.machine.Living.{before}
 
 -- the words as they are written
 one_plain : (c : ℕ) → One c (unmarked c ∷ [])

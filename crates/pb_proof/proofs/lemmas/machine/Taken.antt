@@ -7,15 +7,13 @@ use Rattle.pb_proof.proofs.Common.{bytes_decides, pointwise, never, IsState, Key
 use Rattle.pb_proof.proofs.Common.{proof_over as over, ProofPhaseFits as PhaseFits, ProofPhase as Phase, ProofAction as Action, RupPhase, take_more}
 use Rattle.pb_proof.proofs.Common.{first_is_state, Blank, runs_more, all_rest, TakesStatement, Inside, rup_first, sum_first, sum_last, idle, PolWord, pol_first}
 use Rattle.pb_proof.proofs.Common.{PolState, text_after, prefix_parts, IsExpression, IsClosing, Stage, Statement, Part}
+use Rattle.pb_proof.proofs.lemmas.{Carried.runs_in, Rup.rup_is_state, Rup.tail_order, line.Laws.pol_carries, line.Laws.rup_carries}
 use Rattle.pb_proof.proofs.lemmas.machine.Complete.{meets_any, spelt, step_on, step_last}
 use Rattle.pb_proof.proofs.lemmas.machine.States.{OnAction, on_after, plain_holds, at_order, begin_order, is_state}
-use Rattle.pb_sums.specs.engine.TermParts.{LeadsToLinear}
-use Rattle.pb_sums.proofs.lemmas.machine.WholeTexts.{linear_ends, last_is_state, before_semicolon, linear_some}
 use Rattle.pb_proof.specs.engine.line.Carried.{carried}
 use Rattle.pb_proof.specs.engine.machine.Whole.{LeadsToPol, LeadsToRup, rup_read, with_rup}
-use Rattle.pb_proof.proofs.lemmas.Carried.{runs_in}
-use Rattle.pb_proof.proofs.lemmas.line.Laws.{pol_carries, rup_carries}
-use Rattle.pb_proof.proofs.lemmas.Rup.{rup_is_state, tail_order}
+use Rattle.pb_sums.proofs.lemmas.machine.WholeTexts.{linear_ends, last_is_state, before_semicolon, linear_some}
+use Rattle.pb_sums.specs.engine.TermParts.{LeadsToLinear}
 use Rattle.pb_proof.proofs.lemmas.Rup as rup_states
 use Rattle.pb_proof.proofs.lemmas.machine.States as states
 use Rattle.pb_proof.proofs.lemmas.pol.Theorems as pol

@@ -2,9 +2,7 @@
 use Rattle.pb_proof.proofs.Common.{ℕ, ◌*◌, ◌++◌, ◌+◌, ◌-◌, ◌<◌, ◌∙◌, ◌∷◌, ◌≡◌, [], ap, arith, Bool, cond, false, List, nat_le, pos, refl, Some, subst, suc, sym}
 use Rattle.pb_proof.proofs.Common.{true, zero, neg_ℤ, le-leb, true≢false, reads_before, ReadsOn, End, Change, Held, Phase, Role, PolWord, bound, changed, close}
 use Rattle.pb_proof.proofs.Common.{counted, held_name, held_number, is_done, over, pol_automaton, PolState, pol_act as act, Action}
-use Rattle.pb_proof.proofs.lemmas.pol.Walks.{state, as_gap, takes_blanks}
-use Rattle.pb_proof.proofs.lemmas.pol.Prefixes.{bound_of_id}
-use Rattle.pb_proof.proofs.lemmas.line.Ends.{not_zero}
+use Rattle.pb_proof.proofs.lemmas.{line.Ends.not_zero, pol.Prefixes.bound_of_id, pol.Walks.state, pol.Walks.as_gap, pol.Walks.takes_blanks}
 
 abbrev pub Alive : PolState → Type 0
 Alive = ReadsOn pol_automaton

@@ -5,10 +5,10 @@ use Rattle.pb_proof.proofs.Common.{LiteralOf, EndsIn, prefixes_of, Walks, is_bla
 use Rattle.pb_proof.proofs.Common.{Action, Change, Held, Kind, Phase, PolWord, blank, bound, close, counted, feed, is_letter_kind, is_name_kind, kind_of, late}
 use Rattle.pb_proof.proofs.Common.{may_be_name, next_large, next_word, number, read, role_of, semicolon, star, transition, wants, pol_automaton, pol_first}
 use Rattle.pb_proof.proofs.Common.{PolState, AsksWord, pol_next as next, pol_signed as signed, Role}
-use Rattle.pb_proof.specs.engine.line.Pol.{adds, Closing}
 use Rattle.pb_proof.proofs.lemmas.line.Asks.{number_end, literal_end}
 use Rattle.pb_proof.proofs.lemmas.pol.Prefixes.{Settled, Before, prefix, Prefix, Whole}
 use Rattle.pb_proof.proofs.lemmas.pol.Sane.{Says, kind_says, letter_kind, name_kind}
+use Rattle.pb_proof.specs.engine.line.Pol.{adds, Closing}
 use Rattle.pb_proof.proofs.lemmas.pol.Sound as sound
 
 blank_dark : (b : ℕ) → is_blank b ≡ true → (is_digit b ≡ false) × (is_name_byte b ≡ false)

@@ -5,10 +5,10 @@ use Rattle.pb_proof.proofs.Common.{ReadsStatement, ◌⋅◌, Blanks1, Byte, Byt
 use Rattle.pb_proof.proofs.Common.{close, counted, held_name, held_number, turned, with_last, over, pol_automaton, pol_first, pol_last, PolState, Factor}
 use Rattle.pb_proof.proofs.Common.{LineEnd, Listed, SpellsId, SpellsWord, SpellsWords, IsFree, pol_act as act, Action}
 use Rattle.pb_proof.proofs.lemmas.line.Ends.{MayEnd, blanks1_lead, line_reads, not_zero}
+use Rattle.pb_proof.proofs.lemmas.pol.Postfix.{Counts, postfix_counts}
+use Rattle.pb_proof.proofs.lemmas.pol.Prefixes.{with_last_append, bound_of_id, bound_of_factor}
 use Rattle.pb_proof.proofs.lemmas.pol.Walks.{state, as_after, free_name, free_number, unsigned_walk, signed_walk, name_walk, negated_walk, takes_blanks}
 use Rattle.pb_proof.proofs.lemmas.pol.Walks.{late_blanks}
-use Rattle.pb_proof.proofs.lemmas.pol.Prefixes.{with_last_append, bound_of_id, bound_of_factor}
-use Rattle.pb_proof.proofs.lemmas.pol.Postfix.{Counts, postfix_counts}
 
 -- a number that may be the operand of an operator
 abbrev IsOperand : Held → Type 0

@@ -2,8 +2,7 @@
 use Rattle.pb_proof.proofs.Common.{ℕ, ◌++◌, ◌-◌, ◌<◌, ◌∙◌, ◌∷◌, ◌≡◌, ◌≤◌, [], ap, append_assoc, arith, false, List, pos, refl, subst, suc, sym, true}
 use Rattle.pb_proof.proofs.Common.{le-max_left, le-max_right, FirstOf, LiteralOf, IsName, regroup3, ◌⋅◌, Blanks1, Byte, Bytes, Language, Digits, Letter, Held}
 use Rattle.pb_proof.proofs.Common.{Phase, Role, PolWord, Axiom, Id, Multiply, bound, with_last, PolState, Listed, SpellsWord, SpellsWords, IsFree}
-use Rattle.pb_proof.proofs.lemmas.line.Ends.{Closing, listed_append}
-use Rattle.pb_proof.proofs.lemmas.pol.Postfix.{Counts}
+use Rattle.pb_proof.proofs.lemmas.{line.Ends.Closing, line.Ends.listed_append, pol.Postfix.Counts}
 
 -- ids and factors are within the bound of a number
 pub bound_of_id : (limit top d n : ℕ) → n ≤ top → n ≤ bound limit top d

@@ -8,12 +8,11 @@ use Rattle.pb_proof.proofs.Common.{held_name, held_number, is_letter_kind, is_na
 use Rattle.pb_proof.proofs.Common.{role_of, semicolon, star, transition, turned, with_last, work, over, pol_automaton, pol_first, PolState, LineEnd}
 use Rattle.pb_proof.proofs.Common.{SpellsWord, SpellsWords, IsFree, next as next_part, pol_act as act, pol_next as next, pol_signed as signed, Change}
 use Rattle.pb_proof.specs.engine.line.Pol as pol
-use Rattle.pb_proof.proofs.lemmas.line.Ends.{semicolon_after_blanks, blank_closing, line_after_blanks, line_closing, gapped, first_blank, further_blank}
-use Rattle.pb_proof.proofs.lemmas.line.Ends.{gapped_some, positive}
-use Rattle.pb_proof.proofs.lemmas.pol.Sane.{Says, kind_says, letter_kind, name_kind}
-use Rattle.pb_proof.proofs.lemmas.pol.Postfix.{Counts, counts_postfix}
-use Rattle.pb_proof.proofs.lemmas.pol.Prefixes.{Words, Settled, settle, Holds, released, whole, takes_number, with_last_append, lead, at, Named, IsRole, Before, prefix, Prefix, Whole}
 use Rattle.pb_proof.proofs.lemmas.Solution.{first_grown, more_grown}
+use Rattle.pb_proof.proofs.lemmas.line.Ends.{semicolon_after_blanks, blank_closing, line_after_blanks, line_closing, gapped, first_blank, further_blank}
+use Rattle.pb_proof.proofs.lemmas.{line.Ends.gapped_some, line.Ends.positive, pol.Postfix.Counts, pol.Postfix.counts_postfix}
+use Rattle.pb_proof.proofs.lemmas.pol.Prefixes.{Words, Settled, settle, Holds, released, whole, takes_number, with_last_append, lead, at, Named, IsRole, Before, prefix, Prefix, Whole}
+use Rattle.pb_proof.proofs.lemmas.pol.Sane.{Says, kind_says, letter_kind, name_kind}
 
 -- letters
 

@@ -7,18 +7,12 @@ use Rattle.pb_proof.proofs.Common.{Change, Kind, wants, work, get_or, min, take,
 use Rattle.pb_proof.proofs.Common.{nat_le, Option, pos, Some, eqb-true, le-leb, same_Some, Walks, Digits, runs_more, AreDigits, Runs, value_from, Held, Role}
 use Rattle.pb_proof.proofs.Common.{close, close_lone, changed, counted, held_number, drop, append-nil, inl, inr, runs_on, runs_further, blank, IsFree, EndsAs}
 use Rattle.pb_proof.proofs.Common.{AreWords, IsExpression, IsClosing, standing, no_words, suc, all_rest, IsName, bytes-plain, plain, held_name, text_after}
-use Rattle.pb_proof.specs.declared.line.pol.phase.Action.TheVariants.{End as EndLine}
-use Rattle.pb_proof.specs.engine.line.Pol.{step}
-use Rattle.pb_proof.proofs.lemmas.Carried.{went}
-use Rattle.pb_proof.proofs.lemmas.pol.Alive.{alive}
-use Rattle.pb_proof.proofs.lemmas.pol.Sane.{transition-sane, potential, IsNext, continues, stops, units_append}
-use Rattle.pb_proof.proofs.lemmas.pol.Complete.{reads_each}
-use Rattle.pb_proof.proofs.lemmas.pol.Sound.{keeps}
-use Rattle.pb_proof.proofs.lemmas.pol.Prefixes.{Prefix, Whole, bound_of_id}
-use Rattle.pb_proof.proofs.lemmas.line.Ends.{reads_exactly, digits_text, text_run, not_zero}
+use Rattle.pb_proof.proofs.lemmas.{Carried.went, line.Ends.reads_exactly, line.Ends.digits_text, line.Ends.text_run, line.Ends.not_zero}
+use Rattle.pb_proof.proofs.lemmas.pol.{Alive.alive, Complete.reads_each, Prefixes.Prefix, Prefixes.Whole, Prefixes.bound_of_id}
+use Rattle.pb_proof.proofs.lemmas.pol.{Sane.transition-sane, Sane.potential, Sane.IsNext, Sane.continues, Sane.stops, Sane.units_append, Sound.keeps}
 use Rattle.pb_proof.proofs.lemmas.pol.Walks.{state, free_number, free_name, unsigned_walk, name_walk, negated_walk}
-use Rattle.pb_proof.specs.engine.line.PolFast.{held_operator, operator, held_before}
-use Rattle.pb_proof.specs.engine.line.PolWhole.{IsWord}
+use Rattle.pb_proof.specs.{declared.line.pol.phase.Action.TheVariants.End as EndLine, engine.line.Pol.step}
+use Rattle.pb_proof.specs.engine.line.{PolFast.held_operator, PolFast.operator, PolFast.held_before, PolWhole.IsWord}
 
 -- Where the automaton continues, and where it ends.
 pub next_state : (s next : PolState) (b : ℕ) → pol_automaton.step s b ≡ Go next → (v : Work) × (next ≡ pol_with s v) × IsNext s.work v

@@ -4,8 +4,7 @@ use Rattle.pb_proof.proofs.Common.{ReadsStatement, Refuse, Letter, Action, Chang
 use Rattle.pb_proof.proofs.Common.{held_name, held_number, is_name_kind, kind_of, may_be_name, semicolon, transition, work, over, pol_automaton, PolState}
 use Rattle.pb_proof.proofs.Common.{IsFree, pol_act as act, ◌*◌, ◌++◌, ◌+◌, ◌∙◌, ◌≤◌, ap, append-nil, append_assoc, IsTrue, false≢true, le-leb, IsName, Walks}
 use Rattle.pb_proof.proofs.Common.{digits_lead, is_name_byte, Each, Digits, plain, bound, is_letter_kind, number, role_of}
-use Rattle.pb_proof.proofs.lemmas.line.Ends.{TakesBlanks}
-use Rattle.pb_proof.proofs.lemmas.pol.Sane.{of_digit, of_blank, of_letter, of_name}
+use Rattle.pb_proof.proofs.lemmas.{line.Ends.TakesBlanks, pol.Sane.of_digit, pol.Sane.of_blank, pol.Sane.of_letter, pol.Sane.of_name}
 
 -- an operator need not follow a number or a name
 pub free_number : (limit d n : ℕ) → IsFree (held_number limit d n)

@@ -1,5 +1,4 @@
-use Rattle.pb_proof.proofs.Common.{◌↔◌, ◌≤◌, drop, IsPostfix}
-use Rattle.pb_proof.proofs.lemmas.pol.Postfix.{Counts}
+use Rattle.pb_proof.proofs.{Common.◌↔◌, Common.◌≤◌, Common.drop, Common.IsPostfix, lemmas.pol.Postfix.Counts}
 use Rattle.pb_proof.proofs.validity.is_postfix.Given as goal
 
 -- the words are those of one expression if and only if the rest leads from the finished ones to one

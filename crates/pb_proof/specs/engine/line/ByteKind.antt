@@ -1,8 +1,7 @@
 -- The class of a byte in a line of numbers, and in a line of names.
-use Rattle.std.specs.Prelude.{ℕ, ◌-◌, ◌<◌, cond, nat_eq}
+use Rattle.pb_proof.specs.declared.line.byte_kind.{NameByte.NameByte, NumberByte.NumberByte}
 use Rattle.pb_text.specs.meaning.Classes.{is_blank, is_digit, is_letter, is_name_byte}
-use Rattle.pb_proof.specs.declared.line.byte_kind.NumberByte.{NumberByte}
-use Rattle.pb_proof.specs.declared.line.byte_kind.NameByte.{NameByte}
+use Rattle.std.specs.Prelude.{ℕ, ◌-◌, ◌<◌, cond, nat_eq}
 
 abbrev pub number_byte : ℕ → NumberByte
 number_byte b =

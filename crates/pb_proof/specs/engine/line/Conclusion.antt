@@ -1,16 +1,9 @@
 -- The machine for conclusions: what it does with one byte.
-use Rattle.std.specs.Prelude.{ℕ, ℤ, ◌+◌, ◌-◌, ◌*◌, ◌<◌, ◌≤◌, Bool, true, false, cond, ◌&&◌, List, length, slice_index, nat_eq, nat_le, Some, None}
-use Rattle.pb_text.specs.meaning.Classes.{is_blank, is_digit}
-use Rattle.pb_text.specs.meaning.Numbers.{signed}
+use Rattle.pb_proof.specs.declared.{conclusion.Bound.Bound, line.conclusion.phase.Action.Action, line.conclusion.phase.Concluding.Concluding}
+use Rattle.pb_proof.specs.declared.line.conclusion.phase.{Owner.Owner, Phase.Phase, Showing.Showing, Side.Side, Word.Word}
 use Rattle.pb_proof.specs.meaning.Lines.{none_word, unsat_word, sat_word, bounds_word, inf_word}
-use Rattle.pb_proof.specs.declared.conclusion.Bound.{Bound}
-use Rattle.pb_proof.specs.declared.line.conclusion.phase.Word.{Word}
-use Rattle.pb_proof.specs.declared.line.conclusion.phase.Owner.{Owner}
-use Rattle.pb_proof.specs.declared.line.conclusion.phase.Side.{Side}
-use Rattle.pb_proof.specs.declared.line.conclusion.phase.Showing.{Showing}
-use Rattle.pb_proof.specs.declared.line.conclusion.phase.Concluding.{Concluding}
-use Rattle.pb_proof.specs.declared.line.conclusion.phase.Phase.{Phase}
-use Rattle.pb_proof.specs.declared.line.conclusion.phase.Action.{Action}
+use Rattle.pb_text.specs.meaning.{Classes.is_blank, Classes.is_digit, Numbers.signed}
+use Rattle.std.specs.Prelude.{ℕ, ℤ, ◌+◌, ◌-◌, ◌*◌, ◌<◌, ◌≤◌, Bool, true, false, cond, ◌&&◌, List, length, slice_index, nat_eq, nat_le, Some, None}
 
 -- the bytes of a first word
 abbrev pub word_of : Word → List ℕ

@@ -1,8 +1,7 @@
 -- What the machine for conclusions stores.
-use Rattle.std.specs.Prelude.{◌≡◌}
+use Rattle.pb_proof.specs.{declared.line.conclusion.ConclusionMachine.TheInside.Inside, engine.line.ConclusionState.ConclusionState}
 use Rattle.pb_text.specs.meaning.Limits.{largest, top_of}
-use Rattle.pb_proof.specs.engine.line.ConclusionState.{ConclusionState}
-use Rattle.pb_proof.specs.declared.line.conclusion.ConclusionMachine.TheInside.{Inside}
+use Rattle.std.specs.Prelude.{◌≡◌}
 
 -- the state that its fields make up
 abbrev pub conclusion_state : Inside → ConclusionState

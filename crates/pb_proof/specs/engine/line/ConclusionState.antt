@@ -1,15 +1,12 @@
 -- The states of the machine for conclusions, and its automaton.
-use Rattle.std.specs.Prelude.{◌≡◌, ℕ, ◌<◌, ◌^◌, Bool, true, false, Option, Some, None, List}
-use Rattle.pb_text.specs.contract.Automaton.{Automaton, Next, Go, End, Refuse}
-use Rattle.pb_sums.specs.declared.Literal.{Literal}
+use Rattle.pb_proof.specs.declared.{conclusion.Conclusion.Conclusion, line.conclusion.phase.Action.Action}
+use Rattle.pb_proof.specs.declared.line.conclusion.phase.{Concluding.Concluding, Phase.Phase, Showing.Showing}
 use Rattle.pb_proof.specs.engine.line.Carried.{carried}
 use Rattle.pb_proof.specs.engine.line.Conclusion.{transition, is_within, is_done, is_in_digits, PhaseFits}
 use Rattle.pb_proof.specs.engine.line.Solution.{SolutionState, solution_automaton, solution_first, IsSolutionInOrder}
-use Rattle.pb_proof.specs.declared.line.conclusion.phase.Showing.{Showing}
-use Rattle.pb_proof.specs.declared.line.conclusion.phase.Concluding.{Concluding}
-use Rattle.pb_proof.specs.declared.line.conclusion.phase.Phase.{Phase}
-use Rattle.pb_proof.specs.declared.line.conclusion.phase.Action.{Action}
-use Rattle.pb_proof.specs.declared.conclusion.Conclusion.{Conclusion}
+use Rattle.pb_sums.specs.declared.Literal.{Literal}
+use Rattle.pb_text.specs.contract.Automaton.{Automaton, Next, Go, End, Refuse}
+use Rattle.std.specs.Prelude.{◌≡◌, ℕ, ◌<◌, ◌^◌, Bool, true, false, Option, Some, None, List}
 
 -- what a machine stores: its limits, what was read last, and the machine for literals, which reads the text after `:`
 pub record ConclusionState : Type 0 where

@@ -1,7 +1,6 @@
 -- Lines with a line feed after each.
+use Rattle.pb_proof.specs.{declared.statement.Statement.Statement, meaning.Canonical.statement_bytes}
 use Rattle.std.specs.Prelude.{ℕ, List, [], ◌∷◌, ◌++◌}
-use Rattle.pb_proof.specs.meaning.Canonical.{statement_bytes}
-use Rattle.pb_proof.specs.declared.statement.Statement.{Statement}
 
 unfoldable pub ended_lines : List Statement → List ℕ
 ended_lines [] = []

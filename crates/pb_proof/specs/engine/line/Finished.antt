@@ -1,6 +1,6 @@
 -- How many expressions are finished after a postfix word.
-use Rattle.std.specs.Prelude.{ℕ, suc, Option, Some, None}
 use Rattle.pb_proof.specs.declared.word.PolWord.{PolWord}
+use Rattle.std.specs.Prelude.{ℕ, suc, Option, Some, None}
 
 -- the number after the word if d are finished before it, or none if the word lacks an operand
 abbrev pub finished_with : ℕ → PolWord → Option ℕ

@@ -1,19 +1,12 @@
 -- The line machines as one automaton.
-use Rattle.std.specs.Prelude.{◌≡◌, ℕ, false, Option, Some, None}
-use Rattle.pb_text.specs.contract.Automaton.{Automaton, Next}
-use Rattle.pb_text.specs.meaning.Languages.{Language}
-use Rattle.pb_text.specs.declared.machine.Push.{Push}
-use Rattle.pb_proof.specs.engine.line.Carried.{carried}
-use Rattle.pb_proof.specs.engine.line.Formula.{formula_automaton, formula_first}
-use Rattle.pb_proof.specs.engine.line.PolState.{pol_automaton, pol_first}
-use Rattle.pb_proof.specs.engine.line.Rup.{rup_automaton, rup_first}
+use Rattle.pb_proof.specs.declared.{line.LineMachine.LineMachine, machine.phase.LineKind.LineKind, statement.Statement.Statement}
+use Rattle.pb_proof.specs.engine.line.{Carried.carried, ConclusionState.conclusion_automaton, ConclusionState.conclusion_first}
+use Rattle.pb_proof.specs.engine.line.{Delete.delete_automaton, Delete.delete_first, Formula.formula_automaton, Formula.formula_first}
+use Rattle.pb_proof.specs.engine.line.{PolState.pol_automaton, PolState.pol_first, Rup.rup_automaton, Rup.rup_first}
 use Rattle.pb_proof.specs.engine.line.Solution.{solution_automaton, solution_first}
-use Rattle.pb_proof.specs.engine.line.Delete.{delete_automaton, delete_first}
-use Rattle.pb_proof.specs.engine.line.ConclusionState.{conclusion_automaton, conclusion_first}
 use Rattle.pb_proof.specs.meaning.Lines.{SpellsCount, SpellsWords, SpellsRup, SpellsLiterals, SpellsIds, SpellsConclusionLine}
-use Rattle.pb_proof.specs.declared.line.LineMachine.{LineMachine}
-use Rattle.pb_proof.specs.declared.machine.phase.LineKind.{LineKind}
-use Rattle.pb_proof.specs.declared.statement.Statement.{Statement}
+use Rattle.pb_text.specs.{contract.Automaton.Automaton, contract.Automaton.Next, declared.machine.Push.Push, meaning.Languages.Language}
+use Rattle.std.specs.Prelude.{◌≡◌, ℕ, false, Option, Some, None}
 
 -- an answer of a machine, as an answer of another one, if its events give these
 abbrev pub IsCarried : {E F : Type 0} → (E → F → Type 0) → Push E → Push F → Type 0

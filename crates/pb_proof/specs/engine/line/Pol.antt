@@ -1,14 +1,9 @@
 -- The machine for postfix words: what it does with one byte.
-use Rattle.std.specs.Prelude.{ℕ, zero, suc, ◌+◌, ◌-◌, ◌*◌, ◌<◌, ◌≤◌, ◌≡◌, max, Bool, true, false, cond, ◌&&◌, List, [], ◌∷◌, ◌++◌, pos, neg_ℤ, nat_eq, nat_le, Option, Some, None}
+use Rattle.pb_proof.specs.declared.line.pol.phase.{Action.Action, Change.Change, Held.Held, Kind.Kind, Phase.Phase, Role.Role}
+use Rattle.pb_proof.specs.declared.word.PolWord.{PolWord}
 use Rattle.pb_text.specs.contract.Automaton.{Next, Go, End, Refuse}
 use Rattle.pb_text.specs.meaning.Classes.{is_blank, is_digit, is_letter, is_name_byte}
-use Rattle.pb_proof.specs.declared.word.PolWord.{PolWord}
-use Rattle.pb_proof.specs.declared.line.pol.phase.Kind.{Kind}
-use Rattle.pb_proof.specs.declared.line.pol.phase.Held.{Held}
-use Rattle.pb_proof.specs.declared.line.pol.phase.Role.{Role}
-use Rattle.pb_proof.specs.declared.line.pol.phase.Phase.{Phase}
-use Rattle.pb_proof.specs.declared.line.pol.phase.Change.{Change}
-use Rattle.pb_proof.specs.declared.line.pol.phase.Action.{Action}
+use Rattle.std.specs.Prelude.{ℕ, zero, suc, ◌+◌, ◌-◌, ◌*◌, ◌<◌, ◌≤◌, ◌≡◌, max, Bool, true, false, cond, ◌&&◌, List, [], ◌∷◌, ◌++◌, pos, neg_ℤ, nat_eq, nat_le, Option, Some, None}
 
 -- The kinds of bytes.
 -- the kind of a letter

@@ -1,8 +1,6 @@
 -- The fast path for postfix words.
+use Rattle.pb_proof.specs.declared.line.pol.phase.{Change.Change, Held.Held, Phase.Phase}
 use Rattle.std.specs.Prelude.{ℕ, ◌&&◌, cond, nat_eq, nat_le, Option, Some, None}
-use Rattle.pb_proof.specs.declared.line.pol.phase.Held.{Held}
-use Rattle.pb_proof.specs.declared.line.pol.phase.Phase.{Phase}
-use Rattle.pb_proof.specs.declared.line.pol.phase.Change.{Change}
 
 -- how the last word may still change, if another word may begin
 abbrev pub held_before : Phase → Option Held

@@ -1,10 +1,8 @@
 -- The states of the machine for postfix words, and its automaton.
-use Rattle.std.specs.Prelude.{◌≡◌, ℕ, ◌+◌, ◌-◌, ◌^◌, ◌<◌, min, false, List, [], ◌∷◌, length}
-use Rattle.pb_text.specs.contract.Automaton.{Automaton, Next}
-use Rattle.pb_proof.specs.engine.line.Carried.{carried}
+use Rattle.pb_proof.specs.{declared.line.pol.phase.Phase.Phase, declared.word.PolWord.PolWord, engine.line.Carried.carried}
 use Rattle.pb_proof.specs.engine.line.Pol.{Work, Outcome, fresh, finished, step, transition, kind_of, is_in_number, is_midway, is_done, wants}
-use Rattle.pb_proof.specs.declared.word.PolWord.{PolWord}
-use Rattle.pb_proof.specs.declared.line.pol.phase.Phase.{Phase}
+use Rattle.pb_text.specs.contract.Automaton.{Automaton, Next}
+use Rattle.std.specs.Prelude.{◌≡◌, ℕ, ◌+◌, ◌-◌, ◌^◌, ◌<◌, min, false, List, [], ◌∷◌, length}
 
 -- the largest factor, the largest magnitude of an id, and what the machine stores
 pub record PolState : Type 0 where

@@ -1,12 +1,8 @@
 -- Postfix words and whole lines of them at the start of a text.
-use Rattle.std.specs.Prelude.{◌≡◌, ◌<◌, ◌⊎◌, ℕ, List, [], ◌∷◌, Some}
+use Rattle.pb_proof.specs.declared.{line.pol.phase.Change.Change, line.pol.phase.Held.Held, line.pol.phase.Phase.Phase, word.PolWord.PolWord}
+use Rattle.pb_proof.specs.engine.line.{Pol.close, Pol.changed, Pol.counted, PolState.PolState, PolState.pol_automaton}
 use Rattle.pb_text.specs.contract.Automaton.{Runs}
-use Rattle.pb_proof.specs.engine.line.Pol.{close, changed, counted}
-use Rattle.pb_proof.specs.engine.line.PolState.{PolState, pol_automaton}
-use Rattle.pb_proof.specs.declared.word.PolWord.{PolWord}
-use Rattle.pb_proof.specs.declared.line.pol.phase.Change.{Change}
-use Rattle.pb_proof.specs.declared.line.pol.phase.Held.{Held}
-use Rattle.pb_proof.specs.declared.line.pol.phase.Phase.{Phase}
+use Rattle.std.specs.Prelude.{◌≡◌, ◌<◌, ◌⊎◌, ℕ, List, [], ◌∷◌, Some}
 
 -- The operator of a large factor is not missing.
 abbrev pub IsFree : Held → Type 0

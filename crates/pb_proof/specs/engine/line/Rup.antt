@@ -1,15 +1,10 @@
 -- The machine for a goal: blanks, a constraint, and the end of its line.
-use Rattle.std.specs.Prelude.{◌≡◌, ℕ, pos, ◌+◌, ◌-◌, ◌^◌, min, Bool, true, false, cond, nat_eq, Option, Some, None}
+use Rattle.pb_proof.specs.declared.line.rup.phase.{RupAction.RupAction, RupPhase.RupPhase}
+use Rattle.pb_sums.specs.declared.{Linear.Linear, Part.Part, Relation.TheVariants.AtLeast, Spaces.TheVariants.Blank, SumEvent.SumEvent}
+use Rattle.pb_sums.specs.engine.State.{SumState, sums, first, last, units}
 use Rattle.pb_text.specs.contract.Automaton.{Automaton, Next, Go, End, Refuse, IsState}
 use Rattle.pb_text.specs.meaning.Classes.{is_blank}
-use Rattle.pb_sums.specs.engine.State.{SumState, sums, first, last, units}
-use Rattle.pb_sums.specs.declared.Linear.{Linear}
-use Rattle.pb_sums.specs.declared.Relation.TheVariants.{AtLeast}
-use Rattle.pb_sums.specs.declared.Spaces.TheVariants.{Blank}
-use Rattle.pb_sums.specs.declared.Part.{Part}
-use Rattle.pb_sums.specs.declared.SumEvent.{SumEvent}
-use Rattle.pb_proof.specs.declared.line.rup.phase.RupPhase.{RupPhase}
-use Rattle.pb_proof.specs.declared.line.rup.phase.RupAction.{RupAction}
+use Rattle.std.specs.Prelude.{◌≡◌, ℕ, pos, ◌+◌, ◌-◌, ◌^◌, min, Bool, true, false, cond, nat_eq, Option, Some, None}
 
 -- what was read last, the machine for sums, and the constraint that it has read
 pub record RupState : Type 0 where

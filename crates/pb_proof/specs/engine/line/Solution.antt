@@ -1,14 +1,11 @@
 -- The machine for literals after a word, or joined to what comes before them, through the line feed.
-use Rattle.std.specs.Prelude.{◌≡◌, ℕ, ◌+◌, ◌-◌, ◌^◌, ◌<◌, min, Bool, true, false, cond, ◌||◌, List, [], ◌∷◌, ◌++◌, length}
+use Rattle.pb_proof.specs.declared.line.{byte_kind.NameByte.NameByte, solution.phase.SolutionAction.SolutionAction}
+use Rattle.pb_proof.specs.{declared.line.solution.phase.SolutionPhase.SolutionPhase, engine.line.ByteKind.name_byte}
+use Rattle.pb_proof.specs.meaning.Lines.{LineEnd, Listed}
+use Rattle.pb_sums.specs.{declared.Literal.Literal, meaning.Sums.SpellsLiteral}
 use Rattle.pb_text.specs.contract.Automaton.{Automaton, Next, Go, End, Refuse}
 use Rattle.pb_text.specs.meaning.Languages.{Language, ◌⋅◌, Blanks0}
-use Rattle.pb_sums.specs.meaning.Sums.{SpellsLiteral}
-use Rattle.pb_sums.specs.declared.Literal.{Literal}
-use Rattle.pb_proof.specs.meaning.Lines.{LineEnd, Listed}
-use Rattle.pb_proof.specs.engine.line.ByteKind.{name_byte}
-use Rattle.pb_proof.specs.declared.line.byte_kind.NameByte.{NameByte}
-use Rattle.pb_proof.specs.declared.line.solution.phase.SolutionPhase.{SolutionPhase}
-use Rattle.pb_proof.specs.declared.line.solution.phase.SolutionAction.{SolutionAction}
+use Rattle.std.specs.Prelude.{◌≡◌, ℕ, ◌+◌, ◌-◌, ◌^◌, ◌<◌, min, Bool, true, false, cond, ◌||◌, List, [], ◌∷◌, ◌++◌, length}
 
 -- Literals with blank+ before each, and then the end of the line. If they are joined to what comes before them,
 -- blank* before the first one.

@@ -1,12 +1,8 @@
 -- The machine for proofs: what it does with one byte.
-use Rattle.std.specs.Prelude.{ℕ, ◌+◌, ◌-◌, Bool, true, false, cond, ◌&&◌, List, [], ◌∷◌, ◌++◌, length, slice_index, nat_eq}
-use Rattle.pb_text.specs.meaning.Classes.{is_blank, is_white}
+use Rattle.pb_proof.specs.declared.machine.phase.{Action.Action, Keyword.Keyword, LineKind.LineKind, Phase.Phase, Stage.Stage}
 use Rattle.pb_proof.specs.meaning.Lines.{pseudo_word, proof_word, version_word, two_word, f_word, pol_word, rup_word, del_word, id_word, output_word, none_word, conclusion_word, end_word}
-use Rattle.pb_proof.specs.declared.machine.phase.Stage.{Stage}
-use Rattle.pb_proof.specs.declared.machine.phase.Keyword.{Keyword}
-use Rattle.pb_proof.specs.declared.machine.phase.LineKind.{LineKind}
-use Rattle.pb_proof.specs.declared.machine.phase.Phase.{Phase}
-use Rattle.pb_proof.specs.declared.machine.phase.Action.{Action}
+use Rattle.pb_text.specs.meaning.Classes.{is_blank, is_white}
+use Rattle.std.specs.Prelude.{ℕ, ◌+◌, ◌-◌, Bool, true, false, cond, ◌&&◌, List, [], ◌∷◌, ◌++◌, length, slice_index, nat_eq}
 
 -- `sol`
 abbrev pub sol_word : List ℕ

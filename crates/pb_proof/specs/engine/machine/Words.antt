@@ -1,9 +1,7 @@
 -- The words of a statement at the start of a text.
-use Rattle.std.specs.Prelude.{◌≡◌, ◌≢◌, ℕ, List, length, take, drop}
+use Rattle.pb_proof.specs.declared.machine.phase.{Action.Action, Keyword.Keyword, Phase.Phase}
 use Rattle.pb_proof.specs.engine.machine.Transition.{words_of, next_action}
-use Rattle.pb_proof.specs.declared.machine.phase.Keyword.{Keyword}
-use Rattle.pb_proof.specs.declared.machine.phase.Phase.{Phase}
-use Rattle.pb_proof.specs.declared.machine.phase.Action.{Action}
+use Rattle.std.specs.Prelude.{◌≡◌, ◌≢◌, ℕ, List, length, take, drop}
 
 -- words have begun, this is the rest of them, and the machine takes this action after them
 abbrev pub IsRest : Phase → List ℕ → Action → Type 0

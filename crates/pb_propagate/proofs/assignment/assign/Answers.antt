@@ -1,5 +1,4 @@
-use Rattle.pb_propagate.proofs.Common.{arith, not, Some}
-use Rattle.pb_propagate.proofs.lemmas.clauses.Literals.{marked-set}
+use Rattle.pb_propagate.proofs.{Common.arith, Common.not, Common.Some, lemmas.clauses.Literals.marked-set}
 use Rattle.pb_propagate.proofs.assignment.assign.Goals as goal
 
 pub returns-clause-marked : goal.returns-clause-marked

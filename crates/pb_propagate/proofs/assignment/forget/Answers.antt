@@ -1,5 +1,5 @@
-use Rattle.pb_propagate.proofs.lemmas.engine.Literals.{has-get, forget-next, forget-none, says-inside}
 use Rattle.pb_propagate.proofs.Common.{NumberedLiteral, get_or, sym, ◌∙◌, arith, false, length-set}
+use Rattle.pb_propagate.proofs.lemmas.engine.Literals.{has-get, forget-next, forget-none, says-inside}
 use Rattle.pb_propagate.proofs.assignment.forget.Goals as goal
 
 pub unassign-requires-clause-inside : goal.unassign-requires-clause-inside

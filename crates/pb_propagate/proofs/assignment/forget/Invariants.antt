@@ -1,5 +1,4 @@
-use Rattle.pb_propagate.proofs.Common.{◌≡◌, drop, length, AreMarked}
-use Rattle.pb_propagate.proofs.lemmas.engine.Literals.{Forgotten}
+use Rattle.pb_propagate.proofs.{Common.◌≡◌, Common.drop, Common.length, Common.AreMarked, lemmas.engine.Literals.Forgotten}
 use Rattle.pb_propagate.proofs.assignment.forget.Given as goal
 
 abbrev pub invariant-list : goal.invariant-list

@@ -1,5 +1,4 @@
-use Rattle.pb_propagate.proofs.Common.{length, AreMarked}
-use Rattle.pb_propagate.proofs.lemmas.root.Rooted.{IsCut}
+use Rattle.pb_propagate.proofs.{Common.length, Common.AreMarked, lemmas.root.Rooted.IsCut}
 use Rattle.pb_propagate.proofs.assignment.shorten.Given as goal
 
 abbrev pub decreases-list : goal.decreases-list

@@ -1,7 +1,6 @@
 use Rattle.pb_propagate.proofs.Common.{◌≡◌, arith, nat_tests, ◌%◌}
-use Rattle.std.specs.Int.Bits.{bit_and, xor_add_and}
-use Rattle.std.proofs.lemmas.Nat.{and_mask}
 use Rattle.pb_propagate.specs.engine.clauses.Truths.{flip}
+use Rattle.std.{proofs.lemmas.Nat.and_mask, specs.Int.Bits.bit_and, specs.Int.Bits.xor_add_and}
 use Rattle.pb_propagate.proofs.clause.opposite.Goals as goal
 
 pub returns : goal.returns

@@ -4,10 +4,9 @@ use Rattle.pb_propagate.proofs.Common.{get_or-take, get_or_past, get_or_read, le
 use Rattle.pb_propagate.proofs.Common.{subst, sym, take, true, AreBlocks, begun, Contents, contents, HasBlock, idle, IsRenewed, list_at, number_at}
 use Rattle.pb_propagate.proofs.Common.{passed_by, Search, search_at, searched, stored_clause, stored_search, stored_watch, Watch, watch_at, watch_of}
 use Rattle.pb_propagate.proofs.Common.{◌++◌, ◌-◌, ◌^◌, ◌∷◌, cases_eq, get_or-set_other, get_or-set_same, length-append, length-set, set, IsBare}
-use Rattle.pb_propagate.proofs.Common.{nowhere, rewatched, rewritten}
-use Rattle.std.proofs.lemmas.List.FromFn.{fill_by_all, get_or-map-range_with_len, length-map-range_with_len}
+use Rattle.pb_propagate.proofs.{Common.nowhere, Common.rewatched, Common.rewritten, lemmas.store.Gets.push-default}
 use Rattle.std.proofs.lemmas.Grind.{get_or-set_at}
-use Rattle.pb_propagate.proofs.lemmas.store.Gets.{push-default}
+use Rattle.std.proofs.lemmas.List.FromFn.{fill_by_all, get_or-map-range_with_len, length-map-range_with_len}
 
 -- what a block stores for a slot: its clause, its search and its watches
 pub record IsBlock (words : List ℕ) (start run s : ℕ) (xs : List ℕ) (x : Search) (ws : List Watch) : Type 0 where

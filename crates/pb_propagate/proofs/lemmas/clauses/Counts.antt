@@ -5,11 +5,9 @@ use Rattle.pb_propagate.proofs.Common.{get_or-le-sum_by, get_or-map, get_or-set_
 use Rattle.pb_propagate.proofs.Common.{nat_tests, negation, or_cases, or_left, or_right, refl, rules, same, set, slice_get-get_or, suc, sum, sum-map}
 use Rattle.pb_propagate.proofs.Common.{sum_by, sum_by-cons, sum_by-le-sum_by, sum_by-set, sym, true, watch_at, ℕ, ◌++◌, ◌+◌, ◌/◌, ◌<◌, ◌==◌, ◌||◌}
 use Rattle.pb_propagate.proofs.Common.{◌∙◌, ◌∷◌, ◌≡◌, ◌≤◌}
-use Rattle.pb_propagate.specs.engine.engine.Lists.{has}
-use Rattle.pb_propagate.specs.engine.clauses.Walked.{has as stands, killed}
+use Rattle.pb_propagate.proofs.lemmas.clauses.{Literals.code-injective, Literals.groups-apart, Literals.same-slot, Visited.slot-within}
 use Rattle.pb_propagate.proofs.lemmas.engine.Literals.{same-refl}
-use Rattle.pb_propagate.proofs.lemmas.clauses.Literals.{code-injective, groups-apart, same-slot}
-use Rattle.pb_propagate.proofs.lemmas.clauses.Visited.{slot-within}
+use Rattle.pb_propagate.specs.engine.{clauses.Walked.has as stands, clauses.Walked.killed, engine.Lists.has}
 
 -- numbers with different values, each of which stands a weight: there are no more of them than the sum of the weights
 pigeons : (f : ℕ → ℕ) (xs ws : List ℕ) → ((i j : ℕ) → i < j → j < length xs → f (get_or xs i 0) ≡ f (get_or xs j 0) → ⊥) →

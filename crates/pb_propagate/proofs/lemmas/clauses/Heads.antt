@@ -8,23 +8,18 @@ use Rattle.pb_propagate.proofs.Common.{IsMark, IsWalkedTo, KeepsMarks, falsified
 use Rattle.pb_propagate.proofs.Common.{list_of, values_of, ◌*◌, ◌+◌, ◌∷◌, false, sum, sum_by, map-append, take_more, Contains-append_left}
 use Rattle.pb_propagate.proofs.Common.{Contains-append_right, Search, watch_lists, AreReady, Grows, IsRunning, passed_of, clause_shape, clauses_of}
 use Rattle.pb_propagate.proofs.Common.{code_in, false_at, flip, AreSingle, more, none, IsSettled, same, Contains-permutation, get_or_default, HasTrue}
-use Rattle.std.proofs.Math.ListN.{replicate}
-use Rattle.std.proofs.lemmas.List.{get_or-replicate, length-replicate, take-take, get_or-append_right}
-use Rattle.pb_propagate.specs.engine.engine.Lists.{has}
-use Rattle.pb_propagate.proofs.lemmas.engine.Literals.{has-get, negation-negation, same-true, says-inside}
-use Rattle.pb_propagate.proofs.lemmas.clauses.Literals.{Agree, true-listed, false-listed, code-back, flip-half, false-code, code-injective, code-of}
-use Rattle.pb_propagate.proofs.lemmas.engine.Advances.{extends-within, extends-none}
-use Rattle.pb_propagate.proofs.lemmas.store.Gets.{get-take_less, last-is}
-use Rattle.std.proofs.lemmas.List.Folds.{Any-from_list_any}
-use Rattle.std.proofs.lemmas.List.Sorted.{IsPermutation-append_comm, IsPermutation-append_right}
-use Rattle.pb_propagate.specs.declared.heads.Ahead.{Ahead}
-use Rattle.pb_propagate.specs.engine.engine.Progress.{HasWalked}
-use Rattle.pb_propagate.specs.engine.clauses.Runs.{AreRound}
-use Rattle.pb_propagate.proofs.lemmas.clauses.Visited.{ready-round, passed-at}
-use Rattle.pb_propagate.specs.engine.clauses.Walked.{has as stands, falsified_code, heads_at, reached_codes, reached, head, advanced}
 use Rattle.pb_propagate.proofs.lemmas.clauses.Counts.{killed-more, occurs, list-short, passed-most, stands-fresh}
-use Rattle.pb_propagate.proofs.lemmas.clauses.Shapes.{served-settled}
-use Rattle.pb_propagate.proofs.lemmas.clauses.Walks.{running-grow, walked-grow}
+use Rattle.pb_propagate.proofs.lemmas.clauses.Literals.{Agree, true-listed, false-listed, code-back, flip-half, false-code, code-injective, code-of}
+use Rattle.pb_propagate.proofs.lemmas.clauses.{Shapes.served-settled, Visited.ready-round, Visited.passed-at, Walks.running-grow, Walks.walked-grow}
+use Rattle.pb_propagate.proofs.lemmas.engine.Advances.{extends-within, extends-none}
+use Rattle.pb_propagate.proofs.lemmas.engine.Literals.{has-get, negation-negation, same-true, says-inside}
+use Rattle.pb_propagate.{proofs.lemmas.store.Gets.get-take_less, proofs.lemmas.store.Gets.last-is, specs.declared.heads.Ahead.Ahead}
+use Rattle.pb_propagate.specs.engine.clauses.Runs.{AreRound}
+use Rattle.pb_propagate.specs.engine.clauses.Walked.{has as stands, falsified_code, heads_at, reached_codes, reached, head, advanced}
+use Rattle.pb_propagate.specs.engine.engine.{Lists.has, Progress.HasWalked}
+use Rattle.std.proofs.Math.ListN.{replicate}
+use Rattle.std.proofs.lemmas.List.{get_or-replicate, length-replicate, take-take, get_or-append_right, Folds.Any-from_list_any}
+use Rattle.std.proofs.lemmas.List.Sorted.{IsPermutation-append_comm, IsPermutation-append_right}
 
 -- heads with the same numbers
 pub heads-is : (h : Heads) (n : ℕ) → h.short ≡ n → h.long ≡ n → h ≡ heads_at n

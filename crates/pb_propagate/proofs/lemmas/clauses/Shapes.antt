@@ -1,5 +1,4 @@
 -- Clauses as constraints, and the constraints of all slots when one is added or removed.
-use Rattle.pb_propagate.specs.engine.engine.Rest.{no_slots, add_slot}
 use Rattle.pb_propagate.proofs.Common.{get_or_default, ℕ, ◌+◌, ◌<◌, ◌∙◌, ◌∷◌, ◌≡◌, ◌≤◌, ◌⊎◌, [], ap, arith, Bool, cond, false, get_or, length, List, map, refl}
 use Rattle.pb_propagate.proofs.Common.{set, suc, sym, true, zero, ◌==◌, Contains, count_by, Option, slice_get, Some, both_ways, cases_Bool, get_or-le-sum_by}
 use Rattle.pb_propagate.proofs.Common.{get_or-map, get_or-set_other, length-map, length-set, nat_tests, sum_by-set, sum_by-cons, slice_get-get_or}
@@ -9,13 +8,11 @@ use Rattle.pb_propagate.proofs.Common.{Puts, Shape, Contains-get_or, same_Some, 
 use Rattle.pb_propagate.proofs.Common.{get_or_append_left, slice_get_within, Entry, Form, IsNormal, IsRising, Group, AreDifferent, code, codes_of_terms}
 use Rattle.pb_propagate.proofs.Common.{IsClause, IsLight, offset, entry_of, IsStoredAs, AreSlots, IsSlot, cases_lt, ext_get_or, get_or_past, get_or_push, inl}
 use Rattle.pb_propagate.proofs.Common.{inr}
-use Rattle.std.proofs.lemmas.List.Elements.{All-map}
-use Rattle.std.proofs.lemmas.List.Sums.{sum_by-le}
-use Rattle.pb_propagate.proofs.lemmas.engine.Literals.{open_part-falsified, open_part-open, one_itself, settled-of_terms}
 use Rattle.pb_propagate.proofs.lemmas.clauses.Literals.{Agree, true-listed, false-listed, half-of, parity-of}
 use Rattle.pb_propagate.proofs.lemmas.clauses.Stores.{slot-room}
-use Rattle.std.proofs.lemmas.Grind.{get_or-set_at}
-use Rattle.pb_propagate.proofs.lemmas.store.Gets.{push-default}
+use Rattle.pb_propagate.proofs.lemmas.engine.Literals.{open_part-falsified, open_part-open, one_itself, settled-of_terms}
+use Rattle.pb_propagate.{proofs.lemmas.store.Gets.push-default, specs.engine.engine.Rest.no_slots, specs.engine.engine.Rest.add_slot}
+use Rattle.std.proofs.lemmas.{Grind.get_or-set_at, List.Elements.All-map, List.Sums.sum_by-le}
 
 -- the open sum of a clause counts its literals that are not falsified
 pub few-open : (list : List NumberedLiteral) (codes : List ℕ) (x : ℕ) → ((k d : ℕ) → k < length codes → (has list (negation (literal_at (get_or codes k d))) ≡ true) ⊎ (get_or codes k d ≡ x)) → open_sum list (map one_term codes) ≤ count_by (λ y. x == y) codes

@@ -8,13 +8,10 @@ use Rattle.pb_propagate.proofs.Common.{both_ways, cases_eq, cases_lt, false, get
 use Rattle.pb_propagate.proofs.Common.{length-set, min, refl, Vec, Contains-get_or, slice_get, Some, Listed, Falsified, Forces, Leaves, Stays}
 use Rattle.pb_propagate.proofs.Common.{rewatched, searched, AreLinked, AreMore, Remains, Sits, AreBlocked, HasVisited, IsBroken, IsUnit, false_at}
 use Rattle.pb_propagate.proofs.Common.{true_at}
-use Rattle.std.proofs.Math.ListN.{get_or-map}
 use Rattle.pb_propagate.proofs.lemmas.clauses.Listed.{sits-within, lists-length, blocked-more}
-use Rattle.pb_propagate.proofs.lemmas.clauses.Literals.{flip-half, flip-apart, flip-flip}
-use Rattle.std.proofs.lemmas.Grind.{get_or-set_at}
-use Rattle.pb_propagate.specs.engine.clauses.Truths.{flip}
-use Rattle.pb_propagate.specs.engine.clauses.Runs.{IsPassed, ArePassed, AreRound}
-use Rattle.pb_propagate.proofs.lemmas.clauses.Walks.{served-true}
+use Rattle.pb_propagate.proofs.lemmas.clauses.{Literals.flip-half, Literals.flip-apart, Literals.flip-flip, Walks.served-true}
+use Rattle.pb_propagate.specs.engine.clauses.{Runs.IsPassed, Runs.ArePassed, Runs.AreRound, Truths.flip}
+use Rattle.std.proofs.{Math.ListN.get_or-map, lemmas.Grind.get_or-set_at}
 
 pub turned-length : (start : ℕ) (xs : List ℕ) → length (turned start xs) ≡ length xs
 turned-length start xs = omega (arith, length-append (drop start xs) (take start xs), length-append (take start xs) (drop start xs), ap length (take-append-drop start xs))

@@ -4,12 +4,10 @@ use Rattle.pb_propagate.proofs.Common.{subst, sym, true, Option, Contains-push_c
 use Rattle.pb_propagate.proofs.Common.{Forces, AreLinked, list_at, watch_at, watch_lists, AreServed, AreWalked, Grows, HasTrue, HasVisited, index_after}
 use Rattle.pb_propagate.proofs.Common.{IsRunning, KeepsWalked, literal_at, false_at, true_at, has, IsWithin, Progress, VisitsEach, both_ways, false, Advances}
 use Rattle.pb_propagate.proofs.Common.{Database, passed_of, sum}
-use Rattle.pb_propagate.specs.declared.clauses.visiting.Forced.{Forced}
-use Rattle.pb_propagate.proofs.lemmas.engine.Advances.{WalkIsAt, size_at, walk-next, walk-pass, walk-start, walk-then}
-use Rattle.pb_propagate.specs.declared.clauses.visiting.Visit.{Visit}
-use Rattle.pb_propagate.specs.engine.clauses.Runs.{IsServedTo}
-use Rattle.pb_propagate.proofs.lemmas.engine.Literals.{has-push_old, has-push_new}
 use Rattle.pb_propagate.proofs.lemmas.clauses.Literals.{Agree, true-listed, false-listed}
+use Rattle.pb_propagate.proofs.lemmas.engine.Advances.{WalkIsAt, size_at, walk-next, walk-pass, walk-start, walk-then}
+use Rattle.pb_propagate.proofs.lemmas.engine.Literals.{has-push_old, has-push_new}
+use Rattle.pb_propagate.specs.{declared.clauses.visiting.Forced.Forced, declared.clauses.visiting.Visit.Visit, engine.clauses.Runs.IsServedTo}
 
 pub grows-refl : (values : List (Option Bool)) → Grows values values
 grows-refl values = record { met = λ x h. h; failed = λ x h. h }

@@ -4,8 +4,7 @@ use Rattle.pb_propagate.proofs.Common.{true, count_by, both_ways, append-nil, ap
 use Rattle.pb_propagate.proofs.Common.{NumberedLiteral, negation, Long, Short, Heads, fallen, falsified_code, killed, place, spent, Extends, IsWithin}
 use Rattle.pb_propagate.proofs.Common.{reached, same, Weighted, list_any, list_any-append, or_left, sum_by-le-sum_by, rules, ◌+◌, Err, Ok, OnErr}
 use Rattle.pb_propagate.proofs.Common.{Result, sum, Advances, Costs, Database, Progress, ◌*◌, ◌-◌, ◌<◌, Clauses, list_at, watch_lists, passed_of}
-use Rattle.pb_propagate.specs.engine.clauses.Walked.{has}
-use Rattle.pb_propagate.specs.engine.engine.Lists.{has as listed}
+use Rattle.pb_propagate.specs.engine.{clauses.Walked.has, engine.Lists.has as listed}
 
 pub extends-none : (a : List NumberedLiteral) → Extends a a
 extends-none a = ([], sym (append-nil a))

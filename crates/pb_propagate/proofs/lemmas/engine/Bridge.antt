@@ -5,14 +5,14 @@ use Rattle.pb_propagate.proofs.Common.{IsPermutation-sym, sum_by-IsPermutation, 
 use Rattle.pb_propagate.proofs.Common.{negation, on, only, Term, entry_of, IsStoredAs, Conflicts, Derives, IsSettled, open_sum, Puts, Shape}
 use Rattle.pb_propagate.proofs.Common.{Derivation, HasConflict, MayPropagate, opened, get_or, cases_eq, eq-eqb, ne_eqb, take, Option, take_more}
 use Rattle.pb_propagate.proofs.Common.{Adopted, IsWithin, Gives, HasClash, IsFrom, IsEnded, IsRefuted, IsCompletion, MeetsConflict}
-use Rattle.std.specs.Cmp.{both_ways as same_answers}
-use Rattle.pb_propagate.specs.engine.engine.Lists.{open_part, begin as start_there, put as more, opposed as both, broken as low, has, same, says}
-use Rattle.pb_propagate.specs.meaning.Propagation.{begin, put, opposed, broken}
 use Rattle.pb_propagate.proofs.lemmas.engine.Choices.{total-has, total-sum, rising-positive, only-true, only-self}
+use Rattle.pb_propagate.proofs.lemmas.engine.Completing.{closed-none}
 use Rattle.pb_propagate.proofs.lemmas.engine.Literals.{literal, one_itself, has-push, has-get, has-push_old, has-push_new, has-push_cases}
 use Rattle.pb_propagate.proofs.lemmas.engine.Literals.{push-within, literal_ext, has-none as on-none, Agree, opposite}
+use Rattle.pb_propagate.specs.engine.engine.Lists.{open_part, begin as start_there, put as more, opposed as both, broken as low, has, same, says}
 use Rattle.pb_propagate.specs.engine.engine.Rest.{opposite as opposites, derived as from}
-use Rattle.pb_propagate.proofs.lemmas.engine.Completing.{closed-none}
+use Rattle.pb_propagate.specs.meaning.Propagation.{begin, put, opposed, broken}
+use Rattle.std.specs.Cmp.{both_ways as same_answers}
 
 -- the first list has the literals of the second
 abbrev pub Matches : List NumberedLiteral → List NumberedLiteral → Type 0

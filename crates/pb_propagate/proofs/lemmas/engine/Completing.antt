@@ -2,9 +2,9 @@
 use Rattle.pb_propagate.proofs.Common.{ℕ, ◌∷◌, ◌≡◌, arith, Bool, false, inl, inr, List, not, true, cases_Bool, or_right, NumberedLiteral, Form, on, only}
 use Rattle.pb_propagate.proofs.Common.{Derivation, HasConflict, IsCompletion, MayPropagate, MeetsConflict, opened, ◌+◌, ◌<◌, ◌≤◌, ◌||◌, ◌⊎◌, [], cond, refl}
 use Rattle.pb_propagate.proofs.Common.{suc, zero, Contains, Entry, total, sum_by, sum_by-cons, sum_by-le-sum_by}
-use Rattle.std.specs.Cmp.{both_ways as same_answers}
-use Rattle.pb_propagate.specs.meaning.Propagation.{begin, put, opposed, broken}
 use Rattle.pb_propagate.proofs.lemmas.engine.Choices.{only-true, only-self, total-fits, total-within}
+use Rattle.pb_propagate.specs.meaning.Propagation.{begin, put, opposed, broken}
+use Rattle.std.specs.Cmp.{both_ways as same_answers}
 
 -- each literal of the first list is on the second
 abbrev pub IsPart : List NumberedLiteral → List NumberedLiteral → Type 0

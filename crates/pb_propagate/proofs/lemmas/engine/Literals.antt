@@ -6,10 +6,8 @@ use Rattle.pb_propagate.proofs.Common.{Bool, eq-eqb, false, not, zero, Contains,
 use Rattle.pb_propagate.proofs.Common.{Term, IsWithin, open_sum, IsSettled, Puts, get_or_append_left, get_or_push, length-append, drop}
 use Rattle.pb_propagate.proofs.Common.{get_or-set_same, None, sym, Option, Some, ne_eqb, drop_all, drop_more, holds, vacancy}
 use Rattle.pb_propagate.specs.engine.engine.Lists.{has, same, open_part, says}
-use Rattle.std.proofs.lemmas.List.Sums.{sum_by-remove}
-use Rattle.std.proofs.lemmas.List.Folds.{list_any_at}
+use Rattle.std.proofs.lemmas.{Grind.get_or-set_at, List.Folds.list_any_at, List.Sums.sum_by-remove}
 use Rattle.std.specs.List.{remove}
-use Rattle.std.proofs.lemmas.Grind.{get_or-set_at}
 
 pub beq-not : (a b : Bool) → beq (not a) b ≡ not (beq a b)
 beq-not a b = grind arith

@@ -8,16 +8,15 @@ use Rattle.pb_propagate.proofs.Common.{by_reason, has, HaveReasons, KeepsReasons
 use Rattle.pb_propagate.proofs.Common.{StaysTidy, VisitsEach, get_or-set_other, IsUndone, size, ◌*◌, ◌++◌, drop, take, sum_by, drop_all, drop_more}
 use Rattle.pb_propagate.proofs.Common.{length-take, All-push, Heads, fallen, AreFalling, AreSingle, spent, Extends, IsSettled, Costs, queued, Spends}
 use Rattle.pb_propagate.proofs.Common.{Clauses, AreWithin, clauses_of, IsAhead, passed_of, seen, reached}
-use Rattle.pb_propagate.proofs.lemmas.store.Stored.{stored-sum, stored-idle, stored-falling}
+use Rattle.pb_propagate.proofs.lemmas.clauses.Heads.{IsWatching, cost, cost-broken, cost-most}
 use Rattle.pb_propagate.proofs.lemmas.engine.Advances.{advances-then, advances-as, advances-visit, advances-counted, size_at, costs-none}
 use Rattle.pb_propagate.proofs.lemmas.engine.Advances.{extends-none, extends-then, spent-extends, reached-extends}
-use Rattle.std.proofs.lemmas.Grind.{get_or-set_at}
 use Rattle.pb_propagate.proofs.lemmas.engine.Literals.{has-push_new, one_itself, spent-le, sum-bounded}
 use Rattle.pb_propagate.proofs.lemmas.engine.Reasoned.{reasons-keep}
 use Rattle.pb_propagate.proofs.lemmas.engine.Runs.{Tidy-pass, absent-from, grown-still, grown-absent, grown-new, calm-settled, absent-cons}
-use Rattle.pb_propagate.specs.declared.heads.Ahead.{Ahead}
-use Rattle.pb_propagate.specs.declared.store.stored_form.StoredForm.TheVariants.{Vacant}
-use Rattle.pb_propagate.proofs.lemmas.clauses.Heads.{IsWatching, cost, cost-broken, cost-most}
+use Rattle.pb_propagate.proofs.lemmas.store.Stored.{stored-sum, stored-idle, stored-falling}
+use Rattle.pb_propagate.specs.declared.{heads.Ahead.Ahead, store.stored_form.StoredForm.TheVariants.Vacant}
+use Rattle.std.proofs.lemmas.Grind.{get_or-set_at}
 
 -- a form's terms are being passed
 pub record IsVisiting (d : Database) (aside : List ℕ) (form : ℕ) (start now : Progress) : Type 0 where

@@ -5,16 +5,11 @@ use Rattle.pb_propagate.proofs.Common.{Contains-append_left, Contains-push_cases
 use Rattle.pb_propagate.proofs.Common.{Shape, Live, AreSlots, IsSlot, With, ◌*◌, ◌/◌, Global, rules, Vec, sum_by_push, Occurrence, entries_of, AreCrossed, Cross}
 use Rattle.pb_propagate.proofs.Common.{IsLinked, IsStored, Weighted, ◌+◌, ◌≤◌, eqb, eqb-true, list_any, ne_eqb, slice_get-get_or, slice_get_within, length-set}
 use Rattle.pb_propagate.proofs.Common.{get_or-set_other, Contains-push, length_permutation, sum_by, sum_by-cons, sum_by-set, joined, one_term, slot_shape, entry_of}
-use Rattle.pb_propagate.proofs.Common.{one_in, terms_in, form_at, IsAbsent}
-use Rattle.pb_propagate.specs.engine.engine.Rest.{no_slots, add_slot}
-use Rattle.pb_propagate.proofs.lemmas.engine.Literals.{get_or-push_default}
-use Rattle.pb_propagate.proofs.lemmas.engine.Bridge.{AreKept}
-use Rattle.std.proofs.lemmas.Map.Keys.{IsDistinct-from_apart}
-use Rattle.std.proofs.lemmas.Map.Steps.{length-le_from_distinct_below}
-use Rattle.std.proofs.lemmas.Map.Views.{Contains-from_any}
-use Rattle.pb_propagate.proofs.lemmas.store.Placed.{at-inside, kept-same}
+use Rattle.pb_propagate.proofs.{Common.one_in, Common.terms_in, Common.form_at, Common.IsAbsent, lemmas.clauses.Shapes.AreJoined-push}
+use Rattle.pb_propagate.proofs.lemmas.{engine.Bridge.AreKept, engine.Literals.get_or-push_default, store.Placed.at-inside, store.Placed.kept-same}
 use Rattle.pb_propagate.proofs.lemmas.store.Positions.{ArePositioned, positioned-put}
-use Rattle.pb_propagate.proofs.lemmas.clauses.Shapes.{AreJoined-push}
+use Rattle.pb_propagate.specs.engine.engine.Rest.{no_slots, add_slot}
+use Rattle.std.proofs.lemmas.Map.{Keys.IsDistinct-from_apart, Steps.length-le_from_distinct_below, Views.Contains-from_any}
 
 pub slots-more : (os : List (Option Form)) (xs : List Shape) (p : Option Form) (x : Shape) → AreSlots os xs → IsSlot p x → AreSlots (os ++ (p ∷ [])) (xs ++ (x ∷ []))
 slots-more _ _ p x no_slots k = add_slot p x k no_slots

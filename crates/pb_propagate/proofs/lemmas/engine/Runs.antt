@@ -7,15 +7,11 @@ use Rattle.pb_propagate.proofs.Common.{IsSettled, open_part, open_sum, same, Sha
 use Rattle.pb_propagate.proofs.Common.{Global, length-set, map, min, Vec, Option, sum, drop_more, get_or-map, length-map, Contains-get_or}
 use Rattle.pb_propagate.proofs.Common.{sum_by_push, Occurrence, Store, more, place, spent, entries_of, IsSound, lists_of, shapes_of, spots_of}
 use Rattle.pb_propagate.proofs.Common.{coefficient_at, terms_at, weighted, broken, Conflicts, Advances, Costs, database, entries_against, StaysTidy}
-use Rattle.std.proofs.lemmas.Grind.{get_or-set_at}
-use Rattle.pb_propagate.specs.declared.store.Visited.{Visited}
-use Rattle.pb_propagate.specs.engine.engine.Counts.{entry_weight, term_weight, ArePassed}
-use Rattle.pb_propagate.specs.engine.engine.Links.{coefficient_at}
 use Rattle.pb_propagate.proofs.lemmas.engine.Literals.{settled-of_terms, negation-negation, has-push, has-push_old, has-push_new, same-true}
 use Rattle.pb_propagate.proofs.lemmas.engine.Literals.{same-refl, open_part-falsified, open_part-open}
-use Rattle.std.proofs.Math.ListN.{get_or-map as get_or-map-default}
-use Rattle.pb_propagate.specs.engine.engine.Fields.{entry_at}
-use Rattle.pb_propagate.proofs.lemmas.store.Stored.{index-within}
+use Rattle.pb_propagate.{proofs.lemmas.store.Stored.index-within, specs.declared.store.Visited.Visited}
+use Rattle.pb_propagate.specs.engine.engine.{Counts.entry_weight, Counts.term_weight, Counts.ArePassed, Fields.entry_at, Links.coefficient_at}
+use Rattle.std.proofs.{Math.ListN.get_or-map as get_or-map-default, lemmas.Grind.get_or-set_at}
 
 pub term_weight-same : (l : NumberedLiteral) (t : Term) → same t.literal l ≡ true → term_weight l t ≡ t.coefficient
 unfolding term_weight

@@ -7,19 +7,14 @@ use Rattle.pb_propagate.proofs.Common.{one_term, slot_shape, Walked, beside, Gro
 use Rattle.pb_propagate.proofs.Common.{open_sum, Shape, HasForm, HasGained, RunIsWidened, IsRooted, AreFree, AreSet, IsFreePair, None, Pair, map}
 use Rattle.pb_propagate.proofs.Common.{slice_get-map, length-set, IsAbsent, ◌*◌, ◌+◌, ◌⊎◌, get_or-set_same, get_or_past, Form, forms_of, HasWidened}
 use Rattle.pb_propagate.proofs.Common.{form_at, map-set, Assignment, AreReady, HasCleared, IsNeedless, pushed, get_or_default}
-use Rattle.std.proofs.lemmas.Grind.{get_or-set_at}
-use Rattle.pb_propagate.proofs.lemmas.root.Ready.{IsTidyRoot}
-use Rattle.pb_propagate.specs.declared.engine.root.Root.{Root}
-use Rattle.pb_propagate.specs.engine.engine.Root.{WasRootOf, HasRemoved, IsRootOf}
-use Rattle.pb_propagate.proofs.lemmas.clauses.Heads.{KeepsFallen, walks-kept}
-use Rattle.pb_propagate.proofs.lemmas.clauses.Literals.{false-listed}
+use Rattle.pb_propagate.proofs.lemmas.clauses.{Heads.KeepsFallen, Heads.walks-kept, Literals.false-listed}
 use Rattle.pb_propagate.proofs.lemmas.clauses.Shapes.{IsVacant, joined-at, joined-length, joined-cleared}
+use Rattle.pb_propagate.proofs.lemmas.engine.{Literals.get_or-push_default, Reasoned.moved-same, Reasoned.reasons-moved}
 use Rattle.pb_propagate.proofs.lemmas.engine.Runs.{Tidy-rest, grown-all, grown-new, grown-still}
-use Rattle.pb_propagate.proofs.lemmas.engine.Reasoned.{moved-same, reasons-moved}
-use Rattle.std.proofs.lemmas.Option.{unwrap_or-slice_get}
-use Rattle.pb_propagate.proofs.lemmas.store.Changes.{forms-filled, forms-length}
-use Rattle.pb_propagate.proofs.lemmas.store.Gets.{get-set_other, get-push_other}
-use Rattle.pb_propagate.proofs.lemmas.engine.Literals.{get_or-push_default}
+use Rattle.pb_propagate.proofs.lemmas.{root.Ready.IsTidyRoot, store.Changes.forms-filled, store.Changes.forms-length}
+use Rattle.pb_propagate.{proofs.lemmas.store.Gets.get-set_other, proofs.lemmas.store.Gets.get-push_other, specs.declared.engine.root.Root.Root}
+use Rattle.pb_propagate.specs.engine.engine.Root.{WasRootOf, HasRemoved, IsRootOf}
+use Rattle.std.proofs.lemmas.{Grind.get_or-set_at, Option.unwrap_or-slice_get}
 
 -- the same element in both
 same-at : {X Y : Type 0} (f : X → Y) (xs ys : List X) (s : ℕ) (d : Y) → slice_get xs s ≡ slice_get ys s → get_or (map f xs) s d ≡ get_or (map f ys) s d

@@ -6,15 +6,13 @@ use Rattle.pb_propagate.proofs.Common.{one_term, forms_of, IsSound, shapes_of, b
 use Rattle.pb_propagate.proofs.Common.{opposed, Shape, AreSlots, HasGained, HasCleared, IsAnswered, IsConflict, IsFree, IsKeptConflict, IsMet}
 use Rattle.pb_propagate.proofs.Common.{IsNeedless, HasMet, IsAsked, list_of, HasForm, get_or-le-sum_by, get_or-map, length-map, cases_eq, slice_get}
 use Rattle.pb_propagate.proofs.Common.{IsSettled, rules, Contains}
-use Rattle.pb_propagate.specs.declared.engine.conflict.Conflict.{Conflict}
-use Rattle.pb_propagate.specs.declared.engine.root.Root.{Root}
 use Rattle.pb_propagate.proofs.lemmas.clauses.Literals.{Agree, false-listed}
 use Rattle.pb_propagate.proofs.lemmas.engine.Literals.{open_part-open, has-get, has-push_cases, opposite, says-inside}
 use Rattle.pb_propagate.proofs.lemmas.engine.Reasoned.{reasons-derive, reasons-keep, recorded}
 use Rattle.pb_propagate.proofs.lemmas.root.Added.{gained-at, gained-reasons, vacated-all, lost-reasons}
-use Rattle.pb_propagate.proofs.lemmas.root.Questions.{found-after, root-few}
+use Rattle.pb_propagate.proofs.lemmas.root.{Questions.found-after, Questions.root-few, Retracted.live-slot, Retracted.reasons-fresh}
 use Rattle.pb_propagate.proofs.lemmas.store.Gets.{get-set_same, get-set_other}
-use Rattle.pb_propagate.proofs.lemmas.root.Retracted.{live-slot, reasons-fresh}
+use Rattle.pb_propagate.specs.declared.engine.{conflict.Conflict.Conflict, root.Root.Root}
 
 -- a conflict falsifies a constraint, since no two literals of the list are opposite
 pub conflicts-kept : (forms : List Shape) (a : Assignment) → HaveReasons forms a.reasons.items [] a.list.items → Conflicts forms a.list.items → IsConflict forms a

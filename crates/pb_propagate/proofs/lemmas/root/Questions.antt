@@ -1,4 +1,5 @@
 -- Questions that continue from the root, about a constraint or about a clause by its literals.
+use Rattle.pb_normal.proofs.lemmas.terms.Maps.{IsNormal-negation}
 use Rattle.pb_propagate.proofs.Common.{ℕ, ◌++◌, ◌+◌, ◌-◌, ◌<◌, ◌^◌, ◌∙◌, ◌∷◌, ◌≡◌, ◌≤◌, [], ap, arith, false, get_or, inl, inr, length, length-append}
 use Rattle.pb_propagate.proofs.Common.{List, map, min, rules, refl, suc, true, zero, All, Contains, both_ways, get_or-map, length-map}
 use Rattle.pb_propagate.proofs.Common.{Contains-append_left, Contains-push, Contains-push_cases, IsPermutation-refl, sum_by-cons, Entry}
@@ -11,19 +12,14 @@ use Rattle.pb_propagate.proofs.Common.{Run, Occurrence, Store, StoredForm, claus
 use Rattle.pb_propagate.proofs.Common.{spent, AreLonger, entries_of, IsSound, shapes_of, spots_of, stored_shape, Extends, size, RunSpends}
 use Rattle.pb_propagate.proofs.Common.{UpdateCosts, list_of, values_of, Assignment, Bool, HaveReasons, IsAnswered, RunGains, RunRefutes}
 use Rattle.pb_propagate.proofs.Common.{RunVisitsEach, all_of, sum_by-le-sum_by}
-use Rattle.pb_normal.proofs.lemmas.terms.Maps.{IsNormal-negation}
-use Rattle.pb_propagate.proofs.lemmas.clauses.Shapes.{conflicts-joined, joined-push}
+use Rattle.pb_propagate.proofs.lemmas.clauses.{Counts.IsOneSided, Counts.killed-both, Shapes.conflicts-joined, Shapes.joined-push}
+use Rattle.pb_propagate.proofs.lemmas.engine.Advances.{killed-longer, extends-then}
 use Rattle.pb_propagate.proofs.lemmas.engine.Literals.{one_itself, settled-of_terms, derivation-then, negation-negation, open_part-falsified}
 use Rattle.pb_propagate.proofs.lemmas.engine.Literals.{open_part-open, open_sum-lower, has-none, has-push_old, has-push_new, only-itself, opposite as one_sided}
-use Rattle.pb_propagate.proofs.lemmas.engine.Literals.{derivation-single}
+use Rattle.pb_propagate.proofs.lemmas.engine.{Literals.derivation-single, Reasoned.reasons-derive, Rests.joined-terms}
 use Rattle.pb_propagate.proofs.lemmas.root.Rooted.{derives-within, owned, root-short, both-le}
-use Rattle.pb_propagate.specs.declared.engine.root.Root.{Root}
+use Rattle.pb_propagate.{proofs.lemmas.store.Stored.entries-size, specs.declared.engine.root.Root.Root}
 use Rattle.pb_propagate.specs.engine.engine.Root.{HasUpdated, IsStanding, terms_of_all}
-use Rattle.pb_propagate.proofs.lemmas.engine.Reasoned.{reasons-derive}
-use Rattle.pb_propagate.proofs.lemmas.engine.Rests.{joined-terms}
-use Rattle.pb_propagate.proofs.lemmas.clauses.Counts.{IsOneSided, killed-both}
-use Rattle.pb_propagate.proofs.lemmas.engine.Advances.{killed-longer, extends-then}
-use Rattle.pb_propagate.proofs.lemmas.store.Stored.{entries-size}
 
 abbrev literal_of : Entry → NumberedLiteral
 literal_of e = (as_term e).literal

@@ -8,24 +8,17 @@ use Rattle.pb_propagate.proofs.Common.{shapes_in, values_of, AreOpen, Progress, 
 use Rattle.pb_propagate.proofs.Common.{RunVisitsEach, RunReasons, ArePlaced, Form, IsAtRest, IsKeptConflict, Live, numbered, Option, sum, sum_by}
 use Rattle.pb_propagate.proofs.Common.{take-append_seam, NumberedLiteral, Assignment, Long, Short, AreWithin, Grows, passed_of, fallen}
 use Rattle.pb_propagate.proofs.Common.{falsified_code, reached, AreSingle, RunRefutes, Extends, Costs, RunSpends}
-use Rattle.std.proofs.lemmas.Grind.{get_or-set_at}
-use Rattle.pb_propagate.specs.engine.engine.Progress.{RunIsCalm}
-use Rattle.pb_propagate.specs.engine.engine.Propagation.{IsSaved}
+use Rattle.pb_propagate.proofs.lemmas.clauses.Counts.{passed-most}
 use Rattle.pb_propagate.proofs.lemmas.clauses.Heads.{walks-none, mark-more, visits-back, walks-kept, heads-is}
-use Rattle.pb_propagate.proofs.lemmas.engine.Reasoned.{reasons-keep, keeps-then, reasons-derive}
-use Rattle.pb_propagate.proofs.lemmas.engine.Runs.{Tidy-rest, absent-from}
-use Rattle.pb_propagate.proofs.lemmas.engine.Propagated.{open-now, IsVisiting}
-use Rattle.pb_propagate.specs.declared.engine.conflict.Conflict.{Conflict}
-use Rattle.pb_propagate.specs.declared.engine.root.Root.{Root}
-use Rattle.pb_propagate.specs.engine.engine.Root.{IsLeft, IsRootOf, IsStanding}
 use Rattle.pb_propagate.proofs.lemmas.clauses.Walks.{kept-then, running-grow, grows-listed}
 use Rattle.pb_propagate.proofs.lemmas.engine.Advances.{advances-refl, advances-then, advances-as, extends-then, extends-within, spent-extends}
-use Rattle.pb_propagate.proofs.lemmas.engine.Advances.{killed-longer}
-use Rattle.pb_propagate.proofs.lemmas.engine.Literals.{derivation-single}
-use Rattle.pb_propagate.proofs.lemmas.engine.Bridge.{AreKept}
-use Rattle.pb_propagate.proofs.lemmas.engine.Rests.{slots-kept}
-use Rattle.pb_propagate.proofs.lemmas.store.Placed.{placed-kept}
-use Rattle.pb_propagate.proofs.lemmas.clauses.Counts.{passed-most}
+use Rattle.pb_propagate.proofs.lemmas.engine.{Advances.killed-longer, Bridge.AreKept, Literals.derivation-single}
+use Rattle.pb_propagate.proofs.lemmas.engine.Propagated.{open-now, IsVisiting}
+use Rattle.pb_propagate.proofs.lemmas.engine.{Reasoned.reasons-keep, Reasoned.keeps-then, Reasoned.reasons-derive, Rests.slots-kept}
+use Rattle.pb_propagate.proofs.lemmas.{engine.Runs.Tidy-rest, engine.Runs.absent-from, store.Placed.placed-kept}
+use Rattle.pb_propagate.specs.{declared.engine.conflict.Conflict.Conflict, declared.engine.root.Root.Root, engine.engine.Progress.RunIsCalm}
+use Rattle.pb_propagate.specs.engine.engine.{Propagation.IsSaved, Root.IsLeft, Root.IsRootOf, Root.IsStanding}
+use Rattle.std.proofs.lemmas.Grind.{get_or-set_at}
 
 -- the forms of a root, and its open sums, with one form left out
 abbrev pub IsTidyRoot : Store → Run → Rests → Waiting → ℕ → Type 0

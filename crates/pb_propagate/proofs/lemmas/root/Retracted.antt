@@ -1,5 +1,4 @@
 -- Literals are taken off the root's list, the last one first, and reasons are replaced by others.
-use Rattle.pb_propagate.specs.engine.engine.Rest.{no_slots, add_slot}
 use Rattle.pb_propagate.proofs.Common.{rules, ℕ, ◌++◌, ◌+◌, ◌<◌, ◌∙◌, ◌∷◌, ◌≡◌, ◌≤◌, [], ap, arith, false, get_or, inl, inr, Global, length, Vec}
 use Rattle.pb_propagate.proofs.Common.{coefficient_at, drop, drop_more, get_or-set_other, set, sum_by-le-sum_by, List, None, refl, subst, sym, take}
 use Rattle.pb_propagate.proofs.Common.{Option, slice_get, Some, cases_lt, get_or_default, get_or_past, length-map, length-append, slice_get-get_or}
@@ -10,23 +9,19 @@ use Rattle.pb_propagate.proofs.Common.{from_given, by_reason, Walked, same_Some,
 use Rattle.pb_propagate.proofs.Common.{get_or_push, take-append_seam, suc, zero, stored_terms, true, Contains, cases_eq, StoredForm, AreInside}
 use Rattle.pb_propagate.proofs.Common.{AreJoined, joined, literal_at, one_term, has, IsDue, HasOtherReasons, IsNeedless, IsOtherUnit}
 use Rattle.pb_propagate.proofs.Common.{get_or_from_slice_get, both_ways, list_of, Puts}
-use Rattle.std.proofs.lemmas.Grind.{get_or-set_at}
-use Rattle.pb_propagate.specs.declared.engine.root.Root.{Root}
-use Rattle.pb_propagate.specs.engine.engine.Counts.{IsDone}
-use Rattle.pb_propagate.specs.engine.engine.Lists.{has, open_part}
-use Rattle.pb_propagate.specs.engine.engine.Refreshed.{AreRefreshed, IsRefreshed, Lacks, IsUntouched, IsReleased, IsShortened, IsSomeRoot}
-use Rattle.pb_propagate.specs.engine.engine.Root.{IsRootOf, IsSized}
 use Rattle.pb_propagate.proofs.lemmas.clauses.Shapes.{joined-at, joined-length, shape-some}
-use Rattle.pb_propagate.proofs.lemmas.engine.Literals.{literal_ext, has-elsewhere, one-literal, open_part-open, has-none, one_itself}
-use Rattle.pb_propagate.proofs.lemmas.engine.Runs.{Tidy-rest, entry_weight-other, entry_weight-same, open_sum-push, entries-at, form-within}
-use Rattle.pb_propagate.proofs.lemmas.engine.Runs.{place-inside}
-use Rattle.pb_propagate.proofs.lemmas.root.Rooted.{term-entry, last-split}
-use Rattle.pb_propagate.proofs.lemmas.root.Ready.{IsTidyRoot, reasoned-rooted}
-use Rattle.pb_propagate.proofs.lemmas.store.Stored.{index-within}
-use Rattle.pb_propagate.proofs.lemmas.store.Gets.{get-map, get-set_same, get-set_other}
-use Rattle.pb_propagate.proofs.lemmas.engine.Reasoned.{IsMoved, moved-same, reasons-moved, due-term, stored-joined}
-use Rattle.pb_propagate.proofs.lemmas.engine.Propagated.{shape-at}
 use Rattle.pb_propagate.proofs.lemmas.engine.Advances.{extends-none, extends-then, extends-within}
+use Rattle.pb_propagate.proofs.lemmas.engine.Literals.{literal_ext, has-elsewhere, one-literal, open_part-open, has-none, one_itself}
+use Rattle.pb_propagate.proofs.lemmas.engine.Propagated.{shape-at}
+use Rattle.pb_propagate.proofs.lemmas.engine.Reasoned.{IsMoved, moved-same, reasons-moved, due-term, stored-joined}
+use Rattle.pb_propagate.proofs.lemmas.engine.Runs.{Tidy-rest, entry_weight-other, entry_weight-same, open_sum-push, entries-at, form-within}
+use Rattle.pb_propagate.proofs.lemmas.{engine.Runs.place-inside, root.Ready.IsTidyRoot, root.Ready.reasoned-rooted}
+use Rattle.pb_propagate.proofs.lemmas.root.Rooted.{term-entry, last-split}
+use Rattle.pb_propagate.proofs.lemmas.store.{Gets.get-map, Gets.get-set_same, Gets.get-set_other, Stored.index-within}
+use Rattle.pb_propagate.specs.{declared.engine.root.Root.Root, engine.engine.Counts.IsDone, engine.engine.Lists.has, engine.engine.Lists.open_part}
+use Rattle.pb_propagate.specs.engine.engine.Refreshed.{AreRefreshed, IsRefreshed, Lacks, IsUntouched, IsReleased, IsShortened, IsSomeRoot}
+use Rattle.pb_propagate.specs.engine.engine.{Rest.no_slots, Rest.add_slot, Root.IsRootOf, Root.IsSized}
+use Rattle.std.proofs.lemmas.Grind.{get_or-set_at}
 
 pub refreshed-stays : (store : Store) (b c : Root) (s : ℕ) → AreRefreshed store b c → IsRefreshed store b s → IsRefreshed store c s
 refreshed-stays store b c s next r = elim (next.each s) [

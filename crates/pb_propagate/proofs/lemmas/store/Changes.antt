@@ -1,4 +1,5 @@
 -- The store after a form was added, removed or emptied, and slots that forms take and leave.
+use Rattle.pb_normal.specs.declared.entry.Entry.{Entry as Given}
 use Rattle.pb_propagate.proofs.Common.{slice_get_past, stored_form, stored_terms, ℕ, ◌⊎◌, ◌++◌, ◌+◌, ◌<◌, ◌∙◌, ◌∷◌, ◌≡◌, [], All, All-permutation}
 use Rattle.pb_propagate.proofs.Common.{All-set, ap, arith, get_or, get_or-set_other, get_or-set_same, Global, inl, inr, IsPermutation}
 use Rattle.pb_propagate.proofs.Common.{IsPermutation-sym, length, length-append, length-set, List, map, None, NumberedLiteral, place, refl, set}
@@ -9,22 +10,13 @@ use Rattle.pb_propagate.proofs.Common.{entry_of, entry_weight, NameForms, weight
 use Rattle.pb_propagate.proofs.Common.{entries_of, forms_of, lists_of, shapes_of, spots_of, stored_shape, cut, degree_at, IsLinked, IsStored, term_at}
 use Rattle.pb_propagate.proofs.Common.{terms_at, AreInside, Shape, Some, map-set_same, IsNormal, Clauses, Store, AreReady, IsRefitted, clauses_of}
 use Rattle.pb_propagate.proofs.Common.{codes_of_terms, group_by, IsClause, joined, HasFilled, IsEmpty, IsSound, IsUnlisted, AreSlots, IsAtRest}
-use Rattle.std.proofs.lemmas.Grind.{get_or-set_at}
-use Rattle.std.proofs.lemmas.List.Sums.{sum_by-le}
-use Rattle.std.proofs.Math.ListN.{get_or-map as get_or-map_all}
-use Rattle.std.proofs.lemmas.List.{get_or-map}
-use Rattle.pb_normal.specs.declared.entry.Entry.{Entry as Given}
-use Rattle.pb_propagate.specs.declared.store.spots.Spots.TheVariants.{Empty}
-use Rattle.pb_propagate.specs.declared.store.stored_form.StoredForm.TheVariants.{Vacant}
-use Rattle.pb_propagate.proofs.lemmas.engine.Runs.{entry_weight-other}
-use Rattle.pb_propagate.proofs.lemmas.store.Stored.{named-term, entries-length, entry-weighted, map-agree}
-use Rattle.pb_propagate.proofs.lemmas.store.Gets.{push-default}
-use Rattle.pb_propagate.proofs.lemmas.store.Links.{cut-length}
-use Rattle.pb_propagate.proofs.lemmas.store.Placed.{agree-sum}
-use Rattle.pb_propagate.proofs.lemmas.engine.Rests.{slots-set, slots-more, slots-length}
 use Rattle.pb_propagate.proofs.lemmas.clauses.Shapes.{joined-length, IsVacant, slots-vacant, joined-widen, AreJoined-widen, joined-set, AreJoined-set}
 use Rattle.pb_propagate.proofs.lemmas.clauses.Shapes.{joined-clause, AreJoined-clause, joined-cleared, AreJoined-cleared, clause-kept}
-use Rattle.pb_propagate.proofs.lemmas.clauses.Shapes.{rising-different}
+use Rattle.pb_propagate.proofs.lemmas.{clauses.Shapes.rising-different, engine.Rests.slots-set, engine.Rests.slots-more, engine.Rests.slots-length}
+use Rattle.pb_propagate.proofs.lemmas.{engine.Runs.entry_weight-other, store.Gets.push-default, store.Links.cut-length, store.Placed.agree-sum}
+use Rattle.pb_propagate.proofs.lemmas.store.Stored.{named-term, entries-length, entry-weighted, map-agree}
+use Rattle.pb_propagate.specs.declared.store.{spots.Spots.TheVariants.Empty, stored_form.StoredForm.TheVariants.Vacant}
+use Rattle.std.proofs.{Math.ListN.get_or-map as get_or-map_all, lemmas.Grind.get_or-set_at, lemmas.List.get_or-map, lemmas.List.Sums.sum_by-le}
 
 pub kept-inside : (ts : List Term) (es : List Given) (n : ℕ) → IsPermutation (map entry_of ts) es → All (λ e. e.variable < n) es → AreInside n ts
 kept-inside ts es n p all k d h =

@@ -3,8 +3,7 @@ use Rattle.pb_propagate.proofs.Common.{get_or-set_same, get_or_from_slice_get, g
 use Rattle.pb_propagate.proofs.Common.{option_map, slice_get-get_or, slice_get-map, slice_get_past, swap_remove, take-map, get_or_append_left, get_or_past, ◌-◌, ℕ, ◌++◌}
 use Rattle.pb_propagate.proofs.Common.{◌+◌, ◌<◌, ◌∙◌, ◌∷◌, ◌≡◌, ◌≤◌, [], ap, arith, get_or, length, List, map, None, refl, set, sym, take, Contains, slice_get, Some}
 use Rattle.pb_propagate.proofs.Common.{cases_lt, get_or-take, get_or-set_other}
-use Rattle.std.proofs.Math.ListN.{get_or-map}
-use Rattle.std.proofs.lemmas.Option.{slice_get_cases, slice_get_read}
+use Rattle.std.proofs.{Math.ListN.get_or-map, lemmas.Option.slice_get_cases, lemmas.Option.slice_get_read}
 
 -- the empty list has no element
 pub contains-none : {X : Type 0} (xs : List X) (x : X) → xs ≡ [] → Contains xs x → ⊥

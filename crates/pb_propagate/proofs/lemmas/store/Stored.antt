@@ -7,15 +7,11 @@ use Rattle.pb_propagate.proofs.Common.{IsPermutation-refl, IsPlaced, length_perm
 use Rattle.pb_propagate.proofs.Common.{stored_degree, stored_terms, stored_total, unit_terms, UnitForm, ◌⊎◌, get_or_past, None, Option, slice_get}
 use Rattle.pb_propagate.proofs.Common.{slice_get_within, Some, AreCrossed, Cross, entry_cross, IsLinked, place, Shape, term_cross, terms_at, Weighted}
 use Rattle.pb_propagate.proofs.Common.{map-append, ◌++◌, Global, set, suc, Vec, zero, swap_remove, map-set, slice_get-get_or, slice_get-map}
-use Rattle.pb_propagate.proofs.Common.{Occurrence, entries_of, lists_of, weighted}
-use Rattle.std.proofs.lemmas.Int.{fits_signed_from_abs, to_z-of_z}
-use Rattle.std.specs.List.Sorted.{IsNonDecreasingBy}
-use Rattle.std.proofs.lemmas.Simd.{map-map}
-use Rattle.std.proofs.lemmas.List.{ext_get_or, map-id}
-use Rattle.std.proofs.lemmas.List.Elements.{All-map}
+use Rattle.pb_propagate.proofs.{Common.Occurrence, Common.entries_of, Common.lists_of, Common.weighted, lemmas.store.Gets.swap-map}
 use Rattle.pb_propagate.specs.declared.store.stored_form.StoredForm.TheVariants.{Single, Counted}
-use Rattle.std.proofs.Math.ListN.{get_or-map as get-mapped}
-use Rattle.pb_propagate.proofs.lemmas.store.Gets.{swap-map}
+use Rattle.std.proofs.{Math.ListN.get_or-map as get-mapped, lemmas.Int.fits_signed_from_abs, lemmas.Int.to_z-of_z}
+use Rattle.std.proofs.lemmas.{List.ext_get_or, List.map-id, List.Elements.All-map, Simd.map-map}
+use Rattle.std.specs.List.Sorted.{IsNonDecreasingBy}
 
 -- the ranks of the first terms
 pub record IsStanding (es : List Entry) (ranks : List Rank) (i : ℕ) : Type 0 where

@@ -1,7 +1,6 @@
 use Rattle.pb_propagate.proofs.Common.{◌*◌, ◌+◌, ◌-◌, ◌≤◌, length, sum_by, Grows, KeepsWalked, all_of, entries_of, shapes_of, database, progress}
 use Rattle.pb_propagate.proofs.Common.{RunReasons, seen_to}
-use Rattle.pb_propagate.proofs.lemmas.engine.Propagated.{IsPropagating}
-use Rattle.pb_propagate.proofs.lemmas.clauses.Heads.{IsMarking, IsWatching, cost}
+use Rattle.pb_propagate.proofs.lemmas.{clauses.Heads.IsMarking, clauses.Heads.IsWatching, clauses.Heads.cost, engine.Propagated.IsPropagating}
 use Rattle.pb_propagate.proofs.run.propagate.Given as goal
 
 abbrev pub invariant-work : goal.invariant-work

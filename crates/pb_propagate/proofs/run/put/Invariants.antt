@@ -1,5 +1,4 @@
-use Rattle.pb_propagate.proofs.Common.{◌≡◌, database, entries_against, progress}
-use Rattle.pb_propagate.proofs.lemmas.engine.Runs.{IsPutting}
+use Rattle.pb_propagate.proofs.{Common.◌≡◌, Common.database, Common.entries_against, Common.progress, lemmas.engine.Runs.IsPutting}
 use Rattle.pb_propagate.proofs.run.put.Given as goal
 
 abbrev pub invariant-entries : goal.invariant-entries

@@ -1,7 +1,6 @@
 use Rattle.pb_propagate.proofs.Common.{[], arith, get_or-set_other, refl, ◌<◌, length, rules, Some, clauses_of, codes_of_terms, forms_of, shapes_of}
+use Rattle.pb_propagate.proofs.lemmas.{clauses.Shapes.slots-vacant, root.Added.gained-filled}
 use Rattle.pb_propagate.proofs.lemmas.store.Changes.{forms-filled, slots-bare, rest-filled, rest-watched, rest-refitted}
-use Rattle.pb_propagate.proofs.lemmas.root.Added.{gained-filled}
-use Rattle.pb_propagate.proofs.lemmas.clauses.Shapes.{slots-vacant}
 use Rattle.pb_propagate.proofs.slots.add_form.Goals as goal
 
 pub fill-requires-clause-slot : goal.fill-requires-clause-slot

@@ -1,6 +1,5 @@
 use Rattle.pb_propagate.proofs.Common.{stored_form, arith, None, length-map, forms_of}
-use Rattle.pb_propagate.proofs.lemmas.store.Gets.{get-push_same}
-use Rattle.pb_propagate.proofs.lemmas.store.Changes.{forms-widened, rest-widened}
+use Rattle.pb_propagate.proofs.lemmas.store.{Changes.forms-widened, Changes.rest-widened, Gets.get-push_same}
 use Rattle.pb_propagate.proofs.slots.empty_slot.Goals as goal
 
 pub returns-clause-rest : goal.returns-clause-rest

@@ -3,8 +3,7 @@ use Rattle.pb_propagate.proofs.Common.{clauses_of, database, progress, RunReason
 use Rattle.pb_propagate.proofs.lemmas.clauses.Shapes.{broken-conflicts, conflicts-joined}
 use Rattle.pb_propagate.proofs.lemmas.clauses.Walks.{IsWalking, kept-then, walking-start, walking-next, walking-pass, walking-forces, walked-end}
 use Rattle.pb_propagate.proofs.lemmas.engine.Advances.{on-err, WalkIsDone, walk-ends, walk-then, walk-costs}
-use Rattle.pb_propagate.proofs.lemmas.engine.Reasoned.{run-reasons-none, unit-reasons}
-use Rattle.pb_propagate.proofs.lemmas.root.Ready.{open-later}
+use Rattle.pb_propagate.proofs.lemmas.{engine.Reasoned.run-reasons-none, engine.Reasoned.unit-reasons, root.Ready.open-later}
 use Rattle.pb_propagate.proofs.walk.walk.Goals.{After-visit_clause, In_ok-put-in-Forces}
 use Rattle.pb_propagate.proofs.walk.walk.Goals as goal
 

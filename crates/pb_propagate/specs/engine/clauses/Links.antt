@@ -1,8 +1,7 @@
 -- Watches, and the lists that contain them.
-use Rattle.std.specs.Prelude.{◌≡◌, ℕ, ◌-◌, ◌/◌, ◌^◌, ◌<◌, ◌⊎◌, true, false, Contains, List, [], map, Some, slice_get, slice_index_or, Vec}
+use Rattle.pb_propagate.specs.declared.clauses.lists.{Listed.Listed, Watch.Watch}
 use Rattle.std.specs.Global.{Global}
-use Rattle.pb_propagate.specs.declared.clauses.lists.Watch.{Watch}
-use Rattle.pb_propagate.specs.declared.clauses.lists.Listed.{Listed}
+use Rattle.std.specs.Prelude.{◌≡◌, ℕ, ◌-◌, ◌/◌, ◌^◌, ◌<◌, ◌⊎◌, true, false, Contains, List, [], map, Some, slice_get, slice_index_or, Vec}
 
 -- the watches on each literal
 abbrev pub watch_lists : List (Vec Listed Global) → List (List ℕ)

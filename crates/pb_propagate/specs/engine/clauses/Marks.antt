@@ -1,14 +1,9 @@
 -- How far the literals of a list are walked, and how far they were when each of them was put.
-use Rattle.std.specs.Prelude.{◌≡◌, ℕ, ◌/◌, ◌<◌, ◌≤◌, true, Contains, List, length, take, Some, slice_get}
 use Rattle.pb_normal.specs.declared.numbered.NumberedLiteral.{NumberedLiteral}
-use Rattle.pb_propagate.specs.declared.heads.Heads.{Heads}
-use Rattle.pb_propagate.specs.declared.heads.Walked.{Walked}
-use Rattle.pb_propagate.specs.declared.clauses.Clauses.{Clauses}
-use Rattle.pb_propagate.specs.declared.clauses.lists.Watch.{Watch}
+use Rattle.pb_propagate.specs.declared.{clauses.Clauses.Clauses, clauses.lists.Watch.Watch, heads.Heads.Heads, heads.Walked.Walked}
+use Rattle.pb_propagate.specs.engine.clauses.{Links.list_at, Links.watch_at, Shapes.literal_at, Walked.reached_codes}
 use Rattle.pb_propagate.specs.engine.engine.Lists.{has}
-use Rattle.pb_propagate.specs.engine.clauses.Links.{list_at, watch_at}
-use Rattle.pb_propagate.specs.engine.clauses.Shapes.{literal_at}
-use Rattle.pb_propagate.specs.engine.clauses.Walked.{reached_codes}
+use Rattle.std.specs.Prelude.{◌≡◌, ℕ, ◌/◌, ◌<◌, ◌≤◌, true, Contains, List, length, take, Some, slice_get}
 
 -- the heads are walked: if the negation of one of their literals is watched, its clause has a literal of the list
 pub record IsMark (clauses : List (List ℕ)) (watches : List Watch) (list : List NumberedLiteral) (heads : Heads) : Type 0 where

@@ -1,19 +1,9 @@
 -- Clauses among the constraints.
+use Rattle.pb_normal.specs.{declared.entry.Entry.Entry, declared.numbered.NumberedLiteral.NumberedLiteral, meaning.Form.Form, meaning.Form.IsNormal}
+use Rattle.pb_propagate.specs.declared.{clause.Group.Group, clause.Group.TheVariants.Short, clause.Group.TheVariants.Long, clauses.Clauses.Clauses}
+use Rattle.pb_propagate.specs.{declared.slots.Planned.Planned, declared.store.Store.Store, declared.term.Term.Term, engine.clauses.Links.list_at}
+use Rattle.pb_propagate.specs.engine.{clauses.Runs.IsPair, engine.Fields.shapes_of, engine.Forms.as_term, engine.Lists.Shape}
 use Rattle.std.specs.Prelude.{◌≡◌, ℕ, ◌+◌, ◌*◌, ◌/◌, ◌%◌, ◌^◌, ◌<◌, ◌≤◌, ◌==◌, not, nat_lt, if◌then◌else◌, All, List, [], ◌∷◌, map, length, count_by, slice_index_or}
-use Rattle.pb_normal.specs.declared.entry.Entry.{Entry}
-use Rattle.pb_normal.specs.meaning.Form.{Form, IsNormal}
-use Rattle.pb_normal.specs.declared.numbered.NumberedLiteral.{NumberedLiteral}
-use Rattle.pb_propagate.specs.declared.term.Term.{Term}
-use Rattle.pb_propagate.specs.declared.clause.Group.{Group}
-use Rattle.pb_propagate.specs.declared.clause.Group.TheVariants.{Short, Long}
-use Rattle.pb_propagate.specs.declared.store.Store.{Store}
-use Rattle.pb_propagate.specs.declared.clauses.Clauses.{Clauses}
-use Rattle.pb_propagate.specs.engine.engine.Lists.{Shape}
-use Rattle.pb_propagate.specs.engine.engine.Forms.{as_term}
-use Rattle.pb_propagate.specs.engine.engine.Fields.{shapes_of}
-use Rattle.pb_propagate.specs.declared.slots.Planned.{Planned}
-use Rattle.pb_propagate.specs.engine.clauses.Links.{list_at}
-use Rattle.pb_propagate.specs.engine.clauses.Runs.{IsPair}
 
 -- the literal of a code
 abbrev pub literal_at : ℕ → NumberedLiteral

@@ -1,9 +1,7 @@
-use Rattle.std.specs.Prelude.{◌≡◌, ℕ, ◌+◌, ◌-◌, ◌*◌, ◌^◌, ◌<◌, ◌≤◌, ◌==◌, ◌||◌, ◌++◌, ◌∷◌, [], true, false, if◌then◌else◌, List, length, sum_by, All, slice_index_or, slice_index}
-use Rattle.pb_normal.specs.declared.numbered.NumberedLiteral.{NumberedLiteral}
-use Rattle.pb_normal.specs.meaning.Rules.{negation}
-use Rattle.pb_propagate.specs.declared.term.Term.{Term}
-use Rattle.pb_propagate.specs.declared.rests.Rests.{Rests}
+use Rattle.pb_normal.specs.{declared.numbered.NumberedLiteral.NumberedLiteral, meaning.Rules.negation}
+use Rattle.pb_propagate.specs.declared.{rests.Rests.Rests, term.Term.Term}
 use Rattle.pb_propagate.specs.engine.engine.Lists.{Shape, Weighted, same, has, open_sum, size}
+use Rattle.std.specs.Prelude.{◌≡◌, ℕ, ◌+◌, ◌-◌, ◌*◌, ◌^◌, ◌<◌, ◌≤◌, ◌==◌, ◌||◌, ◌++◌, ◌∷◌, [], true, false, if◌then◌else◌, List, length, sum_by, All, slice_index_or, slice_index}
 
 -- the index of a literal's list among the occurrence lists
 abbrev pub place : NumberedLiteral → ℕ

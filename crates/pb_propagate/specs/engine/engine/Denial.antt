@@ -1,18 +1,11 @@
 -- A clause that is asked about, and what follows if all its literals are false.
-use Rattle.std.specs.Prelude.{◌≡◌, ℕ, ◌+◌, ◌<◌, ◌⊎◌, true, All, List, map, length, sum, sum_by, slice_index_or}
-use Rattle.pb_normal.specs.declared.entry.Entry.{Entry}
-use Rattle.pb_normal.specs.declared.numbered.NumberedLiteral.{NumberedLiteral}
-use Rattle.pb_normal.specs.meaning.Form.{Form}
+use Rattle.pb_normal.specs.{declared.entry.Entry.Entry, declared.numbered.NumberedLiteral.NumberedLiteral, meaning.Form.Form}
 use Rattle.pb_normal.specs.meaning.Rules.{negation, opposite}
-use Rattle.pb_propagate.specs.declared.store.Store.{Store}
-use Rattle.pb_propagate.specs.declared.rests.Rests.{Rests}
-use Rattle.pb_propagate.specs.declared.run.Run.{Run}
-use Rattle.pb_propagate.specs.declared.clauses.Clauses.{Clauses}
+use Rattle.pb_propagate.specs.declared.{clauses.Clauses.Clauses, rests.Rests.Rests, run.Run.Run, store.Store.Store}
+use Rattle.pb_propagate.specs.engine.{clauses.Runs.passed_of, clauses.Shapes.clauses_of, engine.Forms.as_term}
 use Rattle.pb_propagate.specs.engine.engine.Lists.{Shape, has, Conflicts}
-use Rattle.pb_propagate.specs.engine.engine.Forms.{as_term}
 use Rattle.pb_propagate.specs.engine.engine.Progress.{Spends, seen, progress, database, list_of}
-use Rattle.pb_propagate.specs.engine.clauses.Runs.{passed_of}
-use Rattle.pb_propagate.specs.engine.clauses.Shapes.{clauses_of}
+use Rattle.std.specs.Prelude.{◌≡◌, ℕ, ◌+◌, ◌<◌, ◌⊎◌, true, All, List, map, length, sum, sum_by, slice_index_or}
 
 abbrev pub IsOne : Entry → Type 0
 IsOne e = e.coefficient ≡ 1

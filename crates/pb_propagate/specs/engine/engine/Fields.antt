@@ -1,17 +1,11 @@
 -- The engine's fields as lists.
-use Rattle.std.specs.Prelude.{◌≡◌, ℕ, ◌≤◌, [], ◌∷◌, ◌++◌, List, Option, Some, None, map, length, slice_index_or, slice_set, Vec}
-use Rattle.std.specs.Global.{Global}
-use Rattle.pb_propagate.specs.declared.store.Occurrence.{Occurrence}
-use Rattle.pb_propagate.specs.declared.store.stored_form.StoredForm.{StoredForm}
-use Rattle.pb_propagate.specs.declared.store.Store.{Store}
-use Rattle.pb_propagate.specs.declared.store.spots.Spots.{Spots}
-use Rattle.pb_propagate.specs.declared.store.Visited.{Visited}
-use Rattle.pb_propagate.specs.engine.engine.Lists.{Shape, Weighted}
 use Rattle.pb_normal.specs.meaning.Form.{Form}
-use Rattle.pb_propagate.specs.engine.engine.Forms.{IsStoredAs}
-use Rattle.pb_propagate.specs.engine.engine.Spots.{spots_in}
+use Rattle.pb_propagate.specs.declared.store.{Occurrence.Occurrence, Store.Store, Visited.Visited, spots.Spots.Spots}
+use Rattle.pb_propagate.specs.{declared.store.stored_form.StoredForm.StoredForm, engine.engine.Forms.IsStoredAs}
+use Rattle.pb_propagate.specs.engine.engine.{Links.IsStored, Links.weighted, Lists.Shape, Lists.Weighted, Spots.spots_in}
 use Rattle.pb_propagate.specs.engine.engine.Stored.{stored_form, stored_terms, stored_degree, stored_total}
-use Rattle.pb_propagate.specs.engine.engine.Links.{IsStored, weighted}
+use Rattle.std.specs.Global.{Global}
+use Rattle.std.specs.Prelude.{◌≡◌, ℕ, ◌≤◌, [], ◌∷◌, ◌++◌, List, Option, Some, None, map, length, slice_index_or, slice_set, Vec}
 
 abbrev pub stored_shape : StoredForm → Shape
 stored_shape k = record { terms = stored_terms k; degree = stored_degree k }

@@ -1,10 +1,7 @@
 -- A form as the engine stores it.
+use Rattle.pb_normal.specs.{declared.entry.Entry.Entry, meaning.Form.Form, meaning.Form.IsNormal}
+use Rattle.pb_propagate.specs.{declared.term.Rank.Rank, declared.term.Term.Term, engine.engine.Lists.Shape}
 use Rattle.std.specs.Prelude.{◌≡◌, ℕ, ◌<◌, false, List, [], ◌∷◌, map, length, slice_index_or, IsPermutation}
-use Rattle.pb_normal.specs.declared.entry.Entry.{Entry}
-use Rattle.pb_normal.specs.meaning.Form.{Form, IsNormal}
-use Rattle.pb_propagate.specs.declared.term.Term.{Term}
-use Rattle.pb_propagate.specs.declared.term.Rank.{Rank}
-use Rattle.pb_propagate.specs.engine.engine.Lists.{Shape}
 
 abbrev pub entry_of : Term → Entry
 entry_of t = record { variable = t.literal.variable; negated = t.literal.negated; coefficient = t.coefficient }

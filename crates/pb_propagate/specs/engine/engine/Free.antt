@@ -1,6 +1,6 @@
 -- The slots of removed forms, in lists by size.
-use Rattle.std.specs.Prelude.{◌≡◌, ℕ, ◌-◌, ◌^◌, ◌<◌, ◌≤◌, ◌∷◌, [], List, Contains, length, slice_index_or}
 use Rattle.pb_propagate.specs.declared.free.Free.{Free}
+use Rattle.std.specs.Prelude.{◌≡◌, ℕ, ◌-◌, ◌^◌, ◌<◌, ◌≤◌, ◌∷◌, [], List, Contains, length, slice_index_or}
 
 -- no slot
 abbrev pub nobody : ℕ

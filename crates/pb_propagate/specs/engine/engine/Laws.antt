@@ -1,8 +1,7 @@
 -- What propagation over a list of forms always does.
-use Rattle.std.specs.Prelude.{List, Contains}
-use Rattle.pb_normal.specs.meaning.Form.{Form}
-use Rattle.pb_normal.specs.declared.numbered.NumberedLiteral.{NumberedLiteral}
+use Rattle.pb_normal.specs.{declared.numbered.NumberedLiteral.NumberedLiteral, meaning.Form.Form}
 use Rattle.pb_propagate.specs.meaning.Propagation.{IsCompletion}
+use Rattle.std.specs.Prelude.{List, Contains}
 
 -- over a list of forms, some derivation from the given literals cannot be extended
 abbrev pub CompletionsExist : Type 0

@@ -1,9 +1,7 @@
 -- Forms, the lists of their literals' entries, and the position of each entry.
+use Rattle.pb_propagate.specs.declared.{store.Occurrence.Occurrence, term.Term.Term}
+use Rattle.pb_propagate.specs.engine.engine.{Counts.place, Counts.AreLinked, Counts.NameForms, Lists.Shape, Lists.Weighted, Lists.AreInside}
 use Rattle.std.specs.Prelude.{◌≡◌, ℕ, false, ◌+◌, ◌-◌, ◌*◌, ◌<◌, ◌↔◌, List, [], take, slice_set, length, sum_by, All, Option, Some, None, slice_get, slice_index_or}
-use Rattle.pb_propagate.specs.declared.term.Term.{Term}
-use Rattle.pb_propagate.specs.declared.store.Occurrence.{Occurrence}
-use Rattle.pb_propagate.specs.engine.engine.Lists.{Shape, Weighted, AreInside}
-use Rattle.pb_propagate.specs.engine.engine.Counts.{place, AreLinked, NameForms}
 
 -- the position of the other end of a term or an entry, with the coefficient
 pub record Cross : Type 0 where

@@ -1,9 +1,7 @@
-use Rattle.std.specs.Prelude.{◌≡◌, ℕ, ◌+◌, ◌<◌, ◌≤◌, All, ◌==◌, ◌&&◌, ◌++◌, ◌∷◌, [], Bool, true, false, if◌then◌else◌, not, List, sum_by, Contains, Option, Some, None, slice_get, slice_index_or}
-use Rattle.std.specs.List.{list_any}
-use Rattle.std.specs.Bool.{beq}
-use Rattle.pb_normal.specs.declared.numbered.NumberedLiteral.{NumberedLiteral}
-use Rattle.pb_normal.specs.meaning.Rules.{negation}
+use Rattle.pb_normal.specs.{declared.numbered.NumberedLiteral.NumberedLiteral, meaning.Rules.negation}
 use Rattle.pb_propagate.specs.declared.term.Term.{Term}
+use Rattle.std.specs.{Bool.beq, List.list_any}
+use Rattle.std.specs.Prelude.{◌≡◌, ℕ, ◌+◌, ◌<◌, ◌≤◌, All, ◌==◌, ◌&&◌, ◌++◌, ◌∷◌, [], Bool, true, false, if◌then◌else◌, not, List, sum_by, Contains, Option, Some, None, slice_get, slice_index_or}
 
 -- the two literals are equal
 unfoldable pub same : NumberedLiteral → NumberedLiteral → Bool

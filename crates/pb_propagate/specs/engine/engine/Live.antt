@@ -1,8 +1,6 @@
 -- The engine as its callers see it.
+use Rattle.pb_normal.specs.{declared.numbered.NumberedLiteral.NumberedLiteral, meaning.Form.Form, meaning.Rules.on}
 use Rattle.std.specs.Prelude.{◌≡◌, ℕ, Bool, not, false, List, length, Option, Some, None, slice_index_or, if◌then◌else◌}
-use Rattle.pb_normal.specs.meaning.Form.{Form}
-use Rattle.pb_normal.specs.meaning.Rules.{on}
-use Rattle.pb_normal.specs.declared.numbered.NumberedLiteral.{NumberedLiteral}
 pub use Rattle.pb_propagate.specs.meaning.Propagation.{Live}
 
 -- the forms by number, the variables, the visits of the last test, and whether an allocation failed in the middle of a call

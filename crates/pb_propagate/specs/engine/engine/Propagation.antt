@@ -1,17 +1,11 @@
 -- What the functions of a propagation need, and what they leave.
-use Rattle.std.specs.Prelude.{◌≡◌, ℕ, ◌+◌, ◌*◌, ◌≤◌, [], List, length, sum, take}
-use Rattle.pb_propagate.specs.declared.store.Store.{Store}
-use Rattle.pb_propagate.specs.declared.rests.Rests.{Rests}
-use Rattle.pb_propagate.specs.declared.run.Run.{Run}
-use Rattle.pb_propagate.specs.declared.clauses.Clauses.{Clauses}
-use Rattle.pb_propagate.specs.declared.heads.Heads.{Heads}
-use Rattle.pb_propagate.specs.engine.engine.Lists.{Extends}
-use Rattle.pb_propagate.specs.engine.engine.Counts.{AreSingle, IsUndone}
-use Rattle.pb_propagate.specs.engine.engine.Progress.{AreSettled, list_of, values_of, shapes_in, RunIsOpen, RunIsCounted, RunIsCalm, RunIsUndone, RunIsWalked, RunKeepsReasons, RunReasons, RunAdvances, StaysTidy, RunVisitsEach, RunPays, database, progress}
-use Rattle.pb_propagate.specs.engine.clauses.Runs.{AreReady, Grows, IsRunning, KeepsWalked, passed_of}
+use Rattle.pb_propagate.specs.declared.{clauses.Clauses.Clauses, heads.Heads.Heads, rests.Rests.Rests, run.Run.Run, store.Store.Store}
 use Rattle.pb_propagate.specs.engine.clauses.Links.{watch_lists, list_at}
-use Rattle.pb_propagate.specs.engine.clauses.Shapes.{AreJoined, clauses_of, all_of}
-use Rattle.pb_propagate.specs.engine.clauses.Walked.{heads_at}
+use Rattle.pb_propagate.specs.engine.clauses.Runs.{AreReady, Grows, IsRunning, KeepsWalked, passed_of}
+use Rattle.pb_propagate.specs.engine.clauses.{Shapes.AreJoined, Shapes.clauses_of, Shapes.all_of, Walked.heads_at}
+use Rattle.pb_propagate.specs.engine.engine.{Counts.AreSingle, Counts.IsUndone, Lists.Extends}
+use Rattle.pb_propagate.specs.engine.engine.Progress.{AreSettled, list_of, values_of, shapes_in, RunIsOpen, RunIsCounted, RunIsCalm, RunIsUndone, RunIsWalked, RunKeepsReasons, RunReasons, RunAdvances, StaysTidy, RunVisitsEach, RunPays, database, progress}
+use Rattle.std.specs.Prelude.{◌≡◌, ℕ, ◌+◌, ◌*◌, ◌≤◌, [], List, length, sum, take}
 
 -- literals were assigned: forms that were calm still are, and the literals before keep their reasons
 pub record RunPuts (store : Store) (rests : Rests) (after : ℕ) (old new : Run) : Type 0 where

@@ -1,8 +1,8 @@
 -- A propagation that begins from literals that are forced already, and from given ones.
-use Rattle.std.specs.Prelude.{◌≡◌, ◌⊎◌, true, Contains, List, Bool, Option}
 use Rattle.pb_normal.specs.declared.numbered.NumberedLiteral.{NumberedLiteral}
 use Rattle.pb_propagate.specs.engine.engine.Lists.{Shape, has, says, IsWithin, Derives, Conflicts, IsSettled}
 use Rattle.pb_propagate.specs.engine.engine.Rest.{IsRefuted, IsEnded}
+use Rattle.std.specs.Prelude.{◌≡◌, ◌⊎◌, true, Contains, List, Bool, Option}
 
 -- each literal of the list is on one of the others
 abbrev pub IsFrom : List NumberedLiteral → List NumberedLiteral → List NumberedLiteral → Type 0

@@ -1,32 +1,17 @@
 -- The root: a propagation from nothing without a conflict, to which questions return.
-use Rattle.std.specs.Prelude.{◌≡◌, ℕ, ◌+◌, ◌*◌, ◌/◌, ◌<◌, ◌≤◌, ◌⊎◌, ◌++◌, ◌∷◌, Contains, true, false, List, [], Bool, Option, Some, length, sum_by, slice_get, slice_set, slice_index, slice_index_or}
-use Rattle.pb_normal.specs.declared.numbered.NumberedLiteral.{NumberedLiteral}
-use Rattle.pb_normal.specs.meaning.Rules.{negation}
-use Rattle.pb_propagate.specs.declared.store.stored_form.StoredForm.{StoredForm}
-use Rattle.pb_propagate.specs.declared.store.Store.{Store}
-use Rattle.pb_propagate.specs.declared.assignment.Assignment.{Assignment}
-use Rattle.pb_propagate.specs.declared.run.Run.{Run}
-use Rattle.pb_propagate.specs.declared.engine.root.Root.{Root}
-use Rattle.pb_propagate.specs.declared.engine.conflict.Conflict.{Conflict}
-use Rattle.pb_propagate.specs.declared.rests.Rests.{Rests}
-use Rattle.pb_propagate.specs.declared.waiting.Waiting.{Waiting}
-use Rattle.pb_normal.specs.meaning.Form.{Form}
-use Rattle.pb_propagate.specs.declared.clauses.Clauses.{Clauses}
-use Rattle.pb_propagate.specs.declared.term.Term.{Term}
-use Rattle.pb_propagate.specs.engine.engine.Lists.{Shape, Derives, HaveReasons, IsDue, Conflicts, IsSettled, has, open_sum}
-use Rattle.pb_propagate.specs.engine.engine.Counts.{AreFound, IsTidy, beside}
-use Rattle.pb_propagate.specs.engine.engine.Progress.{RunSpends, RunPays, RunVisitsEach, list_of, values_of}
-use Rattle.pb_propagate.specs.engine.engine.Waiting.{IsWithout}
-use Rattle.pb_propagate.specs.engine.engine.Fields.{shapes_of, forms_of, IsSound, IsEmpty}
-use Rattle.pb_propagate.specs.engine.engine.Forms.{IsStoredAs}
-use Rattle.pb_propagate.specs.engine.engine.Slots.{form_at, numbered, ArePlaced}
-use Rattle.pb_propagate.specs.engine.clauses.Truths.{false_at}
-use Rattle.pb_propagate.specs.engine.clauses.Links.{list_at, watch_at}
+use Rattle.pb_normal.specs.{declared.numbered.NumberedLiteral.NumberedLiteral, meaning.Form.Form, meaning.Rules.negation}
+use Rattle.pb_propagate.specs.declared.{assignment.Assignment.Assignment, clauses.Clauses.Clauses, engine.conflict.Conflict.Conflict}
+use Rattle.pb_propagate.specs.declared.{engine.root.Root.Root, heads.Walked.Walked, rests.Rests.Rests, run.Run.Run, store.Store.Store}
+use Rattle.pb_propagate.specs.declared.{store.stored_form.StoredForm.StoredForm, term.Term.Term, waiting.Waiting.Waiting}
+use Rattle.pb_propagate.specs.engine.clauses.{Links.list_at, Links.watch_at, Marks.IsWalkedTo}
 use Rattle.pb_propagate.specs.engine.clauses.Runs.{AreFree, AreReady, IsRunning, IsSameWatch}
-use Rattle.pb_propagate.specs.engine.clauses.Shapes.{AreJoined, clauses_of, all_of, joined}
-use Rattle.pb_propagate.specs.declared.heads.Walked.{Walked}
-use Rattle.pb_propagate.specs.engine.clauses.Marks.{IsWalkedTo}
-use Rattle.pb_propagate.specs.engine.clauses.Walked.{heads_at}
+use Rattle.pb_propagate.specs.engine.clauses.{Shapes.AreJoined, Shapes.clauses_of, Shapes.all_of, Shapes.joined, Truths.false_at, Walked.heads_at}
+use Rattle.pb_propagate.specs.engine.engine.Counts.{AreFound, IsTidy, beside}
+use Rattle.pb_propagate.specs.engine.engine.{Fields.shapes_of, Fields.forms_of, Fields.IsSound, Fields.IsEmpty, Forms.IsStoredAs}
+use Rattle.pb_propagate.specs.engine.engine.Lists.{Shape, Derives, HaveReasons, IsDue, Conflicts, IsSettled, has, open_sum}
+use Rattle.pb_propagate.specs.engine.engine.Progress.{RunSpends, RunPays, RunVisitsEach, list_of, values_of}
+use Rattle.pb_propagate.specs.engine.engine.{Slots.form_at, Slots.numbered, Slots.ArePlaced, Waiting.IsWithout}
+use Rattle.std.specs.Prelude.{◌≡◌, ℕ, ◌+◌, ◌*◌, ◌/◌, ◌<◌, ◌≤◌, ◌⊎◌, ◌++◌, ◌∷◌, Contains, true, false, List, [], Bool, Option, Some, length, sum_by, slice_get, slice_set, slice_index, slice_index_or}
 
 -- the slot has a form
 abbrev pub HasForm : Store → ℕ → Type 0

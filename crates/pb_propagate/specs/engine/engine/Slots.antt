@@ -1,12 +1,8 @@
 -- The forms by number, which are stored by slot.
-use Rattle.std.specs.Prelude.{◌≡◌, ℕ, ◌-◌, ◌^◌, ◌⊎◌, ◌*◌, ◌<◌, [], All, length, List, Option, Some, None, map, sum_by, slice_get, slice_index_or}
 use Rattle.pb_normal.specs.meaning.Form.{Form}
-use Rattle.pb_propagate.specs.declared.store.Store.{Store}
-use Rattle.pb_propagate.specs.declared.clauses.Clauses.{Clauses}
-use Rattle.pb_propagate.specs.declared.clauses.watched.Pair.{Pair}
-use Rattle.pb_propagate.specs.engine.clauses.Links.{list_at}
-use Rattle.pb_propagate.specs.engine.clauses.Runs.{AreReady, CanHold, IsPair}
-use Rattle.pb_propagate.specs.engine.clauses.Shapes.{clauses_of, codes_of_terms}
+use Rattle.pb_propagate.specs.declared.{clauses.Clauses.Clauses, clauses.watched.Pair.Pair, store.Store.Store}
+use Rattle.pb_propagate.specs.engine.clauses.{Links.list_at, Runs.AreReady, Runs.CanHold, Runs.IsPair, Shapes.clauses_of, Shapes.codes_of_terms}
+use Rattle.std.specs.Prelude.{◌≡◌, ℕ, ◌-◌, ◌^◌, ◌⊎◌, ◌*◌, ◌<◌, [], All, length, List, Option, Some, None, map, sum_by, slice_get, slice_index_or}
 
 abbrev pub form_at : List (Option Form) → ℕ → Option Form
 form_at forms s = slice_index_or forms s None

@@ -1,7 +1,6 @@
 -- The positions of a form's entries as a list.
+use Rattle.pb_propagate.specs.declared.store.spots.Spots.{Spots, TheVariants.Empty, TheVariants.One, TheVariants.Many}
 use Rattle.std.specs.Prelude.{ℕ, List, [], ◌∷◌}
-use Rattle.pb_propagate.specs.declared.store.spots.Spots.{Spots}
-use Rattle.pb_propagate.specs.declared.store.spots.Spots.TheVariants.{Empty, One, Many}
 
 abbrev pub spots_in : Spots → List ℕ
 spots_in Empty = []

@@ -1,9 +1,7 @@
 -- The terms of a stored form in their order.
-use Rattle.std.specs.Prelude.{List, map}
-use Rattle.pb_propagate.specs.declared.term.Term.{Term}
-use Rattle.pb_propagate.specs.declared.store.sorted_form.SortedForm.{SortedForm}
-use Rattle.pb_propagate.specs.declared.store.unit_form.UnitForm.{UnitForm}
+use Rattle.pb_propagate.specs.declared.{store.sorted_form.SortedForm.SortedForm, store.unit_form.UnitForm.UnitForm, term.Term.Term}
 use Rattle.pb_propagate.specs.engine.engine.Forms.{as_term, in_order}
+use Rattle.std.specs.Prelude.{List, map}
 
 -- the term of a form that has one
 abbrev pub unit_terms : UnitForm → List Term

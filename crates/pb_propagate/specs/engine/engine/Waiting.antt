@@ -1,6 +1,6 @@
 -- A list of forms from which one was removed.
-use Rattle.std.specs.Prelude.{◌≡◌, ℕ, List, Some, slice_get}
 use Rattle.pb_propagate.specs.engine.engine.Counts.{IsAbsent}
+use Rattle.std.specs.Prelude.{◌≡◌, ℕ, List, Some, slice_get}
 
 -- the form is not on the new list, and all others that were on the old one are
 pub record IsWithout (form : ℕ) (old new : List ℕ) : Type 0 where

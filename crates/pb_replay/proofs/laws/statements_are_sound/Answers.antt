@@ -1,5 +1,4 @@
-use Rattle.pb_replay.proofs.lemmas.meaning.Loads.{problems-proper, solutions-accounted}
-use Rattle.pb_replay.proofs.lemmas.meaning.Soundness.{first-sound, statements-sound}
+use Rattle.pb_replay.proofs.lemmas.meaning.{Loads.problems-proper, Loads.solutions-accounted, Soundness.first-sound, Soundness.statements-sound}
 use Rattle.pb_replay.proofs.laws.statements_are_sound.Goals as goal
 
 pub returns : goal.returns

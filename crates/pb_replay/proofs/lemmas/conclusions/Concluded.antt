@@ -6,15 +6,12 @@ use Rattle.pb_replay.proofs.Common.{contradicted, contradiction, IsShownBy, obje
 use Rattle.pb_replay.proofs.Common.{HasNone, IsAtLeast, IsAtMost, IsProblem, IsSolution, IsSound, known, Means, Problem, numbered, State, value, ◌++◌, ◌∷◌}
 use Rattle.pb_replay.proofs.Common.{refl, subst, IsSome, with_names, Stage, Closing, Complete, Statement, Conclude, End, Output, stage_of, HasConclusion}
 use Rattle.pb_replay.proofs.Common.{VerdictsAreThere, WholeProofsConclude, verdict_at, Verdict, Accepts, mentioned}
+use Rattle.pb_replay.proofs.lemmas.meaning.{Accepting.needed, Accepting.ok-same, Propagated.IsRup-holds, Ruled.contradiction-to, Ruled.rules-outcomes}
+use Rattle.pb_replay.proofs.lemmas.names.Assigned.{value-over, value-agree, side-holds, objective-named}
+use Rattle.pb_replay.proofs.lemmas.{rules.Live.IsLive-live, solutions.Completions.Completed-taken}
 use Rattle.pb_replay.specs.contract.Rules.{HasContradiction, some, named, IsNamed, IsLower, infinite, finite, IsUpper, unbounded, by_shown}
 use Rattle.pb_replay.specs.contract.Rules.{by_logged, IsJustified, no_claim, unsat, sat_shown, sat_logged, bounds, Rule, header, formula, pol, rup, soli, solx}
 use Rattle.pb_replay.specs.contract.Rules.{delete, output, conclude, end}
-use Rattle.pb_replay.proofs.lemmas.meaning.Accepting.{needed, ok-same}
-use Rattle.pb_replay.proofs.lemmas.meaning.Propagated.{IsRup-holds}
-use Rattle.pb_replay.proofs.lemmas.meaning.Ruled.{contradiction-to, rules-outcomes}
-use Rattle.pb_replay.proofs.lemmas.names.Assigned.{value-over, value-agree, side-holds, objective-named}
-use Rattle.pb_replay.proofs.lemmas.rules.Live.{IsLive-live}
-use Rattle.pb_replay.proofs.lemmas.solutions.Completions.{Completed-taken}
 
 contradiction-fails : (a : ℕ → Bool) (f : Form) → IsContradiction f → Holds a f → ⊥
 contradiction-fails a f c h = omega (arith, total-le-each (true_at a) f.terms)

@@ -11,9 +11,9 @@ use Rattle.pb_proof.specs.declared.Conclusion.TheVariants as conclusion
 use Rattle.pb_normal.specs.declared.Side.TheVariants.{AtLeast as least, AtMost as most}
 use Rattle.pb_replay.specs.contract.Example.{both_on, opposed}
 use Rattle.pb_replay.specs.declared.verdict.Verdict.TheVariants as verdict
+use Rattle.pb_propagate.proofs.lemmas.engine.Literals.{literal}
 use Rattle.pb_replay.proofs.lemmas.examples.Pairs.{each-at, each-contains, Each, entry, pair, values, problem, IsMet, met, completed, OfLive, live-met, own-met}
 use Rattle.pb_replay.proofs.lemmas.examples.Pairs.{clause-of}
-use Rattle.pb_propagate.proofs.lemmas.engine.Literals.{literal}
 
 -- forms on one name, and one that is a contradiction
 abbrev one : Bool → Form

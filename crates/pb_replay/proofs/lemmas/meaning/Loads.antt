@@ -1,4 +1,5 @@
 -- The forms of an instance hold if and only if it is solved. What a verdict means for them, it means for the instance.
+use Rattle.pb_normal.proofs.lemmas.names.Appearing.{named}
 use Rattle.pb_replay.proofs.Common.{ℕ, ◌++◌, ◌<◌, ◌∙◌, ◌∷◌, ◌≡◌, [], All, ap, arith, Bool, get_or, length, length-append, List, refl, Some, suc, sym, true}
 use Rattle.pb_replay.proofs.Common.{zero, ◌↔◌, Contains, Ok, Option, get_or_append_left, get_or_default, get_or_from_slice_get, slice_get-get_or, distinct}
 use Rattle.pb_replay.proofs.Common.{names_split, number_in-get, slice_get-number, SameAsForm-from, SameAsForms-from, SameSolutions-side, Side, AreFormsOf}
@@ -7,13 +8,10 @@ use Rattle.pb_replay.proofs.Common.{HoldsWritten, names_of, true_sum, Instance, 
 use Rattle.pb_replay.proofs.Common.{ProblemsAreProper, SolutionsAreAccounted, VerdictsMean, Verdict, Accounted, AccountedWritten, allowed, allowed_still}
 use Rattle.pb_replay.proofs.Common.{beaten, beaten_value, IsAtLeast, IsAtMost, IsProblem, IsSolution, IsSound, known, known_names, Means, MeansWritten}
 use Rattle.pb_replay.proofs.Common.{names_in, objective_of, Opened, Problem, Solves, written_value, by_name, first_state, State, value}
-use Rattle.pb_sums.specs.declared.Relation.{Relation}
-use Rattle.pb_sums.specs.declared.Relation.TheVariants.{AtLeast, Equal}
-use Rattle.pb_normal.proofs.lemmas.names.Appearing.{named}
-use Rattle.pb_replay.specs.declared.verdict.Verdict.TheVariants.{NoClaim, Unsat, Sat, Bounds}
-use Rattle.pb_replay.proofs.lemmas.meaning.Accepting.{needed, ok-same}
+use Rattle.pb_replay.proofs.lemmas.meaning.{Accepting.needed, Accepting.ok-same, Soundness.first-sound, Soundness.run-sound}
 use Rattle.pb_replay.proofs.lemmas.names.Assigned.{Holds-agree, back, true_sum-agree, value-agree}
-use Rattle.pb_replay.proofs.lemmas.meaning.Soundness.{first-sound, run-sound}
+use Rattle.pb_replay.specs.declared.verdict.Verdict.TheVariants.{NoClaim, Unsat, Sat, Bounds}
+use Rattle.pb_sums.specs.declared.Relation.{Relation, TheVariants.AtLeast, TheVariants.Equal}
 
 -- for each member of a longer list
 module _ {X : Type 0} (P : X → Type 0) where

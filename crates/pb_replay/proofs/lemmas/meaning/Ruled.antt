@@ -4,8 +4,8 @@ use Rattle.pb_replay.proofs.Common.{Bound, Finite, Infinite, Conclusion, Bounds,
 use Rattle.pb_replay.proofs.Common.{Header, Output, Pol, Rup, Soli, Solx, Constraint, LiteralAxiom, Product, Quotient, Saturation, Sum, Tree}
 use Rattle.pb_replay.proofs.Common.{Weakening, words, Live, Literal, Term, Answer, Concludes, contradicted, lower_bound, upper_bound, Problem}
 use Rattle.pb_replay.proofs.Common.{Completed, Deleted, FormOfExpression, Logged, numbered, place, State, Does}
-use Rattle.pb_replay.specs.contract.Rules.{HasForm, constraint, literal, sum, product, quotient, saturation, weakening, IsSolvedBy, Deletes, none, one, HasContradiction, some, named, unnamed, named_one, IsLower, infinite, finite, IsUpper, unbounded, by_shown, by_logged, IsJustified, no_claim, unsat, sat_shown, sat_logged, bounds, with_form, Rule, header, formula, pol, rup, soli, solx, delete, output, conclude, end, RulesAreOutcomes}
 use Rattle.pb_replay.proofs.lemmas.meaning.Accepting.{ok-same, needed, followed, eached}
+use Rattle.pb_replay.specs.contract.Rules.{HasForm, constraint, literal, sum, product, quotient, saturation, weakening, IsSolvedBy, Deletes, none, one, HasContradiction, some, named, unnamed, named_one, IsLower, infinite, finite, IsUpper, unbounded, by_shown, by_logged, IsJustified, no_claim, unsat, sat_shown, sat_logged, bounds, with_form, Rule, header, formula, pol, rup, soli, solx, delete, output, conclude, end, RulesAreOutcomes}
 
 -- expressions
 pub form-to : (limit : ℕ) (names : List (List ℕ)) (live : List (Option Form)) (tree : Tree) (r : Form) → FormOfExpression limit names live tree (Ok r) → HasForm limit names live tree r

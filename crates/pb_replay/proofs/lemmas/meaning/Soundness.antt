@@ -1,4 +1,5 @@
 -- Every accepted statement preserves what is true of a state
+use Rattle.pb_normal.proofs.lemmas.rules.Scales.{Holds-multiplied, Holds-saturated}
 use Rattle.pb_replay.proofs.Common.{ℕ, ◌≤ℤ◌, arith, Bool, List, pos, unsigned_abs, Option, ints, Holds-sum, Holds-divided, Holds-weakened, Form, Holds}
 use Rattle.pb_replay.proofs.Common.{Constraint, LiteralAxiom, Product, Quotient, Saturation, Sum, Tree, Weakening, HoldAll, Live, ℤ, ◌++◌, ◌+ℤ◌, ◌-ℤ◌, ◌<◌, ◌∷◌}
 use Rattle.pb_replay.proofs.Common.{◌≡◌, ◌⊎◌, [], All, append-nil, inl, inr, length, Side, None, refl, set, Some, cases_lt, All-cons, All-head, All-nil}
@@ -7,15 +8,13 @@ use Rattle.pb_replay.proofs.Common.{AreDistinct, with_names, assignment, IsSideO
 use Rattle.pb_replay.proofs.Common.{Concluding, Formula, Steps, Statement, words, contains-none, Literal, Term, FirstIsSound, StatementsAreSound}
 use Rattle.pb_replay.proofs.Common.{objective_with, verdict_of, Accounted, allowed, beaten, IsNamePrefix, IsProblem, IsSolution, IsSound, known, Problem}
 use Rattle.pb_replay.proofs.Common.{by_name, Logged, numbered, place, State, value, Accepts, mentioned}
-use Rattle.pb_normal.proofs.lemmas.rules.Scales.{Holds-multiplied, Holds-saturated}
-use Rattle.pb_replay.specs.contract.Rules.{HasForm, constraint, literal, sum, product, quotient, saturation, weakening, Deletes, none, one, IsSolvedBy, Rule}
-use Rattle.pb_replay.specs.contract.Rules.{header, formula, pol, rup, soli, solx, delete, output, conclude, end}
-use Rattle.pb_replay.proofs.lemmas.conclusions.Concluded.{justified-means, objective-numbers}
-use Rattle.pb_replay.proofs.lemmas.meaning.Propagated.{IsRup-holds}
+use Rattle.pb_replay.proofs.lemmas.{conclusions.Concluded.justified-means, conclusions.Concluded.objective-numbers, meaning.Propagated.IsRup-holds}
 use Rattle.pb_replay.proofs.lemmas.meaning.Ruled.{rules-outcomes, solved-from}
 use Rattle.pb_replay.proofs.lemmas.names.Assigned.{IsNamePrefix-more, length-prefix, side-holds, value-over}
 use Rattle.pb_replay.proofs.lemmas.rules.Live.{IsLive-live, Live-deleted, Live-loaded, HoldAll-added}
 use Rattle.pb_replay.proofs.lemmas.solutions.Completions.{IsTaken, Completed-taken, taken-known, clause-fails}
+use Rattle.pb_replay.specs.contract.Rules.{HasForm, constraint, literal, sum, product, quotient, saturation, weakening, Deletes, none, one, IsSolvedBy, Rule}
+use Rattle.pb_replay.specs.contract.Rules.{header, formula, pol, rup, soli, solx, delete, output, conclude, end}
 
 -- divisors are above 0
 abbrev pub HasDivisors : Tree → Type 0

@@ -1,11 +1,11 @@
 -- Names and their numbers, and assignments of both
+use Rattle.pb_normal.proofs.lemmas.names.Appearing.{named}
 use Rattle.pb_replay.proofs.Common.{ℕ, ℤ, ◌++◌, ◌<◌, ◌∙◌, ◌∷◌, ◌≡◌, ◌≤◌, [], All, ap, append_assoc, arith, Bool, cond, get_or, length, length-append}
 use Rattle.pb_replay.proofs.Common.{List, not, pos, refl, Some, sym, true, ◌↔◌, All-head, All-tail, slice_get-get_or, prefix, number_in-append, number_in-below}
 use Rattle.pb_replay.proofs.Common.{number_in-get, SameSolutions-side, Side, Entry, Form, Holds, total, true_at, AreDistinct, has_name, HasNames, number_in}
 use Rattle.pb_replay.proofs.Common.{with_names, by_number, IsSideOf, MeetsSide, names_of, true_sum, Linear, Term, IsNamePrefix, IsProblem, objective_of}
 use Rattle.pb_replay.proofs.Common.{Problem, by_name, value, ◌+◌, subst, suc, take, zero, All-push, in_turn, NumberedLiteral, with_name, PolWord, Literal}
 use Rattle.pb_replay.proofs.Common.{take_read, numbered, numbered_one, literal_names, word_names, None, Option}
-use Rattle.pb_normal.proofs.lemmas.names.Appearing.{named}
 
 -- a prefix of the names stays one when more appear
 pub IsNamePrefix-more : (names all others : List (List ℕ)) → IsNamePrefix names all

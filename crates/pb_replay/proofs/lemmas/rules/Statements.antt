@@ -6,13 +6,9 @@ use Rattle.pb_replay.proofs.Common.{PolWord, arith, Id, Pol, Constraint, Tree, w
 use Rattle.pb_replay.proofs.Common.{word_names, ◌++◌, ◌<◌, ◌≤◌, ◌⊎◌, append_assoc, Bool, IsTrue, map, Side, Some, true, ◌↔◌, cases_lt, prefix}
 use Rattle.pb_replay.proofs.Common.{NormalFault, Fits, IsSideOf, names_of, Steps, F, Rup, IsRup, Live, Linear, same_err, Keeps, Memory, NotImplied, Overflow}
 use Rattle.pb_replay.proofs.Common.{IsCount, ◌*◌, ◌+◌, sum_by, IsFormOf-unique, NumberedLiteral, negation_of, one_in, terms_in, IsCompletion, MeetsConflict}
-use Rattle.pb_replay.proofs.Common.{With, ok_or_err, IdsSpent, Order}
+use Rattle.pb_replay.proofs.{Common.With, Common.ok_or_err, Common.IdsSpent, Common.Order, lemmas.meaning.Ruled.deletes-to}
+use Rattle.pb_replay.proofs.lemmas.{meaning.Soundness.Deletes-live, names.Assigned.length-prefix, rules.Live.inside-more, rules.Words.tree-inside}
 use Rattle.pb_replay.specs.contract.Visits.{RupVisits, IsFew, CoversConflict, CoversCompletion}
-use Rattle.pb_replay.proofs.lemmas.meaning.Ruled.{deletes-to}
-use Rattle.pb_replay.proofs.lemmas.meaning.Soundness.{Deletes-live}
-use Rattle.pb_replay.proofs.lemmas.names.Assigned.{length-prefix}
-use Rattle.pb_replay.proofs.lemmas.rules.Words.{tree-inside}
-use Rattle.pb_replay.proofs.lemmas.rules.Live.{inside-more}
 
 -- states are equal if their fields are
 pub same-state : {l m : List (Option Form)} {ns ms : List (List ℕ)} {logged : List Logged} {x y : Stage} {c d : Option Verdict} → l ≡ m → ns ≡ ms → x ≡ y → c ≡ d

@@ -7,15 +7,12 @@ use Rattle.pb_replay.proofs.Common.{names_of, Instance, IsStatementValue, Statem
 use Rattle.pb_replay.proofs.Common.{IsOpened, IsProper, IsReady, Keeps, outcome_in, problem_of, state_of, Fault, Memory, NotTotal, Running, Verdict}
 use Rattle.pb_replay.proofs.Common.{IsNamePrefix, IsSound, Means, MeansWritten, names_in, objective_of, Opened, Problem, State, ◌-ℤ◌, pos, Side, IsSideOf}
 use Rattle.pb_replay.proofs.Common.{Adding, does_in, Goes, GoesAt, HasNamed, Logs, with_mentioned, Demands, HasObjective, objective_with}
-use Rattle.pb_replay.proofs.Common.{added, normal_form, Does, mentioned}
+use Rattle.pb_replay.proofs.{Common.added, Common.normal_form, Common.Does, Common.mentioned, lemmas.meaning.Accepting.ok-same}
+use Rattle.pb_replay.proofs.lemmas.meaning.{Loads.problems-proper, Loads.loaded-inside, Loads.meanings-agree, Relating.unvalued-old}
+use Rattle.pb_replay.proofs.lemmas.{meaning.Soundness.first-sound, meaning.Soundness.statements-sound, names.Assigned.length-prefix}
+use Rattle.pb_replay.proofs.lemmas.rules.Statements.{same-state, carries-from, added-over}
 use Rattle.pb_replay.specs.contract.Faults.{fault_of}
 use Rattle.std.specs.List.{All as AllOf}
-use Rattle.pb_replay.proofs.lemmas.meaning.Accepting.{ok-same}
-use Rattle.pb_replay.proofs.lemmas.meaning.Loads.{problems-proper, loaded-inside, meanings-agree}
-use Rattle.pb_replay.proofs.lemmas.meaning.Soundness.{first-sound, statements-sound}
-use Rattle.pb_replay.proofs.lemmas.names.Assigned.{length-prefix}
-use Rattle.pb_replay.proofs.lemmas.meaning.Relating.{unvalued-old}
-use Rattle.pb_replay.proofs.lemmas.rules.Statements.{same-state, carries-from, added-over}
 
 pub nothing : (logged : List Logged) (best : Option ℤ) → IsBest logged best → best ≡ None → logged ≡ []
 nothing logged best h e = grind arith

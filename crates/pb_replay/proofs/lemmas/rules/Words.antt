@@ -1,4 +1,5 @@
 -- The words of an expression on a stack have the result of their expression, which lies within the names
+use Rattle.pb_normal.proofs.lemmas.rules.Keeps.{IsOver-sum, IsOver-below}
 use Rattle.pb_replay.proofs.Common.{ℕ, ◌++◌, ◌∙◌, ◌∷◌, ◌≡◌, ◌⊎◌, [], ap, Err, inl, inr, List, refl, IfErr, IfOk, Ok, Option, Result, reverse, reverse-append}
 use Rattle.pb_replay.proofs.Common.{Form, number_in, axiom_on, IsSum, saturated, weakened, PolWord, Add, Axiom, Saturate, Weaken, Literal, Fault, Memory, Word}
 use Rattle.pb_replay.proofs.Common.{some, limited, ◌+◌, append-nil, append_assoc, arith, unsigned_abs, divided, multiplied, Leaves, Divide, Multiply}
@@ -6,10 +7,8 @@ use Rattle.pb_replay.proofs.Common.{Constraint, LiteralAxiom, Product, Quotient,
 use Rattle.pb_replay.proofs.Common.{FormOfExpression, ◌<◌, ◌≤◌, drop, get_or, length, length-append, sym, take, drop_all, drop_more, in_turn, prefix}
 use Rattle.pb_replay.proofs.Common.{HasNames, with_names, takes, IsPostfix, take_read, IsNamePrefix, word_names, ◌*◌, ◌==◌, map, min, nat_lt, not, subst}
 use Rattle.pb_replay.proofs.Common.{All-cons, All-filter, All-map, All-nil, div_ceil, names_split, number_in-below, Entry, with_coefficient, Live, IsInside}
-use Rattle.pb_normal.proofs.lemmas.rules.Keeps.{IsOver-sum, IsOver-below}
+use Rattle.pb_replay.proofs.lemmas.{meaning.Ruled.form-to, rules.Live.IsLive-live}
 use Rattle.pb_replay.specs.contract.Rules.{HasForm, constraint, literal, sum, product, quotient, saturation, weakening}
-use Rattle.pb_replay.proofs.lemmas.meaning.Ruled.{form-to}
-use Rattle.pb_replay.proofs.lemmas.rules.Live.{IsLive-live}
 
 pub last_first : (fs : List Form) (f : Form) → reverse (fs ++ f ∷ []) ≡ f ∷ reverse fs
 last_first fs f = reverse-append fs (f ∷ [])

@@ -10,8 +10,7 @@ use Rattle.pb_replay.proofs.Common.{rising-positive, total-has, Live, Linear, Li
 use Rattle.pb_replay.proofs.Common.{is_some, map, Verdict, get_or-map, length-map, Sat, Closing, Conclude, IsBest, state_of, NoSolution, State}
 use Rattle.pb_replay.proofs.lemmas.meaning.Accepting.{needed, eached, ok-same}
 use Rattle.pb_replay.proofs.lemmas.meaning.Propagated.{AreTrue, on-negations, derivation-true, true_at-not}
-use Rattle.pb_replay.proofs.lemmas.meaning.Relating.{single-completed}
-use Rattle.pb_replay.proofs.lemmas.rules.Live.{Live-loaded}
+use Rattle.pb_replay.proofs.lemmas.{meaning.Relating.single-completed, rules.Live.Live-loaded}
 
 -- what an accepted completion has
 pub record IsTaken (v : Problem) (forms : Form → Type 0) (names : ℕ) (given : List NumberedLiteral) (g : Logged) : Type 0 where

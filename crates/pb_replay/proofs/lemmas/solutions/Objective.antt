@@ -4,9 +4,9 @@ use Rattle.pb_replay.proofs.Common.{subst, suc, sym, take, true, unsigned_abs, z
 use Rattle.pb_replay.proofs.Common.{number_in-append, number_in-below, HasNames-append, magnitude-append, has_name, HasNames, number_in, magnitude, names_of}
 use Rattle.pb_replay.proofs.Common.{true_sum, Linear, Term, take_read, IsProper, problem_of, Running, by_name, value, inl, refl, Ok, present, Side, Form}
 use Rattle.pb_replay.proofs.Common.{with_names, IsFormOf, side_number, side_terms, largest, IsInside, HasObjective}
-use Rattle.std.proofs.lemmas.List.{length-take}
-use Rattle.pb_text.proofs.lemmas.numbers.Numbers.{largest_small}
 use Rattle.pb_replay.proofs.lemmas.names.Assigned.{objective-named, value-over}
+use Rattle.pb_text.proofs.lemmas.numbers.Numbers.{largest_small}
+use Rattle.std.proofs.lemmas.List.{length-take}
 
 pub true_sum-append : (a : List ℕ → Bool) (xs ys : List Term) → true_sum a (xs ++ ys) ≡ (true_sum a xs +ℤ true_sum a ys)
 true_sum-append a [] ys = omega (arith, ints)

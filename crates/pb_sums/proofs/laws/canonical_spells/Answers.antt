@@ -1,5 +1,4 @@
-use Rattle.pb_sums.proofs.Common.{arith}
-use Rattle.pb_sums.proofs.lemmas.values.CanonicalLaws.{linear-spelled}
+use Rattle.pb_sums.proofs.{Common.arith, lemmas.values.CanonicalLaws.linear-spelled}
 use Rattle.pb_sums.proofs.laws.canonical_spells.Goals as goal
 
 pub returns-clause-linear : goal.returns-clause-linear

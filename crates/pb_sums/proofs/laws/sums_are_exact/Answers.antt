@@ -1,5 +1,4 @@
-use Rattle.pb_sums.proofs.lemmas.machine.States.{is_state}
-use Rattle.pb_sums.proofs.lemmas.machine.Links.{reads_something, reads-run}
+use Rattle.pb_sums.proofs.lemmas.machine.{Links.reads_something, Links.reads-run, States.is_state}
 use Rattle.pb_sums.proofs.laws.sums_are_exact.Goals as goal
 
 pub returns-clause-last : goal.returns-clause-last

@@ -5,11 +5,11 @@ use Rattle.pb_sums.proofs.Common.{is_name_byte, bytes, Letter, SumEvent, Action,
 use Rattle.pb_sums.proofs.Common.{is_numeric, kind, letter_at, transition, asks, first, over, sums, SumState, IsName, IsOneText}
 use Rattle.pb_text.specs.meaning.Asking.{AsksOnly}
 use Rattle.pb_text.proofs.lemmas.machine.Asked as asked
-use Rattle.pb_text.proofs.lemmas.machine.Walking.{Walks, reads_after}
-use Rattle.pb_sums.specs.meaning.Asking.{EndsIn, IsNameStart, InName, AsksLiteral}
 use Rattle.pb_sums.proofs.lemmas.machine.LetterKinds.{Means, kind-means}
 use Rattle.pb_sums.proofs.lemmas.machine.LiteralPrefixes.{IsFirst, name-append, first-append}
 use Rattle.pb_sums.proofs.lemmas.machine.States.{accepts_one, ended-last, continues-midway, nothing-after}
+use Rattle.pb_sums.specs.meaning.Asking.{EndsIn, IsNameStart, InName, AsksLiteral}
+use Rattle.pb_text.proofs.lemmas.machine.Walking.{Walks, reads_after}
 
 abbrev IsNameByte : ℕ → Type 0
 IsNameByte e = IsTrue (is_name_byte e)

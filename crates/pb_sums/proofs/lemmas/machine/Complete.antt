@@ -1,5 +1,4 @@
 -- The machine reads each text of the grammar: one lemma for each word of the grammar.
-use Rattle.pb_sums.proofs.lemmas.machine.LetterKinds.{on_letter, kind-digit, kind-space, kind-letter, kind-name}
 use Rattle.pb_sums.proofs.Common.{ℕ, ℤ, ◌*◌, ◌++◌, ◌+◌, ◌<◌, ◌^◌, ◌∙◌, ◌∷◌, ◌≡◌, ◌≤◌, ◌⊎◌, [], ap, append-nil, append_assoc, arith, Bool, cond, false, inl, inr}
 use Rattle.pb_sums.proofs.Common.{length, List, map, None, Option, refl, Some, subst, suc, sym, true, IsTrue, le-mul_of_pos_right, pow-succ', le-leb, run}
 use Rattle.pb_sums.proofs.Common.{run-append, run-refuse, Takes, takes_then, nil_first, End, Go, Next, Refuse, is_name_byte, ◌⋅◌, Byte, digit, Each, Language}
@@ -7,6 +6,7 @@ use Rattle.pb_sums.proofs.Common.{unmarked, Number, Sign, signed, value, Letter,
 use Rattle.pb_sums.proofs.Common.{Greater, Inner, Minus, Plus, Semicolon, Space, Start, Tilde, Part, Spaces, act, action, at_name, digits, finished, fresh}
 use Rattle.pb_sums.proofs.Common.{kind, next_action, to, Work, allows, Head, is_space, reads_sums, Spaces0, Spaces1, Spells, SpellsFurther, SpellsLinear}
 use Rattle.pb_sums.proofs.Common.{SpellsLiteral, SpellsRelation, SpellsSum, SpellsTerm, Phase}
+use Rattle.pb_sums.proofs.lemmas.machine.LetterKinds.{on_letter, kind-digit, kind-space, kind-letter, kind-name}
 use Rattle.pb_text.proofs.lemmas.numbers.DigitWalks.{ten_pos}
 
 module _ (spaces : Spaces) (want : Part) (limit : ℕ) where

@@ -1,10 +1,10 @@
 -- Which letter a byte is: digits of a number have their flag.
-use Rattle.pb_sums.proofs.lemmas.machine.LetterKinds.{on_letter, Means, kind-means}
 use Rattle.pb_sums.proofs.Common.{ℕ, ◌&&◌, ◌+◌, ◌-◌, ◌∙◌, ◌≡◌, ◌⊎◌, ap, arith, Bool, cond, false, inl, inr, List, refl, subst, sym, true, nat_tests, end_or_go}
 use Rattle.pb_sums.proofs.Common.{go_or_end, one_end, one_state, refuse_or_end, refuse_or_go, End, Go, is_digit, is_letter, is_name_byte, unmarked, Letter}
 use Rattle.pb_sums.proofs.Common.{SumEvent, Term, Action, Add, Begin, EndLinear, EndSum, Stop, To, Kind, Digit, Inner, Other, Semicolon, Phase, Part, Spaces}
 use Rattle.pb_sums.proofs.Common.{act, finished, flushed, is_in_number, is_midway, is_numeric, kind, kind_of_numeral, kind_of_plain, letter_at, transition}
 use Rattle.pb_sums.proofs.Common.{Work, in_hand, ready, is_space}
+use Rattle.pb_sums.proofs.lemmas.machine.LetterKinds.{on_letter, Means, kind-means}
 use Rattle.std.proofs.Math.Bool.{and-false}
 
 -- What the transition of a phase at a kind says about the next state. The byte was a digit of a number if and only if

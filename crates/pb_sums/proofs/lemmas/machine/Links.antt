@@ -3,9 +3,7 @@ use Rattle.pb_sums.proofs.Common.{arith, ℕ, ◌↔◌, ◌∙◌, ◌∷◌, �
 use Rattle.pb_sums.proofs.Common.{go_or_end, go_or_refuse, one_end, one_state, refuse_or_end, refuse_or_go, run, run-refuse, End, Go, ReadsStatement, Refuse}
 use Rattle.pb_sums.proofs.Common.{Letter, SumEvent, Phase, Part, Spaces, act, finished, flushed, fresh, is_done, is_in_number, is_midway, is_numeric, letter_at}
 use Rattle.pb_sums.proofs.Common.{Outcome, step, Work, first, last, over, sums, SumState, Spells}
-use Rattle.pb_sums.proofs.lemmas.machine.LetterKinds.{on_letter}
-use Rattle.pb_sums.proofs.lemmas.machine.Flags.{flag, gone, ended}
-use Rattle.pb_sums.proofs.lemmas.machine.Theorems.{exact, alive}
+use Rattle.pb_sums.proofs.lemmas.machine.{Flags.flag, Flags.gone, Flags.ended, LetterKinds.on_letter, Theorems.exact, Theorems.alive}
 
 pub midway-not-done : (ph : Phase) → is_midway ph ≡ true → is_done ph ≡ false
 midway-not-done ph h = grind arith

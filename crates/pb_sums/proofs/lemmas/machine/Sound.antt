@@ -1,13 +1,13 @@
 -- A machine has read a prefix of a text of the grammar: one lemma for each step that continues.
-use Rattle.pb_sums.proofs.lemmas.machine.Prefixes.{IsCons, cons-append, Before, sum-append}
-use Rattle.pb_sums.proofs.lemmas.machine.LiteralPrefixes.{first-append, name-append, FirstOf, LiteralOf, name-bytes}
-use Rattle.pb_sums.proofs.lemmas.machine.LetterKinds.{on_letter, Means, kind-means}
 use Rattle.pb_sums.proofs.Common.{arith, ℕ, ℤ, ◌*◌, ◌++◌, ◌+◌, ◌∙◌, ◌∷◌, ◌≡◌, ◌≤◌, [], ap, Bool, cond, false, inl, inr, List, None, Option, refl, Some, subst}
 use Rattle.pb_sums.proofs.Common.{sym, true, IsTrue, nat_le, leb-true, kept, OnPrefix, run, digits-grown, digits-one, letter_name, after_it, inside, many-grown}
 use Rattle.pb_sums.proofs.Common.{next, none_yet, regroup, some-grown, some-many, some-one, End, Go, Next, is_name_byte, ◌⋅◌, Byte, Empty, Language, unmarked}
 use Rattle.pb_sums.proofs.Common.{Digits, Number, Sign, signed, Letter, Relation, AtLeast, Equal, SumEvent, Term, Action, Stop, To, Kind, Digit, Equals}
 use Rattle.pb_sums.proofs.Common.{Greater, Inner, Minus, Plus, Semicolon, Space, Start, Tilde, Phase, Part, Spaces, act, action, digits, finished, fresh, kind}
 use Rattle.pb_sums.proofs.Common.{next_action, number, term, Work, allows, Head, is_space, reads_sums, Spaces0, Spaces1, Spells, SpellsRelation, SpellsSum}
+use Rattle.pb_sums.proofs.lemmas.machine.LetterKinds.{on_letter, Means, kind-means}
+use Rattle.pb_sums.proofs.lemmas.machine.LiteralPrefixes.{first-append, name-append, FirstOf, LiteralOf, name-bytes}
+use Rattle.pb_sums.proofs.lemmas.machine.Prefixes.{IsCons, cons-append, Before, sum-append}
 use Rattle.pb_text.proofs.lemmas.text.Languages.{grown}
 
 module _ (spaces : Spaces) (want : Part) (limit : ℕ) where

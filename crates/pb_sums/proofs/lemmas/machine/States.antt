@@ -4,10 +4,9 @@ use Rattle.pb_sums.proofs.Common.{min-le_left, end_or_go, go_or_end, one_end, on
 use Rattle.pb_sums.proofs.Common.{IsState, Next, ReadsStatement, Refuse, SkipsGap, Item, Letter, SumEvent, Term, Stop, Kind, Phase, Part, Spaces, finished}
 use Rattle.pb_sums.proofs.Common.{is_done, is_in_number, is_midway, is_more, is_numeric, kind, letter_at, Outcome, PhaseFits, step, transition, Work, all_units}
 use Rattle.pb_sums.proofs.Common.{first, in_hand, IsInOrder, last, over, ready, sums, SumState, units, with_work, IsOneText, Some, after_space}
-use Rattle.pb_text.proofs.lemmas.machine.OneText.{IsOfOne, is_state as of_one_state, admits as of_one_admits}
-use Rattle.pb_sums.proofs.lemmas.machine.Flags.{gone, ended}
+use Rattle.pb_sums.proofs.lemmas.machine.{Counts.potential, Counts.letter-grows, Flags.gone, Flags.ended}
 use Rattle.pb_sums.proofs.lemmas.machine.Links.{midway-not-done, reads_grammar, reads_something}
-use Rattle.pb_sums.proofs.lemmas.machine.Counts.{potential, letter-grows}
+use Rattle.pb_text.proofs.lemmas.machine.OneText.{IsOfOne, is_state as of_one_state, admits as of_one_admits}
 
 -- When the automaton continues, and when it ends.
 gone-from : (s next : SumState) (b : ℕ) (n : Outcome) → step s.spaces s.part s.limit s.work b ≡ n → over s n ≡ Go next

@@ -2,8 +2,7 @@
 use Rattle.pb_sums.proofs.Common.{ℕ, ℤ, ◌++◌, ◌∷◌, ◌≡◌, ◌≤◌, ◌⊎◌, [], ap, append-nil, append_assoc, arith, Bool, get_or, length, List, refl, Some, subst, sym}
 use Rattle.pb_sums.proofs.Common.{true, IsTrue, Go, IsState, Runs, is_letter, is_name_byte, Each, unmarked, Term, Kind, PhaseFits, is_midway, Inner, Start}
 use Rattle.pb_sums.proofs.Common.{Phase, Part, Spaces, action, is_more, kind, after_name, over, sums, SumState}
-use Rattle.pb_sums.proofs.lemmas.machine.LetterKinds.{kind-name, kind-letter}
-use Rattle.pb_sums.proofs.lemmas.machine.States.{goes_then, midway_state}
+use Rattle.pb_sums.proofs.lemmas.machine.{LetterKinds.kind-name, LetterKinds.kind-letter, States.goes_then, States.midway_state}
 
 module _ (spaces : Spaces) (part : Part) (limit : ℕ) (xs : List Term) where
   abbrev at : List ℕ → Phase → SumState

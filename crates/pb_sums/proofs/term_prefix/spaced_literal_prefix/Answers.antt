@@ -1,6 +1,5 @@
-use Rattle.pb_sums.proofs.Common.{arith, get_or-take, length-take-le}
+use Rattle.pb_sums.proofs.{Common.arith, Common.get_or-take, Common.length-take-le, lemmas.prefixes.TermParts.spaced_literal_runs}
 use Rattle.pb_sums.proofs.lemmas.values.Shorts.{name_utf8}
-use Rattle.pb_sums.proofs.lemmas.prefixes.TermParts.{spaced_literal_runs}
 use Rattle.pb_sums.proofs.term_prefix.spaced_literal_prefix.Goals as goal
 
 pub short_prefix-name-requires-clause-text : goal.short_prefix-name-requires-clause-text

@@ -1,6 +1,6 @@
 use Rattle.pb_sums.proofs.Common.{◌+◌, [], arith, refl, ints, to_z-of_z, w128, runs_further, sums, standing, Phase}
-use mir.Val.{SFits}
 use Rattle.pb_sums.proofs.lemmas.prefixes.TermParts.{spaced_relation_runs}
+use mir.Val.{SFits}
 use Rattle.pb_sums.proofs.whole.degree_at.Goals as goal
 
 pub returns-clause-runs : goal.returns-clause-runs

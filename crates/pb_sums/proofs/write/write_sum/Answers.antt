@@ -1,5 +1,4 @@
-use Rattle.pb_sums.proofs.Common.{arith, take_rest, part_broke, part_then}
-use Rattle.pb_sums.proofs.lemmas.values.Written.{sum_parts}
+use Rattle.pb_sums.proofs.{Common.arith, Common.take_rest, Common.part_broke, Common.part_then, lemmas.values.Written.sum_parts}
 use Rattle.pb_sums.proofs.write.write_sum.Goals as goal
 
 pub returns-in_err-write_term-in-len1-up : goal.returns-in_err-write_term-in-len1-up

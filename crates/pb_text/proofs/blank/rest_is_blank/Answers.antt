@@ -1,7 +1,6 @@
 use Rattle.pb_text.proofs.Common.{ℕ, ◌&&◌, ◌++◌, ◌||◌, ◌∙◌, ◌∷◌, ◌≡◌, [], ap, arith, Bool, length-append, List, nat_eq, not, refl, rules, sym, Place}
 use Rattle.pb_text.proofs.Common.{in_comment, Nothing, passes, is_white, place_next}
-use Rattle.pb_text.proofs.lemmas.machine.Running.{past_more}
-use Rattle.pb_text.proofs.lemmas.source.Drawn.{lost_byte, given_byte, seen_byte}
+use Rattle.pb_text.proofs.lemmas.{machine.Running.past_more, source.Drawn.lost_byte, source.Drawn.given_byte, source.Drawn.seen_byte}
 use Rattle.pb_text.proofs.lemmas.text.Blanks.{IsBlank-snoc, in_comment-snoc, next_within}
 use Rattle.pb_text.proofs.blank.rest_is_blank.Goals as goal
 

@@ -1,8 +1,6 @@
 use Rattle.pb_text.proofs.Common.{ℕ, ◌∙◌, [], ap, false, List, Some, subst, sym, nil_from_length, AcceptsItems, Place, Reads, bytes}
+use Rattle.pb_text.proofs.lemmas.{feeder.Reported.stands_reads, feeder.Steps.stands_new, feeder.Steps.stands_failed, text.Short.place_after-offset}
 use Rattle.pb_text.specs.contract.NothingRead.{first_place, first_fault}
-use Rattle.pb_text.proofs.lemmas.feeder.Reported.{stands_reads}
-use Rattle.pb_text.proofs.lemmas.feeder.Steps.{stands_new, stands_failed}
-use Rattle.pb_text.proofs.lemmas.text.Short.{place_after-offset}
 use Rattle.pb_text.proofs.failed_source.unread.Goals as goal
 
 pub returns-clause-reads : goal.returns-clause-reads

@@ -1,6 +1,6 @@
 use Rattle.pb_text.proofs.Common.{◌+◌, ◌<◌, ◌∙◌, ◌≡◌, ◌≤◌, ap₂, sym, ℕ_set, end_of}
-use mathlib.Core.HLevel.{is_prop→PathP}
 use Rattle.std.proofs.Math.Bridge.{le_prop}
+use mathlib.Core.HLevel.{is_prop→PathP}
 use Rattle.pb_text.proofs.laws.keeps_its_parts.Goals as goal
 
 -- the other fields follow from the parts, and facts have one proof

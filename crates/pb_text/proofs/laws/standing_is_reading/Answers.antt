@@ -1,5 +1,4 @@
-use Rattle.pb_text.proofs.Common.{refl, is_complete, bytes}
-use Rattle.pb_text.proofs.lemmas.feeder.Reported.{stands_reads}
+use Rattle.pb_text.proofs.{Common.refl, Common.is_complete, Common.bytes, lemmas.feeder.Reported.stands_reads}
 use Rattle.pb_text.proofs.laws.standing_is_reading.Goals as goal
 
 pub returns : goal.returns

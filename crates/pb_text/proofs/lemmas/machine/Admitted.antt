@@ -1,7 +1,6 @@
 -- A byte that is taken is admitted. Offered to other crates.
 use Rattle.pb_text.proofs.Common.{ℕ, ◌∷◌, ◌≡◌, [], ap, false, None, true, Admits, Automaton, Go, IsState, bytes, Letter, letters_of}
-use Rattle.pb_text.proofs.lemmas.machine.Residual.{letter, takes_go}
-use Rattle.pb_text.proofs.lemmas.text.Lists.{put_advances}
+use Rattle.pb_text.proofs.lemmas.{machine.Residual.letter, machine.Residual.takes_go, text.Lists.put_advances}
 
 module _ {S E : Type 0} (m : Automaton S E) where
   -- a byte of a statement

@@ -2,8 +2,8 @@
 -- other crates.
 use Rattle.pb_text.proofs.Common.{arith, ℕ, ◌+◌, ◌∙◌, ◌∷◌, ◌≡◌, ◌≤◌, [], ap, Bool, false, List, refl, true, AcceptsItems, Admits, Automaton, End, Go, IsState}
 use Rattle.pb_text.proofs.Common.{Next, ReadsStatement, Refuse, Item, Letter}
-use Rattle.pb_text.proofs.lemmas.text.Booleans.{never}
 use Rattle.pb_text.proofs.lemmas.machine.Living.{ReadsOn, IsAlive, accepted, admits_before, admits_final}
+use Rattle.pb_text.proofs.lemmas.text.Booleans.{never}
 
 -- Good is an invariant of the states of such a machine, and last is the state after the text.
 module _ {S E : Type 0} (m : Automaton S E) (Good : S → Type 0) (last : S → S) where

@@ -1,9 +1,7 @@
 -- A state accepts, after a byte, exactly what it accepted before with that byte prepended. Offered to other crates.
 use Rattle.pb_text.proofs.Common.{arith, ℕ, ◌∷◌, ◌≡◌, ◌≢◌, [], Bool, false, List, refl, subst, sym, true, AcceptsItems, Automaton, End, Go, IsState, Next}
 use Rattle.pb_text.proofs.Common.{ReadsStatement, Refuse, SkipsGap, bytes_of, Item, Letter}
-use Rattle.pb_text.proofs.lemmas.text.FirstBytes.{head, tail}
-use Rattle.pb_text.proofs.lemmas.machine.Walking.{longer}
-use Rattle.pb_text.proofs.lemmas.text.Booleans.{never}
+use Rattle.pb_text.proofs.lemmas.{machine.Walking.longer, text.Booleans.never, text.FirstBytes.head, text.FirstBytes.tail}
 
 -- the items are these with a letter prepended: to the text of the first statement, or its byte to the gap before that
 abbrev PutFirst : {E : Type 0} → Bool → Letter → Item E → List (Item E) → List (Item E) → Type 0

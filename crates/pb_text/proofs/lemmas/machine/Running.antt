@@ -2,8 +2,7 @@
 use Rattle.pb_text.proofs.Common.{ℕ, ◌++◌, ◌+◌, ◌-◌, ◌<◌, ◌==◌, ◌∙◌, ◌∷◌, ◌≡◌, ◌≢◌, ◌≤◌, [], ap, append-nil, append_assoc, ap₂, arith, Bool, false, get_or}
 use Rattle.pb_text.proofs.Common.{length, List, None, Option, refl, Some, subst, suc, sym, take, true, take_more, is_some, nat_tests, Automaton, begins, Go}
 use Rattle.pb_text.proofs.Common.{IsState, Runs, opened, Stands, Place, Spanned, end_of, Each, place_next, place_past, End}
-use Rattle.pb_text.proofs.lemmas.feeder.Steps.{stands_go, stands_event}
-use Rattle.pb_text.proofs.lemmas.text.Short.{end_limit}
+use Rattle.pb_text.proofs.lemmas.{feeder.Steps.stands_go, feeder.Steps.stands_event, text.Short.end_limit}
 
 module _ {S E : Type 0} (m : Automaton S E) where
   -- one more byte

@@ -2,10 +2,8 @@
 use Rattle.pb_text.proofs.Common.{ℕ, ◌%◌, ◌*◌, ◌++◌, ◌+◌, ◌/◌, ◌<◌, ◌^◌, ◌∙◌, ◌∷◌, ◌≡◌, ◌≤◌, [], ap, arith, length, length-append, List, map, refl, subst, suc}
 use Rattle.pb_text.proofs.Common.{sym, true, ℤ, decimal, pow-succ', pow_mono, decimal_by_steps_wide, digit, Digits, Number, value, digits_of, Letter, ◌-◌}
 use Rattle.pb_text.proofs.Common.{mod-eq_of_lt, false, ◌==◌, eqb-true, ap₂, hex_byte, digit_glyph, digits, format_spec, padded_integral, hex_digit, hex_of}
-use Rattle.pb_text.specs.meaning.Limits.{largest}
-use Rattle.pb_text.specs.declared.limits.Limits.{Limits}
-use Rattle.pb_text.proofs.lemmas.text.Languages.{map-append, each-append}
-use Rattle.pb_text.proofs.lemmas.text.NameBytes.{all_below, true_at}
+use Rattle.pb_text.proofs.lemmas.text.{Languages.map-append, Languages.each-append, NameBytes.all_below, NameBytes.true_at}
+use Rattle.pb_text.specs.{declared.limits.Limits.Limits, meaning.Limits.largest}
 
 value-append : (ds : List ℕ) (d : ℕ) → value (ds ++ d ∷ []) ≡ 10 * value ds + d
 value-append [] d = omega arith

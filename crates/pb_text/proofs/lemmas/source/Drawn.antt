@@ -2,12 +2,8 @@
 use Rattle.pb_text.proofs.Common.{ℕ, ◌++◌, ◌∙◌, ◌∷◌, ◌≡◌, [], ap, append_assoc, List, None, Option, Some, sym, Consumes, Keeps, HaveEnded, LosesFirst, Lost}
 use Rattle.pb_text.proofs.Common.{StartWith, Took, append-nil, arith, Err, length-append, Ok, Result, subst, true, spans_taken, StandsAt, Feeder, Ghosts}
 use Rattle.pb_text.proofs.Common.{Spanned, Stop, IsOpen, Draws, input_drawn, Pulls, Bool, not, is_some, Peeks, Item, ReadsWhole}
-use Rattle.pb_text.specs.contract.Pouring.{Pours}
-use Rattle.pb_text.proofs.lemmas.feeder.Steps.{Reaches, stands_more}
-use Rattle.pb_text.specs.meaning.Pulling.{input_pulled}
-use Rattle.pb_text.proofs.lemmas.source.PullsInARow.{took_join}
-use Rattle.pb_text.specs.declared.over.Over.{Over}
-use Rattle.pb_text.specs.contract.Over.{reported, Shows}
+use Rattle.pb_text.proofs.lemmas.{feeder.Steps.Reaches, feeder.Steps.stands_more, source.PullsInARow.took_join}
+use Rattle.pb_text.specs.{contract.Over.reported, contract.Over.Shows, contract.Pouring.Pours, declared.over.Over.Over, meaning.Pulling.input_pulled}
 
 pub lost_nothing : (before : Option (List ℕ)) → Lost before [] before
 lost_nothing before = grind arith

@@ -3,8 +3,7 @@ use Rattle.pb_text.proofs.Common.{ℕ, ◌++◌, ◌∙◌, ◌∷◌, ◌≡◌
 use Rattle.pb_text.proofs.Common.{None, Ok, Option, refl, Result, Some, subst, subst₂, sym, take, true, take-append_seam, append_cancel_left, AcceptsItems}
 use Rattle.pb_text.proofs.Common.{Automaton, Leads, MayAsk, is_complete, stop_of, Halts, Stands, Waits, Feeder, Ghosts, Place, Spanned, Stop, Why, end_of}
 use Rattle.pb_text.proofs.Common.{Pulls, Took, HasPulled, PullsOn, Reads, bytes, Letter, IsAsking}
-use Rattle.pb_text.proofs.lemmas.text.Short.{place_after-offset}
-use Rattle.pb_text.proofs.lemmas.feeder.Reported.{stands_reads}
+use Rattle.pb_text.proofs.lemmas.{feeder.Reported.stands_reads, text.Short.place_after-offset}
 
 -- what was taken before, and what was taken now
 pub took_join : (a b c : Option (List ℕ)) (x y s t : List ℕ) → Took a x s b → Took b y t c → Took a (x ++ y) t c

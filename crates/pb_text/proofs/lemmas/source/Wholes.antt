@@ -2,9 +2,8 @@
 use Rattle.pb_text.proofs.Common.{ℕ, ◌++◌, ◌∙◌, ◌∷◌, ◌≡◌, [], ap, append_assoc, Bool, Err, IsTrue, List, map, None, Ok, Option, refl, Some, subst, sym, true}
 use Rattle.pb_text.proofs.Common.{AcceptsItems, Automaton, MayAsk, is_complete, Feeder, Ghosts, Place, Spanned, Stop, Memory, OfGiven, Took, HasPulled}
 use Rattle.pb_text.proofs.Common.{IsSpelled, bytes, Item, spans_since, events_at, events_of, gathered, IsWhole, Keeping, MayHold, Reading, StopsIn}
-use Rattle.pb_text.specs.contract.Pulled.{PullsOnce}
-use Rattle.pb_text.specs.meaning.Spelling.{place_after}
 use Rattle.pb_text.proofs.lemmas.source.PullsInARow.{all, took, pulled_on, reads_event, reads_done, reads_stopped}
+use Rattle.pb_text.specs.{contract.Pulled.PullsOnce, meaning.Spelling.place_after}
 pub use Rattle.pb_text.proofs.lemmas.source.PullsInARow.{same_prefix}
 
 -- the events of spans

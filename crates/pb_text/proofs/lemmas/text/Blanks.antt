@@ -3,12 +3,8 @@ use Rattle.pb_text.proofs.Common.{ℕ, ◌&&◌, ◌++◌, ◌+◌, ◌<◌, ◌
 use Rattle.pb_text.proofs.Common.{eqb-true, false, get_or, IsTrue, length, length-append, List, nat_eq, not, refl, subst, sym, take, true, slice_index}
 use Rattle.pb_text.proofs.Common.{get_or-append_seam, take-append_seam, get_or_append_left, reverse-append, take-append-le, Place, Comment, has_star}
 use Rattle.pb_text.proofs.Common.{in_comment, IsBlank, IsInLine, Nothing, OpenComment, passes, White, is_white, place_next}
-use Rattle.std.proofs.Math.Bool.{or-true}
-use Rattle.pb_text.proofs.lemmas.machine.Running.{next_bounds}
-use Rattle.std.proofs.Common.{reverse}
-use Rattle.pb_text.proofs.lemmas.text.Booleans.{by_or}
-use Rattle.pb_text.proofs.lemmas.text.Languages.{each-append}
-use Rattle.pb_text.proofs.lemmas.text.ByteTests.{white_each}
+use Rattle.pb_text.proofs.lemmas.{machine.Running.next_bounds, text.Booleans.by_or, text.ByteTests.white_each, text.Languages.each-append}
+use Rattle.std.proofs.{Common.reverse, Math.Bool.or-true}
 
 -- whether a text ends in a comment, with one more byte
 pub in_comment-snoc : (text : List ℕ) (b : ℕ) → in_comment (text ++ b ∷ []) ≡ (not (nat_eq b 10) && (nat_eq b 42 || in_comment text))

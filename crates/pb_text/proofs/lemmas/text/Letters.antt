@@ -1,8 +1,7 @@
 -- The letters of bytes, and words that grow letter by letter. Offered to other crates.
 use Rattle.pb_text.proofs.Common.{ℕ, ◌++◌, ◌+◌, ◌-◌, ◌<◌, ◌∙◌, ◌∷◌, ◌≡◌, [], add-one, ap, arith, false, length, List, nat_eq, refl, subst, sym, take, true}
 use Rattle.pb_text.proofs.Common.{slice_index, take-suc, nat_tests, take_all, is_digit, Bytes, digit, unmarked, Letter, plain}
-use Rattle.pb_text.proofs.lemmas.text.ByteTests.{digit_of}
-use Rattle.pb_text.proofs.lemmas.text.Languages.{map-append}
+use Rattle.pb_text.proofs.lemmas.text.{ByteTests.digit_of, Languages.map-append}
 
 pub as_unmarked : (l : Letter) (b : ℕ) → l.numeral ≡ false → l.byte ≡ b → l ≡ unmarked b
 as_unmarked l b m e = rw (sym m, sym e) refl

@@ -1,6 +1,5 @@
 use Rattle.pb_text.proofs.Common.{Err, None, Ok, refl, Some, sym}
-use Rattle.pb_text.proofs.lemmas.source.Drawn.{draws_join, pulls_nothing, pulls_event, pulls_stop}
-use Rattle.pb_text.proofs.lemmas.source.PullsInARow.{row}
+use Rattle.pb_text.proofs.lemmas.source.{Drawn.draws_join, Drawn.pulls_nothing, Drawn.pulls_event, Drawn.pulls_stop, PullsInARow.row}
 use Rattle.pb_text.proofs.next_event.pull.Goals as goal
 
 pub returns-then-is_done-clause-pulls : goal.returns-then-is_done-clause-pulls

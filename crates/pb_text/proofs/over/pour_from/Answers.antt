@@ -1,7 +1,6 @@
 use Rattle.pb_text.proofs.Common.{arith, length-take-le, subst, take}
-use Rattle.std.specs.Io.BufRead.{FillKeeps}
-use Rattle.std.proofs.BufReadLemmas.{Consumes_shown}
 use Rattle.pb_text.proofs.lemmas.source.Drawn.{lost_kept, lost_consumed, pours_none}
+use Rattle.std.{proofs.BufReadLemmas.Consumes_shown, specs.Io.BufRead.FillKeeps}
 use Rattle.pb_text.proofs.over.pour_from.Goals as goal
 
 pub returns-in-Ok-clause-pours : goal.returns-in-Ok-clause-pours

@@ -1,7 +1,7 @@
 use Rattle.pb_text.proofs.Common.{◌∙◌, [], ap, append-nil, arith, refl, sym, Place}
-use Rattle.pb_text.proofs.lemmas.text.Short.{end_limit}
 use Rattle.pb_text.proofs.lemmas.source.Drawn.{lost_nothing, seen_after}
 use Rattle.pb_text.proofs.lemmas.source.Wholes.{so_far, whole_done, whole_stopped, whole_unkept}
+use Rattle.pb_text.proofs.lemmas.text.Short.{end_limit}
 use Rattle.pb_text.proofs.whole.read_whole.Goals as goal
 
 pub loop-spanned-init : goal.loop-spanned-init

@@ -1,5 +1,4 @@
-use Rattle.pb_text.proofs.Common.{◌+◌, ◌-◌, ◌^◌, ◌≡◌}
-use Rattle.pb_text.proofs.lemmas.source.Wholes.{SoFar}
+use Rattle.pb_text.proofs.{Common.◌+◌, Common.◌-◌, Common.◌^◌, Common.◌≡◌, lemmas.source.Wholes.SoFar}
 use Rattle.pb_text.proofs.whole.read_whole.Given as goal
 
 -- the value is that of the events so far

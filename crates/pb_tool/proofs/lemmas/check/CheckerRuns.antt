@@ -1,10 +1,10 @@
 -- A checker that pulls a statement from a source, and steps through it.
+use Rattle.pb_text.specs.contract.Standing.{IsOpen as IsOpenText}
 use Rattle.pb_tool.proofs.Common.{ℕ, ◌++◌, ◌^◌, ◌∙◌, ◌∷◌, ◌≡◌, ◌≤◌, [], append-nil, arith, Bool, Err, false, List, None, Ok, Option, refl, Result, Some, subst}
 use Rattle.pb_tool.proofs.Common.{sym, true, ReadsProofs, ReadStatements, IsStatementValue, Statement, begin, ProofState, WholeProofsConclude, Replaying}
 use Rattle.pb_tool.proofs.Common.{verdict_in, Fault, Verdict, IsNamePrefix, Problem, State, length-bytes, place_after-offset, halt_of, is_complete, place_of}
 use Rattle.pb_tool.proofs.Common.{StandsAt, stop_of, Limits, Spanned, Stop, largest, top_of, OfGiven, Pulls, PullsOn, AsksAsText, Checking, ChecksSoFar}
 use Rattle.pb_tool.proofs.Common.{IsSomewhere, ProofFeeder, TextsAreRead, SawText, Accepted, Call, Rejected, CheckFault, Begins, HasRun, IsRun, RunsTo}
-use Rattle.pb_text.specs.contract.Standing.{IsOpen as IsOpenText}
 use Rattle.pb_tool.proofs.lemmas.check.CheckerSteps.{Answers, ReportsOld, running_at}
 use Rattle.pb_tool.proofs.lemmas.check.ReplayRuns.{shown_all, shown_first, shown_next, shown_rejected}
 use Rattle.pb_tool.proofs.lemmas.file.GivenBytes.{of_both}

@@ -1,4 +1,7 @@
 -- The state of a checker after a feed and a step. Offered to other crates.
+use Rattle.pb_text.specs.contract.Automaton.{AcceptsItems as AcceptsBytes}
+use Rattle.pb_text.specs.contract.Standing.{Counts, Halts, Waits, IsOpen as IsOpenText}
+use Rattle.pb_text.specs.declared.Fed.{Fed}
 use Rattle.pb_tool.proofs.Common.{ℕ, ◌++◌, ◌+◌, ◌-◌, ◌<◌, ◌∙◌, ◌∷◌, ◌≡◌, ◌⊎◌, [], add-zero, All, ap, append-nil, append_assoc, Bool, drop, Err, false, arith}
 use Rattle.pb_tool.proofs.Common.{inl, inr, length, length-append, List, None, Ok, Option, refl, Result, Some, subst, sym, take}
 use Rattle.pb_tool.proofs.Common.{take-append-drop, true, IsSome, not, All-head, All-tail, ReadsProofs, ReadStatements, IsStatementValue}
@@ -10,14 +13,11 @@ use Rattle.pb_tool.proofs.Common.{events_at, events_of, accepted_by, AsksAsText,
 use Rattle.pb_tool.proofs.Common.{ProofFeeder, StepsFrom, TextsAreRead, Checks, EndsAfter, IsReplayed, KeepsNames, KeepsNamesOf, LeadsTo, Rejects}
 use Rattle.pb_tool.proofs.Common.{StepsTo, AllocatesAt, AnyCutting, bytes_to, ChecksAt, ChecksOnce, CountsAt, CountsOnce, fault_of, FeedsInTurn}
 use Rattle.pb_tool.proofs.Common.{is_whole, joined, MayGoOn, place_in, CheckFault, Begins}
-use Rattle.pb_text.specs.contract.Automaton.{AcceptsItems as AcceptsBytes}
-use Rattle.pb_text.specs.contract.Standing.{Counts, Halts, Waits, IsOpen as IsOpenText}
-use Rattle.pb_text.specs.declared.Fed.{Fed}
 use Rattle.pb_text.proofs.lemmas.text.Formats as formats
 use Rattle.pb_proof.specs.declared.Statement.TheVariants.{Header}
 use Rattle.pb_replay.specs.declared.fault.Fault.TheVariants.{Memory}
-use Rattle.pb_tool.specs.declared.commands.check.checker.CheckFault.TheVariants.{Text, Step}
 use Rattle.pb_tool.proofs.lemmas.check.OneRead.{no_prefix}
+use Rattle.pb_tool.specs.declared.commands.check.checker.CheckFault.TheVariants.{Text, Step}
 
 abbrev pub failed : CheckFault → Result Unit CheckFault
 failed x = Err x

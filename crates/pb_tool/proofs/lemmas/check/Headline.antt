@@ -1,18 +1,14 @@
 -- What is verified is true of the instance as it is written.
+use Rattle.pb_proof.specs.meaning.Lines.{SpellsStatement}
+use Rattle.pb_text.specs.declared.{sink.Sink.Ghosts as Sink, source.Source.Ghosts as Source}
 use Rattle.pb_tool.proofs.Common.{ℕ, ◌++◌, ◌∙◌, ◌∷◌, ◌≡◌, [], All, ap, Err, List, Ok, Option, Result, Some, subst, All-cons, All-head, All-nil, All-tail}
 use Rattle.pb_tool.proofs.Common.{StatementValues, IsStatementValue, Proof, Statement, IsGap, statements_of, VerdictsMean, Replaying, Verdict, Unsat}
 use Rattle.pb_tool.proofs.Common.{first_state, Limits, largest, top_of, OfGiven, Item, events_of, ChecksGiven, faults_of_instance, faults_of_proof, IsReplayOf}
 use Rattle.pb_tool.proofs.Common.{SawInstance, SawProof, Call, IsWatched, ToolFault, IsChecked, CheckCall, ChecksFiles, Returns}
-use Rattle.pb_proof.specs.meaning.Lines.{SpellsStatement}
-use Rattle.pb_text.specs.declared.sink.Sink.{Ghosts as Sink}
-use Rattle.pb_text.specs.declared.source.Source.{Ghosts as Source}
-use Rattle.pb_tool.specs.contract.Checked.{Checked}
+use Rattle.pb_tool.{proofs.lemmas.check.TwoSources.Answered, proofs.lemmas.file.GivenBytes.given_by, specs.contract.Checked.Checked}
+use Rattle.pb_tool.specs.{contract.Watched.IsWatchedGiven, engine.Running.ChecksTo}
 use Rattle.pb_tool.specs.meaning.Headline.{TrueOf, UnsatIsTrue, VerdictsAreTrue}
 use Rattle.std.specs.Prelude.{IfOk}
-use Rattle.pb_tool.specs.contract.Watched.{IsWatchedGiven}
-use Rattle.pb_tool.specs.engine.Running.{ChecksTo}
-use Rattle.pb_tool.proofs.lemmas.check.TwoSources.{Answered}
-use Rattle.pb_tool.proofs.lemmas.file.GivenBytes.{given_by}
 
 module _ (values : StatementValues) (limit top : ℕ) where
   abbrev IsSpelled : Item Statement → Type 0

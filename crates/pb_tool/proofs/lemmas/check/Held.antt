@@ -4,9 +4,8 @@ use Rattle.pb_tool.proofs.Common.{Option, refl, Result, sym, true, length-map, P
 use Rattle.pb_tool.proofs.Common.{Problem, State, same_prefix, bytes-append, length-bytes, place_after-offset, HoldsFew, is_complete, place_of, StandsAt}
 use Rattle.pb_tool.proofs.Common.{Limits, Place, Spanned, largest, top_of, Answers, open_bytes, bytes, bytes_of, Item, Letter, letters_of, plain, spans_since}
 use Rattle.pb_tool.proofs.Common.{ChecksSoFar, ProofFeeder, TextsAreRead, EndsStatement, HoldsOpen, CheckFault}
+use Rattle.pb_tool.proofs.lemmas.check.{CheckerSteps.running_at, CheckerSteps.reported as so_far, OneRead.no_prefix}
 use Rattle.std.proofs.lemmas.Bool.Decides.{nat_tests}
-use Rattle.pb_tool.proofs.lemmas.check.CheckerSteps.{running_at, reported as so_far}
-use Rattle.pb_tool.proofs.lemmas.check.OneRead.{no_prefix}
 
 -- ---- after whole statements none is unfinished
 length_plain : (gap : List ℕ) → length (plain gap) ≡ length gap

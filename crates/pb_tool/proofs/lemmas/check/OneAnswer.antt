@@ -1,4 +1,6 @@
 -- The result of a check that the bytes decide.
+use Rattle.pb_opb.proofs.lemmas.instances.OneValue.{same_value}
+use Rattle.pb_replay.specs.declared.fault.Fault.TheVariants.{Memory as no_memory, Overflow as over}
 use Rattle.pb_tool.proofs.Common.{ℕ, ◌++◌, ◌↔◌, ◌∙◌, ◌∷◌, ◌≡◌, ◌≢◌, ◌⊎◌, [], ap, arith, Bool, Err, inl, inr, List, None, Ok, Option, refl, Result, Some}
 use Rattle.pb_tool.proofs.Common.{string_bytes, subst, sym, String, same_Some, Instance, IsValueOf, Proof, Statement, IsProofOf, statements_of}
 use Rattle.pb_tool.proofs.Common.{OutcomesAreSingle, Fault, NotTotal, Verdict, Opened, Problem, first_state, State, Accepts, Outcome, ok_or_err, same_err}
@@ -6,15 +8,13 @@ use Rattle.pb_tool.proofs.Common.{same_ok, Limits, Place, Spanned, Stop, largest
 use Rattle.pb_tool.proofs.Common.{Keeping, Reading, IsSpelling, ToolFault, Overflow, Step, Text, AnswersExactly, AreVerified, IsDecided, IsOfText, IsOfTexts}
 use Rattle.pb_tool.proofs.Common.{IsSame, OneAnswer, IsProofFile, IsProofText, IsFile, IsInstanceFile, IsInstanceText, IsNoInstanceFile, InRest, InText}
 use Rattle.pb_tool.proofs.Common.{AfterProof, CheckCall, ChecksFiles, ComesTo, InProof, IsRefusedStep, IsRefusedText, IsReported, IsVerified}
-use Rattle.pb_replay.specs.declared.fault.Fault.TheVariants.{Memory as no_memory, Overflow as over}
-use Rattle.std.specs.declared.alloc.Global.{Global}
-use Rattle.pb_opb.proofs.lemmas.instances.OneValue.{same_value}
-use Rattle.pb_tool.specs.engine.Single.{AllSingle}
-use Rattle.pb_tool.specs.declared.fault.Input.TheVariants.{Instance as of_instance, Proof as of_proof}
+use Rattle.pb_tool.proofs.lemmas.check.CheckerSteps.{spelled_events}
 use Rattle.pb_tool.proofs.lemmas.check.OneRead.{Compared, two_prefixes, Begins, spans_begin, so_far_reached, OneSpelling, NoneGoesOn, one_spelled}
 use Rattle.pb_tool.proofs.lemmas.check.OneRead.{reached_before, so_far_before, spelling_reached, way_reached}
-use Rattle.pb_tool.proofs.lemmas.check.CheckerSteps.{spelled_events}
 use Rattle.pb_tool.proofs.lemmas.check.OneRejection.{Refusal, AtStop, all_taken, at_rest, no_refusal, one_refusal}
+use Rattle.pb_tool.specs.declared.fault.Input.TheVariants.{Instance as of_instance, Proof as of_proof}
+use Rattle.pb_tool.specs.engine.Single.{AllSingle}
+use Rattle.std.specs.declared.alloc.Global.{Global}
 
 -- ---- lists that continue others
 

@@ -4,8 +4,7 @@ use Rattle.pb_tool.proofs.Common.{length-append, List, nat_le, None, Option, ref
 use Rattle.pb_tool.proofs.Common.{bytes-plain, place_after-offset, Place, Spanned, Why, Byte, TooLarge, TooLong, AreShort, byte_limit, ended_within, Explains}
 use Rattle.pb_tool.proofs.Common.{HasFixedSpans, IsBad, IsFull, IsPrefix, IsSpelled, IsUnderWay, Overruns, Reads, bytes, bytes_of, Item, spans_of, spans_since}
 use Rattle.pb_tool.proofs.Common.{IsOfText}
-use Rattle.std.proofs.lemmas.Bool.Decides.{nat_tests}
-use Rattle.std.proofs.lemmas.Grind.{common_steps}
+use Rattle.std.proofs.lemmas.{Bool.Decides.nat_tests, Grind.common_steps}
 
 pub some_left : (left : List ℕ) → left ≢ [] → 0 < length left
 some_left left h = grind (arith, common_steps)

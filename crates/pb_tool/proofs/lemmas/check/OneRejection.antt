@@ -1,8 +1,8 @@
 -- A text, with the rest after it, is rejected in one way or not at all.
+use Rattle.pb_text.proofs.lemmas.text.Blanks.{blank_passes, passes_at}
 use Rattle.pb_tool.proofs.Common.{ℕ, ◌++◌, ◌+◌, ◌∙◌, ◌∷◌, ◌≡◌, ◌≤◌, [], ap, append-nil, arith, Err, IsTrue, length, length-append, List, Option, refl, Some}
 use Rattle.pb_tool.proofs.Common.{subst, sym, both_ways, place_after-offset, Place, Spanned, Stop, Why, Byte, TooLarge, TooLong, IsBlank, IsStray, passes}
 use Rattle.pb_tool.proofs.Common.{ReadsBlank, Took, byte_limit, Explains, IsSpelled, IsUnderWay, Item, place_after, place_past, IsSpelling, IsOfText}
-use Rattle.pb_text.proofs.lemmas.text.Blanks.{blank_passes, passes_at}
 use Rattle.pb_tool.proofs.lemmas.check.OneRead.{after_prefix, one_prefix, same_rest, some_left, NoneGoesOn, OneSpelling, not_both, one_spelled, one_stop}
 
 -- a byte within a blank text passes

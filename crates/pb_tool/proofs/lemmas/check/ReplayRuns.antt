@@ -1,11 +1,11 @@
 -- A run of a replay through the statements of a source: what it ensures, and the calls that a watch gets.
+use Rattle.pb_proof.specs.declared.Stage.TheVariants.{Complete}
+use Rattle.pb_text.specs.contract.Automaton.{AcceptsItems as AcceptsBytes}
 use Rattle.pb_tool.proofs.Common.{ℕ, ◌++◌, ◌∙◌, ◌∷◌, ◌≡◌, ◌⊎◌, [], ap, Bool, Err, false, inl, inr, List, None, Ok, Option, refl, rules, Some, subst, sym, true}
 use Rattle.pb_tool.proofs.Common.{ReadsProofs, Stage, Statement, begin, proofs, Replaying, StandsFor, verdict_at, verdict_in, Fault, Verdict, IsNamePrefix}
 use Rattle.pb_tool.proofs.Common.{Problem, State, Accepts, MayWantAt, Outcome, asking_to, MayAsk, Limits, Place, Spanned, Stop, largest, top_of, TookAll}
 use Rattle.pb_tool.proofs.Common.{TookSoFar, Reads, Item, IsAsking, events_at, KeepsNames, Rejects, StepsTo, RunsProof, Accepted, Call, GotEach, HasSeen}
 use Rattle.pb_tool.proofs.Common.{Rejected, ShowsEach, ShowsRun, CheckFault, HasShown, AsksInProofText, IsProofText, IsAccepted}
-use Rattle.pb_text.specs.contract.Automaton.{AcceptsItems as AcceptsBytes}
-use Rattle.pb_proof.specs.declared.Stage.TheVariants.{Complete}
 use Rattle.pb_tool.proofs.lemmas.check.CheckerSteps.{Answers, ReportsOld, accepts_more, failed, proofs_read, shown_at}
 use Rattle.pb_tool.proofs.lemmas.show.ShownStatements.{all_to, so_far_to}
 

@@ -1,4 +1,5 @@
 -- What a check of two sources ensures, from what its parts ensure. Offered to other crates.
+use Rattle.pb_replay.specs.declared.fault.Fault.TheVariants.{Memory as no_memory}
 use Rattle.pb_tool.proofs.Common.{ℕ, ◌++◌, ◌<◌, ◌∙◌, ◌≡◌, ◌⊎◌, [], ap, Bool, Err, get_or, inl, inr, length, List, None, Ok, Option, refl, Result, Some}
 use Rattle.pb_tool.proofs.Common.{string_bytes, subst, sym, true, get_or_append_left, Instance, Proof, Statement, IsProofOf, UnvaluedMayWant, Replaying, Fault}
 use Rattle.pb_tool.proofs.Common.{NotTotal, Verdict, Opened, Problem, first_state, State, Accepts, MayWantAt, Outcome, Limits, Place, Spanned, Stop, ReadsBlank}
@@ -6,11 +7,9 @@ use Rattle.pb_tool.proofs.Common.{largest, top_of, place_after, IsRead, Broke, W
 use Rattle.pb_tool.proofs.Common.{IsReportedAs, Replays, RunsProof, SawNoInstance, SawNoProof, Call, HasSeenUpTo, IsWatched, ShowsProof, ShowsRun, CheckFault}
 use Rattle.pb_tool.proofs.Common.{ToolFault, Memory, Overflow, Step, Text, Write, IsChecked, IsRun, OfBoth, IsProofFile, IsProofText, IsInstanceFile}
 use Rattle.pb_tool.proofs.Common.{AfterProof, ChecksFiles, InProof, IsAccepted, IsReported, IsVerified, verdict_line}
-use Rattle.pb_replay.specs.declared.fault.Fault.TheVariants.{Memory as no_memory}
-use Rattle.pb_tool.specs.declared.fault.Input.TheVariants.{Instance as of_instance, Proof as of_proof}
-use Rattle.pb_tool.proofs.lemmas.check.CheckerSteps.{spelled_events}
-use Rattle.pb_tool.proofs.lemmas.file.GivenBytes.{both_then, file_then_blank}
+use Rattle.pb_tool.proofs.lemmas.{check.CheckerSteps.spelled_events, file.GivenBytes.both_then, file.GivenBytes.file_then_blank}
 use Rattle.pb_tool.proofs.lemmas.show.ShownStatements.{all_of}
+use Rattle.pb_tool.specs.declared.fault.Input.TheVariants.{Instance as of_instance, Proof as of_proof}
 
 -- the name is among those from before the statement
 names_prefix : (names all more : List (List ℕ)) (n : ℕ) → all ≡ names ++ more → n < length names → get_or all n [] ≡ get_or names n []

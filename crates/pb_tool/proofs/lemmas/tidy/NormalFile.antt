@@ -1,4 +1,6 @@
 -- The normal form of a file whose statements come one by one, its solutions, and that there is one.
+use Rattle.pb_normal.specs.declared.Side.TheVariants.{AtLeast as least, AtMost as most}
+use Rattle.pb_sums.specs.declared.Relation.{Relation, TheVariants.AtLeast, TheVariants.Equal}
 use Rattle.pb_tool.proofs.Common.{ℕ, ℤ, ◌++◌, ◌+◌, ◌↔◌, ◌∙◌, ◌∷◌, ◌≡◌, [], ap, append-nil, append_assoc, ap₂, arith, Bool, Err, false, IsTrue, length, List}
 use Rattle.pb_tool.proofs.Common.{map, None, Ok, Option, refl, Result, rules, Some, subst, sym, true, length-map, All-contains, All-contains_itself}
 use Rattle.pb_tool.proofs.Common.{All-from_recursion, All-weaker, recursion_from_All, AllByRecursion, flat_map, names_split, same_forms, Side, AreFormsOf}
@@ -10,13 +12,9 @@ use Rattle.pb_tool.proofs.Common.{faults_reported, AreLoaded, IsNormalised, Some
 use Rattle.pb_tool.proofs.Common.{IsGathered, IsNotGathered, line, line_if, AreLines, as_statement, IsNoted, names_at, names_on, NamesInOrder, noted}
 use Rattle.pb_tool.proofs.Common.{AsksInInstanceText, HasNormalForm, is_bare, IsInstanceFile, IsInstanceText, IsNoInstanceFile, IsNoNormalFile, IsNormalFile}
 use Rattle.pb_tool.proofs.Common.{LacksNormalForm, tidied, WritesText}
-use Rattle.std.specs.List.{Contains}
-use Rattle.pb_sums.specs.declared.Relation.{Relation}
-use Rattle.pb_sums.specs.declared.Relation.TheVariants.{AtLeast, Equal}
-use Rattle.pb_normal.specs.declared.Side.TheVariants.{AtLeast as least, AtMost as most}
-use Rattle.std.proofs.lemmas.List.Folds.{flat_map-map}
-use Rattle.pb_tool.specs.declared.commands.tidy.normal_text.Standing.TheVariants.{Stored}
 use Rattle.pb_tool.proofs.lemmas.tidy.InstanceLines.{tidied_bare, Follows, follows, headed, is_value, mains_in, value_of, file_as, refused_as}
+use Rattle.pb_tool.specs.declared.commands.tidy.normal_text.Standing.TheVariants.{Stored}
+use Rattle.std.{proofs.lemmas.List.Folds.flat_map-map, specs.List.Contains}
 
 -- each constraint holds
 abbrev AllHold : (List ℕ → Bool) → List Linear → Type 0

@@ -1,11 +1,11 @@
 -- What is stored of statements for their normal form: the names of terms, the lines of forms, and one more statement.
+use Rattle.pb_normal.proofs.lemmas.names.Loaded.{are_named, forms_more, forms_then}
 use Rattle.pb_tool.proofs.Common.{ℕ, ◌++◌, ◌+◌, ◌<◌, ◌∙◌, ◌∷◌, ◌≡◌, ◌⊎◌, [], ap, append-nil, ap₂, arith, Contains, get_or, inl, inr, length, length-append}
 use Rattle.pb_tool.proofs.Common.{List, None, Option, refl, Some, subst, suc, sym, take, zero, flat_map-append, map-append, Contains-append_cases}
 use Rattle.pb_tool.proofs.Common.{Contains-append_right, distinct, in_turn, named, prefix, written_alike, HasNames-append, Side, AreFormsOf, constraint_names}
 use Rattle.pb_tool.proofs.Common.{Fits, sides_in, with_sides, Form, AreDistinct, HasNames, with_name, with_names, linear_of, names_of, OpbEvent, Comment}
 use Rattle.pb_tool.proofs.Common.{Constraint, Header, Objective, constraints_in, last_or, objectives_in, variables_in, Linear, Term, take_read, SomePasses}
 use Rattle.pb_tool.proofs.Common.{Forms, line, AreLines, AreMade, as_statement, form_lines, IsNoted, names_at, names_on}
-use Rattle.pb_normal.proofs.lemmas.names.Loaded.{are_named, forms_more, forms_then}
 use Rattle.pb_tool.specs.declared.commands.tidy.form_lines.FormLines.{FormLines}
 
 -- the names of some terms, and of one more

@@ -1,4 +1,6 @@
 -- What is read of a canonical text, with or without a line feed after it, and what `tidy` does of a text that it wrote.
+use Rattle.pb_opb.specs.contract.Laws.{InstanceValues}
+use Rattle.pb_proof.specs.meaning.Reading.{ReadsProof}
 use Rattle.pb_tool.proofs.Common.{ℕ, ◌++◌, ◌<◌, ◌^◌, ◌∙◌, ◌∷◌, ◌≡◌, ◌≢◌, ◌≤◌, ◌⊎◌, [], ap, append-nil, append_assoc, arith, Bool, cond, Err, false, inl, inr}
 use Rattle.pb_tool.proofs.Common.{length, length-append, List, Ok, Option, refl, Result, rules, Some, subst, sym, true, Appends, instance_bytes, Instance}
 use Rattle.pb_tool.proofs.Common.{ReadsInstance, IsValueOf, ProofValues, Proof, IsProofOf, place_after-offset, Limits, Place, Spanned, Stop, Why, Byte, Ended}
@@ -7,8 +9,6 @@ use Rattle.pb_tool.proofs.Common.{Overruns, Reads, bytes_of, Item, place_after, 
 use Rattle.pb_tool.proofs.Common.{IsInstanceWithin, IsOutside, IsProofWithin, IsReadAsInstance, IsReadAsProof, ProofHasNoFault, ProofStaysAsIs, StaysAsIs}
 use Rattle.pb_tool.proofs.Common.{WroteAgain, File, ToolFault, Text, Write, IsProofFile, IsProofText, tidied_proof, TidiesFile, ends_in_feed, IsFile}
 use Rattle.pb_tool.proofs.Common.{IsInstanceFile, IsInstanceText, IsRefused, tidied, TidiesAs, InRest, InText}
-use Rattle.pb_opb.specs.contract.Laws.{InstanceValues}
-use Rattle.pb_proof.specs.meaning.Reading.{ReadsProof}
 use Rattle.pb_tool.proofs.lemmas.check.OneRead.{Compared, after_prefix, same_rest, some_left, two_prefixes, NoneGoesOn, one_spelt}
 
 -- nothing, or a line feed

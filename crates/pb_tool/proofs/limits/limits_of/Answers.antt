@@ -1,7 +1,6 @@
 use Rattle.pb_tool.proofs.Common.{ℕ, ◌%◌, ◌*◌, ◌-◌, ◌^◌, ◌∙◌, ◌≡◌, ◌≤◌, ap, arith, false, true, AreLimits}
-use Rattle.std.proofs.Math.Pow.{pow_mono}
-use Rattle.std.proofs.Math.Nat.{mod-eq_of_lt}
 use Rattle.pb_tool.proofs.limits.limits_of.Goals.{then-bits-lt63, else-bits-lt63}
+use Rattle.std.proofs.Math.{Nat.mod-eq_of_lt, Pow.pow_mono}
 use Rattle.pb_tool.proofs.limits.limits_of.Goals as goal
 
 low : (n : ℕ) → n ≤ 2 ^ 62 → n % 2 ^ 64 ≡ n

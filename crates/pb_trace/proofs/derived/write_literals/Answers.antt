@@ -1,6 +1,4 @@
-use Rattle.pb_trace.proofs.Common.{arith, forced_line, known_by}
-use Rattle.pb_trace.proofs.Deriving.{no_literal}
-use Rattle.pb_trace.proofs.Texts.{each_broke}
+use Rattle.pb_trace.proofs.{Common.arith, Common.forced_line, Common.known_by, Deriving.no_literal, Texts.each_broke}
 use Rattle.pb_trace.proofs.derived.write_literals.Goals as goal
 
 pub returns-in_err-write_forced : goal.returns-in_err-write_forced

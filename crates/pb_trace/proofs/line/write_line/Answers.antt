@@ -1,5 +1,4 @@
-use Rattle.pb_trace.proofs.Common.{arith}
-use Rattle.pb_trace.proofs.Texts.{texts}
+use Rattle.pb_trace.proofs.{Common.arith, Texts.texts}
 use Rattle.pb_trace.proofs.line.write_line.Goals as goal
 
 pub returns-in_err-write_added-clause-text : goal.returns-in_err-write_added-clause-text

@@ -1,5 +1,4 @@
-use Rattle.pb_trace.proofs.Common.{known_by}
-use Rattle.pb_trace.proofs.ReasonLines.{line_cut, line_end, pieces_cut}
+use Rattle.pb_trace.proofs.{Common.known_by, ReasonLines.line_cut, ReasonLines.line_end, ReasonLines.pieces_cut}
 use Rattle.pb_trace.proofs.rejected.write_reason.Goals as goal
 
 pub returns-in_err-write_bytes : goal.returns-in_err-write_bytes

@@ -1,5 +1,4 @@
-use Rattle.pb_trace.proofs.Common.{arith}
-use Rattle.pb_trace.proofs.Texts.{texts}
+use Rattle.pb_trace.proofs.{Common.arith, Texts.texts}
 use Rattle.pb_trace.proofs.rejected.write_rejected_line.Goals as goal
 
 pub returns : goal.returns

@@ -1,5 +1,4 @@
-use Rattle.pb_trace.proofs.Common.{known_by}
-use Rattle.pb_trace.proofs.ReasonLines.{before_cut, derivation_cut, shown_end}
+use Rattle.pb_trace.proofs.{Common.known_by, ReasonLines.before_cut, ReasonLines.derivation_cut, ReasonLines.shown_end}
 use Rattle.pb_trace.proofs.rejected.write_shown.Goals as goal
 
 pub returns-in_err-write_before : goal.returns-in_err-write_before

@@ -1,7 +1,5 @@
-use Rattle.pb_trace.proofs.Common.{ℕ, arith, List}
+use Rattle.pb_trace.{proofs.Common.ℕ, proofs.Common.arith, proofs.Common.List, proofs.Texts.each_broke, specs.Counted.count_line}
 use Rattle.std.specs.Borrow.{Bor}
-use Rattle.pb_trace.specs.Counted.{count_line}
-use Rattle.pb_trace.proofs.Texts.{each_broke}
 use Rattle.pb_trace.proofs.stats.write_counts.Goals as goal
 
 -- the line of a count

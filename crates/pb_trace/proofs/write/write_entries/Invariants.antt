@@ -1,5 +1,4 @@
-use Rattle.pb_trace.proofs.Common.{take, flat_map, Wrote}
-use Rattle.pb_trace.proofs.Shown.{entry_bytes}
+use Rattle.pb_trace.proofs.{Common.take, Common.flat_map, Common.Wrote, Shown.entry_bytes}
 use Rattle.pb_trace.proofs.write.write_entries.Given as goal
 
 abbrev pub invariant-entries : goal.invariant-entries

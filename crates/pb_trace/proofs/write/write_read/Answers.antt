@@ -1,5 +1,4 @@
-use Rattle.pb_trace.proofs.Common.{arith}
-use Rattle.pb_trace.proofs.Texts.{texts}
+use Rattle.pb_trace.proofs.{Common.arith, Texts.texts}
 use Rattle.pb_trace.proofs.write.write_read.Goals as goal
 
 pub returns-in_err-write_place : goal.returns-in_err-write_place

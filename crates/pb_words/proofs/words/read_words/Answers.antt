@@ -1,5 +1,4 @@
-use Rattle.pb_words.proofs.Common.{texts, found_of, rows_of}
-use Rattle.pb_words.proofs.lemmas.NoHelp.{reader_named}
+use Rattle.pb_words.proofs.{Common.texts, Common.found_of, Common.rows_of, lemmas.NoHelp.reader_named}
 use Rattle.pb_words.proofs.lemmas.Parsed.{always_ok, asked_by_entry, explained_by_clap, explained_by_entry, explained_by_memory, named_entry, right_words}
 use Rattle.pb_words.proofs.words.read_words.Goals as goal
 

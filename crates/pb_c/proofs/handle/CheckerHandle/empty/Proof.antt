@@ -1,6 +1,5 @@
 -- `empty` is null, and owns nothing.
-use Rattle.pb_c.proofs.HandleWalks.{checker, empty_walk}
-use Rattle.pb_c.proofs.handle.CheckerHandle.empty.Statement.{statement}
+use Rattle.pb_c.proofs.{HandleWalks.checker, HandleWalks.empty_walk, handle.CheckerHandle.empty.Statement.statement}
 use Rattle.pb_c.proofs.handle.CheckerHandle.empty.Code as code
 
 pub empty_spec : {M : Type 1} → statement M

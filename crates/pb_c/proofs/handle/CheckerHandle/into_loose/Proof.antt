@@ -1,6 +1,5 @@
 -- `into_loose` tests the pointer, and hands on what it owns.
-use Rattle.pb_c.proofs.HandleWalks.{checker, into_loose_walk}
-use Rattle.pb_c.proofs.handle.CheckerHandle.into_loose.Statement.{statement}
+use Rattle.pb_c.proofs.{HandleWalks.checker, HandleWalks.into_loose_walk, handle.CheckerHandle.into_loose.Statement.statement}
 use Rattle.pb_c.proofs.handle.CheckerHandle.into_loose.Code as code
 
 pub into_loose_spec : {M : Type 1} → statement M

@@ -1,6 +1,5 @@
 -- `empty` is null, and owns nothing.
-use Rattle.pb_c.proofs.HandleWalks.{instance, empty_walk}
-use Rattle.pb_c.proofs.instance_handle.InstanceHandle.empty.Statement.{statement}
+use Rattle.pb_c.proofs.{HandleWalks.instance, HandleWalks.empty_walk, instance_handle.InstanceHandle.empty.Statement.statement}
 use Rattle.pb_c.proofs.instance_handle.InstanceHandle.empty.Code as code
 
 pub empty_spec : {M : Type 1} → statement M

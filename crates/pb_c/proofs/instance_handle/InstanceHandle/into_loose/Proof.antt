@@ -1,6 +1,5 @@
 -- `into_loose` tests the pointer, and hands on what it owns.
-use Rattle.pb_c.proofs.HandleWalks.{instance, into_loose_walk}
-use Rattle.pb_c.proofs.instance_handle.InstanceHandle.into_loose.Statement.{statement}
+use Rattle.pb_c.proofs.{HandleWalks.instance, HandleWalks.into_loose_walk, instance_handle.InstanceHandle.into_loose.Statement.statement}
 use Rattle.pb_c.proofs.instance_handle.InstanceHandle.into_loose.Code as code
 
 pub into_loose_spec : {M : Type 1} → statement M

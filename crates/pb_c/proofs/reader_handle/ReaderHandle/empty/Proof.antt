@@ -1,6 +1,5 @@
 -- `empty` is null, and owns nothing.
-use Rattle.pb_c.proofs.HandleWalks.{reader, empty_walk}
-use Rattle.pb_c.proofs.reader_handle.ReaderHandle.empty.Statement.{statement}
+use Rattle.pb_c.proofs.{HandleWalks.reader, HandleWalks.empty_walk, reader_handle.ReaderHandle.empty.Statement.statement}
 use Rattle.pb_c.proofs.reader_handle.ReaderHandle.empty.Code as code
 
 pub empty_spec : {M : Type 1} → statement M

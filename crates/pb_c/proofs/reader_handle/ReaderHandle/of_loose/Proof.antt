@@ -1,6 +1,5 @@
 -- `of_loose` keeps the pointer and what it owns.
-use Rattle.pb_c.proofs.HandleWalks.{reader, of_loose_walk}
-use Rattle.pb_c.proofs.reader_handle.ReaderHandle.of_loose.Statement.{statement}
+use Rattle.pb_c.proofs.{HandleWalks.reader, HandleWalks.of_loose_walk, reader_handle.ReaderHandle.of_loose.Statement.statement}
 use Rattle.pb_c.proofs.reader_handle.ReaderHandle.of_loose.Code as code
 
 pub of_loose_spec : {M : Type 1} → statement M

@@ -1,5 +1,4 @@
-use Rattle.pb_normal.proofs.Common.{◌<◌, arith, length, drop_read}
-use Rattle.pb_normal.proofs.lemmas.terms.Merging.{no_entry}
+use Rattle.pb_normal.proofs.{Common.◌<◌, Common.arith, Common.length, Common.drop_read, lemmas.terms.Merging.no_entry}
 use Rattle.pb_normal.specs.engine.Reading.{read_entries}
 use Rattle.pb_normal.proofs.entries.EntriesIterator.next.Goals as goal
 

@@ -1,6 +1,5 @@
 use Rattle.pb_normal.proofs.Common.{◌≡◌, arith, each, total, IsSum}
-use Rattle.pb_normal.proofs.lemmas.rules.Bounds.{overflow-Memory, overflow-Ok, IsSum-measured, SumPasses-not}
-use Rattle.pb_normal.proofs.lemmas.rules.Sums.{Holds-sum}
+use Rattle.pb_normal.proofs.lemmas.rules.{Bounds.overflow-Memory, Bounds.overflow-Ok, Bounds.IsSum-measured, Bounds.SumPasses-not, Sums.Holds-sum}
 use Rattle.pb_normal.proofs.form.Normal.add.Goals as goal
 
 pub returns-in_err-terms-clause-overflow : goal.returns-in_err-terms-clause-overflow

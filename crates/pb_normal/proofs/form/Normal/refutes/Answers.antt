@@ -1,5 +1,4 @@
-use Rattle.pb_normal.proofs.Common.{arith, tests}
-use Rattle.pb_normal.proofs.lemmas.rules.Bounds.{SumIsContradiction-measured}
+use Rattle.pb_normal.proofs.{Common.arith, Common.tests, lemmas.rules.Bounds.SumIsContradiction-measured}
 use Rattle.pb_normal.proofs.form.Normal.refutes.Goals as goal
 
 pub returns : goal.returns

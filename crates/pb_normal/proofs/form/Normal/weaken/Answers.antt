@@ -1,5 +1,4 @@
-use Rattle.pb_normal.proofs.Common.{Form}
-use Rattle.pb_normal.proofs.lemmas.terms.Maps.{IsNormal-weakened, Holds-weakened}
+use Rattle.pb_normal.proofs.{Common.Form, lemmas.terms.Maps.IsNormal-weakened, lemmas.terms.Maps.Holds-weakened}
 use Rattle.pb_normal.proofs.form.Normal.weaken.Goals as goal
 
 pub invariant_of-result : goal.invariant_of-result

@@ -1,5 +1,4 @@
-use Rattle.pb_normal.proofs.Common.{length, hashes_of, names_in}
-use Rattle.pb_normal.proofs.lemmas.names.Tables.{IsSearched}
+use Rattle.pb_normal.proofs.{Common.length, Common.hashes_of, Common.names_in, lemmas.names.Tables.IsSearched}
 use Rattle.pb_normal.proofs.names.chains.found.Given as goal
 
 -- the name was not found from here on

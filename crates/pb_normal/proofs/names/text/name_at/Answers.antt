@@ -1,5 +1,4 @@
-use Rattle.pb_normal.proofs.Common.{names_in, IsUtf8}
-use Rattle.pb_normal.proofs.lemmas.names.Tables.{All-at}
+use Rattle.pb_normal.proofs.{Common.names_in, Common.IsUtf8, lemmas.names.Tables.All-at}
 use Rattle.pb_normal.proofs.names.text.name_at.Goals as goal
 
 pub unreachable-requires : goal.unreachable-requires

@@ -1,5 +1,4 @@
-use Rattle.pb_normal.proofs.Common.{arith}
-use Rattle.pb_normal.proofs.lemmas.names.Tables.{span_within}
+use Rattle.pb_normal.proofs.{Common.arith, lemmas.names.Tables.span_within}
 use Rattle.pb_normal.proofs.names.text.span_of.Goals as goal
 
 pub returns-clause-within : goal.returns-clause-within

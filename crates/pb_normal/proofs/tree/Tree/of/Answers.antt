@@ -1,5 +1,4 @@
-use Rattle.pb_normal.proofs.Common.{ap, values_of}
-use Rattle.pb_normal.proofs.lemmas.terms.KeyedTerms.{Adds-from_none}
+use Rattle.pb_normal.proofs.{Common.ap, Common.values_of, lemmas.terms.KeyedTerms.Adds-from_none}
 use Rattle.pb_normal.proofs.tree.Tree.of.Goals as goal
 
 -- the terms of the tree are those of the form

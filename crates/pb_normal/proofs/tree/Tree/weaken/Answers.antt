@@ -1,5 +1,4 @@
-use Rattle.pb_normal.proofs.Common.{arith}
-use Rattle.pb_normal.proofs.lemmas.terms.Maps.{IsNormal-weakened}
+use Rattle.pb_normal.proofs.{Common.arith, lemmas.terms.Maps.IsNormal-weakened}
 use Rattle.pb_normal.proofs.tree.Tree.weaken.Goals as goal
 
 pub invariant_of-result : goal.invariant_of-result

@@ -1,5 +1,4 @@
-use Rattle.pb_opb.proofs.Common.{the_view}
-use Rattle.pb_opb.proofs.lemmas.machine.Pushed.{give_order}
+use Rattle.pb_opb.proofs.{Common.the_view, lemmas.machine.Pushed.give_order}
 use Rattle.pb_opb.proofs.machine.OpbMachine.continue_sum.Goals as goal
 
 pub invariant_of-self-2 : goal.invariant_of-self-2

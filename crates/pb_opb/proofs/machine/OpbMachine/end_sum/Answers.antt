@@ -1,5 +1,4 @@
-use Rattle.pb_opb.proofs.Common.{the_view}
-use Rattle.pb_opb.proofs.lemmas.machine.Pushed.{end_order, end_step}
+use Rattle.pb_opb.proofs.{Common.the_view, lemmas.machine.Pushed.end_order, lemmas.machine.Pushed.end_step}
 use Rattle.pb_opb.proofs.machine.OpbMachine.end_sum.Goals as goal
 
 pub invariant_of-self : goal.invariant_of-self

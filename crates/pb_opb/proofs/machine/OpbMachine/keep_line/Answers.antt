@@ -1,7 +1,6 @@
 use Rattle.pb_opb.proofs.Common.{the_view, ℕ, ◌∙◌, List, subst, sym, take, Runs, opb, OpbState}
+use Rattle.pb_opb.proofs.lemmas.machine.{States.is_state, Taken.line_order, Taken.line_runs}
 use Rattle.pb_text.proofs.lemmas.text.Results.{grown}
-use Rattle.pb_opb.proofs.lemmas.machine.Taken.{line_order, line_runs}
-use Rattle.pb_opb.proofs.lemmas.machine.States.{is_state}
 use Rattle.pb_opb.proofs.machine.OpbMachine.keep_line.Goals as goal
 
 pub returns-clause-runs : goal.returns-clause-runs

@@ -1,6 +1,6 @@
 use Rattle.pb_opb.proofs.Common.{the_view, ℕ, ◌∙◌, ◌≡◌, ap, List, subst, sym, BeginTail, Keep, To, PhaseFits, OpbState}
-use Rattle.pb_text.proofs.lemmas.text.Results.{unchanged}
 use Rattle.pb_opb.proofs.lemmas.machine.Pushed.{planned_at, to_order, tail_admits, keep_admits}
+use Rattle.pb_text.proofs.lemmas.text.Results.{unchanged}
 use Rattle.pb_opb.proofs.machine.OpbMachine.take.Goals as goal
 
 pub invariant_of-self : goal.invariant_of-self

@@ -1,7 +1,7 @@
 use Rattle.pb_pieces.proofs.Common.{ℕ, ℤ, ◌++◌, ◌+◌, ◌∙◌, ◌∷◌, ◌≡◌, [], ap, length, of_z, pos, rules, subst, sym, to_z, OpbEvent, HoldAll, places_of}
 use Rattle.pb_pieces.proofs.Common.{row_in, rows_from, span_in, terms_in, terms_of, Span, Row}
-use mir.Syntax.{w128}
 use Rattle.pb_pieces.proofs.Statements.{holds_row, holds_same}
+use mir.Syntax.{w128}
 use Rattle.pb_pieces.proofs.instance.Flat.add.Goals as goal
 
 pub returns-in-Header : goal.returns-in-Header

@@ -1,5 +1,4 @@
-use Rattle.pb_pieces.proofs.Common.{◌+◌, None, refl, rules, token}
-use Rattle.pb_pieces.proofs.Compared.{one_compared}
+use Rattle.pb_pieces.proofs.{Common.◌+◌, Common.None, Common.refl, Common.rules, Common.token, Compared.one_compared}
 use Rattle.pb_pieces.proofs.matcher.MatcherTokenSink.put.Goals as goal
 
 pub returns-in-Some : goal.returns-in-Some

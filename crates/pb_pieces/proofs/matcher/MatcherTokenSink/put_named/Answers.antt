@@ -1,5 +1,4 @@
-use Rattle.pb_pieces.proofs.Common.{◌+◌, refl, rules, Some, token}
-use Rattle.pb_pieces.proofs.Compared.{one_compared}
+use Rattle.pb_pieces.proofs.{Common.◌+◌, Common.refl, Common.rules, Common.Some, Common.token, Compared.one_compared}
 use Rattle.pb_pieces.proofs.matcher.MatcherTokenSink.put_named.Goals as goal
 
 pub returns-in-Some : goal.returns-in-Some

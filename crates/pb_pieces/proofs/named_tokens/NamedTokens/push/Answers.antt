@@ -1,6 +1,6 @@
 use Rattle.pb_pieces.proofs.Common.{ℤ, ◌++◌, ◌∷◌, ◌≡◌, [], None, of_z, refl, rules, subst, to_z, HoldTokens, token}
-use mir.Syntax.{w128}
 use Rattle.pb_pieces.proofs.Numbered.{numbers, one_bare}
+use mir.Syntax.{w128}
 use Rattle.pb_pieces.proofs.named_tokens.NamedTokens.push.Goals as goal
 
 pub returns : goal.returns

@@ -1,6 +1,6 @@
 use Rattle.pb_pieces.proofs.Common.{ℤ, ◌++◌, ◌∷◌, ◌≡◌, [], of_z, refl, rules, Some, subst, to_z, HoldTokens, token}
-use mir.Syntax.{w128}
 use Rattle.pb_pieces.proofs.Numbered.{numbers, one_named}
+use mir.Syntax.{w128}
 use Rattle.pb_pieces.proofs.named_tokens.NamedTokens.push_named.Goals as goal
 
 pub returns : goal.returns

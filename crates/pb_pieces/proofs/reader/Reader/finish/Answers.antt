@@ -1,5 +1,4 @@
-use Rattle.pb_pieces.proofs.Common.{[]}
-use Rattle.pb_pieces.proofs.Readers.{instance_ends, proof_ends}
+use Rattle.pb_pieces.proofs.{Common.[], Readers.instance_ends, Readers.proof_ends}
 use Rattle.pb_pieces.proofs.reader.Reader.finish.Goals as goal
 
 pub returns-in-Instance-clause-ends : goal.returns-in-Instance-clause-ends

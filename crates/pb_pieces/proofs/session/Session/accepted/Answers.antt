@@ -1,6 +1,4 @@
-use Rattle.pb_pieces.proofs.Common.{Some}
-use Rattle.pb_pieces.proofs.Faults.{so_far}
-use Rattle.pb_pieces.proofs.Fed.{running}
+use Rattle.pb_pieces.proofs.{Common.Some, Faults.so_far, Fed.running}
 use Rattle.pb_pieces.proofs.session.Session.accepted.Goals as goal
 
 pub returns-clause-counts : goal.returns-clause-counts

@@ -1,7 +1,6 @@
 use Rattle.pb_pieces.proofs.Common.{ℕ, ◌++◌, ◌-◌, ◌∙◌, ap, arith, drop, length, List, subst, take, length-drop, onward_by, to_all, to_end, to_more}
-use Rattle.pb_pieces.proofs.Common.{IsSession}
+use Rattle.pb_pieces.proofs.{Common.IsSession, Fed.fed_again}
 use Rattle.pb_text.proofs.lemmas.text.Spans.{all_rest}
-use Rattle.pb_pieces.proofs.Fed.{fed_again}
 use Rattle.pb_pieces.proofs.session.Session.feed.Goals as goal
 
 pub returns-in-Some-clause-fed : goal.returns-in-Some-clause-fed

@@ -1,5 +1,4 @@
-use Rattle.pb_pieces.proofs.Common.{Ok, first_state}
-use Rattle.pb_pieces.proofs.Fed.{running}
+use Rattle.pb_pieces.proofs.{Common.Ok, Common.first_state, Fed.running}
 use Rattle.pb_pieces.proofs.session.Session.held.Goals as goal
 
 pub returns-clause-few : goal.returns-clause-few

@@ -1,5 +1,4 @@
-use Rattle.pb_proof.proofs.Common.{take}
-use Rattle.pb_proof.proofs.lemmas.Carried.{runs_in}
+use Rattle.pb_proof.proofs.{Common.take, lemmas.Carried.runs_in}
 use Rattle.pb_proof.proofs.lemmas.line.Laws.{formula_carries, pol_carries, rup_carries, soli_carries, solx_carries, delete_carries, conclusion_carries}
 use Rattle.pb_proof.proofs.line.LineMachine.run.Goals as goal
 

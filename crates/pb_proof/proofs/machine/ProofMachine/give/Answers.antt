@@ -1,6 +1,6 @@
 use Rattle.pb_proof.proofs.Common.{◌≡◌, refl, Some, subst, sym, LineMachine, IsInOrder, ProofState, proof_transition as transition, ProofAction as Action}
-use Rattle.pb_proof.specs.contracts.machine.ProofMachine.{the_view}
 use Rattle.pb_proof.proofs.lemmas.machine.States.{give_order, give_admits, known}
+use Rattle.pb_proof.specs.contracts.machine.ProofMachine.{the_view}
 use Rattle.pb_proof.proofs.machine.ProofMachine.give.Goals as goal
 
 pub invariant_of-self-in-Go : goal.invariant_of-self-in-Go

@@ -1,6 +1,4 @@
-use Rattle.pb_proof.proofs.Common.{refl, take}
-use Rattle.pb_proof.specs.contracts.machine.ProofMachine.{the_view}
-use Rattle.pb_proof.proofs.lemmas.machine.Taken.{runs_given}
+use Rattle.pb_proof.{proofs.Common.refl, proofs.Common.take, proofs.lemmas.machine.Taken.runs_given, specs.contracts.machine.ProofMachine.the_view}
 use Rattle.pb_proof.proofs.machine.ProofMachine.give_prefix.Goals as goal
 use Rattle.pb_proof.proofs.machine.ProofMachine.give_prefix.Goals.{in-Some, in-None}
 

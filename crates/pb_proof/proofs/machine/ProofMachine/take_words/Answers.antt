@@ -1,6 +1,6 @@
 use Rattle.pb_proof.proofs.Common.{subst, take, ProofState, IsRest}
-use Rattle.pb_proof.specs.contracts.machine.ProofMachine.{the_view}
 use Rattle.pb_proof.proofs.lemmas.machine.Taken.{words_to, words_begin}
+use Rattle.pb_proof.specs.contracts.machine.ProofMachine.{the_view}
 use Rattle.pb_proof.proofs.machine.ProofMachine.take_words.Goals as goal
 use Rattle.pb_proof.proofs.machine.ProofMachine.take_words.Goals.{in-To, in-Begin}
 

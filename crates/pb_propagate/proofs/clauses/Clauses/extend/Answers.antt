@@ -1,6 +1,5 @@
 use Rattle.pb_propagate.proofs.Common.{List, Watch, arith, length-append, refl, Search, ℕ}
-use Rattle.pb_propagate.proofs.lemmas.store.Gets.{push-default}
-use Rattle.pb_propagate.proofs.lemmas.clauses.Stores.{rest-same}
+use Rattle.pb_propagate.proofs.lemmas.{clauses.Stores.rest-same, store.Gets.push-default}
 use Rattle.pb_propagate.proofs.clauses.Clauses.extend.Goals as goal
 
 pub returns-clause-rest : goal.returns-clause-rest

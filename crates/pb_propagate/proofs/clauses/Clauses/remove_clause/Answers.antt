@@ -1,8 +1,7 @@
 use Rattle.pb_propagate.proofs.Common.{◌*◌, ◌+◌, ◌∙◌, ◌≡◌, ap, arith, refl, slice_get, slice_get_within, Some, sym, true, Contents, list_at, watch_at}
 use Rattle.pb_propagate.proofs.Common.{watch_lists}
-use Rattle.pb_propagate.proofs.lemmas.clauses.Listed.{list-within, lists-length}
-use Rattle.pb_propagate.proofs.lemmas.clauses.Stores.{slot-room, slot-sits, rest-cleared}
 use Rattle.pb_propagate.proofs.clauses.Clauses.remove_clause.Goals.{After-spot-spot, After-take_out, After-spot-spot-2}
+use Rattle.pb_propagate.proofs.lemmas.clauses.{Listed.list-within, Listed.lists-length, Stores.slot-room, Stores.slot-sits, Stores.rest-cleared}
 use Rattle.pb_propagate.proofs.clauses.Clauses.remove_clause.Goals as goal
 
 -- the two watches stand in their lists: the first, and the second once the first is taken out

@@ -1,5 +1,4 @@
-use Rattle.pb_propagate.proofs.Common.{◌≡◌}
-use Rattle.pb_propagate.proofs.lemmas.clauses.Listed.{list-older, set-older}
+use Rattle.pb_propagate.proofs.{Common.◌≡◌, lemmas.clauses.Listed.list-older, lemmas.clauses.Listed.set-older}
 use Rattle.pb_propagate.proofs.clauses.lists.block.Goals as goal
 
 pub returns-clause-more : goal.returns-clause-more

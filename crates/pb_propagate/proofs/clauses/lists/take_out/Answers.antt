@@ -1,6 +1,6 @@
 use Rattle.pb_propagate.proofs.Common.{◌+◌, ◌-◌, ◌≡◌, arith, get_or-set_other, length, list_at, refl, watch_lists}
-use Rattle.pb_propagate.proofs.lemmas.clauses.Listed.{IsTakenOut, moved-apart, taken-last, taken-moved}
 use Rattle.pb_propagate.proofs.clauses.lists.take_out.Goals.{After-idle, After-place}
+use Rattle.pb_propagate.proofs.lemmas.clauses.Listed.{IsTakenOut, moved-apart, taken-last, taken-moved}
 use Rattle.pb_propagate.proofs.clauses.lists.take_out.Goals as goal
 
 pub place-requires-clause-live : goal.place-requires-clause-live

@@ -1,5 +1,4 @@
-use Rattle.pb_propagate.proofs.Common.{ap, arith, NumberedLiteral}
-use Rattle.pb_propagate.proofs.lemmas.root.Retracted.{some-released}
+use Rattle.pb_propagate.proofs.{Common.ap, Common.arith, Common.NumberedLiteral, lemmas.root.Retracted.some-released}
 use Rattle.pb_propagate.proofs.clauses.reasons.release_by_codes.Goals as goal
 
 pub release_literal-requires : goal.release_literal-requires

@@ -1,6 +1,5 @@
-use Rattle.pb_propagate.proofs.Common.{◌/◌, ◌∙◌, HasTrue, rules, sym}
+use Rattle.pb_propagate.proofs.{Common.◌/◌, Common.◌∙◌, Common.HasTrue, Common.rules, Common.sym, lemmas.clauses.Visited.running-small}
 use Rattle.pb_propagate.proofs.lemmas.clauses.Walks.{served-true}
-use Rattle.pb_propagate.proofs.lemmas.clauses.Visited.{running-small}
 use Rattle.pb_propagate.proofs.clauses.visiting.next_untrue.Goals as goal
 
 pub satisfies-requires : goal.satisfies-requires

@@ -1,5 +1,4 @@
-use Rattle.pb_propagate.proofs.Common.{get_or-set_same, inl, inr, rules}
-use Rattle.pb_propagate.proofs.lemmas.clauses.Listed.{sits-within}
+use Rattle.pb_propagate.proofs.{Common.get_or-set_same, Common.inl, Common.inr, Common.rules, lemmas.clauses.Listed.sits-within}
 use Rattle.pb_propagate.proofs.clauses.visiting.shift.Goals as goal
 
 pub put_in-requires-clause-watch : goal.put_in-requires-clause-watch

@@ -1,9 +1,7 @@
 use Rattle.pb_propagate.proofs.Common.{◌-◌, ◌<◌, ◌^◌, ◌∙◌, ◌≡◌, ap, arith, None, rules, slice_get_within, ArePlaced, forms_of, Standing, numbered}
-use Rattle.pb_propagate.proofs.lemmas.store.Changes.{forms-length}
+use Rattle.pb_propagate.proofs.{engine.Engine.insert.Goals.After-empty_slot, engine.Engine.insert.Goals.In_ok-slot, lemmas.root.Added.gained-both}
+use Rattle.pb_propagate.proofs.lemmas.{root.Kept.gained-kept, store.Changes.forms-length}
 use Rattle.pb_propagate.proofs.lemmas.store.Placed.{numbered-same, numbered-filled, numbered-grown, placed-agree, placed-filled}
-use Rattle.pb_propagate.proofs.lemmas.root.Kept.{gained-kept}
-use Rattle.pb_propagate.proofs.lemmas.root.Added.{gained-both}
-use Rattle.pb_propagate.proofs.engine.Engine.insert.Goals.{After-empty_slot, In_ok-slot}
 use Rattle.pb_propagate.proofs.engine.Engine.insert.Goals as goal
 
 -- the numbers have their slots still, and the new slot is none that says "no form"

@@ -1,8 +1,6 @@
 use Rattle.pb_propagate.proofs.Common.{◌<◌, ap, arith, length, forms_of, Standing}
-use Rattle.pb_propagate.proofs.lemmas.store.Changes.{forms-length}
+use Rattle.pb_propagate.proofs.lemmas.{root.Added.lost-rooted, root.Kept.lost-kept, store.Changes.forms-length}
 use Rattle.pb_propagate.proofs.lemmas.store.Placed.{numbered-length, placed-left, taken-by}
-use Rattle.pb_propagate.proofs.lemmas.root.Kept.{lost-kept}
-use Rattle.pb_propagate.proofs.lemmas.root.Added.{lost-rooted}
 use Rattle.pb_propagate.proofs.engine.Engine.remove.Goals as goal
 
 pub invariant_of-self : goal.invariant_of-self

@@ -2,14 +2,12 @@ use Rattle.pb_propagate.proofs.Common.{false, sum_by, ◌+◌, ◌*◌, ◌∙�
 use Rattle.pb_propagate.proofs.Common.{NumberedLiteral, negation_of, all_of, forms_of, Live, one_in, Standing, terms_in, alone, numbered, IsCompletion}
 use Rattle.pb_propagate.proofs.Common.{MeetsConflict, With, ℕ, ◌++◌, ◌∷◌, Bool, sym, Option, Some, both_ways, Form, Shape, AreSlots, IsAsked, posed, ArePlaced}
 use Rattle.pb_propagate.proofs.Common.{Derivation, HasConflict, IsAnswered}
-use Rattle.pb_propagate.proofs.lemmas.engine.Rests.{slots-terms, slots-more, slots-kept, with-kept}
-use Rattle.pb_propagate.proofs.lemmas.root.Kept.{conflict-answered}
 use Rattle.pb_propagate.proofs.engine.Engine.rup.Goals.{After-ask, After-of-self-inside, In_ok-answer}
-use Rattle.pb_propagate.specs.meaning.Propagation.{begin, put, opposed, broken}
 use Rattle.pb_propagate.proofs.lemmas.engine.Bridge.{AreKept, derives, conflicts, is-closed, has-none}
-use Rattle.pb_propagate.proofs.lemmas.engine.Completing.{closed-none}
-use Rattle.pb_propagate.proofs.lemmas.engine.Literals.{has-none as on-none}
-use Rattle.pb_propagate.proofs.lemmas.store.Placed.{placed-kept, placed-with}
+use Rattle.pb_propagate.proofs.lemmas.engine.{Completing.closed-none, Literals.has-none as on-none}
+use Rattle.pb_propagate.proofs.lemmas.engine.Rests.{slots-terms, slots-more, slots-kept, with-kept}
+use Rattle.pb_propagate.proofs.lemmas.{root.Kept.conflict-answered, store.Placed.placed-kept, store.Placed.placed-with}
+use Rattle.pb_propagate.specs.meaning.Propagation.{begin, put, opposed, broken}
 use Rattle.pb_propagate.proofs.engine.Engine.rup.Goals as goal
 
 -- a conflict of some forms is one of these and one more

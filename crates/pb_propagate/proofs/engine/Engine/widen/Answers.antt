@@ -1,8 +1,6 @@
 use Rattle.pb_propagate.proofs.Common.{◌∙◌, ◌≡◌, ap, arith, length, length-append, refl, all_of, clauses_of, shapes_of, spots_of, Standing}
+use Rattle.pb_propagate.proofs.lemmas.{engine.Rests.widened-stored, engine.Rests.half, root.Kept.conflict-same, root.Ready.rooted-again}
 use Rattle.pb_propagate.proofs.lemmas.store.Links.{entries-length}
-use Rattle.pb_propagate.proofs.lemmas.engine.Rests.{widened-stored, half}
-use Rattle.pb_propagate.proofs.lemmas.root.Kept.{conflict-same}
-use Rattle.pb_propagate.proofs.lemmas.root.Ready.{rooted-again}
 use Rattle.pb_propagate.proofs.engine.Engine.widen.Goals as goal
 
 pub invariant_of-self-2 : goal.invariant_of-self-2

@@ -1,9 +1,7 @@
-use Rattle.pb_propagate.proofs.Common.{arith, length, list_of, ◌≡◌}
-use Rattle.std.proofs.lemmas.Option.{IfSome_then}
-use Rattle.pb_propagate.proofs.lemmas.root.Kept.{kept-conflicts}
-use Rattle.pb_propagate.proofs.lemmas.root.Ready.{undone-left}
+use Rattle.pb_propagate.proofs.{Common.arith, Common.length, Common.list_of, Common.◌≡◌, lemmas.engine.Reasoned.reasons-derive}
+use Rattle.pb_propagate.proofs.lemmas.root.{Kept.kept-conflicts, Ready.undone-left}
 use Rattle.pb_propagate.proofs.lemmas.root.Rooted.{clash-refuted, ended-made, root-clash, map-none}
-use Rattle.pb_propagate.proofs.lemmas.engine.Reasoned.{reasons-derive}
+use Rattle.std.proofs.lemmas.Option.{IfSome_then}
 use Rattle.pb_propagate.proofs.engine.completion.extend.Goals as goal
 
 pub returns-then-branch-clause-clash : goal.returns-then-branch-clause-clash

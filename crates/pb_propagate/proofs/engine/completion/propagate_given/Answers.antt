@@ -1,8 +1,6 @@
-use Rattle.pb_propagate.proofs.Common.{◌≡◌, arith, length, rules, list_of}
-use Rattle.pb_propagate.proofs.lemmas.engine.Literals.{derivation-keeps}
-use Rattle.pb_propagate.proofs.lemmas.engine.Advances.{extends-within}
+use Rattle.pb_propagate.proofs.{Common.◌≡◌, Common.arith, Common.length, Common.rules, Common.list_of, lemmas.engine.Advances.extends-within}
+use Rattle.pb_propagate.proofs.lemmas.engine.{Literals.derivation-keeps, Reasoned.reasons-derive}
 use Rattle.pb_propagate.proofs.lemmas.root.Ready.{left-then, puts-left, puts-ready, heads-now}
-use Rattle.pb_propagate.proofs.lemmas.engine.Reasoned.{reasons-derive}
 use Rattle.pb_propagate.proofs.engine.completion.propagate_given.Goals as goal
 
 pub returns-then-branch-2-clause-clash : goal.returns-then-branch-2-clause-clash

@@ -1,7 +1,5 @@
 use Rattle.pb_propagate.proofs.Common.{rules, arith, inr, or_right, negation, kept, database, progress}
-use Rattle.pb_propagate.proofs.lemmas.engine.Advances.{advances-visit}
-use Rattle.pb_propagate.proofs.lemmas.engine.Literals.{negation-negation}
-use Rattle.pb_propagate.proofs.lemmas.root.Questions.{adopted-found}
+use Rattle.pb_propagate.proofs.lemmas.{engine.Advances.advances-visit, engine.Literals.negation-negation, root.Questions.adopted-found}
 use Rattle.pb_propagate.proofs.engine.denial.deny.Goals as goal
 
 pub returns-then-contains-clause-adopted : goal.returns-then-contains-clause-adopted

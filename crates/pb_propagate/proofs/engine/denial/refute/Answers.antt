@@ -1,9 +1,8 @@
 use Rattle.pb_propagate.proofs.Common.{◌∙◌, arith, length, length-map, rules, begin, Costs, database, progress, RunRefutes, list_of}
-use Rattle.pb_propagate.proofs.lemmas.engine.Literals.{derivation-keeps, sum-bounded, opposite}
+use Rattle.pb_propagate.proofs.engine.denial.refute.Goals.{After-deny_all, After-propagate}
+use Rattle.pb_propagate.proofs.lemmas.engine.{Literals.derivation-keeps, Literals.sum-bounded, Literals.opposite, Reasoned.reasons-derive}
 use Rattle.pb_propagate.proofs.lemmas.root.Questions.{denied-conflicts, denied-derives, denial-settled, more-conflicts, more-settled}
 use Rattle.pb_propagate.proofs.lemmas.root.Ready.{left-then, puts-left, puts-ready, heads-now, refutes-short, refutes-long}
-use Rattle.pb_propagate.proofs.lemmas.engine.Reasoned.{reasons-derive}
-use Rattle.pb_propagate.proofs.engine.denial.refute.Goals.{After-deny_all, After-propagate}
 use Rattle.pb_propagate.proofs.engine.denial.refute.Goals as goal
 
 pub returns-then-branch-clause-derived : goal.returns-then-branch-clause-derived

@@ -1,6 +1,4 @@
-use Rattle.pb_propagate.proofs.Common.{arith, slice_get, forms_of}
-use Rattle.pb_propagate.proofs.lemmas.engine.Rests.{listed-few}
-use Rattle.pb_propagate.proofs.lemmas.store.Options.{some-one}
+use Rattle.pb_propagate.proofs.{Common.arith, Common.slice_get, Common.forms_of, lemmas.engine.Rests.listed-few, lemmas.store.Options.some-one}
 use Rattle.pb_propagate.proofs.engine.question.ask.Goals as goal
 
 pub returns-clause-most : goal.returns-clause-most

@@ -1,23 +1,16 @@
-use Rattle.std.proofs.lemmas.List.{length_push}
 use Rattle.pb_propagate.proofs.Common.{map, length_permutation, entry_of, ℕ, ◌+◌, ◌∙◌, ◌∷◌, ◌≡◌, [], ap, arith, Global, length, length-append}
 use Rattle.pb_propagate.proofs.Common.{length-set, rules, sym, Vec, sum, sum_by, take-append_seam, length-map, sum_by_push, Assignment, all_of}
 use Rattle.pb_propagate.proofs.Common.{clauses_of, none, shapes_of, stored_shape, Derives, Shape, list_of, posed, ◌*◌, ◌≤◌, Contains-append_left}
 use Rattle.pb_propagate.proofs.Common.{IsTidy, beside, get_or_append_left, values_of, ◌<◌}
-use Rattle.pb_propagate.proofs.lemmas.clauses.Heads.{visits-back, walks-kept}
-use Rattle.pb_propagate.proofs.lemmas.engine.Rests.{joined-entered, prefix-of}
-use Rattle.pb_propagate.proofs.lemmas.engine.Runs.{grown-length}
-use Rattle.pb_propagate.proofs.lemmas.engine.Literals.{derivation-single}
-use Rattle.pb_propagate.proofs.lemmas.root.Kept.{met-asked}
-use Rattle.pb_propagate.proofs.lemmas.root.Questions.{entered-shapes, undone-same, updated-most, all-entered, both-answered, entered-tidy, posed-most}
-use Rattle.pb_propagate.proofs.lemmas.root.Questions.{spends-refutes}
-use Rattle.pb_propagate.proofs.lemmas.root.Ready.{rooted-again, heads-now}
-use Rattle.pb_propagate.proofs.lemmas.store.Placed.{numbered-entered}
-use Rattle.pb_propagate.proofs.lemmas.engine.Reasoned.{reasons-derive}
-use Rattle.pb_propagate.specs.engine.engine.Root.{terms_of_all, HasSameForms}
 use Rattle.pb_propagate.proofs.engine.question.pose.Goals.{After-propagate, In_ok-enter}
-use Rattle.pb_propagate.proofs.lemmas.root.Rooted.{derives-within}
-use Rattle.pb_propagate.proofs.lemmas.root.Added.{slot-counted, slot-tidy}
-use Rattle.pb_propagate.proofs.lemmas.store.Stored.{stored-sum}
+use Rattle.pb_propagate.proofs.lemmas.{clauses.Heads.visits-back, clauses.Heads.walks-kept, engine.Literals.derivation-single}
+use Rattle.pb_propagate.proofs.lemmas.engine.{Reasoned.reasons-derive, Rests.joined-entered, Rests.prefix-of, Runs.grown-length}
+use Rattle.pb_propagate.proofs.lemmas.root.{Added.slot-counted, Added.slot-tidy, Kept.met-asked}
+use Rattle.pb_propagate.proofs.lemmas.root.Questions.{entered-shapes, undone-same, updated-most, all-entered, both-answered, entered-tidy, posed-most}
+use Rattle.pb_propagate.proofs.lemmas.root.{Questions.spends-refutes, Ready.rooted-again, Ready.heads-now, Rooted.derives-within}
+use Rattle.pb_propagate.proofs.lemmas.store.{Placed.numbered-entered, Stored.stored-sum}
+use Rattle.pb_propagate.specs.engine.engine.Root.{terms_of_all, HasSameForms}
+use Rattle.std.proofs.lemmas.List.{length_push}
 use Rattle.pb_propagate.proofs.engine.question.pose.Goals as goal
 
 pub returns-then-branch-clause-most : goal.returns-then-branch-clause-most

@@ -1,10 +1,7 @@
 use Rattle.pb_propagate.proofs.Common.{◌+◌, ◌≡◌, ap, arith, length, List, refl, Entry, denial_of, posed, ◌*◌, ◌≤◌, list_of, sym}
-use Rattle.pb_propagate.proofs.lemmas.root.Questions.{denial-stored, both-answered, posed-most}
-use Rattle.pb_propagate.proofs.lemmas.root.Kept.{met-asked}
-use Rattle.pb_propagate.proofs.lemmas.root.Ready.{undone-left}
-use Rattle.pb_propagate.proofs.lemmas.engine.Reasoned.{reasons-derive}
+use Rattle.pb_propagate.proofs.{engine.question.pose_clause.Goals.After-refute, lemmas.engine.Reasoned.reasons-derive, lemmas.root.Kept.met-asked}
+use Rattle.pb_propagate.proofs.lemmas.root.{Questions.denial-stored, Questions.both-answered, Questions.posed-most, Ready.undone-left}
 use Rattle.pb_propagate.specs.engine.engine.Root.{terms_of_all}
-use Rattle.pb_propagate.proofs.engine.question.pose_clause.Goals.{After-refute}
 use Rattle.pb_propagate.proofs.engine.question.pose_clause.Goals as goal
 
 pub returns-then-branch-clause-asked : goal.returns-then-branch-clause-asked

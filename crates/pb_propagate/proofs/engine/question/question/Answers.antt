@@ -1,5 +1,5 @@
-use Rattle.pb_propagate.proofs.Common.{get_or-map, ap, arith, length-map, Form}
 use Rattle.pb_normal.specs.meaning.Rules.{opposite as opposite_entry}
+use Rattle.pb_propagate.proofs.Common.{get_or-map, ap, arith, length-map, Form}
 use Rattle.pb_propagate.proofs.engine.question.question.Goals as goal
 
 pub pose-requires-clause-inside : goal.pose-requires-clause-inside

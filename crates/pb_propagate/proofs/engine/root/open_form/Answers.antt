@@ -1,6 +1,5 @@
 use Rattle.pb_propagate.proofs.Common.{◌∙◌, ap, arith, sym, says}
-use Rattle.pb_propagate.proofs.lemmas.store.Stored.{stored-idle}
-use Rattle.pb_propagate.proofs.lemmas.engine.Propagated.{shape-at, grown-by}
+use Rattle.pb_propagate.proofs.lemmas.{engine.Propagated.shape-at, engine.Propagated.grown-by, store.Stored.stored-idle}
 use Rattle.pb_propagate.proofs.engine.root.open_form.Goals as goal
 
 pub returns-clause-work : goal.returns-clause-work

@@ -1,5 +1,4 @@
-use Rattle.pb_propagate.proofs.Common.{[], subst, sym}
-use Rattle.pb_propagate.proofs.lemmas.store.Positions.{same-everywhere}
+use Rattle.pb_propagate.proofs.{Common.[], Common.subst, Common.sym, lemmas.store.Positions.same-everywhere}
 use Rattle.pb_propagate.specs.engine.engine.Free.{ended, IsChain, nobody}
 use Rattle.pb_propagate.proofs.free.Free.new.Goals as goal
 

@@ -1,5 +1,4 @@
-use Rattle.pb_propagate.proofs.Common.{◌+◌, ap, arith, Term, terms_of}
-use Rattle.pb_propagate.proofs.lemmas.store.Stored.{bound-calm}
+use Rattle.pb_propagate.proofs.{Common.◌+◌, Common.ap, Common.arith, Common.Term, Common.terms_of, lemmas.store.Stored.bound-calm}
 use Rattle.pb_propagate.proofs.store.occurrence_lists.bound_of.Goals as goal
 
 pub returns-clause-calm : goal.returns-clause-calm

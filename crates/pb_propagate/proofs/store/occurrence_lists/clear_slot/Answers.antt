@@ -1,6 +1,5 @@
 use Rattle.pb_propagate.proofs.Common.{◌≡◌, ap, arith, length, set, Global, length-map, refl, shapes_of, spots_in, Vec, StoredForm, stored_shape}
-use Rattle.pb_propagate.proofs.lemmas.store.Links.{cut-length}
-use Rattle.pb_propagate.proofs.lemmas.store.Changes.{IsEmptied, emptied-set, emptied-stored}
+use Rattle.pb_propagate.proofs.lemmas.store.{Changes.IsEmptied, Changes.emptied-set, Changes.emptied-stored, Links.cut-length}
 use Rattle.pb_propagate.specs.declared.store.spots.Spots.TheVariants.{Empty}
 use Rattle.pb_propagate.proofs.store.occurrence_lists.clear_slot.Goals as goal
 

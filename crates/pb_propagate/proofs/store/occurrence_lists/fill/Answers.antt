@@ -1,7 +1,5 @@
 use Rattle.pb_propagate.proofs.Common.{◌∙◌, ap, arith, get_or, length, shapes_of, stored_terms}
-use Rattle.pb_propagate.proofs.lemmas.store.Links.{entries-length}
-use Rattle.pb_propagate.proofs.lemmas.engine.Runs.{place-inside}
-use Rattle.pb_propagate.proofs.lemmas.store.Changes.{filled-stored, kept-inside}
+use Rattle.pb_propagate.proofs.lemmas.{engine.Runs.place-inside, store.Changes.filled-stored, store.Changes.kept-inside, store.Links.entries-length}
 use Rattle.pb_propagate.proofs.store.occurrence_lists.fill.Goals as goal
 
 pub link-requires-clause-inside : goal.link-requires-clause-inside

@@ -1,6 +1,5 @@
 use Rattle.pb_propagate.proofs.Common.{◌+◌, ◌-◌, ◌≡◌, ap, arith, Global, length, take, Vec, length-map, StoredForm, shapes_of, spots_in, stored_shape}
-use Rattle.pb_propagate.proofs.lemmas.store.Links.{cut-length}
-use Rattle.pb_propagate.proofs.lemmas.store.Changes.{emptied-take, emptied-stored}
+use Rattle.pb_propagate.proofs.lemmas.store.{Changes.emptied-take, Changes.emptied-stored, Links.cut-length}
 use Rattle.pb_propagate.proofs.store.occurrence_lists.leave.Goals as goal
 
 pub returns-clause-sound : goal.returns-clause-sound

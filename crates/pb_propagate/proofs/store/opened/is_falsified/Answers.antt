@@ -1,5 +1,4 @@
-use Rattle.pb_propagate.proofs.Common.{negation, arith}
-use Rattle.pb_propagate.proofs.lemmas.engine.Literals.{says-some}
+use Rattle.pb_propagate.proofs.{Common.negation, Common.arith, lemmas.engine.Literals.says-some}
 use Rattle.pb_propagate.proofs.store.opened.is_falsified.Goals as goal
 
 pub returns-in-Some : goal.returns-in-Some

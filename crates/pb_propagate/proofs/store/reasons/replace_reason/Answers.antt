@@ -1,5 +1,4 @@
-use Rattle.pb_propagate.proofs.Common.{arith, shapes_of}
-use Rattle.pb_propagate.proofs.lemmas.root.Retracted.{explained-reasons}
+use Rattle.pb_propagate.proofs.{Common.arith, Common.shapes_of, lemmas.root.Retracted.explained-reasons}
 use Rattle.pb_propagate.proofs.store.reasons.replace_reason.Goals as goal
 
 pub returns-clause-reasons : goal.returns-clause-reasons

@@ -1,5 +1,4 @@
-use Rattle.pb_propagate.proofs.Common.{clauses_of}
-use Rattle.pb_propagate.proofs.lemmas.root.Retracted.{needless-codes}
+use Rattle.pb_propagate.proofs.{Common.clauses_of, lemmas.root.Retracted.needless-codes}
 use Rattle.pb_propagate.proofs.store.reasons.replace_reasons.Goals as goal
 
 pub returns-then-is_filled-clause-needless : goal.returns-then-is_filled-clause-needless

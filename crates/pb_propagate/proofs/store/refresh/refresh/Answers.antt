@@ -1,7 +1,5 @@
-use Rattle.pb_propagate.proofs.lemmas.store.Stored.{stored-idle}
 use Rattle.pb_propagate.proofs.Common.{arith, get_or-set_other, get_or-set_same, length-set, cases_eq}
-use Rattle.pb_propagate.proofs.lemmas.root.Retracted.{refreshed-at}
-use Rattle.pb_propagate.proofs.lemmas.engine.Propagated.{shape-at}
+use Rattle.pb_propagate.proofs.lemmas.{engine.Propagated.shape-at, root.Retracted.refreshed-at, store.Stored.stored-idle}
 use Rattle.pb_propagate.proofs.store.refresh.refresh.Goals as goal
 
 pub returns-clause-form : goal.returns-clause-form

@@ -1,5 +1,4 @@
-use Rattle.pb_propagate.proofs.Common.{arith, length-map}
-use Rattle.pb_propagate.proofs.lemmas.engine.Propagated.{shape-at}
+use Rattle.pb_propagate.proofs.{Common.arith, Common.length-map, lemmas.engine.Propagated.shape-at}
 use Rattle.pb_propagate.proofs.store.units.other_unit.Goals as goal
 
 pub returns : goal.returns

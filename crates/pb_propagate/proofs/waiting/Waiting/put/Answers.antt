@@ -1,5 +1,4 @@
-use Rattle.pb_propagate.proofs.Common.{arith}
-use Rattle.pb_propagate.proofs.lemmas.engine.Rests.{positioned-room}
+use Rattle.pb_propagate.proofs.{Common.arith, lemmas.engine.Rests.positioned-room}
 use Rattle.pb_propagate.proofs.waiting.Waiting.put.Goals as goal
 
 pub push_reserved-requires : goal.push_reserved-requires

@@ -1,5 +1,4 @@
-use Rattle.pb_replay.proofs.Common.{refl, arith}
-use Rattle.pb_replay.proofs.lemmas.rules.Steps.{ready_first}
+use Rattle.pb_replay.proofs.{Common.refl, Common.arith, lemmas.rules.Steps.ready_first}
 use Rattle.pb_replay.proofs.replay.Replay.with_hasher.Goals as goal
 
 pub invariant_of-result : goal.invariant_of-result

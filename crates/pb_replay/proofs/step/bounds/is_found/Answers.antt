@@ -1,5 +1,4 @@
-use Rattle.pb_replay.proofs.Common.{FitsSigned, rules, to_z-of_z, w64}
-use Rattle.pb_replay.proofs.lemmas.conclusions.Bounding.{named-some}
+use Rattle.pb_replay.proofs.{Common.FitsSigned, Common.rules, Common.to_z-of_z, Common.w64, lemmas.conclusions.Bounding.named-some}
 use Rattle.pb_replay.proofs.step.bounds.is_found.Goals as goal
 
 pub returns-in-Some-find-clause-ok : goal.returns-in-Some-find-clause-ok

@@ -1,5 +1,4 @@
-use Rattle.pb_replay.proofs.Common.{IsTrue, rules}
-use Rattle.pb_replay.proofs.lemmas.conclusions.Bounding.{refuted-shown}
+use Rattle.pb_replay.proofs.{Common.IsTrue, Common.rules, lemmas.conclusions.Bounding.refuted-shown}
 use Rattle.pb_replay.proofs.step.bounds.is_shown.Goals as goal
 
 pub returns-then-branch-clause-ok : goal.returns-then-branch-clause-ok

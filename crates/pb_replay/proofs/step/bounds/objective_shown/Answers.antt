@@ -1,5 +1,4 @@
-use Rattle.pb_replay.proofs.Common.{to_z-of_z, arith}
-use Rattle.pb_replay.proofs.lemmas.conclusions.Bounding.{objective-ok}
+use Rattle.pb_replay.proofs.{Common.to_z-of_z, Common.arith, lemmas.conclusions.Bounding.objective-ok}
 use Rattle.pb_replay.proofs.step.bounds.objective_shown.Goals as goal
 
 pub returns-clause-shown : goal.returns-clause-shown

@@ -1,5 +1,4 @@
-use Rattle.pb_replay.proofs.Common.{FitsSigned, rules, to_z-of_z, w128}
-use Rattle.pb_replay.proofs.lemmas.conclusions.Bounding.{lower-infinite}
+use Rattle.pb_replay.proofs.{Common.FitsSigned, Common.rules, Common.to_z-of_z, Common.w128, lemmas.conclusions.Bounding.lower-infinite}
 use Rattle.pb_replay.proofs.step.bounds.shows_lower.Goals as goal
 
 pub returns-in-Infinite-clause-lower : goal.returns-in-Infinite-clause-lower

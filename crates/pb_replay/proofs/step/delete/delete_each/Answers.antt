@@ -1,5 +1,4 @@
-use Rattle.pb_replay.proofs.Common.{to_z-of_z, arith}
-use Rattle.pb_replay.proofs.lemmas.rules.Live.{stops, goes-on}
+use Rattle.pb_replay.proofs.{Common.to_z-of_z, Common.arith, lemmas.rules.Live.stops, lemmas.rules.Live.goes-on}
 use Rattle.pb_replay.proofs.step.delete.delete_each.Goals as goal
 
 pub returns-in-None-clause-err : goal.returns-in-None-clause-err

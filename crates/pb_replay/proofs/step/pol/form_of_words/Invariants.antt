@@ -1,5 +1,4 @@
-use Rattle.pb_replay.proofs.Common.{largest, top_of}
-use Rattle.pb_replay.proofs.lemmas.rules.Words.{Standing}
+use Rattle.pb_replay.proofs.{Common.largest, Common.top_of, lemmas.rules.Words.Standing}
 use Rattle.pb_replay.proofs.step.pol.form_of_words.Given as goal
 
 -- the result of the rest is the result of the whole

@@ -1,6 +1,4 @@
-use Rattle.pb_replay.proofs.Common.{arith}
-use Rattle.pb_replay.proofs.lemmas.names.Assigned.{words_named}
-use Rattle.pb_replay.proofs.lemmas.rules.Statements.{pol-inside, pol-goes}
+use Rattle.pb_replay.proofs.{Common.arith, lemmas.names.Assigned.words_named, lemmas.rules.Statements.pol-inside, lemmas.rules.Statements.pol-goes}
 use Rattle.pb_replay.proofs.step.pol.pol.Goals as goal
 
 pub shared_form-requires-clause-named : goal.shared_form-requires-clause-named

@@ -1,5 +1,4 @@
-use Rattle.pb_replay.proofs.Common.{arith}
-use Rattle.pb_replay.proofs.lemmas.rules.Steps.{goes-from}
+use Rattle.pb_replay.proofs.{Common.arith, lemmas.rules.Steps.goes-from}
 use Rattle.pb_replay.proofs.step.solution.solx.Goals as goal
 
 pub returns-clause-goes : goal.returns-clause-goes

@@ -1,6 +1,4 @@
-use Rattle.pb_sums.proofs.Common.{largest}
-use Rattle.pb_sums.proofs.lemmas.machine.Asked.{asks_one}
-use Rattle.pb_sums.proofs.lemmas.machine.States.{accepts_one, first_is_state}
+use Rattle.pb_sums.proofs.{Common.largest, lemmas.machine.Asked.asks_one, lemmas.machine.States.accepts_one, lemmas.machine.States.first_is_state}
 use Rattle.pb_sums.proofs.machine.SumMachine.new.Goals as goal
 
 pub returns-clause-format : goal.returns-clause-format

@@ -1,5 +1,4 @@
-use Rattle.pb_sums.proofs.Common.{refl, Phase}
-use Rattle.pb_sums.proofs.lemmas.machine.States.{midway_state}
+use Rattle.pb_sums.proofs.{Common.refl, Common.Phase, lemmas.machine.States.midway_state}
 use Rattle.pb_sums.proofs.machine.SumMachine.take_relation.Goals as goal
 
 pub returns-clause-state : goal.returns-clause-state

@@ -1,6 +1,5 @@
 use Rattle.pb_sums.proofs.Common.{◌==◌, ◌∙◌, ap, length, sym}
-use Rattle.pb_sums.proofs.lemmas.prefixes.Digits.{none_there}
-use Rattle.pb_sums.proofs.lemmas.prefixes.TermParts.{number_state}
+use Rattle.pb_sums.proofs.lemmas.prefixes.{Digits.none_there, TermParts.number_state}
 use Rattle.pb_sums.proofs.machine.SumMachine.take_spaced_number.Goals as goal
 
 pub returns-clause-state : goal.returns-clause-state

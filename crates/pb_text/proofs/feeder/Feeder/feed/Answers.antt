@@ -1,11 +1,10 @@
 use Rattle.pb_text.proofs.Common.{Ok, Feeder, Ghosts, spans_in, ℕ, ◌++◌, ◌+◌, ◌-◌, ◌<◌, ◌∙◌, ◌∷◌, ◌≡◌, ◌≢◌, ◌≤◌, [], ap, append-nil, append_assoc, arith, drop}
 use Rattle.pb_text.proofs.Common.{get_or, length, length-drop, length-take, List, slice_get, Some, subst, take, take-append-drop, take-length, None, Option}
 use Rattle.pb_text.proofs.Common.{Stop, Stands}
-use Rattle.pb_text.specs.contract.Feeding.{bytes_with, FeedsOnce}
-use Rattle.pb_text.specs.declared.feeder.Fed.{Fed}
-use Rattle.std.proofs.lemmas.Option.{slice_get-get_or}
 use Rattle.pb_text.proofs.lemmas.feeder.Steps.{passes, Reaches, stands_more, with_byte, with_more}
 use Rattle.pb_text.proofs.lemmas.text.Spans.{one_further}
+use Rattle.pb_text.specs.{contract.Feeding.bytes_with, contract.Feeding.FeedsOnce, declared.feeder.Fed.Fed}
+use Rattle.std.proofs.lemmas.Option.{slice_get-get_or}
 use Rattle.pb_text.proofs.feeder.Feeder.feed.Goals as goal
 
 whole : (input piece : List ℕ) (i : ℕ) → i < length piece → ((input ++ take i piece) ++ get_or piece i 0 ∷ []) ++ drop (i + 1) piece ≡ input ++ piece

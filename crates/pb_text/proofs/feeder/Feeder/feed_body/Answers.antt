@@ -1,6 +1,5 @@
 use Rattle.pb_text.proofs.Common.{ℕ, ◌-◌, ◌≡◌, ◌≤◌, arith, length, length-take, length-take-le, List, min, take, take-take}
-use Rattle.pb_text.proofs.lemmas.machine.Running.{stands_run, place_fits}
-use Rattle.pb_text.proofs.lemmas.feeder.Steps.{running, end_at}
+use Rattle.pb_text.proofs.lemmas.{feeder.Steps.running, feeder.Steps.end_at, machine.Running.stands_run, machine.Running.place_fits}
 use Rattle.pb_text.proofs.feeder.Feeder.feed_body.Goals as goal
 
 -- the number of bytes that were taken, and that they are those of the piece

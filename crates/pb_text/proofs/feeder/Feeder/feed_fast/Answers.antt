@@ -1,5 +1,4 @@
-use Rattle.pb_text.proofs.Common.{append_assoc}
-use Rattle.pb_text.proofs.lemmas.text.Spans.{prefix_parts}
+use Rattle.pb_text.proofs.{Common.append_assoc, lemmas.text.Spans.prefix_parts}
 use Rattle.pb_text.proofs.feeder.Feeder.feed_fast.Goals as goal
 
 pub returns-clause-stands : goal.returns-clause-stands

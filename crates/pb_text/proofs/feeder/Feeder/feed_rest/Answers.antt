@@ -1,9 +1,9 @@
 use Rattle.pb_text.proofs.Common.{ℕ, ◌++◌, ◌+◌, ◌-◌, ◌<◌, ◌^◌, ◌∙◌, ◌∷◌, ◌≡◌, ◌≤◌, [], ap, arith, false, get_or, length, length-append, length-take}
 use Rattle.pb_text.proofs.Common.{length-take-le, List, min, None, Option, Some, subst, sym, take, true, take-take, take_more, is_some, begins, IsState, Stands}
 use Rattle.pb_text.proofs.Common.{StandsAt, Feeder, Ghosts, Place, Spanned, end_of, byte_limit, place_next, place_past}
-use Rattle.pb_text.specs.contract.Automaton.{TakesStatement}
-use Rattle.pb_text.proofs.lemmas.machine.Running.{place_fits, past_more, stands_whole, first_of, span}
 use Rattle.pb_text.proofs.lemmas.feeder.Steps.{running}
+use Rattle.pb_text.proofs.lemmas.machine.Running.{place_fits, past_more, stands_whole, first_of, span}
+use Rattle.pb_text.specs.contract.Automaton.{TakesStatement}
 use Rattle.pb_text.proofs.feeder.Feeder.feed_rest.Goals as goal
 
 none_of : {A : Type 0} (o : Option A) → is_some o ≡ false → o ≡ None

@@ -1,5 +1,4 @@
-use Rattle.pb_text.proofs.Common.{spans_in}
-use Rattle.pb_text.proofs.lemmas.feeder.Steps.{passes, with_more}
+use Rattle.pb_text.proofs.{Common.spans_in, lemmas.feeder.Steps.passes, lemmas.feeder.Steps.with_more}
 use Rattle.pb_text.proofs.feeder.Feeder.feed_statement.Goals as goal
 
 pub returns-clause-stands : goal.returns-clause-stands

@@ -1,6 +1,5 @@
 use Rattle.pb_text.proofs.Common.{false, refl, sym, true, bytes}
-use Rattle.pb_text.proofs.lemmas.feeder.Reported.{stands_reads}
-use Rattle.pb_text.proofs.lemmas.feeder.Steps.{running, stands_ended}
+use Rattle.pb_text.proofs.lemmas.feeder.{Reported.stands_reads, Steps.running, Steps.stands_ended}
 use Rattle.pb_text.proofs.feeder.Feeder.finish.Goals as goal
 
 pub returns-then-is_done-clause-ends : goal.returns-then-is_done-clause-ends

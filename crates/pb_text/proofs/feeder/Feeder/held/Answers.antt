@@ -1,6 +1,5 @@
 use Rattle.pb_text.proofs.Common.{arith, length, bytes}
-use Rattle.pb_text.proofs.lemmas.text.Short.{begun_bytes}
-use Rattle.pb_text.proofs.lemmas.feeder.Reported.{stands_open, kept_within}
+use Rattle.pb_text.proofs.lemmas.{feeder.Reported.stands_open, feeder.Reported.kept_within, text.Short.begun_bytes}
 use Rattle.pb_text.proofs.feeder.Feeder.held.Goals as goal
 
 pub returns-clause-few : goal.returns-clause-few

@@ -1,5 +1,4 @@
-use Rattle.pb_text.proofs.Common.{bytes}
-use Rattle.pb_text.proofs.lemmas.feeder.Reported.{stands_reads}
+use Rattle.pb_text.proofs.{Common.bytes, lemmas.feeder.Reported.stands_reads}
 use Rattle.pb_text.proofs.feeder.Feeder.is_done.Goals as goal
 
 pub returns-clause-reads : goal.returns-clause-reads

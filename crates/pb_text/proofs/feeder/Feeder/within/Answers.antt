@@ -1,5 +1,4 @@
-use Rattle.pb_text.proofs.Common.{refl}
-use Rattle.pb_text.proofs.lemmas.feeder.Steps.{stands_new}
+use Rattle.pb_text.proofs.{Common.refl, lemmas.feeder.Steps.stands_new}
 use Rattle.pb_text.proofs.feeder.Feeder.within.Goals as goal
 
 pub returns-clause-stands : goal.returns-clause-stands

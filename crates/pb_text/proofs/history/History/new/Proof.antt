@@ -1,19 +1,19 @@
 -- `new` makes a value without bytes, with the empty list as its ghost value.
-use seplogic.Ra.Ura.{Ura}
-use mir.Val.{Val, vstruct, vcons, vnil}
+use Rattle.pb_text.proofs.Common.{◌∷◌, [], refl, History}
 use base.Logic.{SProp}
-use prog.{Memory.Memory, Routine.Routine, Wp.WpFn, Wp.Tables}
-use types.Logic.{Logic}
 use contract.{Monad.Fun, Running.tables, Running.tables_of}
-use sound.WpLaws.{WpFn-mono}
-use types.Kit.{raw, ◌$◌, ◌∵◌, !, qed, keep, join, suffices, done}
-use types.Run.{no_more, and_then, returns, enter}
-use types.Part.{agg}
-use types.ByLocal.{alloc_all, pass_all, free_all, look_at, get, sets}
 use denote.{Shadow.pure_i, Steps.nothing}
 use denote.Triple.{Entry.on_entry, Spec.Meets, Spec.triple_of, Table.entered}
 use denote.Triple.Walked.{says, ends_at, walked, walk_Meets}
-use Rattle.pb_text.proofs.Common.{◌∷◌, [], refl, History}
+use mir.Val.{Val, vstruct, vcons, vnil}
+use prog.{Memory.Memory, Routine.Routine, Wp.WpFn, Wp.Tables}
+use seplogic.Ra.Ura.{Ura}
+use sound.WpLaws.{WpFn-mono}
+use types.ByLocal.{alloc_all, pass_all, free_all, look_at, get, sets}
+use types.Kit.{raw, ◌$◌, ◌∵◌, !, qed, keep, join, suffices, done}
+use types.Logic.{Logic}
+use types.Part.{agg}
+use types.Run.{no_more, and_then, returns, enter}
 use Rattle.pb_text.specs.contracts.history.History as T
 use Rattle.pb_text.specs.contracts.history.History.new.Key.{name as #it}
 use Rattle.pb_text.specs.contracts.history.History.new as it

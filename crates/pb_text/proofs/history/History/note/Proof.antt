@@ -1,20 +1,20 @@
 -- An empty body. The borrow is opened and closed with another ghost value.
 use Rattle.pb_text.proofs.Common.{ℕ, ◌++◌, ◌<◌, ◌^◌, ◌∷◌, [], length, List, MutBor, refl, History}
-use seplogic.Ra.Ura.{Ura}
-use mir.Syntax.{named}
-use mir.Val.{Val, vunit, vptr}
-use base.Logic.{SProp, ent, sep, emp, via, fst∗, id⊢}
 use base.Fml.{GName, Lft, Share, ftrue, flft, fobs, fbor}
-use prog.{Memory.Memory, Routine.Routine, Wp.Calls, Wp.Loops, Wp.WpFn, Wp.Tables}
-use types.Logic.{Logic}
+use base.Logic.{SProp, ent, sep, emp, via, fst∗, id⊢}
 use contract.{Monad.Fun, Running.tables, Running.tables_of}
-use types.Kit.{‵, ◌⊛◌, ◌$◌, ◌∵◌, !, qed, by, move, keep, drop, use1, split, join, fsplit, fsplit3, fjoin, fjoin3, feq_i, suffices, frame, done}
-use types.{Run.unit_lit, Run.of_opd, Run.returns, Run.enter, SemTy.Body}
-use types.ByLocal.{alloc_all, pass_all, free_all, look_at, sets}
-use sound.WpLaws.{WpFn-mono}
 use denote.{Builtin.u8, Exit.yes, Memory.mem, RattleType.owns, Ref.Bor, Ref.MutRef, Ref.mut_vals, Ref.mut_Tells, Signature.plain, Steps.opens, Steps.closes}
 use denote.Triple.{Entry.on_entry, Spec.Meets, Spec.triple_of, Table.entered}
 use denote.Triple.Walked.{says, Stays, stay_ref, stay_none_slice, walk_of, AllGo, Goes-ref, Goes-none_slice, Walks, ends_at, walked, walk_Meets}
+use mir.Syntax.{named}
+use mir.Val.{Val, vunit, vptr}
+use prog.{Memory.Memory, Routine.Routine, Wp.Calls, Wp.Loops, Wp.WpFn, Wp.Tables}
+use seplogic.Ra.Ura.{Ura}
+use sound.WpLaws.{WpFn-mono}
+use types.{Run.unit_lit, Run.of_opd, Run.returns, Run.enter, SemTy.Body}
+use types.ByLocal.{alloc_all, pass_all, free_all, look_at, sets}
+use types.Kit.{‵, ◌⊛◌, ◌$◌, ◌∵◌, !, qed, by, move, keep, drop, use1, split, join, fsplit, fsplit3, fjoin, fjoin3, feq_i, suffices, frame, done}
+use types.Logic.{Logic}
 use Rattle.pb_text.specs.contracts.history.History as T
 use Rattle.pb_text.specs.contracts.history.History.note.Key.{name as #it}
 use Rattle.pb_text.specs.contracts.history.History.note as it

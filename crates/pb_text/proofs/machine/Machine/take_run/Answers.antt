@@ -1,5 +1,4 @@
-use Rattle.pb_text.proofs.Common.{arith, length-drop, length-take}
-use Rattle.pb_text.proofs.lemmas.text.Spans.{runs_further}
+use Rattle.pb_text.proofs.{Common.arith, Common.length-drop, Common.length-take, lemmas.text.Spans.runs_further}
 use Rattle.pb_text.proofs.machine.Machine.take_run.Goals as goal
 
 pub returns-then-more-eq0-clause-runs : goal.returns-then-more-eq0-clause-runs

@@ -1,6 +1,6 @@
 use Rattle.pb_tool.proofs.Common.{[], append-nil, Err, Ok, refl, rules, sym, first_state, Write}
-use Rattle.pb_tool.proofs.lemmas.check.TwoSources.{all_broke, all_written, instance_read, no_replay, opening_unseen, proof_refused, replay_unseen}
 use Rattle.pb_tool.proofs.lemmas.check.Headline.{all_answered, all_replayed}
+use Rattle.pb_tool.proofs.lemmas.check.TwoSources.{all_broke, all_written, instance_read, no_replay, opening_unseen, proof_refused, replay_unseen}
 use Rattle.pb_tool.proofs.commands.check.check_watched.Goals as goal
 
 pub returns-in-Err : goal.returns-in-Err

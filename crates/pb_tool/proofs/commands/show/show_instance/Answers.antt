@@ -1,6 +1,5 @@
 use Rattle.pb_tool.proofs.Common.{event_bytes, opb, AcceptsItems, MayAsk, AsksInInstanceText, IsInstanceText}
-use Rattle.pb_tool.proofs.lemmas.file.GivenBytes.{given_by}
-use Rattle.pb_tool.proofs.lemmas.show.ShownStatements.{shows_to}
+use Rattle.pb_tool.proofs.lemmas.{file.GivenBytes.given_by, show.ShownStatements.shows_to}
 use Rattle.pb_tool.proofs.commands.show.show_instance.Goals as goal
 
 pub returns-clause-shows : goal.returns-clause-shows

@@ -1,5 +1,4 @@
-use Rattle.pb_tool.proofs.Common.{part_broke, part_then}
-use Rattle.pb_tool.proofs.lemmas.show.ShownStatements.{line_parts}
+use Rattle.pb_tool.proofs.{Common.part_broke, Common.part_then, lemmas.show.ShownStatements.line_parts}
 use Rattle.pb_tool.proofs.commands.show.write_spanned.Goals as goal
 
 pub returns-in_err-write_place : goal.returns-in_err-write_place

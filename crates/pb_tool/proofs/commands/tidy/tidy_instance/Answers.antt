@@ -1,6 +1,4 @@
-use Rattle.pb_tool.proofs.Common.{opb, AcceptsItems, MayAsk}
-use Rattle.pb_tool.proofs.lemmas.file.GivenBytes.{given_by}
-use Rattle.pb_tool.proofs.lemmas.tidy.InstanceLines.{tidies_text}
+use Rattle.pb_tool.proofs.{Common.opb, Common.AcceptsItems, Common.MayAsk, lemmas.file.GivenBytes.given_by, lemmas.tidy.InstanceLines.tidies_text}
 use Rattle.pb_tool.proofs.commands.tidy.tidy_instance.Goals as goal
 
 pub returns-clause-tidies : goal.returns-clause-tidies

@@ -1,6 +1,4 @@
-use Rattle.pb_tool.proofs.Common.{proofs, AcceptsItems, MayAsk}
-use Rattle.pb_tool.proofs.lemmas.file.GivenBytes.{given_by}
-use Rattle.pb_tool.proofs.lemmas.tidy.ProofLines.{tidies_text}
+use Rattle.pb_tool.proofs.{Common.proofs, Common.AcceptsItems, Common.MayAsk, lemmas.file.GivenBytes.given_by, lemmas.tidy.ProofLines.tidies_text}
 use Rattle.pb_tool.proofs.commands.tidy.tidy_proof.Goals as goal
 
 pub returns-clause-tidies : goal.returns-clause-tidies

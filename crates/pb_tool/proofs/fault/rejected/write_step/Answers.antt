@@ -1,6 +1,5 @@
 use Rattle.pb_tool.proofs.Common.{◌++◌, ◌∷◌, [], append_assoc, refl, part_broke, part_then, place_text, prefix_of}
-use Rattle.pb_tool.specs.contract.Refusals.{refusal_text}
-use Rattle.pb_tool.specs.declared.fault.Input.TheVariants.{Proof}
+use Rattle.pb_tool.specs.{contract.Refusals.refusal_text, declared.fault.Input.TheVariants.Proof}
 use Rattle.pb_tool.proofs.fault.rejected.write_step.Goals as goal
 
 pub returns-in_err-write_place : goal.returns-in_err-write_place

@@ -1,5 +1,4 @@
-use Rattle.pb_trace.proofs.Common.{refl}
-use Rattle.pb_trace.proofs.Deriving.{sound-start}
+use Rattle.pb_trace.proofs.{Common.refl, Deriving.sound-start}
 use Rattle.pb_trace.proofs.propagation.Propagation.new.Goals as goal
 
 pub returns : goal.returns

@@ -1,6 +1,5 @@
+use Rattle.pb_normal.proofs.lemmas.terms.{Maps.total-le-each, Merging.total-drop}
 use Rattle.pb_trace.proofs.Common.{ap, arith, no_entry, each, total, free_by}
-use Rattle.pb_normal.proofs.lemmas.terms.Maps.{total-le-each}
-use Rattle.pb_normal.proofs.lemmas.terms.Merging.{total-drop}
 use Rattle.pb_trace.proofs.propagation.Propagation.open_sum.Goals as goal
 
 pub overflow_add-sum : goal.overflow_add-sum

@@ -1,5 +1,4 @@
-use Rattle.pb_trace.proofs.Common.{option_copied}
-use Rattle.pb_trace.proofs.Deriving.{keeps_then}
+use Rattle.pb_trace.proofs.{Common.option_copied, Deriving.keeps_then}
 use Rattle.pb_trace.proofs.propagation.Propagation.propagate.Goals as goal
 
 pub returns : goal.returns

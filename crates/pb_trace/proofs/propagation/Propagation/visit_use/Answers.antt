@@ -1,5 +1,4 @@
-use Rattle.pb_trace.proofs.Common.{refl, option_copied}
-use Rattle.pb_trace.proofs.Deriving.{keeps_alike}
+use Rattle.pb_trace.proofs.{Common.refl, Common.option_copied, Deriving.keeps_alike}
 use Rattle.pb_trace.proofs.propagation.Propagation.visit_use.Goals as goal
 
 pub returns : goal.returns

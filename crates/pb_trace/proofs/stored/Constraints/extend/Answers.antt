@@ -1,5 +1,4 @@
-use Rattle.pb_trace.proofs.Common.{arith, length, live_in}
-use Rattle.pb_trace.proofs.Adding.{newer_more}
+use Rattle.pb_trace.proofs.{Adding.newer_more, Common.arith, Common.length, Common.live_in}
 use Rattle.pb_trace.proofs.stored.Constraints.extend.Goals as goal
 
 pub loop-index-preserved : goal.loop-index-preserved

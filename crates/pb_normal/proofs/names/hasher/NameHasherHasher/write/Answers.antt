@@ -1,5 +1,4 @@
-use Rattle.pb_normal.proofs.Common.{refl}
-use Rattle.pb_normal.specs.contract.NameHasher.{write}
+use Rattle.pb_normal.{proofs.Common.refl, specs.contract.NameHasher.write}
 use Rattle.pb_normal.proofs.names.hasher.NameHasherHasher.write.Goals as goal
 
 pub returns : goal.returns

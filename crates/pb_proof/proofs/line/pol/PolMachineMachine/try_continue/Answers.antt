@@ -1,5 +1,4 @@
-use Rattle.pb_proof.proofs.Common.{◌∙◌, ap, never, transition, arith}
-use Rattle.pb_proof.proofs.lemmas.pol.Theorems.{stays}
+use Rattle.pb_proof.proofs.{Common.◌∙◌, Common.ap, Common.never, Common.transition, Common.arith, lemmas.pol.Theorems.stays}
 use Rattle.pb_proof.proofs.line.pol.PolMachineMachine.try_continue.Goals.{in-End, in_default}
 use Rattle.pb_proof.proofs.line.pol.PolMachineMachine.try_continue.Goals as goal
 

@@ -1,5 +1,4 @@
-use Rattle.pb_proof.proofs.Common.{arith}
-use Rattle.pb_proof.proofs.lemmas.pol.Theorems.{waits}
+use Rattle.pb_proof.proofs.{Common.arith, lemmas.pol.Theorems.waits}
 use Rattle.pb_proof.proofs.line.pol.PolMachineMachine.try_finish.Goals as goal
 
 pub returns-in_default-answer : goal.returns-in_default-answer

@@ -1,5 +1,4 @@
-use Rattle.pb_proof.proofs.lemmas.Carried.{state_in}
-use Rattle.pb_proof.proofs.lemmas.line.Laws.{pol_carries, rup_carries, delete_carries}
+use Rattle.pb_proof.proofs.lemmas.{Carried.state_in, line.Laws.pol_carries, line.Laws.rup_carries, line.Laws.delete_carries}
 use Rattle.pb_proof.proofs.line.push.LineMachineMachine.try_finish.Goals as goal
 
 pub returns-in-Pol-clause-state : goal.returns-in-Pol-clause-state

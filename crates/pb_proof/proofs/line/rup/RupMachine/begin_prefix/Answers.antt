@@ -1,6 +1,5 @@
-use Rattle.pb_proof.proofs.Common.{◌∙◌, arith, sym}
+use Rattle.pb_proof.proofs.{Common.◌∙◌, Common.arith, Common.sym, lemmas.machine.Taken.rup_runs_begun}
 use Rattle.pb_proof.specs.contracts.line.rup.RupMachine.{the_view}
-use Rattle.pb_proof.proofs.lemmas.machine.Taken.{rup_runs_begun}
 use Rattle.pb_proof.proofs.line.rup.RupMachine.begin_prefix.Goals as goal
 
 pub invariant_of-self-2 : goal.invariant_of-self-2

@@ -1,6 +1,6 @@
 use Rattle.pb_proof.proofs.Common.{◌∙◌, ◌≡◌, ap, subst, true, SumState, is_large, Refuse, rup_automaton, RupState}
-use Rattle.pb_proof.specs.contracts.line.rup.RupMachine.{the_view}
 use Rattle.pb_proof.proofs.lemmas.Rup.{give_order, tail_order, give_refused, give_admits}
+use Rattle.pb_proof.specs.contracts.line.rup.RupMachine.{the_view}
 use Rattle.pb_proof.proofs.line.rup.RupMachine.give.Goals as goal
 
 pub invariant_of-self : goal.invariant_of-self

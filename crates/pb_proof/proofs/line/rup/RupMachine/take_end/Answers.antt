@@ -1,5 +1,4 @@
-use Rattle.pb_proof.specs.contracts.line.rup.RupMachine.{the_view}
-use Rattle.pb_proof.proofs.lemmas.Rup.{tail_order}
+use Rattle.pb_proof.{proofs.lemmas.Rup.tail_order, specs.contracts.line.rup.RupMachine.the_view}
 use Rattle.pb_proof.proofs.line.rup.RupMachine.take_end.Goals as goal
 
 pub invariant_of-self-2 : goal.invariant_of-self-2

@@ -1,5 +1,4 @@
-use Rattle.pb_proof.proofs.Common.{subst, IsState, rup_automaton, RupState}
-use Rattle.pb_proof.proofs.lemmas.Rup.{rup_is_state}
+use Rattle.pb_proof.proofs.{Common.subst, Common.IsState, Common.rup_automaton, Common.RupState, lemmas.Rup.rup_is_state}
 use Rattle.pb_proof.proofs.line.rup.RupMachineMachine.is_done.Goals as goal
 
 pub returns-clause-state : goal.returns-clause-state

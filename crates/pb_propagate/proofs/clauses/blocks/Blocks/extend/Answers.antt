@@ -1,6 +1,5 @@
-use Rattle.pb_propagate.proofs.Common.{◌∙◌, ap, Contents}
+use Rattle.pb_propagate.proofs.{Common.◌∙◌, Common.ap, Common.Contents, clauses.blocks.Blocks.extend.Goals.After-push_reserved-2}
 use Rattle.pb_propagate.proofs.lemmas.clauses.Blocks.{Store, extended, grown}
-use Rattle.pb_propagate.proofs.clauses.blocks.Blocks.extend.Goals.{After-push_reserved-2}
 use Rattle.pb_propagate.proofs.clauses.blocks.Blocks.extend.Goals as goal
 
 -- the blocks with one more slot

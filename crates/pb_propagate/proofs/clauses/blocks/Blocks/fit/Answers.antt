@@ -1,6 +1,6 @@
 use Rattle.pb_propagate.proofs.Common.{ap, arith, Contents, get_or_read, set}
-use Rattle.pb_propagate.proofs.lemmas.clauses.Blocks.{Store, slot-stored, fitted, roomed}
 use Rattle.pb_propagate.proofs.clauses.blocks.Blocks.fit.Goals.{In_ok-append}
+use Rattle.pb_propagate.proofs.lemmas.clauses.Blocks.{Store, slot-stored, fitted, roomed}
 use Rattle.pb_propagate.proofs.clauses.blocks.Blocks.fit.Goals as goal
 
 -- the block is new

@@ -1,6 +1,5 @@
-use Rattle.pb_propagate.proofs.Common.{ℕ, arith, length-set, inr}
+use Rattle.pb_propagate.proofs.{Common.ℕ, Common.arith, Common.length-set, Common.inr, clauses.blocks.Blocks.write.Goals.After-index}
 use Rattle.pb_propagate.proofs.lemmas.clauses.Blocks.{own-slot, own-at, IsOwn, whole-written}
-use Rattle.pb_propagate.proofs.clauses.blocks.Blocks.write.Goals.{After-index}
 use Rattle.pb_propagate.proofs.clauses.blocks.Blocks.write.Goals as goal
 
 own : (c : After-index) → IsOwn c.self.inside.words.items c.self.inside.starts.items c.self.inside.rooms.items c.self.inside.run c.args.self.now

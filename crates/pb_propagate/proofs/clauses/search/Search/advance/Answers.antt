@@ -1,6 +1,6 @@
 use Rattle.pb_propagate.proofs.Common.{arith, cases_lt, nat_tests}
-use Rattle.std.proofs.lemmas.Grind.{get_or_default_zero}
 use Rattle.pb_propagate.proofs.lemmas.clauses.Visited.{round-next, turned-round}
+use Rattle.std.proofs.lemmas.Grind.{get_or_default_zero}
 use Rattle.pb_propagate.proofs.clauses.search.Search.advance.Goals as goal
 
 pub literals-preserved : goal.literals-preserved

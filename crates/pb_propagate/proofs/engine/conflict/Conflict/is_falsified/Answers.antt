@@ -1,8 +1,5 @@
 use Rattle.pb_propagate.proofs.Common.{◌∙◌, ap, arith, sym, slot_shape, open_sum, says, Shape}
-use Rattle.pb_propagate.proofs.lemmas.clauses.Shapes.{shape-some}
-use Rattle.pb_propagate.proofs.lemmas.engine.Propagated.{shape-at}
-use Rattle.pb_propagate.proofs.lemmas.root.Kept.{free-met}
-use Rattle.pb_propagate.proofs.lemmas.root.Retracted.{slot-is}
+use Rattle.pb_propagate.proofs.lemmas.{clauses.Shapes.shape-some, engine.Propagated.shape-at, root.Kept.free-met, root.Retracted.slot-is}
 use Rattle.pb_propagate.proofs.engine.conflict.Conflict.is_falsified.Goals as goal
 
 pub returns-then-not-is_filled : goal.returns-then-not-is_filled

@@ -1,11 +1,10 @@
 use Rattle.pb_propagate.proofs.Common.{pushed, ◌∙◌, ap, arith, inl, inr, length, sym, cases_eq, length-map, shapes_of, stored_shape, IsRooted, [], ℕ}
 use Rattle.pb_propagate.proofs.Common.{◌++◌, ◌∷◌, ◌<◌, List, rules, length-set, IsUndone}
-use Rattle.pb_propagate.specs.engine.engine.Progress.{RunIsCalm}
-use Rattle.pb_propagate.proofs.lemmas.root.Ready.{IsEnded, kept-rooted}
-use Rattle.pb_propagate.proofs.lemmas.root.Added.{arrived, gained-rooted, clause-rooted, slot-counted, slot-tidy}
-use Rattle.pb_propagate.proofs.lemmas.engine.Runs.{grown-absent, grown-new, grown-still}
-use Rattle.pb_propagate.proofs.lemmas.store.Positions.{get-absent, push-older}
 use Rattle.pb_propagate.proofs.engine.root.Root.add.Goals.{In_ok-widen_run, In_ok-open_form}
+use Rattle.pb_propagate.proofs.lemmas.engine.Runs.{grown-absent, grown-new, grown-still}
+use Rattle.pb_propagate.proofs.lemmas.root.Added.{arrived, gained-rooted, clause-rooted, slot-counted, slot-tidy}
+use Rattle.pb_propagate.proofs.lemmas.{root.Ready.IsEnded, root.Ready.kept-rooted, store.Positions.get-absent, store.Positions.push-older}
+use Rattle.pb_propagate.specs.engine.engine.Progress.{RunIsCalm}
 use Rattle.pb_propagate.proofs.engine.root.Root.add.Goals as goal
 
 -- the slot is the only one whose open sum is not that of the root's literals

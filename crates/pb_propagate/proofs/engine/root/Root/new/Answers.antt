@@ -1,6 +1,4 @@
-use Rattle.pb_propagate.proofs.Common.{refl}
-use Rattle.pb_propagate.proofs.lemmas.clauses.Heads.{heads-is}
-use Rattle.pb_propagate.proofs.lemmas.root.Ready.{new-rooted}
+use Rattle.pb_propagate.proofs.{Common.refl, lemmas.clauses.Heads.heads-is, lemmas.root.Ready.new-rooted}
 use Rattle.pb_propagate.proofs.engine.root.Root.new.Goals as goal
 
 pub returns : goal.returns

@@ -1,7 +1,5 @@
-use Rattle.pb_propagate.proofs.Common.{ap, arith, length, Term}
-use Rattle.pb_propagate.proofs.lemmas.engine.Runs.{place-inside}
-use Rattle.pb_propagate.proofs.lemmas.root.Retracted.{terms-inside}
-use Rattle.pb_propagate.proofs.lemmas.store.Links.{entries-length}
+use Rattle.pb_propagate.proofs.{Common.ap, Common.arith, Common.length, Common.Term, lemmas.engine.Runs.place-inside}
+use Rattle.pb_propagate.proofs.lemmas.{root.Retracted.terms-inside, store.Links.entries-length}
 use Rattle.pb_propagate.proofs.engine.root.Root.note.Goals as goal
 
 pub place_of-requires : goal.place_of-requires

@@ -1,5 +1,4 @@
-use Rattle.pb_propagate.proofs.Common.{arith}
-use Rattle.pb_propagate.proofs.lemmas.root.Retracted.{needless-codes}
+use Rattle.pb_propagate.proofs.{Common.arith, lemmas.root.Retracted.needless-codes}
 use Rattle.pb_propagate.proofs.engine.root.Root.release.Goals as goal
 
 pub returns-then-is_filled-clause-needless : goal.returns-then-is_filled-clause-needless

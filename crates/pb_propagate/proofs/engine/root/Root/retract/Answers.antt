@@ -1,7 +1,7 @@
 use Rattle.pb_propagate.proofs.Common.{rules, ◌-◌, ◌∙◌, ap, arith, length, subst, sym, Extends, Assignment, ◌≡◌, ◌+◌}
+use Rattle.pb_propagate.proofs.engine.root.Root.retract.Goals.{After-cut-2}
 use Rattle.pb_propagate.proofs.lemmas.clauses.Heads.{take-whole, walks-cut, listed-small}
 use Rattle.pb_propagate.proofs.lemmas.root.Retracted.{IsCut, cut-lacks, refreshed-stays, refreshed-then, retracted-rooted}
-use Rattle.pb_propagate.proofs.engine.root.Root.retract.Goals.{After-cut-2}
 use Rattle.pb_propagate.proofs.engine.root.Root.retract.Goals as goal
 
 -- the last literal is taken off

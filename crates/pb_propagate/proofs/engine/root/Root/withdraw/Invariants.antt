@@ -1,5 +1,4 @@
-use Rattle.pb_propagate.proofs.Common.{length}
-use Rattle.pb_propagate.specs.engine.engine.Refreshed.{IsShortened}
+use Rattle.pb_propagate.{proofs.Common.length, specs.engine.engine.Refreshed.IsShortened}
 use Rattle.pb_propagate.proofs.engine.root.Root.withdraw.Given as goal
 
 abbrev pub invariant-literals : goal.invariant-literals

@@ -1,6 +1,4 @@
-use Rattle.pb_tool.proofs.Common.{◌∙◌, arith}
-use Rattle.pb_tool.proofs.lemmas.check.CheckerRuns.{run_begins}
-use Rattle.pb_tool.proofs.lemmas.show.ShownStatements.{fewer}
+use Rattle.pb_tool.proofs.{Common.◌∙◌, Common.arith, lemmas.check.CheckerRuns.run_begins, lemmas.show.ShownStatements.fewer}
 use Rattle.pb_tool.proofs.commands.check.proof.check_statements.Goals as goal
 
 pub loop-verdict-init : goal.loop-verdict-init

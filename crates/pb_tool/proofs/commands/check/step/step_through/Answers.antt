@@ -1,5 +1,4 @@
-use Rattle.pb_tool.proofs.Common.{arith}
-use Rattle.pb_tool.proofs.lemmas.check.CheckerSteps.{stepped_err, stepped_ok}
+use Rattle.pb_tool.proofs.{Common.arith, lemmas.check.CheckerSteps.stepped_err, lemmas.check.CheckerSteps.stepped_ok}
 use Rattle.pb_tool.proofs.commands.check.step.step_through.Goals as goal
 
 pub returns-in-Ok-clause-steps : goal.returns-in-Ok-clause-steps

@@ -1,5 +1,4 @@
-use Rattle.pb_tool.proofs.Common.{arith}
-use Rattle.pb_tool.proofs.lemmas.check.CheckerSteps.{begun_counts}
+use Rattle.pb_tool.proofs.{Common.arith, lemmas.check.CheckerSteps.begun_counts}
 use Rattle.pb_tool.proofs.commands.check.checker.Checker.new.Goals as goal
 
 pub returns-clause-stands : goal.returns-clause-stands

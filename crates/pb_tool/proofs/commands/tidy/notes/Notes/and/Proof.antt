@@ -1,30 +1,27 @@
 -- `and` makes the empty struct, with the statements that its clause names.
 use Rattle.pb_tool.proofs.Common.{◌++◌, ◌∷◌, [], List, refl, Notes}
-use seplogic.Ra.Ura.{Ura}
-use mir.Val.{Val, vptr, vstruct, vcons, vnil}
 use base.Logic.{SProp, ent}
-use prog.Memory.{Memory}
-use prog.Routine.{Routine}
-use prog.Wp.{Calls, Loops, WpFn, Tables}
 use contract.Monad.{Fun}
 use contract.Running.{tables, tables_of}
-use sound.WpLaws.{WpFn-mono}
-use types.Logic.{Logic}
-use types.Kit.{‵, raw, ◌⊛◌, prop, ◌$◌, ◌∵◌, !, qed, move, keep, drop, split, fsplit, fjoin, feq_l, regoal, suffices, done}
-use types.Part.{agg}
-use types.Run.{enter, returns, and_then, no_more}
-use types.ByLocal.{alloc_all, pass_all, free_all, look_at, get, sets}
+use denote.Builtin.{RefOf}
 use denote.Exit.{yes}
 use denote.RattleType.{owns}
-use denote.Builtin.{RefOf}
 use denote.Shadow.{pure_i}
 use denote.Signature.{plain, types_at}
 use denote.Steps.{nothing}
-use denote.Triple.Clauses.{Clauses, closing}
-use denote.Triple.Entry.{alive}
-use denote.Triple.Spec.{Meets, triple_of}
-use denote.Triple.Table.{entered}
+use denote.Triple.{Clauses.Clauses, Clauses.closing, Entry.alive, Spec.Meets, Spec.triple_of, Table.entered}
 use denote.Triple.Walked.{says, Stays, stay_dropped, walk_of, ends_at, walk_Meets, Goes-dropped}
+use mir.Val.{Val, vptr, vstruct, vcons, vnil}
+use prog.Memory.{Memory}
+use prog.Routine.{Routine}
+use prog.Wp.{Calls, Loops, WpFn, Tables}
+use seplogic.Ra.Ura.{Ura}
+use sound.WpLaws.{WpFn-mono}
+use types.ByLocal.{alloc_all, pass_all, free_all, look_at, get, sets}
+use types.Kit.{‵, raw, ◌⊛◌, prop, ◌$◌, ◌∵◌, !, qed, move, keep, drop, split, fsplit, fjoin, feq_l, regoal, suffices, done}
+use types.Logic.{Logic}
+use types.Part.{agg}
+use types.Run.{enter, returns, and_then, no_more}
 use Rattle.pb_opb.specs.contracts.event.OpbEvent as E
 use Rattle.pb_tool.specs.contracts.commands.tidy.notes.Notes as T
 use Rattle.pb_tool.specs.contracts.commands.tidy.notes.Notes.and as F

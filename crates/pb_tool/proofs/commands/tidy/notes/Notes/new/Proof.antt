@@ -1,27 +1,24 @@
 -- `new` makes a value of no statements, at the empty list.
-use mathlib.Core.Path.{refl}
-use mathlib.Core.List.{[], ◌∷◌}
-use seplogic.Ra.Ura.{Ura}
-use mir.Val.{Val, vstruct, vcons, vnil}
+use Rattle.pb_tool.proofs.Common.{Notes}
 use base.Logic.{SProp}
+use contract.Monad.{Fun}
+use contract.Running.{tables, tables_of}
+use denote.Shadow.{pure_i}
+use denote.Steps.{nothing}
+use denote.Triple.{Entry.on_entry, Spec.Meets, Spec.triple_of, Table.entered}
+use denote.Triple.Walked.{says, ends_at, walked, walk_Meets}
+use mathlib.Core.{List.[], List.◌∷◌, Path.refl}
+use mir.Val.{Val, vstruct, vcons, vnil}
 use prog.Memory.{Memory}
 use prog.Routine.{Routine}
 use prog.Wp.{WpFn, Tables}
-use types.Logic.{Logic}
-use contract.Monad.{Fun}
-use contract.Running.{tables, tables_of}
+use seplogic.Ra.Ura.{Ura}
 use sound.WpLaws.{WpFn-mono}
-use types.Kit.{raw, ◌$◌, ◌∵◌, !, qed, keep, join, suffices, done}
-use types.Run.{no_more, and_then, returns, enter}
-use types.Part.{agg}
 use types.ByLocal.{alloc_all, pass_all, free_all, look_at, get, sets}
-use denote.Shadow.{pure_i}
-use denote.Steps.{nothing}
-use denote.Triple.Entry.{on_entry}
-use denote.Triple.Spec.{Meets, triple_of}
-use denote.Triple.Table.{entered}
-use denote.Triple.Walked.{says, ends_at, walked, walk_Meets}
-use Rattle.pb_tool.proofs.Common.{Notes}
+use types.Kit.{raw, ◌$◌, ◌∵◌, !, qed, keep, join, suffices, done}
+use types.Logic.{Logic}
+use types.Part.{agg}
+use types.Run.{no_more, and_then, returns, enter}
 use Rattle.pb_tool.specs.contracts.commands.tidy.notes.Notes as T
 use Rattle.pb_tool.specs.contracts.commands.tidy.notes.Notes.new.Key.{name as #it}
 use Rattle.pb_tool.specs.contracts.commands.tidy.notes.Notes.new as it
