@@ -49,7 +49,8 @@ impl Root {
         requires rooted { IsSomeRoot store.now self.old }
         requires inside { literal.variable < store.now.variables }
         ensures shortened { IsShortened store.now self.old self.new }
-        ensures needless { IsDue slot (list_of self.new.run) (reasons_of self.new.run) literal → ⊥ }
+        ensures needless { IsDue slot (list_of self.new.run) (reasons_of self.new.run)
+            literal → ⊥ }
     {
         'literals: while self.run.assignment.is_due(literal, slot) {
             self.retract(store);
@@ -63,7 +64,8 @@ impl Root {
         requires rooted { IsSomeRoot store.now self.old }
         requires inside { literal.variable < store.now.variables }
         ensures released { IsReleased store.now slot self.old self.new }
-        ensures needless { IsDue slot (list_of self.new.run) (reasons_of self.new.run) literal → ⊥ }
+        ensures needless { IsDue slot (list_of self.new.run) (reasons_of self.new.run)
+            literal → ⊥ }
     {
         let units = self.units.as_slice();
         if replace_reason(store, units, &mut self.run.assignment, slot, literal) {
