@@ -223,7 +223,6 @@ impl<M: Machine> Feeder<M> {
     }
 
     /// Takes one byte.
-    #[tactic(auto, using(crate::proofs::rules::feeder_take))]
     pub(crate) fn take(&mut self, byte: u8) -> Result<Option<Spanned<M::Event>>, Stop>
         requires unfinished { is_complete self.old ≡ false }
         requires running { halt_of self.old ≡ None }

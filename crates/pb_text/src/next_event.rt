@@ -16,7 +16,6 @@ use crate::source::{Failed, Source};
 /// The next event of the source, or `None` after the last one. It takes exactly the bytes used. If
 /// the source has no more bytes, it returns what `finish` would. Once done or stopped, it does not
 /// call the source.
-#[tactic(auto, using(crate::proofs::rules::pull))]
 pub fn pull<S: Source, M: Machine>(
     source: &mut S,
     feeder: &mut Feeder<M>,
@@ -59,7 +58,6 @@ pub fn pull<S: Source, M: Machine>(
 
 /// Takes available bytes, at most through the end of a statement. If none ends there, it also takes
 /// the next byte.
-#[tactic(auto, using(crate::proofs::lemmas::source::Drawn::draws_poured))]
 fn draw<S: Source, M: Machine>(
     source: &mut S,
     feeder: &mut Feeder<M>,

@@ -12,7 +12,6 @@ impl<M: Machine> Feeder<M> {
     ghost use Rattle.pb_text.specs.contract.Feeding.{StandsAt, spans_in, state_of, place_of, halt_of, is_complete};
 
     /// Takes a byte that ends a statement, if that is fast.
-    #[tactic(auto, using(crate::proofs::rules::feeder_try_finish))]
     pub(super) fn try_finish(&mut self, byte: u8) -> Option<Spanned<M::Event>>
         requires unfinished { is_complete self.old ≡ false }
         requires running { halt_of self.old ≡ None }

@@ -3,6 +3,9 @@ use Rattle.pb_text.proofs.lemmas.feeder.Steps.{running, stands_failed}
 use Rattle.pb_text.proofs.lemmas.source.Drawn.{draws_poured, draws_join, seen_after}
 use Rattle.pb_text.proofs.next_event.draw.Goals as goal
 
+pub returns-in-Ok-Some-clause-draws : goal.returns-in-Ok-Some-clause-draws
+returns-in-Ok-Some-clause-draws g c = draws_poured (rw (c.in-Ok-Some.is, c.in-Ok-Some.field-0-is) at c.pour.ensures).pours
+
 pub returns-in-Ok-None-clause-draws : goal.returns-in-Ok-None-clause-draws
 returns-in-Ok-None-clause-draws g c =
     let p = rw (c.in-Ok-None.is, c.in-Ok-None.field-0-is) at c.pour.ensures in

@@ -1,5 +1,6 @@
-use Rattle.pb_text.proofs.Common.{Err, None, Ok, refl, Some, sym}
-use Rattle.pb_text.proofs.lemmas.source.{Drawn.draws_join, Drawn.pulls_nothing, Drawn.pulls_event, Drawn.pulls_stop, PullsInARow.row}
+use Rattle.pb_text.proofs.Common.{◌∙◌, arith, Err, None, Ok, refl, Some, sym}
+use Rattle.std.proofs.Common.{rules}
+use Rattle.pb_text.proofs.lemmas.source.{Drawn.draws_join, Drawn.draws_none, Drawn.pulls_nothing, Drawn.pulls_event, Drawn.pulls_stop, PullsInARow.row}
 use Rattle.pb_text.proofs.next_event.pull.Goals as goal
 
 pub returns-then-is_done-clause-pulls : goal.returns-then-is_done-clause-pulls
@@ -28,3 +29,29 @@ pub returns-in-Err-clause-row : goal.returns-in-Err-clause-row
 returns-in-Err-clause-row g c longest start before spans h =
     let d = rw c.in-Err.is at c.draw.ensures in
     row {g = g.M.Machine} longest start before _ _ spans _ _ h (Err c.in-Err.stop) (returns-in-Err-clause-pulls g c longest start h.used spans (rw h.running tt) h.stands) d.stop (λ e. cc e) (λ m e. cc e)
+
+pub returns-in-Some-clause-pulls : goal.returns-in-Some-clause-pulls
+returns-in-Some-clause-pulls g c longest start input spans counts s =
+    pulls_nothing (g.S.Source.left c.args.source.now) (g.S.Source.history c.args.source.now) s (Err c.in-Some.stop) (λ seen. refl) refl counts (λ e. cc e)
+
+pub loop-event-init : goal.loop-event-init
+loop-event-init g c = record {
+  running = search rules;
+  unfinished = search rules;
+  state = search rules;
+  onward = omega arith;
+  faults = refl;
+  drawn = draws_none c.args.feeder.now _ _;
+}
+
+pub loop-event-preserved : goal.loop-event-preserved
+loop-event-preserved g c =
+    let d = rw (c.in-Ok-None.is, c.in-Ok-None.field-0-is) at c.draw.ensures in
+    record {
+      running = d.stop;
+      unfinished = d.unfinished refl;
+      state = d.state;
+      onward = omega (arith, d.onward, c.loop-event.invariant.onward);
+      faults = d.faults ∙ c.loop-event.invariant.faults;
+      drawn = draws_join c.loop-event.invariant.drawn d.draws;
+    }

@@ -1,5 +1,5 @@
 use Rattle.pb_text.proofs.Common.{Ok, Feeder, Ghosts, spans_in, ℕ, ◌++◌, ◌+◌, ◌-◌, ◌<◌, ◌∙◌, ◌∷◌, ◌≡◌, ◌≢◌, ◌≤◌, [], ap, append-nil, append_assoc, arith, drop}
-use Rattle.pb_text.proofs.Common.{get_or, length, length-drop, length-take, List, slice_get, Some, subst, take, take-append-drop, take-length, None, Option}
+use Rattle.pb_text.proofs.Common.{get_or, length, length-drop, length-take, List, slice_get, Some, subst, sym, take, take-append-drop, take-length, None, Option}
 use Rattle.pb_text.proofs.Common.{Stop, Stands}
 use Rattle.pb_text.proofs.lemmas.feeder.Steps.{passes, Reaches, stands_more, with_byte, with_more}
 use Rattle.pb_text.proofs.lemmas.text.Spans.{one_further}
@@ -25,7 +25,15 @@ all_of : (piece : List ℕ) (i : ℕ) → i ≡ length piece → take i piece �
 all_of piece i e = ap (λ (k : ℕ). take k piece) e ∙ take-length piece
 
 pub returns-in-Some-clause-feeds : goal.returns-in-Some-clause-feeds
-returns-in-Some-clause-feeds g c = grind (arith, append-nil, stands_more)
+returns-in-Some-clause-feeds g c = ((λ longest start input spans k s. (s.0, rw append-nil (stands_more s.1 c.args.piece.now k (λ e. cc)))), (λ k. k), (λ k. k), tt)
+
+pub returns-then-is_done-clause-feeds : goal.returns-then-is_done-clause-feeds
+returns-then-is_done-clause-feeds g c = (
+  λ longest start input spans k s. (s.0, rw append-nil (stands_more s.1 c.args.piece.now k (λ e. sym c.if-is_done.ensures.done))),
+  λ k. k,
+  λ k. k,
+  omega arith,
+)
 
 -- a feed that does not stop
 feeds_once : {M E : Type 0} {g : Ghosts M E} (old new : Feeder M E g) (piece : List ℕ) (fed : Fed E)
