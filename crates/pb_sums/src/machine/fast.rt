@@ -55,7 +55,6 @@ impl SumMachine {
 
     /// After terms and space, takes a relation, and a space after it if there is one.
     #[inline(always)]
-    #[tactic(auto, using(crate::proofs::Rules::relations))]
     fn take_relation(&mut self, text: &[u8]) -> usize
         ensures bound { result ≤ length text.now }
         ensures runs { Runs sums self.old (take result text.now) self.new }
@@ -157,7 +156,6 @@ impl SumMachine {
 
     /// Takes a name of at least two bytes, if one may begin.
     #[inline(always)]
-    #[tactic(auto, using(crate::proofs::Rules::names))]
     fn take_name(&mut self, text: &[u8]) -> usize
         ensures bound { result ≤ length text.now }
         ensures runs { Runs sums self.old (take result text.now) self.new }
