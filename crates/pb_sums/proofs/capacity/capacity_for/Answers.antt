@@ -24,4 +24,5 @@ returns-else-has_semicolon-2-clause-none c h =
     let text = c.args.text.now in
     let i = c.loop-chunk.searched in
     let rest = rw (← length-drop i text, take-length) at (c.has_semicolon-2.ensures c.if-has_semicolon-2.false) in
-    subst (λ (x : List ℕ). Each (λ b. b ≢ 59) x) (take-append-drop i text) (each_joined (λ b. b ≢ 59) (take i text) (drop i text) c.loop-chunk.invariant.none rest)
+    subst (λ (x : List ℕ). Each (λ b. b ≢ 59) x) (take-append-drop i text) (each_joined (λ b. b ≢ 59) (take i text) (drop i text)
+    c.loop-chunk.invariant.none rest)

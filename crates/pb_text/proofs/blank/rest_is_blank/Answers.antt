@@ -29,7 +29,9 @@ returns-then-not-passes-clause-blank g c =
     let p = rw (c.in-Ok-Some.is, c.in-Ok-Some.field-0-is) at c.peek.ensures in
     let b : ℕ = c.in-Ok-Some.byte in
     let seen = seen_byte (g.S.Source.left c.args.source.now) i.0 (g.S.Source.left c.loop-byte.source) (g.S.Source.left c.peek.new.self) b i.1 p.0 p.1 in
-    (i.0, b ∷ seen.0, seen.1, i.2, i.3, stray c.args.place i.0 b seen.0 c.loop-byte.in_comment c.passes.result i.5 c.passes.ensures c.if-not-passes.true (omega (arith, i.4, c.loop-byte.invariant.within, c.if-at-eq-BYTE_LIMIT.false)))
+    let s = stray c.args.place i.0 b seen.0 c.loop-byte.in_comment c.passes.result i.5 c.passes.ensures c.if-not-passes.true
+    (omega (arith, i.4, c.loop-byte.invariant.within, c.if-at-eq-BYTE_LIMIT.false)) in
+    (i.0, b ∷ seen.0, seen.1, i.2, i.3, s)
 
 pub loop-byte-preserved : goal.loop-byte-preserved
 loop-byte-preserved g c =
@@ -65,7 +67,9 @@ returns-then-not-passes-clause-given g c =
     let i = c.loop-byte.invariant.blank in
     let p = rw (c.in-Ok-Some.is, c.in-Ok-Some.field-0-is) at c.peek.ensures in
     let b : ℕ = c.in-Ok-Some.byte in
-    (i.0, b ∷ [], p.4 ∙ i.6, (i.0, b ∷ [], (refl, refl), i.2, i.3, stray c.args.place i.0 b [] c.loop-byte.in_comment c.passes.result i.5 c.passes.ensures c.if-not-passes.true (omega (arith, i.4, c.loop-byte.invariant.within, c.if-at-eq-BYTE_LIMIT.false))))
+    let s = stray c.args.place i.0 b [] c.loop-byte.in_comment c.passes.result i.5 c.passes.ensures c.if-not-passes.true
+    (omega (arith, i.4, c.loop-byte.invariant.within, c.if-at-eq-BYTE_LIMIT.false)) in
+    (i.0, b ∷ [], p.4 ∙ i.6, (i.0, b ∷ [], (refl, refl), i.2, i.3, s))
 
 pub returns-in-Ok-None-clause-given : goal.returns-in-Ok-None-clause-given
 returns-in-Ok-None-clause-given g c =
@@ -82,7 +86,8 @@ pub returns-in-Ok-None-clause-blank : goal.returns-in-Ok-None-clause-blank
 returns-in-Ok-None-clause-blank g c =
     let i = c.loop-byte.invariant.blank in
     let p = rw (c.in-Ok-None.is, c.in-Ok-None.field-0-is) at c.peek.ensures in
-    (i.0, seen_end (g.S.Source.left c.args.source.now) i.0 (g.S.Source.left c.loop-byte.source) (g.S.Source.left c.peek.new.self) i.1 p.0 p.1, i.2, omega (arith, i.4, c.loop-byte.invariant.within))
+    let seen = seen_end (g.S.Source.left c.args.source.now) i.0 (g.S.Source.left c.loop-byte.source) (g.S.Source.left c.peek.new.self) i.1 p.0 p.1 in
+    (i.0, seen, i.2, omega (arith, i.4, c.loop-byte.invariant.within))
 
 pub returns-in-Err-clause-blank : goal.returns-in-Err-clause-blank
 returns-in-Err-clause-blank g c =

@@ -15,7 +15,8 @@ returns-clause-runs c =
     let n = c.name_prefix-length.result in
     let text = c.args.text.now in
     let b = begun n text c.if-length-lt2.false c.name_prefix-length.ensures.bound c.if-not-is_letter.ensures in
-    rw (← c.self.view_is) (name_runs i.spaces i.part i.limit i.terms i.name c.in-Ok.name i.phase c.in-Some.phase (take n text) c.in-Some.ensures b.0 b.1 c.name_prefix-length.ensures.name c.in-Ok.ensures.name)
+    rw (← c.self.view_is) (name_runs i.spaces i.part i.limit i.terms i.name c.in-Ok.name i.phase c.in-Some.phase (take n text) c.in-Some.ensures b.0
+    b.1 c.name_prefix-length.ensures.name c.in-Ok.ensures.name)
 
 pub returns-clause-state : goal.returns-clause-state
 returns-clause-state c =

@@ -8,7 +8,9 @@ returns-clause-state c = midway_state c.self.inside.spaces c.self.inside.part c.
 pub returns-clause-runs : goal.returns-clause-runs
 returns-clause-runs c =
     let i = c.self.inside in
-    rw (← c.self.view_is) (relation_runs i.spaces i.part i.limit i.terms i.name i.phase (take c.in-Some.length c.args.text.now) c.in-Some.relation (sym c.if-not-begins_relation.ensures) (sym c.as_bytes.ensures ∙ none_there c.as_bytes.result.now (sym c.if-not-is_empty.ensures)) c.in-Some.ensures.allowed c.in-Some.ensures.relation)
+    rw (← c.self.view_is) (relation_runs i.spaces i.part i.limit i.terms i.name i.phase (take c.in-Some.length c.args.text.now) c.in-Some.relation
+    (sym c.if-not-begins_relation.ensures) (sym c.as_bytes.ensures ∙ none_there c.as_bytes.result.now (sym c.if-not-is_empty.ensures))
+    c.in-Some.ensures.allowed c.in-Some.ensures.relation)
 
 pub returns-then-text-length-eq32-clause-state : goal.returns-then-text-length-eq32-clause-state
 returns-then-text-length-eq32-clause-state c = midway_state c.self.inside.spaces c.self.inside.part c.self.inside.limit c.self.inside.terms c.self.inside.name (Phase.Relation c.in-Some.relation) tt refl
@@ -16,4 +18,6 @@ returns-then-text-length-eq32-clause-state c = midway_state c.self.inside.spaces
 pub returns-then-text-length-eq32-clause-runs : goal.returns-then-text-length-eq32-clause-runs
 returns-then-text-length-eq32-clause-runs c =
     let i = c.self.inside in
-    rw (← c.self.view_is) (spaced_relation_runs i.spaces i.part i.limit i.terms i.name i.phase c.args.text.now c.in-Some.length c.in-Some.relation (sym c.if-not-begins_relation.ensures) (sym c.as_bytes.ensures ∙ none_there c.as_bytes.result.now (sym c.if-not-is_empty.ensures)) c.in-Some.ensures.allowed c.in-Some.ensures.relation c.if-length-text.true c.if-text-length-eq32.true)
+    rw (← c.self.view_is) (spaced_relation_runs i.spaces i.part i.limit i.terms i.name i.phase c.args.text.now c.in-Some.length c.in-Some.relation
+    (sym c.if-not-begins_relation.ensures) (sym c.as_bytes.ensures ∙ none_there c.as_bytes.result.now (sym c.if-not-is_empty.ensures))
+    c.in-Some.ensures.allowed c.in-Some.ensures.relation c.if-length-text.true c.if-text-length-eq32.true)
