@@ -167,7 +167,7 @@ fn write_all<S: Sink>(
 }
 
 /// Writes what follows the counts of the header and its tail.
-#[tactic(auto, using(crate::proofs::lemmas::instances::Texts::body_with, crate::proofs::lemmas::instances::Texts::body_without))]
+#[tactic(auto, using(crate::proofs::lemmas::instances::Spelled::body_with, crate::proofs::lemmas::instances::Spelled::body_without))]
 fn write_body<S: Sink>(instance: &Instance, out: &mut S) -> Result<(), Failed>
     ensures { Writes S.contents S.faults out.old
         (10 ∷ lines (body_events instance.now)) result out.new }

@@ -1,8 +1,6 @@
 -- Lemmas of terms, in lists and in maps.
 pub mod Counts
 pub mod KeyedTerms
-pub mod Lookups
 pub mod Maps
 pub mod Merging
 pub mod Totals
-pub mod Variables

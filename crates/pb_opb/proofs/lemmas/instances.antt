@@ -1,10 +1,8 @@
 -- Lemmas of instances, their statements and their texts.
 pub mod Again
 pub mod Counted
-pub mod Gathered
 pub mod Kept
 pub mod Larger
 pub mod OneValue
 pub mod Spelled
-pub mod Texts
 pub mod Reported

@@ -3,15 +3,9 @@ pub mod Alive
 pub mod Asked
 pub mod Bodies
 pub mod EntryPrefix
-pub mod EntryWalk
-pub mod Exactly
-pub mod FirstLetters
-pub mod GivenBytes
 pub mod HeaderPrefix
 pub mod HeaderWalk
 pub mod Objectives
 pub mod Pushed
 pub mod Stands
-pub mod States
 pub mod Taken
-pub mod WholeConstraints

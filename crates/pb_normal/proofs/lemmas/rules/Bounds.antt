@@ -3,7 +3,7 @@ use Rattle.pb_normal.proofs.Common.{ℕ, ◌*◌, ◌+◌, ◌-◌, ◌<◌, ◌
 use Rattle.pb_normal.proofs.Common.{SumIsContradiction, SumMeasures, SumPasses, nat_tests, ◌∷◌, ◌⊎◌, [], Bool, false, inl, inr, IsTrue, ltb, max, not, rules}
 use Rattle.pb_normal.proofs.Common.{suc, tests, zero, ints, negated_of, negative, plain_of, Err, Ok, Result, NormalFault, Memory, Overflow}
 use Rattle.pb_normal.proofs.lemmas.rules.{Sums.IsSum-from, Sums.at_least_0-le, Sums.IsSum-swap, Unique.IsSum-unique, Unique.none_below}
-use Rattle.pb_normal.proofs.lemmas.terms.{Totals.size-Adds, Variables.share, Variables.top, Variables.total-by_variable, Variables.up_to}
+use Rattle.pb_normal.proofs.lemmas.terms.Totals.{size-Adds, share, top, total-by_variable, up_to}
 use Rattle.std.specs.Result.{IsErrAnd}
 
 pub SumMeasures-from : (f g : Form) (c : ℕ) → Cancels f.terms g.terms c → SumMeasures f g (size f + size g - 2 * c) (f.degree + g.degree - c)

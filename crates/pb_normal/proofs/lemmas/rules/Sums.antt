@@ -1,7 +1,7 @@
 -- The sum of two forms: a merge computes it, and it holds if both forms hold. Offered to other crates.
 use Rattle.pb_normal.proofs.Common.{ℕ, ℤ, ◌+ℤ◌, ◌+◌, ◌-◌, ◌≡◌, ◌≤◌, arith, Bool, Err, IfOk, List, max, Ok, pos, Result, sym, ints, Entry, Adds, flip}
 use Rattle.pb_normal.proofs.Common.{at_least_0, bound, Form, Holds, IsRising, negated_of, negative, plain_of, total, true_at, IsSum}
-use Rattle.pb_normal.proofs.lemmas.terms.Variables.{total-same, total-by_variable, up_to-balance, share, top}
+use Rattle.pb_normal.proofs.lemmas.terms.Totals.{total-same, total-by_variable, up_to-balance, share, top}
 
 pub at_least_0-is : (z : ℤ) (m k : ℕ) → (z +ℤ pos k) ≡ pos m → at_least_0 z ≡ m - k
 at_least_0-is z m k e = grind (arith, ints)

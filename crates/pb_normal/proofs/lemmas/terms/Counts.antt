@@ -1,7 +1,7 @@
 -- Literals that count once each.
 use Rattle.pb_normal.proofs.Common.{nat_tests, ℕ, ◌+◌, ◌<◌, ◌^◌, ◌∷◌, ◌≡◌, [], arith, Bool, cond, false, length, List, map, not, refl, true, Entry, Adds, flip}
 use Rattle.pb_normal.proofs.Common.{each, IsNormal, IsRising, total, IsCountOf, on, only, unit_of, with_coefficient}
-use Rattle.pb_normal.proofs.lemmas.{rules.Unique.none_below, terms.Maps.IsRising-map, terms.Variables.total-same}
+use Rattle.pb_normal.proofs.lemmas.{rules.Unique.none_below, terms.Maps.IsRising-map, terms.Totals.total-same}
 use Rattle.pb_normal.specs.declared.numbered.NumberedLiteral.{NumberedLiteral}
 
 abbrev pub ones : List Entry → List Entry

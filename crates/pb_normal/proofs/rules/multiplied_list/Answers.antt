@@ -1,5 +1,4 @@
-use Rattle.pb_normal.proofs.Common.{◌*◌, arith, refl, Entry, with_coefficient, map_more}
-use Rattle.pb_normal.proofs.lemmas.terms.Merging.{no_entry}
+use Rattle.pb_normal.proofs.{Common.◌*◌, Common.arith, Common.refl, Common.Entry, Common.with_coefficient, Common.map_more, lemmas.terms.Merging.no_entry}
 use Rattle.pb_normal.proofs.rules.multiplied_list.Goals as goal
 
 pub terms-preserved : goal.terms-preserved

@@ -1,6 +1,5 @@
 use Rattle.pb_normal.proofs.Common.{arith, take, take-append-drop}
-use Rattle.pb_normal.proofs.lemmas.terms.{Lookups.AllCancel-next, Lookups.AllCancel-fits, Merging.positive-read, Merging.no_entry}
-use Rattle.pb_normal.proofs.lemmas.terms.Totals.{total-prefix}
+use Rattle.pb_normal.proofs.lemmas.terms.{KeyedTerms.AllCancel-next, KeyedTerms.AllCancel-fits, Merging.positive-read, Merging.no_entry, Totals.total-prefix}
 use Rattle.pb_normal.proofs.tree.cancelled_by_list.Goals as goal
 
 pub cancelled_by-cancelled-requires-clause-positive : goal.cancelled_by-cancelled-requires-clause-positive

@@ -1,4 +1,4 @@
-use Rattle.pb_normal.proofs.{Common.take, lemmas.terms.Lookups.AllCancel}
+use Rattle.pb_normal.proofs.{Common.take, lemmas.terms.KeyedTerms.AllCancel}
 use Rattle.pb_normal.proofs.tree.cancelled_by_list.Given as goal
 
 -- the terms so far are counted

@@ -1,5 +1,5 @@
 use Rattle.pb_normal.proofs.Common.{◌++◌, ◌∷◌, ◌≡◌, [], arith, rules}
-use Rattle.pb_normal.proofs.lemmas.terms.Lookups.{AllCancel-le, AllCancel-more, split-positive, split-le, split-next}
+use Rattle.pb_normal.proofs.lemmas.terms.KeyedTerms.{AllCancel-le, AllCancel-more, split-positive, split-le, split-next}
 use Rattle.pb_normal.proofs.tree.cancelled_by_tree.Goals as goal
 
 pub cancelled_by-cancelled-requires : goal.cancelled_by-cancelled-requires

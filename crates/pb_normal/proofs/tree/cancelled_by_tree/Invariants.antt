@@ -1,4 +1,4 @@
-use Rattle.pb_normal.proofs.{Common.◌++◌, Common.◌≡◌, Common.List, Common.values, Common.Entry, lemmas.terms.Lookups.AllCancel}
+use Rattle.pb_normal.proofs.{Common.◌++◌, Common.◌≡◌, Common.List, Common.values, Common.Entry, lemmas.terms.KeyedTerms.AllCancel}
 use Rattle.pb_normal.proofs.tree.cancelled_by_tree.Given as goal
 
 -- the terms so far are counted, and the others follow

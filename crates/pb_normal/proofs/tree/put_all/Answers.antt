@@ -1,6 +1,5 @@
 use Rattle.pb_normal.proofs.Common.{arith, take, take-append-drop}
-use Rattle.pb_normal.proofs.lemmas.terms.KeyedTerms.{Putting-fits, Putting-next, Putting-cancels}
-use Rattle.pb_normal.proofs.lemmas.terms.Merging.{positive-read, no_entry}
+use Rattle.pb_normal.proofs.lemmas.terms.{KeyedTerms.Putting-fits, KeyedTerms.Putting-next, KeyedTerms.Putting-cancels, Merging.positive-read, Merging.no_entry}
 use Rattle.pb_normal.proofs.tree.put_all.Goals as goal
 
 pub put-requires-clause-positive : goal.put-requires-clause-positive

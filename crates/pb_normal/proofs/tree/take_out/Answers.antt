@@ -1,5 +1,4 @@
-use Rattle.pb_normal.proofs.Common.{◌∙◌, sym}
-use Rattle.pb_normal.proofs.lemmas.terms.KeyedTerms.{values-remove, dropped-some}
+use Rattle.pb_normal.proofs.{Common.◌∙◌, Common.sym, lemmas.terms.KeyedTerms.values-remove, lemmas.terms.KeyedTerms.dropped-some}
 use Rattle.pb_normal.proofs.tree.take_out.Goals as goal
 
 pub returns-in-Some-clause-weakened : goal.returns-in-Some-clause-weakened

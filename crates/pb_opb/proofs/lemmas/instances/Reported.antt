@@ -1,10 +1,15 @@
--- What statements in order state.
+-- What statements in order state, and that statements which are gathered one by one have the value that they state.
 use Rattle.pb_opb.proofs.Common.{ℕ, ◌++◌, ◌+◌, ◌∙◌, ◌∷◌, ◌≡◌, ◌≤◌, [], ap, arith, Bool, cond, drop, length, List, nat_le, None, Option, refl, Some, suc, take}
 use Rattle.pb_opb.proofs.Common.{take-append-drop, Linear, Term, events_of, comment_events, constraint_events, due, in_order, objective_events, OpbEvent}
 use Rattle.pb_opb.proofs.Common.{Comment, Constraint, Objective, AreComments, comments_in, constraints_in, last_or, objectives_in, tails_in, variables_in}
-use Rattle.std.proofs.lemmas.Bool.Decides.{nat_tests}
-use Rattle.pb_opb.specs.declared.instance.Comment as comment
+use Rattle.pb_opb.proofs.Common.{append-nil, append_assoc, IsTrue, subst, sym, Spanned, Item, gathered, IsRead, IsWhole, MayHold, StopsIn, Instance}
+use Rattle.pb_opb.proofs.Common.{counted_statements, ended_with, MayKeep, nothing, with, IsValueOf}
 use Rattle.pb_opb.proofs.lemmas.instances.Spelled.{spelled, IsMain, AreMain, AreInLines}
+use Rattle.pb_opb.specs.{declared.gather.InstanceSoFar.InstanceSoFar, meaning.Gather.asks}
+use Rattle.std.proofs.lemmas.Bool.Decides.{nat_tests}
+use Rattle.pb_text.specs.declared.Stop.{Stop}
+use Rattle.pb_opb.specs.declared.instance.Comment as comment
+use Rattle.pb_text.proofs.lemmas.source.Unkept as stopped
 
 pub spelled-events : (remaining : Bool) (events : List OpbEvent) → events_of (spelled remaining events) ≡ events
 spelled-events remaining [] = refl
@@ -89,3 +94,45 @@ order_comments (x ∷ events) m n all cs e h =
     ∙ (ap (λ (y : List comment.Comment). take (due n cs) cs ++ y)
     (first_counts x (in_order (n + 1) later events) n m.0 ∙ order_comments events m.1 (n + 1) all later (omega arith) (due_rest n all cs h))
     ∙ take-append-drop (due n cs) cs)
+
+abbrev pub one_more : InstanceSoFar → OpbEvent → InstanceSoFar
+one_more b e = record { instance = with b.ended b.instance e; ended = ended_with b.ended e }
+
+-- what more statements add
+pub record Adds (b : InstanceSoFar) (events : List OpbEvent) (v : Instance) : Type 0 where
+  pub variables : v.variables ≡ last_or b.instance.variables (variables_in events)
+  pub tail : v.tail ≡ last_or b.instance.tail (tails_in events)
+  pub objective : v.objective ≡ last_or b.instance.objective (objectives_in events)
+  pub comments : v.comments ≡ b.instance.comments ++ comments_in b.ended events
+  pub constraints : v.constraints ≡ b.instance.constraints ++ constraints_in events
+
+pub adds : (events : List OpbEvent) (b : InstanceSoFar) → Adds b events (gathered one_more b events).instance
+adds [] b = record { variables = refl; tail = refl; objective = refl; comments = sym (append-nil b.instance.comments); constraints = sym (append-nil b.instance.constraints) }
+adds (Comment text ∷ events) b = grind (arith, append_assoc, adds events (one_more b (Comment text)))
+adds (Constraint linear ∷ events) b = grind (arith, append_assoc, adds events (one_more b (Constraint linear)))
+adds (e ∷ events) b = grind (arith, adds events (one_more b e))
+
+ended_after : (events : List OpbEvent) (b : InstanceSoFar) → (gathered one_more b events).ended ≡ b.ended + counted_statements events
+ended_after [] b = omega arith
+ended_after (e ∷ events) b = grind (arith, ended_after events (one_more b e))
+
+value_of : (events : List OpbEvent) (b v : InstanceSoFar) → b.instance ≡ nothing → b.ended ≡ 0 → v ≡ gathered one_more b events → IsValueOf events v.instance
+value_of events b v i n e = grind (arith, adds, v.instance)
+
+module _ (format : List (Item OpbEvent) → Type 0) (longest : ℕ) (b : InstanceSoFar) (i : b.instance ≡ nothing) (n : b.ended ≡ 0) (used : List ℕ) where
+  pub is_read : (m : Spanned InstanceSoFar) → IsWhole format longest one_more b used m → (let r : Spanned Instance = record { event = m.event.instance; first = m.first; past = m.past } in IsRead format longest IsValueOf used r)
+  is_read m w = record {
+    spans = w.spans;
+    spelled = w.spelled;
+    value = value_of (events_of w.spelled.items) b m.event i n w.value;
+    first = w.first;
+    past = w.past;
+  }
+
+  may_keep : (events : List OpbEvent) (x : OpbEvent) → MayHold one_more b (λ c e. asks c.ended e) events x → MayKeep events x
+  may_keep events x h =
+      let count : (gathered one_more b events).ended ≡ counted_statements events = let k = ended_after events b in omega (arith, k, n) in
+      subst (λ (k : ℕ). IsTrue (asks k x)) count h
+
+  pub stops_in : (may_ask : List ℕ → ℕ → Type 0) (seen : List ℕ) (s : Stop) → StopsIn format longest may_ask (MayHold one_more b (λ c e. asks c.ended e)) used seen s → StopsIn format longest may_ask MayKeep used seen s
+  stops_in may_ask seen s w = stopped.stops_in format format (λ items h. h) (λ items h. h) longest may_ask may_ask (λ u c h. h) (MayHold one_more b (λ c e. asks c.ended e)) MayKeep may_keep used seen s w

@@ -1,20 +1,21 @@
 -- If a machine of instances may allocate at a byte, then that byte's position in its statement is one that may
--- allocate.
+-- allocate. And what the machine reads, in terms of instances.
 use Rattle.pb_opb.proofs.Common.{Part, ℕ, ◌&&◌, ◌++◌, ◌∙◌, ◌∷◌, ◌≡◌, ◌≤◌, ◌⊎◌, [], ap, append-nil, ap₂, arith, Bool, false, inl, inr, IsTrue, List, nat_eq}
 use Rattle.pb_opb.proofs.Common.{refl, subst, suc, sym, true, zero, cond_both, reads_grammar, continues-midway, SumEvent, White, sums, SumState, Spells}
 use Rattle.pb_opb.proofs.Common.{prefixes_of, reads_after, Walks, never, bytes-append, bytes-plain, End, Go, MayAsk, Next, ReadsStatement, IsInLine, is_blank}
 use Rattle.pb_opb.proofs.Common.{is_white, ◌⋅◌, Blanks0, Byte, Bytes, Digits, bytes, Letter, OpbEvent, Comment, Constraint, Header, Objective, Action}
 use Rattle.pb_opb.proofs.Common.{Constraints, Variables, Phase, transition, act, asks, begin, giving, linears, objectives, opb, OpbState, over, statement_of}
-use Rattle.pb_opb.proofs.Common.{constraint_word, IsInstance, IsTail}
-use Rattle.pb_text.specs.meaning.Asking.{AsksOnly}
-use Rattle.pb_text.proofs.lemmas.machine.Asked as asked
-use Rattle.pb_opb.proofs.lemmas.machine.Bodies.{InGap, gap_given, nothing_read, instance_each}
-use Rattle.pb_opb.specs.meaning.Asking.{MinLead, Asks}
+use Rattle.pb_opb.proofs.Common.{constraint_word, IsInstance, IsTail, Option, AcceptsItems, Spanned, Item, IsRead, StopsIn, Instance, MayKeep, IsValueOf}
+use Rattle.pb_opb.proofs.lemmas.machine.Bodies.{InGap, gap_given, nothing_read, instance_each, instance_only}
+use Rattle.pb_opb.proofs.lemmas.machine.Stands.{line_grown, tail_grown, idle, Gives, gives_objective, gives_constraint, given_step}
+use Rattle.pb_opb.specs.meaning.{Asking.MinLead, Asking.Asks, Reading.AsksInInstance}
+use Rattle.pb_text.specs.{meaning.Asking.AsksOnly, meaning.Reading.Reads, declared.Place.Place, declared.Stop.Stop}
+use Rattle.pb_text.proofs.lemmas.source.Unkept.{stops_in}
 use Rattle.pb_sums.proofs.lemmas.machine.Asked.{sums_asked, first_asks_nothing}
+use Rattle.pb_text.proofs.lemmas.machine.Asked as asked
 use Rattle.pb_opb.proofs.lemmas.machine.EntryPrefix as entry
-use Rattle.pb_opb.proofs.lemmas.machine.Stands.{line_grown, tail_grown, idle}
 use Rattle.pb_opb.proofs.lemmas.machine.HeaderPrefix as header
-use Rattle.pb_opb.proofs.lemmas.machine.GivenBytes.{Gives, gives_objective, gives_constraint, given_step}
+use Rattle.pb_text.proofs.lemmas.text.Formats as formats
 
 module _ (limit top : ℕ) where
   -- between two statements, or before the first one
@@ -189,3 +190,26 @@ module _ (limit top : ℕ) where
   pub asks_only : (used : List ℕ) (b : ℕ) → MayAsk opb (begin limit top) used b → AsksOnly (IsInstance limit top) (Asks top) used b
   asks_only used b (state, lead, a) items more h e =
       asked.asks_within opb Idle (Asks top) (record { gaps = gaps; ends = ends; texts = texts }) (begin limit top) used b (inl refl) state lead a items more (instance_each limit top items h) e
+
+module _ (limit top longest : ℕ) where
+  abbrev accepted : List (Item OpbEvent) → Type 0
+  accepted = AcceptsItems opb (begin limit top)
+
+  abbrev spelled : List (Item OpbEvent) → Type 0
+  spelled = IsInstance limit top
+
+  pub reads_exactly : (input used : List ℕ) (spans : List (Spanned OpbEvent)) (place : Place) (done : Bool) (stop : Option Stop) → Reads accepted longest input used spans place done stop → Reads spelled longest input used spans place done stop
+  reads_exactly = formats.reads accepted spelled (instance_only limit top) (instance_each limit top) longest
+
+  pub read_exactly : (used : List ℕ) (m : Spanned Instance) → IsRead accepted longest IsValueOf used m → IsRead spelled longest IsValueOf used m
+  read_exactly used m r = record {
+    spans = r.spans;
+    spelled = formats.is_spelled accepted spelled (instance_only limit top) (instance_each limit top) longest used r.spans r.spelled;
+    value = r.value;
+    first = r.first;
+    past = r.past;
+  }
+
+  pub stops_exactly : (used seen : List ℕ) (s : Stop) → StopsIn accepted longest (MayAsk opb (begin limit top)) MayKeep used seen s → StopsIn spelled longest (AsksInInstance limit top) MayKeep used seen s
+  stops_exactly used seen s h =
+      stops_in accepted spelled (instance_only limit top) (instance_each limit top) longest (MayAsk opb (begin limit top)) (AsksInInstance limit top) (asks_only limit top) MayKeep MayKeep (λ events e k. k) used seen s h

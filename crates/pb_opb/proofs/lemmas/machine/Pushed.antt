@@ -4,9 +4,8 @@ use Rattle.pb_opb.proofs.Common.{continues, continues-midway, ended-last, SumEve
 use Rattle.pb_opb.proofs.Common.{begins_with, Continues, End, Go, is_large, IsState, Next, Refuse, is_digit, Action, BeginTail, Give, Keep, To, Phase}
 use Rattle.pb_opb.proofs.Common.{transition, Holds, IsIdle, IsInOrder, PhaseFits, act, after, asks, at, giving, is_in_number, is_within, linears, opb, OpbState}
 use Rattle.pb_opb.proofs.Common.{over, phase_owing, remaining_after, statement_of}
-use Rattle.pb_opb.proofs.lemmas.machine.Alive.{giving_alive, owed_read}
-use Rattle.pb_opb.proofs.lemmas.machine.GivenBytes.{Gives, IsGiving, gives_at, gives_objective, gives_constraint}
-use Rattle.pb_opb.proofs.lemmas.machine.States.{is_state, outside}
+use Rattle.pb_opb.proofs.lemmas.machine.Alive.{giving_alive, owed_read, is_state, outside}
+use Rattle.pb_opb.proofs.lemmas.machine.Stands.{Gives, IsGiving, gives_at, gives_objective, gives_constraint}
 use Rattle.pb_text.proofs.lemmas.machine.{Admitted.admits_within, Residual.refuses}
 
 -- what holds if a byte is given to the machine of sums

@@ -1,7 +1,9 @@
--- The states of a machine of instances, within a header and between two statements.
+-- The states of a machine of instances: within a header, between two statements, and where it gives bytes to its machine
+-- of sums.
 use Rattle.pb_opb.proofs.Common.{Letter, as_unmarked, eqb-true, ℕ, ◌++◌, ◌∙◌, ◌∷◌, ◌≡◌, [], ap, append-nil, append_assoc, Bool, false, List, nat_eq, refl}
 use Rattle.pb_opb.proofs.Common.{subst, sym, true, not-true, Leads, longer, Walks, End, Go, ReadsStatement, IsInLine, Each, Many, unmarked, plain, OpbEvent}
-use Rattle.pb_opb.proofs.Common.{Phase, linears, opb, OpbState, phase_owing, arith, IsTrue, not, each-append, IsTail}
+use Rattle.pb_opb.proofs.Common.{Phase, linears, opb, OpbState, phase_owing, arith, IsTrue, not, each-append, IsTail, ◌<◌, ◌⊎◌, SumEvent, sums, SumState}
+use Rattle.pb_opb.proofs.Common.{same_first, Next, Give, transition, Holds, PhaseFits, act, after, giving, is_in_number, is_within, over, statement_of}
 
 -- with the machine of sums at the start of a linear text
 abbrev pub stands : ℕ → ℕ → ℕ → ℕ → Phase → List ℕ → OpbState
@@ -53,3 +55,49 @@ tail_grown bs b e n h = grind (arith, line_grown)
 
 pub one_byte : (l : Letter) (b : ℕ) → l.numeral ≡ false → nat_eq l.byte b ≡ true → l ∷ [] ≡ unmarked b ∷ []
 one_byte l b n e = ap (λ x. x ∷ []) (as_unmarked l b n (eqb-true l.byte b e))
+
+-- a phase in which bytes are given to the machine of sums
+pub record Gives (p : Phase) : Type 0 where
+  pub planned : (top b : ℕ) → transition top p b ≡ Give p
+  pub within : is_within p ≡ true
+  pub number : (s : OpbState) → is_in_number s p ≡ sums.in_number s.sums
+  pub fits : (top : ℕ) → PhaseFits top p
+  pub holds : (s : OpbState) → 0 < s.remaining → s.text ≡ [] → sums.done s.sums ≡ false → Holds s p
+
+pub gives_objective : Gives Phase.Objective
+gives_objective = record { planned = λ top b. refl; within = refl; number = λ s. refl; fits = λ top. tt; holds = λ s o t d. (o, t, d) }
+
+pub gives_constraint : Gives Phase.Constraint
+gives_constraint = record { planned = λ top b. refl; within = refl; number = λ s. refl; fits = λ top. tt; holds = λ s o t d. (o, t, d) }
+
+-- the states in which each byte is given
+abbrev pub IsGiving : OpbState → Type 0
+IsGiving s = (s.phase ≡ Phase.Constraint) ⊎ (s.phase ≡ Phase.Objective)
+
+pub gives_at : (s : OpbState) → IsGiving s → Gives s.phase
+gives_at s h = grind (arith, gives_constraint, gives_objective)
+
+-- a step in such a phase is one of the machine of sums
+pub given_step : (s : OpbState) (p : Phase) → Gives p → (b : ℕ) → s.phase ≡ p → opb.step s b ≡ over s p (sums.step s.sums b)
+given_step s p g b e = ap (act s b) (ap (λ (q : Phase). transition s.top q b) e ∙ g.planned s.top b)
+
+module _ (s : OpbState) (p : Phase) (h : Gives p) where
+  abbrev at : SumState → OpbState
+  at inner = giving s p inner
+
+  stepped : (inner : SumState) (b : ℕ) (n : Next SumState SumEvent) → sums.step inner b ≡ n → opb.step (at inner) b ≡ over s p n
+  stepped inner b n e = given_step (at inner) p h b refl ∙ ap (over s p) e
+
+  -- What the machine of sums reads, the machine of instances reads too.
+  pub within_reads : (t : List Letter) (inner : SumState) (e : SumEvent) (new : SumState) → ReadsStatement sums inner t e new → ReadsStatement opb (at inner) t (statement_of e) (after s p)
+  within_reads [] inner e new r = absurd r
+  within_reads (l ∷ []) inner e new (g, n) = (stepped inner l.byte (End e new) g, n)
+  within_reads (l ∷ k ∷ t) inner e new (mid, g, i, n, r) = grind (arith, stepped, within_reads (k ∷ t) mid e new r)
+
+  -- the same if the first letter is given too
+  pub given_reads : (l : Letter) (t : List Letter) (e : SumEvent) (new : SumState) → transition s.top s.phase l.byte ≡ Give p
+      → ReadsStatement sums s.sums (l ∷ t) e new → ReadsStatement opb s (l ∷ t) (statement_of e) (after s p)
+  given_reads l t e new f r =
+      same_first opb l t s (at s.sums) (after s p) (statement_of e)
+      (ap (λ x. act s l.byte x) f ∙ sym (stepped s.sums l.byte (sums.step s.sums l.byte) refl))
+      (within_reads (l ∷ t) s.sums e new r)

@@ -1,6 +1,5 @@
 use Rattle.pb_opb.proofs.Common.{AcceptsItems, MayAsk, largest, top_of, begin, opb}
-use Rattle.pb_opb.proofs.lemmas.instances.Gathered.{is_read, stops_in}
-use Rattle.pb_opb.proofs.lemmas.machine.Exactly.{read_exactly, stops_exactly}
+use Rattle.pb_opb.proofs.lemmas.{instances.Reported.is_read, instances.Reported.stops_in, machine.Asked.read_exactly, machine.Asked.stops_exactly}
 use Rattle.pb_opb.proofs.read.read_instance_within.Goals as goal
 
 pub returns-in-Ok-clause-reads : goal.returns-in-Ok-clause-reads

@@ -1,4 +1,4 @@
-use Rattle.pb_opb.proofs.{Common.refl, Common.part_broke, Common.part_then, Common.constraint_events, lemmas.instances.Texts.objective_turn}
+use Rattle.pb_opb.proofs.{Common.refl, Common.part_broke, Common.part_then, Common.constraint_events, lemmas.instances.Spelled.objective_turn}
 use Rattle.pb_opb.proofs.write.write_all.Goals as goal
 
 pub returns-in_err-write_comments : goal.returns-in_err-write_comments

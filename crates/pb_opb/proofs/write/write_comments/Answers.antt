@@ -1,5 +1,5 @@
 use Rattle.pb_opb.proofs.Common.{arith, refl, part_broke, part_then, part_wrote}
-use Rattle.pb_opb.proofs.lemmas.instances.Texts.{comments_more, comments_at}
+use Rattle.pb_opb.proofs.lemmas.instances.Spelled.{comments_more, comments_at}
 use Rattle.pb_opb.proofs.write.write_comments.Goals as goal
 
 pub returns-in_err-write_comment_line : goal.returns-in_err-write_comment_line

@@ -1,5 +1,5 @@
 use Rattle.pb_opb.proofs.Common.{◌++◌, ◌∷◌, arith, refl, linear_bytes, part_broke, part_then, part_wrote, comment_events, led_lines}
-use Rattle.pb_opb.proofs.lemmas.instances.Texts.{constraint_turn, constraint_done}
+use Rattle.pb_opb.proofs.lemmas.instances.Spelled.{constraint_turn, constraint_done}
 use Rattle.pb_opb.proofs.write.write_constraints.Goals as goal
 
 pub returns-in_err-write_comments : goal.returns-in_err-write_comments

@@ -1,4 +1,4 @@
-use Rattle.pb_opb.proofs.{Common.refl, Common.rules, Common.part_broke, Common.part_then, lemmas.instances.Texts.objective_parts}
+use Rattle.pb_opb.proofs.{Common.refl, Common.rules, Common.part_broke, Common.part_then, lemmas.instances.Spelled.objective_parts}
 use Rattle.pb_opb.proofs.write.write_objective.Goals as goal
 
 pub returns-in_err-write_bytes : goal.returns-in_err-write_bytes

@@ -1,5 +1,4 @@
-use Rattle.pb_normal.proofs.Common.{Form}
-use Rattle.pb_normal.proofs.lemmas.terms.Maps.{IsNormal-negation, Holds-negation, Holds-negation_back}
+use Rattle.pb_normal.proofs.{Common.Form, lemmas.terms.Maps.IsNormal-negation, lemmas.terms.Maps.Holds-negation, lemmas.terms.Maps.Holds-negation_back}
 use Rattle.pb_normal.proofs.form.Normal.negation.Goals as goal
 
 pub invariant_of-result : goal.invariant_of-result

@@ -1,5 +1,4 @@
-use Rattle.pb_normal.proofs.Common.{◌≡◌, List, ℕ, Option, Some, slice_eq-Decides, arith}
-use Rattle.pb_normal.proofs.lemmas.names.Tables.{hash_at}
+use Rattle.pb_normal.proofs.{Common.◌≡◌, Common.List, Common.ℕ, Common.Option, Common.Some, Common.slice_eq-Decides, Common.arith, lemmas.names.Tables.hash_at}
 use Rattle.pb_normal.proofs.names.chains.is_named.Goals as goal
 
 same_text : (xs ys : List ℕ) → (let o : Option (List ℕ) = Some xs in o) ≡ Some ys → xs ≡ ys

@@ -1,5 +1,4 @@
-use Rattle.pb_normal.proofs.Common.{◌<◌, rules, kind_form}
-use Rattle.pb_normal.proofs.lemmas.rules.Scales.{IsNormal-multiplied, IsWithin-multiplied}
+use Rattle.pb_normal.proofs.{Common.◌<◌, Common.rules, Common.kind_form, lemmas.rules.Scales.IsNormal-multiplied, lemmas.rules.Scales.IsWithin-multiplied}
 use Rattle.pb_normal.proofs.sum.Sum.multiply.Goals as goal
 
 pub scaled-requires : goal.scaled-requires

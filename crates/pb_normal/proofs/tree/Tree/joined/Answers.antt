@@ -1,5 +1,4 @@
-use Rattle.pb_normal.proofs.{Common.◌+◌, Common.◌-◌, Common.arith, Common.values, Common.IsSum, lemmas.rules.Sums.IsSum-from}
-use Rattle.pb_normal.proofs.lemmas.terms.Totals.{size-Adds}
+use Rattle.pb_normal.proofs.{Common.◌+◌, Common.◌-◌, Common.arith, Common.values, Common.IsSum, lemmas.rules.Sums.IsSum-from, lemmas.terms.Totals.size-Adds}
 use Rattle.pb_normal.proofs.tree.Tree.joined.Goals as goal
 
 pub overflow_mul-size : goal.overflow_mul-size

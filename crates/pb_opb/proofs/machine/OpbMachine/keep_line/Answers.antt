@@ -1,5 +1,5 @@
 use Rattle.pb_opb.proofs.Common.{the_view, ℕ, ◌∙◌, List, subst, sym, take, Runs, opb, OpbState}
-use Rattle.pb_opb.proofs.lemmas.machine.{States.is_state, Taken.line_order, Taken.line_runs}
+use Rattle.pb_opb.proofs.lemmas.machine.{Alive.is_state, Taken.line_order, Taken.line_runs}
 use Rattle.pb_text.proofs.lemmas.text.Results.{grown}
 use Rattle.pb_opb.proofs.machine.OpbMachine.keep_line.Goals as goal
 

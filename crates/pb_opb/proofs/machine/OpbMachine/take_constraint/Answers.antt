@@ -1,5 +1,5 @@
 use Rattle.pb_opb.proofs.Common.{the_view, ◌≡◌, get_or, Give, transition, OpbState}
-use Rattle.pb_opb.proofs.lemmas.machine.{Pushed.planned_at, WholeConstraints.constraint_taken}
+use Rattle.pb_opb.proofs.lemmas.machine.{Pushed.planned_at, Taken.constraint_taken}
 use Rattle.pb_opb.proofs.machine.OpbMachine.take_constraint.Goals as goal
 
 pub returns : goal.returns

@@ -1,4 +1,4 @@
-use Rattle.pb_opb.proofs.{Common.subst, Common.IsState, Common.opb, Common.OpbState, lemmas.machine.States.is_state}
+use Rattle.pb_opb.proofs.{Common.subst, Common.IsState, Common.opb, Common.OpbState, lemmas.machine.Alive.is_state}
 use Rattle.pb_opb.proofs.machine.OpbMachineMachine.is_done.Goals as goal
 
 pub returns-clause-state : goal.returns-clause-state
