@@ -59,7 +59,6 @@ impl OpbMachine {
 
     /// A machine before an instance, which accepts exactly the instances under the limits. It
     /// allocates nothing.
-    #[tactic(auto, using(crate::proofs::Rules::instances))]
     pub fn new(alloc: Global, limits: Limits) -> Self
         ensures accepts { (items : List (Item OpbEvent)) →
             AcceptsItems opb result items ↔ IsInstance (largest limits) (top_of limits) items }

@@ -144,24 +144,11 @@ regrouped a b c d e f g h i j k = simp append_assoc
 
 pub header-bytes : (n m : ℕ) (tail : List ℕ) → bytes (header_text n m tail) ≡ header_bytes n m tail ++ (10 ∷ [])
 header-bytes n m tail =
-    let N : List Letter = digits_of (decimal n) in
-    let M : List Letter = digits_of (decimal m) in
-    let R : List Letter = M ++ (plain tail ++ feed) in
-    let before : List ℕ → List ℕ = λ y. 42 ∷ 32 ∷ (variable_word ++ (32 ∷ y)) in
-    let between : List ℕ → List ℕ = λ y. 32 ∷ (constraint_word ++ (32 ∷ y)) in
-    let last : bytes R ≡ (decimal m ++ tail) ++ (10 ∷ []) =
-    bytes-append M (plain tail ++ feed)
-    ∙ (ap (λ y. y ++ bytes (plain tail ++ feed)) (bytes-digits (decimal m))
-    ∙ (ap (λ y. decimal m ++ y) (bytes-append (plain tail) feed ∙ ap (λ y. y ++ (10 ∷ [])) (bytes-plain tail))
-    ∙ sym (append_assoc (decimal m) tail (10 ∷ [])))) in
-    ap bytes (regrouped star space (plain variable_word) space N space (plain constraint_word) space M (plain tail) feed)
-    ∙ (ap before (bytes-append N (space ++ (plain constraint_word ++ (space ++ R))))
-    ∙ (ap (λ y. before (y ++ between (bytes R))) (bytes-digits (decimal n))
-    ∙ (ap (λ y. before (decimal n ++ between y)) last
-    ∙ ap before (sym (append_assoc (decimal n) (between (decimal m ++ tail)) (10 ∷ []))))))
+    ap bytes (regrouped star space (plain variable_word) space (digits_of (decimal n)) space (plain constraint_word) space (digits_of (decimal m)) (plain tail) feed)
+    ∙ simp (bytes-append, bytes-digits, bytes-plain, append_assoc)
 
 comment-bytes : (text : List ℕ) → bytes (comment_text text) ≡ (42 ∷ text) ++ (10 ∷ [])
-comment-bytes text = simp (append_assoc, bytes-append, bytes-plain)
+comment-bytes text = simp (bytes-append, bytes-plain)
 
 regrouped5 : (a b c d e : List Letter) → a ++ b ++ c ++ d ++ e ≡ a ++ (b ++ ((c ++ d) ++ e))
 regrouped5 a b c d e = simp append_assoc
