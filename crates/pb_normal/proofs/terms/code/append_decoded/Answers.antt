@@ -3,4 +3,5 @@ use Rattle.pb_normal.proofs.terms.code.append_decoded.Goals as goal
 
 pub codes-preserved : goal.codes-preserved
 codes-preserved g c =
-    rw (c.in_ok-push.ensures.items, c.entry.ensures, map_more g.T.Coded.term c.args.codes.now c.codes.i c.index-codes-i.result (omega arith), ← c.index-codes-i.is, c.codes.invariant, append_assoc) refl
+    let more = map_more g.T.Coded.term c.args.codes.now c.codes.i c.index-codes-i.result (omega arith) in
+    rw (c.in_ok-push.ensures.items, c.entry.ensures, more, ← c.index-codes-i.is, c.codes.invariant, append_assoc) refl

@@ -3,4 +3,5 @@ use Rattle.pb_normal.proofs.terms.code.coded_all.Goals as goal
 
 pub terms-preserved : goal.terms-preserved
 terms-preserved g c =
-    rw (c.in_ok-push.ensures.items, take_more c.args.terms.now c.terms.i no_entry (omega arith), map-append g.T.Coded.term, c.of.ensures, c.terms.invariant) refl
+    let more = take_more c.args.terms.now c.terms.i no_entry (omega arith) in
+    rw (c.in_ok-push.ensures.items, more, map-append g.T.Coded.term, c.of.ensures, c.terms.invariant) refl
