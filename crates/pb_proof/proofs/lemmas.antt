@@ -5,8 +5,8 @@ pub mod line
 pub mod machine
 pub mod pol
 pub mod Spaced
-pub mod Written
 pub mod Delete
 pub mod Solution
 pub mod Rup
+pub mod Texts
 pub mod Proofs

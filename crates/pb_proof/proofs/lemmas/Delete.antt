@@ -1,14 +1,14 @@
 -- What the ids machine reads, and its laws.
-use Rattle.pb_proof.proofs.Common.{ℕ, ℤ, ◌*◌, ◌++◌, ◌+◌, ◌<◌, ◌∷◌, ◌≡◌, ◌≤◌, [], ap, arith, Bool, false, length, length-append, List, nat_eq, nat_le, rules}
-use Rattle.pb_proof.proofs.Common.{refl, subst, sym, true, cond_both, leb-true, Keeps, On, digits-grown, digits-one, after_it, grown, next, none_yet, regroup}
-use Rattle.pb_proof.proofs.Common.{as_digit, as_unmarked, Next, ◌⋅◌, Blanks1, Empty, Language, signed, Letter, NumberByte, DeletePhase, Between, Done, Gap}
-use Rattle.pb_proof.proofs.Common.{Minus, number_byte, before, delete_automaton, DeleteState, Listed, SpellsId, SpellsIds, ◌∙◌, append_assoc, cond, IsTrue}
-use Rattle.pb_proof.proofs.Common.{le-leb, reads_after, Walks, walks_then, digits_lead, TakesDigits, End, Go, ReadsStatement, is_blank, DeleteAction, delete_at}
-use Rattle.pb_proof.proofs.Common.{delete_first, delete_last, step, LineEnd, Digits as DigitsOf, delete_transition as transition, ◌-◌, ◌^◌, ◌↔◌, suc, zero}
-use Rattle.pb_proof.proofs.Common.{min-le_left, ReadsOn, is_state, IsOfOne, one_state, never, IsState, Refuse, reads_before, unmarked, IsDeleteInOrder, admits}
-use Rattle.pb_proof.proofs.Common.{end_or_refuse, go_or_refuse, Admits, keeps, AreDigits, Digits, Runs, value_from, begins_id}
-use Rattle.pb_proof.proofs.lemmas.line.Ends.{NumberMeans, number_means, number_blank, number_digit, positive, not_zero, TakesBlanks, MayEnd, closing_feeds}
-use Rattle.pb_proof.proofs.lemmas.line.Ends.{blanks1_lead, line_reads, listed_walks, reads_exactly, digits_text, text_run}
+use Rattle.pb_proof.proofs.Common.{ℕ, cond_both, leb-true, NumberByte, SpellsIds, walks_then, delete_at, one_state, AreDigits, value_from, begins_id, go_or_end}
+use Rattle.pb_proof.proofs.Common.{ℤ, ◌+◌, ◌<◌, ◌∷◌, ◌≡◌, ◌≤◌, [], ap, sym, On, ◌⋅◌, Gap, ◌∙◌, End, Go, step, ◌-◌, ◌^◌, ◌↔◌, suc, zero, Runs, Push}
+use Rattle.pb_proof.proofs.Common.{◌*◌, length, nat_eq, nat_le, signed, Letter, before, Listed, IsTrue, le-leb, IsState, admits, Admits, Digits, Pushes}
+use Rattle.pb_proof.proofs.Common.{◌++◌, Bool, false, List, rules, refl, subst, true, Keeps, grown, next, Next, Empty, Done, Minus, Walks, never, keeps}
+use Rattle.pb_proof.proofs.Common.{arith, length-append, delete_automaton, ReadsStatement, Digits as DigitsOf, delete_transition as transition, IsDeleteInOrder}
+use Rattle.pb_proof.proofs.Common.{digits-grown, digits-one, append_assoc, DeleteAction, delete_first, reads_before, end_or_refuse, go_or_refuse, refuse_or_end}
+use Rattle.pb_proof.proofs.Common.{after_it, none_yet, as_digit, Blanks1, Language, Between, SpellsId, is_blank, LineEnd, ReadsOn, is_state, IsOfOne, unmarked}
+use Rattle.pb_proof.proofs.Common.{regroup, as_unmarked, DeletePhase, number_byte, DeleteState, reads_after, digits_lead, TakesDigits, delete_last, min-le_left}
+use Rattle.pb_proof.proofs.lemmas.line.Ends.{NumberMeans, number_means, number_blank, number_digit, closing_feeds, blanks1_lead, listed_walks, reads_exactly}
+use Rattle.pb_proof.proofs.lemmas.line.Ends.{positive, not_zero, TakesBlanks, MayEnd, line_reads, digits_text, text_run}
 use Rattle.pb_proof.specs.engine.line.Delete.{act, digits, next_action, is_midway, is_done, ActionFits, PhaseFits}
 use Rattle.pb_proof.specs.meaning.Lines.{Minus as Sign}
 use Rattle.pb_proof.proofs.lemmas.line.Ends as ends
@@ -54,8 +54,8 @@ module _ (limit top : ℕ) where
 
   after_sound : (ids : List ℤ) (id : ℤ) (k : NumberByte) (l : Letter) (p : List Letter) → NumberMeans k l.byte → Row top (ids ++ id ∷ []) p → OnNext (act top ids (next_action id k)) l (p ++ l ∷ [])
   after_sound ids id NumberByte.Blank l p m h = λ _ n. (some_ids ids id, ends.blanks_begin (Row top (ids ++ id ∷ [])) l p m n h)
-  after_sound ids id NumberByte.Semicolon l p m h = λ _ n. (some_ids ids id, ends.semicolon_after (Row top (ids ++ id ∷ [])) l p m n h)
-  after_sound ids id NumberByte.Feed l p m h = λ n. (some_ids ids id, ends.line_end_after (Row top (ids ++ id ∷ [])) l p m n h)
+  after_sound ids id NumberByte.Semicolon l p m h = λ _ n. (some_ids ids id, ends.semicolon_after_blanks (Row top (ids ++ id ∷ [])) l p m n (ends.gapped _ p h))
+  after_sound ids id NumberByte.Feed l p m h = λ n. (some_ids ids id, ends.line_after_blanks (Row top (ids ++ id ∷ [])) l p m n (ends.gapped _ p h))
   after_sound ids id _ l p m h = tt
 
   before_sound : (ids : List ℤ) (k : NumberByte) (l : Letter) (p : List Letter) → NumberMeans k l.byte → Before top ids p → OnNext (act top ids (before top k)) l (p ++ l ∷ [])
@@ -86,41 +86,31 @@ keeps_prefix limit s l p h = sound limit s.top s.phase s.ids (number_byte l.byte
 -- The ids machine reads each text of its grammar.
 
 module _ (limit top : ℕ) where
-  abbrev S : Type 0
-  S = DeleteState
-
-  abbrev at : List ℤ → DeletePhase → S
+  abbrev at : List ℤ → DeletePhase → DeleteState
   at ids p = delete_at top ids p
 
-  abbrev past : S
-  past = delete_last top
-
-  by_kind : (s : S) (b : ℕ) (k : NumberByte) → number_byte b ≡ k → delete_automaton.step s b ≡ step s k
+  by_kind : (s : DeleteState) (b : ℕ) (k : NumberByte) → number_byte b ≡ k → delete_automaton.step s b ≡ step s k
   by_kind s b k e = ap (λ x. step s x) e
 
-  by_blank : (s : S) (b : ℕ) → IsTrue (is_blank b) → delete_automaton.step s b ≡ step s NumberByte.Blank
+  by_blank : (s : DeleteState) (b : ℕ) → IsTrue (is_blank b) → delete_automaton.step s b ≡ step s NumberByte.Blank
   by_blank s b h = by_kind s b NumberByte.Blank (number_blank b h)
 
-  by_digit : (s : S) (d : ℕ) → d < 10 → delete_automaton.step s (48 + d) ≡ step s (NumberByte.Digit d)
+  by_digit : (s : DeleteState) (d : ℕ) → d < 10 → delete_automaton.step s (48 + d) ≡ step s (NumberByte.Digit d)
   by_digit s d h = by_kind s (48 + d) (NumberByte.Digit d) (number_digit d h)
 
   -- The line may end here with these ids, or a further one may come.
-  pub record IsAfter (ids : List ℤ) (s : S) : Type 0 where
+  pub record IsAfter (ids : List ℤ) (s : DeleteState) : Type 0 where
     pub blank : (b : ℕ) → IsTrue (is_blank b) → delete_automaton.step s b ≡ Go (at ids Between)
     pub semicolon : delete_automaton.step s 59 ≡ Go (at ids DeletePhase.Closing)
-    pub feed : delete_automaton.step s 10 ≡ End ids past
-
-  whole_id : (ids : List ℤ) (negative : Bool) (n : ℕ) (k : NumberByte) (m : DeleteAction) → 0 < n → m ≡ cond (nat_eq n 0) DeleteAction.Stop (next_action (signed negative n) k)
-      → act top ids m ≡ act top ids (next_action (signed negative n) k)
-  whole_id ids negative n k m h e = ap (λ x. act top ids x) (e ∙ ap (λ b. cond b DeleteAction.Stop (next_action (signed negative n) k)) (not_zero n h))
+    pub feed : delete_automaton.step s 10 ≡ End ids (delete_last top)
 
   pub digits_after : (ids : List ℤ) (negative : Bool) (n : ℕ) → 0 < n → IsAfter (ids ++ signed negative n ∷ []) (at ids (DeletePhase.Digits negative n))
-  digits_after ids negative n h = grind (arith, by_blank, whole_id)
+  digits_after ids negative n h = grind (arith, by_blank, not_zero)
 
-  takes_blanks : (ids : List ℤ) (s : S) → IsAfter ids s → TakesBlanks delete_automaton s (at ids Between)
+  takes_blanks : (ids : List ℤ) (s : DeleteState) → IsAfter ids s → TakesBlanks delete_automaton s (at ids Between)
   takes_blanks ids s h = record { enters = h.blank; stays = λ b i. by_blank (at ids Between) b i; begun = refl; plain = refl }
 
-  may_end : (ids : List ℤ) (s : S) → IsAfter ids s → MayEnd delete_automaton s (at ids Between) (at ids DeletePhase.Closing) ids past
+  may_end : (ids : List ℤ) (s : DeleteState) → IsAfter ids s → MayEnd delete_automaton s (at ids Between) (at ids DeletePhase.Closing) ids (delete_last top)
   may_end ids s h = grind (arith, takes_blanks, closing_feeds, by_blank)
 
   digit_fits : (ids : List ℤ) (negative : Bool) (n d v : ℕ) → 10 * n + d ≡ v → v ≤ top → act top ids (digits top negative n d) ≡ Go (at ids (DeletePhase.Digits negative v))
@@ -130,17 +120,16 @@ module _ (limit top : ℕ) where
   takes_digits ids negative = grind (arith, by_digit, digit_fits)
 
   -- An id may begin here.
-  pub record Opens (ids : List ℤ) (s : S) : Type 0 where
+  pub record Opens (ids : List ℤ) (s : DeleteState) : Type 0 where
     pub minus : delete_automaton.step s 45 ≡ Go (at ids Minus)
     pub digit : (d : ℕ) → d < 10 → d ≤ top → delete_automaton.step s (48 + d) ≡ Go (at ids (DeletePhase.Digits false d))
 
-  pub gap_opens : (ids : List ℤ) → Opens ids (at ids Gap)
-  gap_opens ids = record { minus = refl; digit = λ d h l. by_digit (at ids Gap) d h ∙ digit_fits ids false 0 d d (omega arith) l }
+  pub opens : (ids : List ℤ) (p : DeletePhase) → begins_id p ≡ true → Opens ids (at ids p)
+  opens ids Gap e = record { minus = refl; digit = λ d h l. by_digit (at ids Gap) d h ∙ digit_fits ids false 0 d d (omega arith) l }
+  opens ids Between e = record { minus = refl; digit = λ d h l. by_digit (at ids Between) d h ∙ digit_fits ids false 0 d d (omega arith) l }
+  opens ids _ e = cc
 
-  pub between_opens : (ids : List ℤ) → Opens ids (at ids Between)
-  between_opens ids = record { minus = refl; digit = λ d h l. by_digit (at ids Between) d h ∙ digit_fits ids false 0 d d (omega arith) l }
-
-  pub number_walks : (ids : List ℤ) (s : S) (negative : Bool) (n : ℕ) (t : List Letter) → Opens ids s → n ≤ top → (Sign negative ⋅ DigitsOf n) t
+  pub number_walks : (ids : List ℤ) (s : DeleteState) (negative : Bool) (n : ℕ) (t : List Letter) → Opens ids s → n ≤ top → (Sign negative ⋅ DigitsOf n) t
       → Walks delete_automaton s t (at ids (DeletePhase.Digits negative n))
   number_walks ids s true n t o l (a, b, e, f, h) =
       subst (λ x. Walks delete_automaton s x (at ids (DeletePhase.Digits true n))) (sym (e ∙ ap (λ x. x ++ b) f)) (
@@ -156,10 +145,10 @@ module _ (limit top : ℕ) where
       (digits_lead delete_automaton (λ v. at ids (DeletePhase.Digits false v)) top (takes_digits ids false) s o.digit n l b h)
 
   -- an id leads to a state after which a further one may come
-  abbrev Led : S → List ℤ → List Letter → Type 0
-  Led s ids t = (after : S) × Walks delete_automaton s t after × IsAfter ids after
+  abbrev Led : DeleteState → List ℤ → List Letter → Type 0
+  Led s ids t = (after : DeleteState) × Walks delete_automaton s t after × IsAfter ids after
 
-  id_walks : (ids : List ℤ) (id : ℤ) (s : S) (t : List Letter) → Opens ids s → SpellsId top id t → Led s (ids ++ id ∷ []) t
+  id_walks : (ids : List ℤ) (id : ℤ) (s : DeleteState) (t : List Letter) → Opens ids s → SpellsId top id t → Led s (ids ++ id ∷ []) t
   id_walks ids id s t o (negative, n, z, l, e, h) = (
     at ids (DeletePhase.Digits negative n),
     number_walks ids s negative n t o l h,
@@ -167,7 +156,7 @@ module _ (limit top : ℕ) where
   )
 
   -- with blanks before it
-  blank_walks : (ids : List ℤ) (id : ℤ) (s gap : S) (t : List Letter) → TakesBlanks delete_automaton s gap → Opens ids gap → (Blanks1 ⋅ SpellsId top id) t → Led s (ids ++ id ∷ []) t
+  blank_walks : (ids : List ℤ) (id : ℤ) (s gap : DeleteState) (t : List Letter) → TakesBlanks delete_automaton s gap → Opens ids gap → (Blanks1 ⋅ SpellsId top id) t → Led s (ids ++ id ∷ []) t
   blank_walks ids id s gap t h o (a, b, e, i, k) =
       let (after, w, g) = id_walks ids id gap b o k in (
         after,
@@ -176,21 +165,21 @@ module _ (limit top : ℕ) where
       )
 
   -- further ids, and the end of the line
-  row_reads : (ids more : List ℤ) (s : S) (t : List Letter) → IsAfter ids s → (Listed (SpellsId top) more ⋅ LineEnd) t → ReadsStatement delete_automaton s t (ids ++ more) past
+  row_reads : (ids more : List ℤ) (s : DeleteState) (t : List Letter) → IsAfter ids s → (Listed (SpellsId top) more ⋅ LineEnd) t → ReadsStatement delete_automaton s t (ids ++ more) (delete_last top)
   row_reads ids more s t h (a, b, e, i, k) =
-      let (mid, w, g) = listed_walks (SpellsId top) delete_automaton IsAfter (λ xs x r u g. blank_walks xs x r (at xs Between) u (takes_blanks xs r g) (between_opens xs)) ids more s a h i in
-      rw e (reads_after delete_automaton a b s mid past (ids ++ more) w
-      (line_reads delete_automaton mid (at (ids ++ more) Between) (at (ids ++ more) DeletePhase.Closing) past (ids ++ more) (may_end (ids ++ more) mid g) b k))
+      let (mid, w, g) = listed_walks (SpellsId top) delete_automaton IsAfter (λ xs x r u g. blank_walks xs x r (at xs Between) u (takes_blanks xs r g) (opens xs Between refl)) ids more s a h i in
+      rw e (reads_after delete_automaton a b s mid (delete_last top) (ids ++ more) w
+      (line_reads delete_automaton mid (at (ids ++ more) Between) (at (ids ++ more) DeletePhase.Closing) (delete_last top) (ids ++ more) (may_end (ids ++ more) mid g) b k))
 
   in_gap : TakesBlanks delete_automaton (delete_first top) (at [] Gap)
   in_gap = record { enters = λ b h. by_blank (delete_first top) b h; stays = λ b h. by_blank (at [] Gap) b h; begun = refl; plain = refl }
 
-  pub reads_each : (ids : List ℤ) (t : List Letter) → SpellsIds limit top ids t → ReadsStatement delete_automaton (delete_first top) t ids past
+  pub reads_each : (ids : List ℤ) (t : List Letter) → SpellsIds limit top ids t → ReadsStatement delete_automaton (delete_first top) t ids (delete_last top)
   reads_each [] t h = absurd (omega (arith, h.0))
   reads_each (id ∷ ids) t (z, (abc, d, e, (ab, c, f, h, i), k)) =
       let g : t ≡ ab ++ (c ++ d) = e ∙ (ap (λ x. x ++ d) f ∙ append_assoc ab c d) in
-      let (mid, w, j) = blank_walks [] id (delete_first top) (at [] Gap) ab in_gap (gap_opens []) h in
-      rw g (reads_after delete_automaton ab (c ++ d) (delete_first top) mid past (id ∷ ids) w (row_reads (id ∷ []) ids mid (c ++ d) j (c, d, refl, i, k)))
+      let (mid, w, j) = blank_walks [] id (delete_first top) (at [] Gap) ab in_gap (opens [] Gap refl) h in
+      rw g (reads_after delete_automaton ab (c ++ d) (delete_first top) mid (delete_last top) (id ∷ ids) w (row_reads (id ∷ []) ids mid (c ++ d) j (c, d, refl, i, k)))
 
 -- The laws of the ids machine.
 
@@ -230,17 +219,8 @@ continues s next b e =
 ended : (top : ℕ) (ids : List ℤ) (m : DeleteAction) (next : DeleteState) (e : List ℤ) → act top ids m ≡ End e next → next ≡ delete_last top
 ended top ids m next e i = grind arith
 
-abbrev last : DeleteState → DeleteState
-last s = delete_last s.top
-
-in_order : (s next : DeleteState) (b : ℕ) → IsDeleteInOrder s → delete_automaton.step s b ≡ Go next → IsDeleteInOrder next
-in_order s next b h e =
-    let g : Steps s.top s.ids next = continues s next b e in (
-      subst (λ x. x < 2 ^ 63) (sym g.same_top) h.0,
-      subst (λ x. 0 < x) (sym g.same_top) h.1,
-      subst (λ x. PhaseFits x next.phase) (sym g.same_top) g.fits,
-      (λ i. never (is_midway next.phase) g.midway i),
-    )
+in_order : (s next : DeleteState) → IsDeleteInOrder s → Steps s.top s.ids next → IsDeleteInOrder next
+in_order s next h g = grind (arith, never)
 
 module _ (top : ℕ) (some : 0 < top) (ids : List ℤ) where
   abbrev Some : DeletePhase → Type 0
@@ -266,9 +246,9 @@ module _ (top : ℕ) (some : 0 < top) (ids : List ℤ) where
   some_text Done h = cc
   some_text _ h = (unmarked 10 ∷ [], ids, delete_last top, (refl, refl))
 
-pub delete_of_one : IsOfOne delete_automaton IsDeleteInOrder last
+pub delete_of_one : IsOfOne delete_automaton IsDeleteInOrder (λ s. delete_last s.top)
 delete_of_one = record {
-  keeps = in_order;
+  keeps = λ s next b h e. in_order s next h (continues s next b e);
   begins = λ s next b e. (continues s next b e).midway;
   owes = λ s h. grind arith;
   leads = λ s next b e. ap delete_last (continues s next b e).same_top;
@@ -285,35 +265,33 @@ delete_of_one = record {
 pub delete_reads : (limit top : ℕ) (text : List Letter) (e : List ℤ) (after : DeleteState) →
     ReadsStatement delete_automaton (delete_first top) text e after ↔ (SpellsIds limit top e text × (after ≡ delete_last top))
 delete_reads limit top text e after =
-    reads_exactly delete_automaton IsDeleteInOrder last delete_of_one Prefix (Whole limit) (keeps_prefix limit) (delete_first top) text e after (refl, refl) (reads_each limit top e text)
+    reads_exactly _ _ _ delete_of_one Prefix (Whole limit) (keeps_prefix limit) (delete_first top) text e after (refl, refl) (reads_each limit top e text)
 
 pub delete_is_state : (s : DeleteState) → IsDeleteInOrder s → IsState delete_automaton s
-delete_is_state s g = is_state delete_automaton IsDeleteInOrder last delete_of_one s g (λ i. ap length (g.3 i))
+delete_is_state s g = is_state _ _ _ delete_of_one s g (λ i. ap length (g.3 i))
 
 -- A push of the ids machine does what its transition says.
-
-kept_acts : (top : ℕ) (ids : List ℤ) (m : DeleteAction) → keeps m ≡ true → act top ids m ≡ Refuse → ⊥
-kept_acts top ids m h e = grind (arith, go_or_refuse, end_or_refuse)
 
 -- a push may allocate at a byte that ends an id, and only if the byte is taken
 pub wants : (s : DeleteState) (b : ℕ) (m : DeleteAction) → IsDeleteInOrder s → m ≡ transition s.top s.phase (number_byte b) → keeps m ≡ true
     → IsTrue (delete_automaton.asks s b) × Admits delete_automaton s b
 wants s b m o f h = (
   ap keeps (sym f) ∙ h,
-  admits delete_automaton IsDeleteInOrder _ delete_of_one s b (act s.top s.ids m) o (ap (λ x. act s.top s.ids x) (sym f)) (kept_acts s.top s.ids m h),
+  admits _ _ _ delete_of_one s b (act s.top s.ids m) o (ap (λ x. act s.top s.ids x) (sym f)) (λ e. grind (arith, h, e, go_or_refuse, end_or_refuse)),
 )
+
+-- a byte that is not taken, and does not end the line, changes nothing
+pub stays : (s new : DeleteState) (b : ℕ) (m : DeleteAction) → m ≡ transition s.top s.phase (number_byte b) → (r : Push (List ℤ)) → (m ≡ DeleteAction.End → ⊥)
+    → ((id : ℤ) → m ≡ DeleteAction.EndWith id → ⊥) → (r ≡ Push.Go → ⊥) → Pushes delete_automaton s b r new → new ≡ s
+stays s new b m f r n o g p = grind (arith, refuse_or_end, go_or_end)
 
 -- The digits of an id that are taken in one call are a run of the automaton.
 
 module _ (top : ℕ) (ids : List ℤ) (l : top < 2 ^ 63) (some : 0 < top) where
-  opens_at : (p : DeletePhase) → begins_id p ≡ true → Opens 0 top ids (delete_at top ids p) × IsDeleteInOrder (delete_at top ids p)
-  opens_at p e = grind (arith, gap_opens, never, between_opens)
-
   -- where an id may begin
   pub id_runs : (p : DeletePhase) (text : List ℕ) (n : ℕ) → begins_id p ≡ true → AreDigits text → 0 < length text → n ≡ value_from 0 text → n ≤ top
       → Runs delete_automaton (delete_at top ids p) text (delete_at top ids (DeletePhase.Digits false n))
   id_runs p text n e all h f i =
       let (t, g, b) = digits_text text all (λ none. let no : length text ≡ 0 = ap length none in omega arith) in
-      let (o, k) = opens_at p e in
-      text_run delete_automaton IsDeleteInOrder last delete_of_one t text (delete_at top ids p) (delete_at top ids (DeletePhase.Digits false n)) b k
-      (number_walks 0 top ids (delete_at top ids p) false n t o i ([], t, refl, refl, subst (λ (m : ℕ). Digits m t) (sym f) g))
+      text_run _ _ _ delete_of_one t text (delete_at top ids p) (delete_at top ids (DeletePhase.Digits false n)) b (grind (arith, p, e, never))
+      (number_walks 0 top ids (delete_at top ids p) false n t (opens 0 top ids p e) i ([], t, refl, refl, subst (λ (m : ℕ). Digits m t) (sym f) g))

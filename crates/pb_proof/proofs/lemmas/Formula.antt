@@ -88,29 +88,22 @@ module _ (limit top : ℕ) where
   in_closing : (count : Option ℕ) → Feeds formula_automaton (at top (Closing count)) (at top (Closing count)) count (formula_last top)
   in_closing count = closing_feeds formula_automaton (at top (Closing count)) (formula_last top) count (by_blank (Closing count)) refl refl refl
 
-  none_ends : MayEnd formula_automaton (formula_first top) (at top Gap) (at top (Closing None)) None (formula_last top)
-  none_ends = record { feeds = record { blanks = in_gap; ends = refl; ends_gap = refl }; finishes = refl; closes_gap = refl; last = in_closing None }
-
-  some_ends : (n : ℕ) → MayEnd formula_automaton (at top (Digits n)) (at top (Tail n)) (at top (Closing (Some n))) (Some n) (formula_last top)
-  some_ends n = grind (arith, by_blank, in_closing)
-
   count_leads : (n : ℕ) → Leads formula_automaton (at top Gap) (Count top n) (at top (Digits n))
   count_leads n t h =
       digits_lead formula_automaton (λ n. at top (Digits n)) top takes_digits (at top Gap)
       (λ d i l. by_digit Gap d i ∙ digit_fits 0 d d (omega arith) l) n h.0 t h.1
 
   pub reads_each : (count : Option ℕ) (t : List Letter) → SpellsCount limit top count t → ReadsStatement formula_automaton (formula_first top) t count (formula_last top)
-  reads_each None t h = line_reads formula_automaton (formula_first top) (at top Gap) (at top (Closing None)) (formula_last top) None none_ends t h
+  reads_each None t h =
+      line_reads formula_automaton (formula_first top) (at top Gap) (at top (Closing None)) (formula_last top) None (grind (arith, in_gap, in_closing)) t h
   reads_each (Some n) t (a, b, e, h, k) =
       rw e (reads_after formula_automaton a b (formula_first top) (at top (Digits n)) (formula_last top) (Some n)
       (leads_then formula_automaton Blanks1 (Count top n) (formula_first top) (at top Gap) (at top (Digits n))
       (blanks1_lead formula_automaton (formula_first top) (at top Gap) in_gap) (count_leads n) a h)
-      (line_reads formula_automaton (at top (Digits n)) (at top (Tail n)) (at top (Closing (Some n))) (formula_last top) (Some n) (some_ends n) b k))
+      (line_reads formula_automaton (at top (Digits n)) (at top (Tail n)) (at top (Closing (Some n))) (formula_last top) (Some n)
+      (grind (arith, by_blank, in_closing)) b k))
 
 -- The laws of the count machine.
-
-pub transition_fits : (top : ℕ) (ph : FormulaPhase) (k : NumberByte) → ActionFits top (transition top ph k)
-transition_fits top ph k = grind (arith, nat_le, leb-true)
 
 -- What holds after a step that continues.
 record Steps (top : ℕ) (next : FormulaState) : Type 0 where
@@ -122,13 +115,10 @@ acted : (top : ℕ) (m : FormulaAction) (next : FormulaState) → ActionFits top
 acted top m next h e = grind (arith, one_state, at)
 
 continues : (s next : FormulaState) (b : ℕ) → formula_automaton.step s b ≡ Go next → Steps s.top next
-continues s next b e = acted s.top (transition s.top s.phase (number_byte b)) next (transition_fits s.top s.phase (number_byte b)) e
+continues s next b e = acted s.top (transition s.top s.phase (number_byte b)) next (grind (arith, nat_le, leb-true, s.phase, number_byte b)) e
 
 in_order : (s next : FormulaState) (b : ℕ) → IsFormulaInOrder s → formula_automaton.step s b ≡ Go next → IsFormulaInOrder next
 in_order s next b h e = search (rules, continues)
-
-abbrev last : FormulaState → FormulaState
-last s = formula_last s.top
 
 -- the line feed ends the line from each state
 some_text : (top : ℕ) (ph : FormulaPhase) → is_done ph ≡ false → ReadsOn formula_automaton (at top ph)
@@ -139,7 +129,7 @@ some_text top (Tail n) h = (unmarked 10 ∷ [], Some n, formula_last top, (refl,
 some_text top (Closing count) h = (unmarked 10 ∷ [], count, formula_last top, (refl, refl))
 some_text top Done h = cc
 
-pub formula_of_one : IsOfOne formula_automaton IsFormulaInOrder last
+pub formula_of_one : IsOfOne formula_automaton IsFormulaInOrder (λ s. formula_last s.top)
 formula_of_one = record {
   keeps = in_order;
   begins = λ s next b e. (continues s next b e).midway;
@@ -158,7 +148,7 @@ formula_of_one = record {
 pub formula_reads : (limit top : ℕ) (text : List Letter) (e : Option ℕ) (after : FormulaState) →
     ReadsStatement formula_automaton (formula_first top) text e after ↔ (SpellsCount limit top e text × (after ≡ formula_last top))
 formula_reads limit top text e after =
-    reads_exactly formula_automaton IsFormulaInOrder last formula_of_one Prefix (Whole limit) (keeps_prefix limit) (formula_first top) text e after refl (reads_each limit top e text)
+    reads_exactly _ _ _ formula_of_one Prefix (Whole limit) (keeps_prefix limit) (formula_first top) text e after refl (reads_each limit top e text)
 
 pub formula_is_state : (s : FormulaState) → IsFormulaInOrder s → IsState formula_automaton s
-formula_is_state s h = is_state formula_automaton IsFormulaInOrder last formula_of_one s h (λ i. refl)
+formula_is_state s h = is_state _ _ _ formula_of_one s h (λ i. refl)

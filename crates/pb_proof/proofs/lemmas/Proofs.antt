@@ -1,24 +1,26 @@
 -- Lemmas about proofs, their texts and their values.
-use Rattle.pb_proof.proofs.Common.{ℕ, ◌++◌, ◌↔◌, ◌∙◌, ◌∷◌, ◌≡◌, [], All, ap, append-nil, append_assoc, List, refl, sym, All-head, All-tail, Spanned, arith}
-use Rattle.pb_proof.proofs.Common.{Item, events_of, gathered, IsRead, IsWhole, MayHold, StopsIn, Proof, Statement, IsProof, IsProofOf, IsStep, statements_of, ℤ}
-use Rattle.pb_proof.proofs.Common.{◌≤◌, Option, Linear, Blank, SpellsLinear, Language, Letter, Bound, Conclusion, Bounds, NoClaim, Sat, Unsat, Conclude, Delete}
-use Rattle.pb_proof.proofs.Common.{F, Pol, Rup, PolWord, Factor, IdShown, Listed, SpellsBound, SpellsConclusion, SpellsCount, SpellsId, SpellsStatement}
-use Rattle.pb_proof.proofs.Common.{SpellsWord, AreSpelled, BeginsAtOnce, number-within, Part, SumEvent, ap₂, ◌<◌, ◌^◌, All-append, All-cons, All-nil}
-use Rattle.pb_proof.proofs.Common.{All-weaker, bytes-append, Nothing, bytes_of, letters_of, CanonicalProof, IsProofValue, IsStatementValue, Header, Output}
-use Rattle.pb_proof.proofs.Common.{ended_lines, lines, proof_bytes, statement_bytes, IsGap, Bool, length, length-append, subst, ints, Literal, IsName}
-use Rattle.pb_proof.proofs.Common.{SpellsLiteral, signed, OneValue, ProofValues, StatementValues, AreLiterals, IfGiven, IsBound, IsConclusion, IsFactor, IsId}
-use Rattle.pb_proof.proofs.Common.{IsWord, Soli, Solx, false, nat_le, None, Some, true, false≢true, leb-false, lt-leb, bytes, place_after, spans_of}
-use Rattle.pb_proof.proofs.Common.{spans_since, events_at, BeginProof, ReadStatements, ReadsBack, rules}
-use Rattle.pb_proof.proofs.lemmas.Written.{ended_none, ended-cons, lines-ended}
-use Rattle.pb_proof.proofs.lemmas.line.Texts.{Has, line_bytes, line_has}
+use Rattle.pb_proof.proofs.Common.{[], proof_bytes, IsProofValue, IsStatementValue, SpellsConclusion, ℕ, SpellsLiteral, statements_of, number-within}
+use Rattle.pb_proof.proofs.Common.{length-append, CanonicalProof, ReadStatements, ◌++◌, events_of, IsProofOf, leb-false, events_at, ReadsBack, length, Header}
+use Rattle.pb_proof.proofs.Common.{Output, Option, Letter, Bounds, Delete, Nothing, ◌<◌, ◌∙◌, ◌∷◌, ◌≡◌, ◌≤◌, sym, ap₂, Sat, Pol, Rup, ◌^◌, All, Soli, Solx}
+use Rattle.pb_proof.proofs.Common.{◌↔◌, Item, Part, Bool, ap, Proof, lines, IsName, IsWord, subst, bytes, Factor, Listed, nat_le, lt-leb, IsRead, IsStep}
+use Rattle.pb_proof.proofs.Common.{Linear, append-nil, SpellsWord, Conclusion, spans_since, ended_lines, ProofValues, place_after, append_assoc, SpellsLinear}
+use Rattle.pb_proof.proofs.Common.{IsConclusion, bytes-append, arith, All-head, All-tail, Literal, Language, IsFactor, SpellsId, All-cons, bytes_of, OneValue}
+use Rattle.pb_proof.proofs.Common.{spans_of, gathered, SumEvent, Conclude, List, refl, F, true, ints, IsId, None, Some, Bound, Unsat, false, Blank, IsGap}
+use Rattle.pb_proof.proofs.Common.{rules, statement_bytes, SpellsStatement, StatementValues, Statement, AreSpelled, All-append, All-weaker, letters_of}
+use Rattle.pb_proof.proofs.Common.{false≢true, BeginProof, AreLiterals, SpellsBound, NoClaim, PolWord, IfGiven, IsBound, IdShown, Spanned, IsWhole, MayHold}
+use Rattle.pb_proof.proofs.Common.{StopsIn, IsProof, All-nil}
+use Rattle.pb_proof.{specs.engine.line.Ended.ended_lines, proofs.Common.ℤ, specs.declared.read.gather.ProofSoFar.ProofSoFar}
+use Rattle.pb_proof.{specs.meaning.Reading.AsksInProof}
 use Rattle.pb_proof.specs.contract.Gather.{with, asks, MayKeep, nothing}
-use Rattle.pb_proof.specs.{declared.read.gather.ProofSoFar.ProofSoFar, meaning.Reading.AsksInProof}
 use Rattle.pb_sums.proofs.lemmas.values.{Larger.spells_larger, Within.number-within as value-within, Within.linear-within}
 use Rattle.pb_text.{proofs.lemmas.source.Wholes.spans_events, proofs.lemmas.text.Short.place_after-offset, specs.declared.Place.Place}
-use Rattle.pb_text.specs.declared.Stop.{Stop}
+use Rattle.pb_text.{specs.declared.Stop.Stop}
 use Rattle.pb_text.specs.meaning.Reading.{ended_within, IsUnderWay, IsSpelled}
 use Rattle.pb_text.proofs.lemmas.source.Unkept as stopped
 use Rattle.pb_text.proofs.lemmas.text.Formats as formats
+use Rattle.pb_proof.proofs.lemmas.Texts.{ended_none, ended-cons, lines-ended, line_bytes, Has, line_has}
+
+-- What is read of a proof.
 
 abbrev pub one_more : ProofSoFar → Statement → ProofSoFar
 one_more b e = record { proof = with b.proof e }
@@ -27,13 +29,10 @@ one_more b e = record { proof = with b.proof e }
 abbrev with_steps : Proof → List Statement → Proof
 with_steps v steps = record v { steps = v.steps ++ steps }
 
-step_after : (v : Proof) (s : Statement) → IsStep s → with v s ≡ with_steps v (s ∷ [])
-step_after v s h = grind arith
-
 steps_after : (steps rest : List Statement) (v : Proof) → All IsStep steps → gathered with v (steps ++ rest) ≡ gathered with (with_steps v steps) rest
 steps_after [] rest v h = ap (λ (xs : List Statement). gathered with (record v { steps = xs }) rest) (sym (append-nil v.steps))
 steps_after (s ∷ steps) rest v h =
-    ap (λ (x : Proof). gathered with x (steps ++ rest)) (step_after v s (All-head IsStep s steps h))
+    ap (λ (x : Proof). gathered with x (steps ++ rest)) (let k = All-head IsStep s steps h in grind (arith, s))
     ∙ (steps_after steps rest (with_steps v (s ∷ [])) (All-tail IsStep s steps h)
     ∙ ap (λ (xs : List Statement). gathered with (record v { steps = xs }) rest) (append_assoc v.steps (s ∷ []) steps))
 
@@ -100,33 +99,21 @@ module _ (limit limit' top top' : ℕ) (h : limit ≤ limit') (j : top ≤ top')
   conclusion_grows NoClaim t k = k
   conclusion_grows (Sat shown) t k = k
 
-  spelt_count : (c : Option ℕ) → Within (SpellsCount limit top c) (SpellsCount limit' top' c)
-  spelt_count c t k = grind arith
-
   linear_grows : (c : Linear) → Within (SpellsLinear Blank limit c) (SpellsLinear Blank limit' c)
   linear_grows c t k = (spells_larger Blank limit limit' h Part.Linear t (SumEvent.Linear c) (refl, k)).1
 
   statement_grows : (e : Statement) → Within (SpellsStatement limit top e) (SpellsStatement limit' top' e)
-  statement_grows (F c) t (a, b, e, w, k) = (a, b, e, w, spelt_count c b k)
+  statement_grows (F c) t (a, b, e, w, k) = (a, b, e, w, grind (arith, c))
   statement_grows e t k = grind (arith, listed_grows, word_grows, linear_grows, id_grows, conclusion_grows)
 
-  all_grow : (items : List (Item Statement)) → AreSpelled limit top items → AreSpelled limit' top' items
-  all_grow items k = grind (arith, statement_grows)
-
-  once_grows : (items : List (Item Statement)) → BeginsAtOnce limit top items → BeginsAtOnce limit' top' items
-  once_grows items k = grind arith
-
   pub proof_grows : (items : List (Item Statement)) → IsProof limit top items → IsProof limit' top' items
-  proof_grows items (v, (steps, e, first, spelled)) = (v, (steps, e, once_grows items first, all_grow items spelled))
+  proof_grows items (v, (steps, e, first, spelled)) = (v, (steps, e, grind (arith, items, first), grind (arith, statement_grows, spelled)))
 
 -- The canonical text of a proof that meets the rules is a text of it.
 
 -- The lines that have a line feed.
 abbrev HasFeed : Statement → Type 0
 HasFeed s = line_bytes s ≡ statement_bytes s ++ (10 ∷ [])
-
-step_feeds : (s : Statement) → IsStep s → HasFeed s
-step_feeds s h = grind arith
 
 -- the bytes of lines
 abbrev all_bytes : List Statement → List ℕ
@@ -150,7 +137,7 @@ body_feeds : (v : Proof) → All IsStep v.steps → All HasFeed (body v)
 body_feeds v h =
     All-cons HasFeed Header (F v.count ∷ (v.steps ++ Output ∷ Conclude v.conclusion ∷ [])) refl
     (All-cons HasFeed (F v.count) (v.steps ++ Output ∷ Conclude v.conclusion ∷ []) refl
-    (All-append HasFeed v.steps (Output ∷ Conclude v.conclusion ∷ []) (All-weaker IsStep HasFeed step_feeds v.steps h)
+    (All-append HasFeed v.steps (Output ∷ Conclude v.conclusion ∷ []) (All-weaker IsStep HasFeed (λ s k. grind (arith, s)) v.steps h)
     (All-cons HasFeed Output (Conclude v.conclusion ∷ []) refl (All-cons HasFeed (Conclude v.conclusion) [] refl (All-nil HasFeed)))))
 
 proof-bytes : (v : Proof) → All IsStep v.steps → all_bytes (statements_of v) ≡ proof_bytes v
@@ -206,11 +193,8 @@ listed_values P R f (x ∷ xs) t (ab, c, e, (a, b, g, s, h), k) = All-cons R x x
 literals_value : (ls : List Literal) (t : List Letter) → Listed SpellsLiteral ls t → AreLiterals ls
 literals_value ls t h = listed_values SpellsLiteral (λ l. IsName l.name) (λ l u k. k.0) ls t h
 
-signed_id : (top : ℕ) (negative : Bool) (n : ℕ) → 0 < n → n ≤ top → IsId top (signed negative n)
-signed_id top negative n h k = grind arith
-
 id_value : (top : ℕ) (id : ℤ) (t : List Letter) → SpellsId top id t → IsId top id
-id_value top id t (negative, n, h, k, e, rest) = subst (IsId top) (sym e) (signed_id top negative n h k)
+id_value top id t (negative, n, h, k, e, rest) = subst (IsId top) (sym e) (grind (arith, negative, n))
 
 factor_value : (limit : ℕ) (k : ℤ) (t : List Letter) → Factor limit k t → IsFactor limit k
 factor_value limit k t (n, h, i, e, d) = subst (IsFactor limit) (sym e) (omega (arith, ints), omega (arith, ints))
@@ -228,11 +212,8 @@ module _ (limit top : ℕ) where
   conclusion_value : (c : Conclusion) (t : List Letter) → SpellsConclusion limit top c t → IsConclusion limit top c
   conclusion_value c t h = grind (arith, id_shown_value, bound_value, literals_value)
 
-  f_value : (count : Option ℕ) (t : List Letter) → SpellsStatement limit top (F count) t → IfGiven (λ n. n ≤ top) count
-  f_value count t h = grind arith
-
   statement_value : (s : Statement) (t : List Letter) → SpellsStatement limit top s t → IsStatementValue limit top s
-  statement_value (F count) t h = f_value count t h
+  statement_value (F count) t h = grind (arith, count)
   statement_value (Pol ws) t (a, b, e, w, (postfix, (c, d, f, h, k))) = (postfix, listed_values (SpellsWord limit top) (IsWord limit top) word_value ws c h)
   statement_value (Rup c) t (a, b, e, w, (relation, (x, y, f, (p, q, g, s, h), k))) = (relation, linear-within Blank limit c q h)
   statement_value (Soli ls) t (a, b, e, w, (c, d, f, h, k)) = literals_value ls c h

@@ -1,18 +1,15 @@
 -- What the `rup` machine reads, and what holds of its states.
-use Rattle.pb_proof.proofs.Common.{ℕ, ◌++◌, ◌↔◌, ◌∙◌, ◌∷◌, ◌≡◌, [], ap, false, IsTrue, List, nat_eq, None, Option, refl, Some, subst, sym, true, cond_both}
-use Rattle.pb_proof.proofs.Common.{arith, rules, eqb-true, false_from_ne_true, reads_grammar, continues-midway, Linear, Blank, SumEvent, sums, SumState, allows}
-use Rattle.pb_proof.proofs.Common.{Spells, SpellsLinear, refuse_or_end, refuse_or_go, ends_walk, Keeps, On, reads_after, reported, Walks, walks_more}
-use Rattle.pb_proof.proofs.Common.{walks_then, never, blank_each, grown, none_yet, End, Go, Next, ReadsStatement, Refuse, is_blank, ◌⋅◌, Blanks0, Blanks1}
-use Rattle.pb_proof.proofs.Common.{Language, Letter, RupAction, Give, RupPhase, Inside, Tail, linear_of, rup_act, rup_automaton, rup_finish, rup_first}
-use Rattle.pb_proof.proofs.Common.{rup_last, rup_over, rup_transition, RupState, sum_first, sum_last, SpellsRup, Part, Relation, ◌&&◌, ◌+◌, ◌≤◌, Bool}
-use Rattle.pb_proof.proofs.Common.{flushed-units, midway-not-done, reads_something, ended-last, accepted, admits_before, final, IsAlive, refuses, AcceptsItems}
-use Rattle.pb_proof.proofs.Common.{Admits, is_large, IsState, is_digit, Item, IsRupInOrder, rup_asks, rup_done, rup_in_number, rup_midway, RupHolds}
-use Rattle.pb_proof.proofs.Common.{SumPhase as Phase, SumAction as Action}
-use Rattle.pb_proof.proofs.lemmas.line.Ends.{TakesBlanks, blanks1_lead, closing_feeds, feed_reads, gapped, first_blank, further_blank, blank_more}
-use Rattle.pb_proof.proofs.lemmas.line.Ends.{feed_after_blanks}
-use Rattle.pb_sums.specs.declared.linear.Term.{Term}
+use Rattle.pb_proof.proofs.Common.{ℕ, ◌↔◌, ◌∙◌, ◌∷◌, ◌≡◌, sym, On, End, Go, ◌⋅◌, Part, ◌&&◌, ◌+◌, ◌≤◌, Bool, Item, ◌++◌, [], List, None, refl, Some}
+use Rattle.pb_proof.proofs.Common.{ap, reads_grammar, refuse_or_end, ReadsStatement, rup_automaton, rup_transition, flushed-units, admits_before, rup_in_number}
+use Rattle.pb_proof.proofs.Common.{true, rup_last, rup_over, RupState, sum_last, Relation, accepted, is_large, is_digit, eqb-true, SumEvent, SumState, reported}
+use Rattle.pb_proof.proofs.Common.{sums, Next, Give, Tail, false, subst, arith, rules, Blank, Keeps, Walks, never, grown, final, Option, Linear, allows, Spells}
+use Rattle.pb_proof.proofs.Common.{none_yet, is_blank, Language, RupPhase, Refuse, RupAction, linear_of, rup_first, sum_first, SpellsRup, cond_both, ended-last}
+use Rattle.pb_proof.proofs.Common.{Letter, Inside, Admits, IsTrue, nat_eq, Blanks0, Blanks1, rup_act, IsAlive, refuses, IsState, rup_asks, rup_done, RupHolds}
+use Rattle.pb_proof.proofs.Common.{ends_walk, rup_midway, reads_after, walks_more, walks_then, blank_each, rup_finish, AcceptsItems, IsRupInOrder, SpellsLinear}
+use Rattle.pb_proof.proofs.Common.{refuse_or_go, false_from_ne_true, continues-midway, midway-not-done, reads_something, SumPhase as Phase, SumAction as Action}
+use Rattle.pb_proof.proofs.lemmas.line.Ends.{blanks1_lead, closing_feeds, feed_reads, first_blank, further_blank, blank_more, feed_after_blanks, gapped}
+use Rattle.pb_sums.specs.{declared.linear.Term.Term, engine.State.over, engine.State.units}
 use Rattle.pb_sums.specs.engine.Machine.{Work, Outcome, act, flushed, transition, kind, letter_at, is_numeric}
-use Rattle.pb_sums.specs.engine.State.{over, units}
 use Rattle.pb_text.proofs.lemmas.machine.Living.{before}
 
 -- what the sum machine reads
@@ -93,18 +90,12 @@ module _ (limit top : ℕ) where
   pub keeps : Keeps rup_automaton Prefix Whole
   keeps s l p f = sound s l p s.phase f
 
-  pub rup_only : (t : List Letter) (c : Linear) (after : RupState) → ReadsStatement rup_automaton (rup_first limit) t c after → SpellsRup limit top c t × (after ≡ rup_last limit)
-  rup_only t c after r = reported rup_automaton Prefix Whole keeps t (rup_first limit) [] c after r (refl, refl, refl)
-
   -- The converse: each part of a text leads on.
   abbrev in_phase : RupPhase → RupState
   in_phase p = record { phase = p; sums = sum_first limit; linear = None }
 
   abbrev following : SumEvent → SumState → RupState
   following e inner = record { phase = Tail; sums = inner; linear = Some (linear_of e) }
-
-  gap_blanks : TakesBlanks rup_automaton (in_phase RupPhase.Start) (in_phase RupPhase.Gap)
-  gap_blanks = record { enters = λ b h. rw h refl; stays = λ b h. rw h refl; begun = refl; plain = refl }
 
   -- no blank begins a constraint
   gap_gives : (l : Letter) → (sums.step (sum_first limit) l.byte ≡ Refuse → ⊥) → rup_transition RupPhase.Gap l.byte ≡ Give
@@ -117,24 +108,24 @@ module _ (limit top : ℕ) where
       let k = gap_gives l (λ h. refuse_or_go mid (sym h ∙ g)) in
       (record { phase = Inside; sums = mid; linear = None }, ap (rup_act (in_phase RupPhase.Gap) l.byte) k ∙ ap (rup_over (in_phase RupPhase.Gap)) g, refl, n, given_walks None (c ∷ t) mid new e r)
 
-  allows_it : (r : Relation) → r ≡ Relation.AtLeast → IsTrue (allows Part.AtLeast r)
-  allows_it r h = grind arith
-
   pub rup_each : (t : List Letter) (c : Linear) → SpellsRup limit top c t → ReadsStatement rup_automaton (rup_first limit) t c (rup_last limit)
   rup_each t c (r, (ab, f, e, (a, b, g, h, k), i)) =
       let q : ReadsStatement sums (sum_first limit) b (SumEvent.Linear c) (sum_last limit) =
-      (reads_grammar Blank Part.AtLeast limit b (SumEvent.Linear c) (sum_last limit)).1 ((allows_it c.relation r, k), refl) in
+      (reads_grammar Blank Part.AtLeast limit b (SumEvent.Linear c) (sum_last limit)).1 ((grind (arith, r), k), refl) in
       let tail : RupState = following (SumEvent.Linear c) (sum_last limit) in
       let w : Walks rup_automaton (rup_first limit) (a ++ b) tail =
       walks_then rup_automaton a b (rup_first limit) (in_phase RupPhase.Gap) tail
-      (blanks1_lead rup_automaton (in_phase RupPhase.Start) (in_phase RupPhase.Gap) gap_blanks a h) (linear_walks b (sum_last limit) (SumEvent.Linear c) q) in
+      (blanks1_lead rup_automaton (in_phase RupPhase.Start) (in_phase RupPhase.Gap) (grind arith) a h) (linear_walks b (sum_last limit) (SumEvent.Linear c) q) in
       subst (λ x. ReadsStatement rup_automaton (rup_first limit) x c (rup_last limit)) (ap (λ x. x ++ f) (sym g) ∙ sym e)
       (reads_after rup_automaton (a ++ b) f (rup_first limit) tail (rup_last limit) c w
       (feed_reads rup_automaton tail tail (rup_last limit) c (closing_feeds rup_automaton tail (rup_last limit) c (λ b h. rw h refl) refl refl refl) f i))
 
   -- What a new machine reads is a constraint, and then it has ended.
   pub rup_reads : (t : List Letter) (c : Linear) (after : RupState) → ReadsStatement rup_automaton (rup_first limit) t c after ↔ (SpellsRup limit top c t × (after ≡ rup_last limit))
-  rup_reads t c after = (rup_only t c after, λ h. subst (λ x. ReadsStatement rup_automaton (rup_first limit) t c x) (sym h.1) (rup_each t c h.0))
+  rup_reads t c after = (
+    λ r. reported rup_automaton Prefix Whole keeps t (rup_first limit) [] c after r (refl, refl, refl),
+    λ h. subst (λ x. ReadsStatement rup_automaton (rup_first limit) t c x) (sym h.1) (rup_each t c h.0),
+  )
 
 -- What holds of each state that the `rup` machine can be in.
 
@@ -197,15 +188,6 @@ continues s next b e = subst (Stepped s) e (steps s b)
 pub rup_begins : (s next : RupState) (b : ℕ) → rup_automaton.step s b ≡ Go next → rup_automaton.begun next ≡ true
 rup_begins s next b e = (continues s next b e).begins
 
-midway_not_done : (p : RupPhase) → rup_midway p ≡ true → rup_done p ≡ false
-midway_not_done p h = grind arith
-
-done_not_midway : (p : RupPhase) → rup_done p ≡ true → rup_midway p ≡ false
-done_not_midway p h = grind (arith, never)
-
-empty_outside : (s : RupState) (p : RupPhase) → RupHolds s p → rup_midway p ≡ false → rup_automaton.spent s ≡ 0
-empty_outside s p h k = grind (arith, never)
-
 -- Each state that has not ended can end.
 finishing : (s : RupState) (c : Linear) → s.phase ≡ Tail → s.linear ≡ Some c → IsAlive rup_automaton s
 finishing s c p e =
@@ -253,18 +235,14 @@ pub rup_is_state : (s : RupState) → IsRupInOrder s → IsState rup_automaton s
 rup_is_state s h = record {
   live = live s h (rup_done s.phase) refl;
   ends = λ d b. grind arith;
-  owes = λ b next e. midway_not_done next.phase (continues s next b e).begins;
+  owes = λ b next e. grind (arith, next.phase, (continues s next b e).begins);
   stays = λ i b next e. (continues s next b e).begins;
-  finishes = λ b c next e. done_not_midway next.phase (subst (Stepped s) e (steps s b) h).0;
+  finishes = λ b c next e. grind (arith, never, next.phase, (subst (Stepped s) e (steps s b) h).0);
   plain = λ o. grind arith;
   grows = λ b next e. (continues s next b e).grows h;
   bounds = omega (arith, h.state.bounds);
-  empties = λ o. empty_outside s s.phase h.holds o;
+  empties = λ o. grind (arith, never, s.phase, h.holds, o);
 }
-
--- before a line
-pub rup_first_in_order : (limit : ℕ) → IsState sums (sum_first limit) → IsRupInOrder (rup_first limit)
-rup_first_in_order limit state = record { holds = (refl, refl); state = state }
 
 -- What holds of the machine after a byte.
 pub give_order : (s : RupState) → IsRupInOrder s → (b : ℕ) (inner : SumState) → rup_transition s.phase b ≡ Give → sums.step s.sums b ≡ Go inner → IsState sums inner → IsRupInOrder (record s { phase = Inside; sums = inner })

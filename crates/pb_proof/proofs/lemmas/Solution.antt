@@ -1,14 +1,14 @@
 -- What the literals machine reads, and its laws.
-use Rattle.pb_proof.proofs.Common.{ℕ, ◌++◌, ◌∷◌, ◌≡◌, [], Bool, IsTrue, List, first-append, FirstOf, LiteralOf, name-append, name-bytes, grown, is_name_byte}
-use Rattle.pb_proof.proofs.Common.{arith, rules, ◌⋅◌, Language, unmarked, Letter, ◌∙◌, ap, cond, false, refl, true, Literal, SpellsLiteral, Keeps, On}
-use Rattle.pb_proof.proofs.Common.{letter_name, after_it, next, nil_first, none_yet, regroup3, as_unmarked, Next, is_blank, Blanks0, Blanks1, Byte, Empty}
-use Rattle.pb_proof.proofs.Common.{NameByte, SolutionPhase, First, More, Negation, name_byte, flushed, literal, solution_automaton, SolutionState, SpellsJoined}
-use Rattle.pb_proof.proofs.Common.{LineEnd, Listed, append-nil, append_assoc, map, reads_after, Walks, walks_then, End, Go, ReadsStatement, is_letter, Each}
-use Rattle.pb_proof.proofs.Common.{solution_at, solution_first, solution_last, ◌+◌, ◌-◌, ◌^◌, ◌↔◌, ◌≤◌, length, length-append, sym, min-le_left, add-grows}
-use Rattle.pb_proof.proofs.Common.{begin-grows, to-grows, reads_before, ReadsOn, is_state, IsOfOne, one_state, never, IsState, Refuse, SolutionAction, is_begun}
-use Rattle.pb_proof.proofs.Common.{IsSolutionInOrder, ◌<◌, ◌||◌, get_or, min, take, take_more, admits, end_or_refuse, go_or_refuse, Admits, adds, is_more}
-use Rattle.pb_proof.proofs.lemmas.line.Ends.{NameMeans, name_means, name_blank, name_letter, name_inner, TakesBlanks, MayEnd, closing_feeds, blanks1_lead}
-use Rattle.pb_proof.proofs.lemmas.line.Ends.{line_reads, listed_walks, reads_exactly}
+use Rattle.pb_proof.proofs.{Common.ℕ, Common.Go, lemmas.line.Ends.NameMeans, lemmas.line.Ends.name_inner, lemmas.line.Ends.line_reads}
+use Rattle.pb_proof.proofs.Common.{◌++◌, name-append, letter_name, as_unmarked, append_assoc, reads_after, solution_at, min-le_left, reads_before, go_or_refuse}
+use Rattle.pb_proof.proofs.Common.{◌∷◌, Language, unmarked, after_it, none_yet, regroup3, is_blank, NameByte, Negation, to-grows, is_state, is_begun, go_or_end}
+use Rattle.pb_proof.proofs.Common.{◌≡◌, IsTrue, Letter, Blanks0, Blanks1, flushed, literal, LineEnd, Listed, length, ReadsOn, IsOfOne, IsState, is_more}
+use Rattle.pb_proof.proofs.Common.{[], ◌⋅◌, ◌∙◌, ap, On, next, Next, Byte, More, map, End, Each, ◌+◌, ◌-◌, ◌^◌, ◌↔◌, ◌≤◌, sym, ◌<◌, ◌||◌, min, take, adds, Push}
+use Rattle.pb_proof.proofs.Common.{Bool, List, grown, arith, rules, cond, false, refl, true, Keeps, Empty, First, Walks, never, get_or, admits, Admits, Pushes}
+use Rattle.pb_proof.proofs.Common.{first-append, is_name_byte, Literal, SolutionState, SpellsJoined, solution_last, length-append, end_or_refuse, refuse_or_end}
+use Rattle.pb_proof.proofs.Common.{FirstOf, SpellsLiteral, SolutionPhase, solution_automaton, ReadsStatement, solution_first, SolutionAction, IsSolutionInOrder}
+use Rattle.pb_proof.proofs.Common.{LiteralOf, name-bytes, nil_first, name_byte, append-nil, walks_then, is_letter, add-grows, begin-grows, one_state, take_more}
+use Rattle.pb_proof.proofs.lemmas.line.Ends.{name_means, name_blank, name_letter, TakesBlanks, MayEnd, closing_feeds, blanks1_lead, listed_walks, reads_exactly}
 use Rattle.pb_proof.specs.engine.line.Solution.{act, transition, next_action, before, step, is_midway, is_done, units, in_hand, ready, all_units}
 use Rattle.pb_sums.proofs.lemmas.machine.Counts.{counted}
 use Rattle.pb_proof.proofs.lemmas.line.Ends as ends
@@ -119,23 +119,20 @@ keeps_prefix s l p h = sound s.joined s.phase s.literals s.name (name_byte l.byt
 -- The literals machine reads each text of its grammar.
 
 module _ (joined : Bool) where
-  abbrev S : Type 0
-  S = SolutionState
-
-  abbrev at_gap : List Literal → S
+  abbrev at_gap : List Literal → SolutionState
   at_gap ls = solution_at joined ls [] SolutionPhase.Gap
 
-  abbrev at_closing : List Literal → S
+  abbrev at_closing : List Literal → SolutionState
   at_closing ls = solution_at joined ls [] SolutionPhase.Closing
 
-  abbrev at_more : List Literal → Bool → List ℕ → S
+  abbrev at_more : List Literal → Bool → List ℕ → SolutionState
   at_more ls negated name = solution_at joined ls name (More negated)
 
-  by_kind : (s : S) (b : ℕ) (k : NameByte) → name_byte b ≡ k → solution_automaton.step s b ≡ step s k
+  by_kind : (s : SolutionState) (b : ℕ) (k : NameByte) → name_byte b ≡ k → solution_automaton.step s b ≡ step s k
   by_kind s b k e = ap (λ x. step s x) e
 
   -- The line may end here with these literals, or a further one may come.
-  pub record IsAfter (ls : List Literal) (s : S) : Type 0 where
+  pub record IsAfter (ls : List Literal) (s : SolutionState) : Type 0 where
     pub blank : (b : ℕ) → IsTrue (is_blank b) → solution_automaton.step s b ≡ Go (at_gap ls)
     pub semicolon : solution_automaton.step s 59 ≡ Go (at_closing ls)
     pub feed : solution_automaton.step s 10 ≡ End ls (solution_last joined)
@@ -143,14 +140,14 @@ module _ (joined : Bool) where
   more_after : (ls : List Literal) (negated : Bool) (name : List ℕ) → IsAfter (ls ++ literal negated name ∷ []) (at_more ls negated name)
   more_after ls negated name = grind (arith, by_kind, name_blank)
 
-  takes_blanks : (ls : List Literal) (s : S) → IsAfter ls s → TakesBlanks solution_automaton s (at_gap ls)
+  takes_blanks : (ls : List Literal) (s : SolutionState) → IsAfter ls s → TakesBlanks solution_automaton s (at_gap ls)
   takes_blanks ls s h = record { enters = h.blank; stays = λ b i. by_kind (at_gap ls) b NameByte.Blank (name_blank b i); begun = refl; plain = refl }
 
-  may_end : (ls : List Literal) (s : S) → IsAfter ls s → MayEnd solution_automaton s (at_gap ls) (at_closing ls) ls (solution_last joined)
+  may_end : (ls : List Literal) (s : SolutionState) → IsAfter ls s → MayEnd solution_automaton s (at_gap ls) (at_closing ls) ls (solution_last joined)
   may_end ls s h = grind (arith, takes_blanks, closing_feeds, by_kind, name_blank)
 
   -- A literal may begin here.
-  pub record Opens (ls : List Literal) (s : S) : Type 0 where
+  pub record Opens (ls : List Literal) (s : SolutionState) : Type 0 where
     pub tilde : solution_automaton.step s 126 ≡ Go (solution_at joined ls [] Negation)
     pub letter : (b : ℕ) → IsTrue (is_letter b) → solution_automaton.step s b ≡ Go (solution_at joined ls (b ∷ []) (First false))
 
@@ -158,7 +155,7 @@ module _ (joined : Bool) where
   gap_opens ls = record { tilde = refl; letter = λ b h. by_kind (at_gap ls) b (NameByte.Letter b) (name_letter b h) }
 
   -- a state that takes letters and other bytes of names in the same way
-  name_step : (s next : S) (b : ℕ) → step s (NameByte.Letter b) ≡ Go next → step s (NameByte.Inner b) ≡ Go next → IsTrue (is_name_byte b) → solution_automaton.step s b ≡ Go next
+  name_step : (s next : SolutionState) (b : ℕ) → step s (NameByte.Letter b) ≡ Go next → step s (NameByte.Inner b) ≡ Go next → IsTrue (is_name_byte b) → solution_automaton.step s b ≡ Go next
   name_step s next b f g h = grind (arith, name_inner, by_kind)
 
   name_walks : (ls : List Literal) (negated : Bool) (name bs : List ℕ) → Each (λ b. IsTrue (is_name_byte b)) bs
@@ -169,10 +166,10 @@ module _ (joined : Bool) where
   first_walks : (ls : List Literal) (negated : Bool) (a b : ℕ) (bs : List ℕ) → Each (λ b. IsTrue (is_name_byte b)) (b ∷ bs)
       → Walks solution_automaton (solution_at joined ls (a ∷ []) (First negated)) (map unmarked (b ∷ bs)) (at_more ls negated (a ∷ b ∷ bs))
   first_walks ls negated a b bs h =
-      let second : S = at_more ls negated (a ∷ b ∷ []) in
+      let second : SolutionState = at_more ls negated (a ∷ b ∷ []) in
       (second, name_step (solution_at joined ls (a ∷ []) (First negated)) second b refl refl h.0, refl, refl, name_walks ls negated (a ∷ b ∷ []) bs h.1)
 
-  literal_walks : (ls : List Literal) (s : S) (negated : Bool) (name : List ℕ) (t : List Letter) → Opens ls s → SpellsLiteral (literal negated name) t
+  literal_walks : (ls : List Literal) (s : SolutionState) (negated : Bool) (name : List ℕ) (t : List Letter) → Opens ls s → SpellsLiteral (literal negated name) t
       → Walks solution_automaton s t (at_more ls negated name)
   literal_walks ls s true (a ∷ b ∷ bs) t o h =
       let second = by_kind (solution_at joined ls [] Negation) a (NameByte.Letter a) (name_letter a h.0.0) in
@@ -182,7 +179,7 @@ module _ (joined : Bool) where
   literal_walks ls s negated _ t o h = absurd h.0
 
   -- a further literal
-  further_walks : (ls : List Literal) (l : Literal) (s : S) (t : List Letter) → IsAfter ls s → (Blanks1 ⋅ SpellsLiteral l) t
+  further_walks : (ls : List Literal) (l : Literal) (s : SolutionState) (t : List Letter) → IsAfter ls s → (Blanks1 ⋅ SpellsLiteral l) t
       → Walks solution_automaton s t (at_more ls l.negated l.name)
   further_walks ls l s t h (a, b, e, i, k) =
       rw e (walks_then solution_automaton a b s (at_gap ls) (at_more ls l.negated l.name)
@@ -190,7 +187,7 @@ module _ (joined : Bool) where
       (literal_walks ls (at_gap ls) l.negated l.name b (gap_opens ls) k))
 
   -- literals with blanks before each, and the end of the line
-  row_reads : (ls ms : List Literal) (s : S) (t : List Letter) → IsAfter ls s → (Listed SpellsLiteral ms ⋅ LineEnd) t → ReadsStatement solution_automaton s t (ls ++ ms) (solution_last joined)
+  row_reads : (ls ms : List Literal) (s : SolutionState) (t : List Letter) → IsAfter ls s → (Listed SpellsLiteral ms ⋅ LineEnd) t → ReadsStatement solution_automaton s t (ls ++ ms) (solution_last joined)
   row_reads ls ms s t h (a, b, e, i, k) =
       let (mid, w, g) = listed_walks SpellsLiteral solution_automaton IsAfter (λ xs x r u g k. (at_more xs x.negated x.name, further_walks xs x r u g k, more_after xs x.negated x.name)) ls ms s a h i in
       rw e (reads_after solution_automaton a b s mid (solution_last joined) (ls ++ ms) w
@@ -259,9 +256,6 @@ module _ (joined : Bool) (ls : List Literal) (name : List ℕ) (ph : SolutionPha
 continues : (s next : SolutionState) (b : ℕ) → solution_automaton.step s b ≡ Go next → Steps s next
 continues s next b e = acted s.joined s.literals s.name s.phase (transition s.joined s.phase (name_byte b)) next (transition_sane s.joined s.phase (name_byte b)) e
 
-abbrev last : SolutionState → SolutionState
-last s = solution_last s.joined
-
 -- a further byte or two of a name, and the line feed
 some_more : (joined negated : Bool) (ls : List Literal) (name : List ℕ) → ReadsOn solution_automaton (solution_at joined ls name (More negated))
 some_more joined negated ls name = (unmarked 10 ∷ [], ls ++ literal negated name ∷ [], solution_last joined, (refl, refl))
@@ -278,7 +272,7 @@ some_text joined (More negated) ls name h = some_more joined negated ls name
 some_text joined SolutionPhase.Done ls name h = cc
 some_text joined _ ls name h = (unmarked 10 ∷ [], ls, solution_last joined, (refl, refl))
 
-pub solution_of_one : IsOfOne solution_automaton IsSolutionInOrder last
+pub solution_of_one : IsOfOne solution_automaton IsSolutionInOrder (λ s. solution_last s.joined)
 solution_of_one = record {
   keeps = λ s next b g e i. never (is_midway next.phase) (continues s next b e).midway i;
   begins = λ s next b e. midway_begun next.joined next.phase (continues s next b e).midway;
@@ -297,23 +291,10 @@ solution_of_one = record {
 pub solution_reads : (joined : Bool) (text : List Letter) (e : List Literal) (after : SolutionState) →
     ReadsStatement solution_automaton (solution_first joined) text e after ↔ (SpellsJoined joined e text × (after ≡ solution_last joined))
 solution_reads joined text e after =
-    reads_exactly solution_automaton IsSolutionInOrder last solution_of_one Prefix Whole keeps_prefix (solution_first joined) text e after (refl, refl) (reads_each joined e text)
+    reads_exactly _ _ _ solution_of_one Prefix Whole keeps_prefix (solution_first joined) text e after (refl, refl) (reads_each joined e text)
 
 pub solution_is_state : (s : SolutionState) → IsSolutionInOrder s → IsState solution_automaton s
-solution_is_state s h = is_state solution_automaton IsSolutionInOrder last solution_of_one s h (λ i. empty s.joined s.phase s.literals s.name i h)
-  where
-    begun_midway : (joined : Bool) (ph : SolutionPhase) → is_begun joined ph ≡ false → (is_midway ph ≡ false) × (in_hand ph ≡ 0) × (ready joined ph ≡ 0)
-    begun_midway true SolutionPhase.Start i = cc
-    begun_midway false SolutionPhase.Start i = (refl, refl, refl)
-    begun_midway joined SolutionPhase.Done i = (refl, refl, refl)
-    begun_midway joined _ i = cc
-
-    empty : (joined : Bool) (ph : SolutionPhase) (ls : List Literal) (name : List ℕ) → is_begun joined ph ≡ false → IsSolutionInOrder (solution_at joined ls name ph)
-        → spent (solution_at joined ls name ph) ≡ 0
-    empty joined ph ls name i h =
-        let (m, f, r) = begun_midway joined ph i in
-        let (a, b) = h m in
-        rw (a, b, f, r) refl
+solution_is_state s h = is_state _ _ _ solution_of_one s h (λ i. grind (arith, i, h, s.joined, s.phase))
 
 -- A push of the literals machine does what its transition says.
 
@@ -321,18 +302,20 @@ abbrev pub IsTaken : SolutionAction → Type 0
 IsTaken SolutionAction.Stop = ⊥
 IsTaken _ = Unit {0}
 
-taken_acts : (joined : Bool) (ms ls : List Literal) (name : List ℕ) (m : SolutionAction) → IsTaken m → act joined ms ls name m ≡ Refuse → ⊥
-taken_acts joined ms ls name m h e = grind (arith, end_or_refuse, go_or_refuse)
-
 -- a push may allocate at a byte of a name or one that ends a literal, and only if the byte is taken
 pub wants : (s : SolutionState) (b : ℕ) (m : SolutionAction) → IsSolutionInOrder s → m ≡ transition s.joined s.phase (name_byte b) → IsTaken m → (adds m || is_more s.phase) ≡ true
     → IsTrue (solution_automaton.asks s b) × Admits solution_automaton s b
 wants s b m o f t a =
     let ms : List Literal = flushed s.phase s.literals s.name in (
       ap (λ x. adds x || is_more s.phase) (sym f) ∙ a,
-      admits solution_automaton IsSolutionInOrder _ solution_of_one s b (act s.joined ms s.literals s.name m) o (ap (λ x. act s.joined ms s.literals s.name x) (sym f))
-          (taken_acts s.joined ms s.literals s.name m t),
+      admits _ _ _ solution_of_one s b (act s.joined ms s.literals s.name m) o (ap (λ x. act s.joined ms s.literals s.name x) (sym f))
+          (λ e. grind (arith, t, e, end_or_refuse, go_or_refuse)),
     )
+
+-- a byte that is not taken, and does not end the line, changes nothing
+pub stays : (s new : SolutionState) (b : ℕ) (m : SolutionAction) → m ≡ transition s.joined s.phase (name_byte b) → (r : Push (List Literal)) → (m ≡ SolutionAction.End → ⊥)
+    → (r ≡ Push.Go → ⊥) → Pushes solution_automaton s b r new → new ≡ s
+stays s new b m f r n g p = grind (arith, refuse_or_end, go_or_end)
 
 pub same_state : (joined : Bool) (ls ms : List Literal) (m n : List ℕ) (p q : SolutionPhase) → ls ≡ ms → m ≡ n → p ≡ q → solution_at joined ls m p ≡ solution_at joined ms n q
 same_state joined ls ms m n p q e f g = cc

@@ -1,5 +1,4 @@
 -- Lemmas about the conclusion machine.
-pub mod Asks
-pub mod Prefix
 pub mod Steps
+pub mod Prefix
 pub mod Theorems

@@ -1,7 +1,7 @@
 -- Lemmas about the proof machine.
 pub mod Asks
-pub mod Complete
-pub mod Sound
 pub mod States
-pub mod Taken
+pub mod Runs
+pub mod Sound
+pub mod Complete
 pub mod Exact

@@ -1,6 +1,5 @@
 -- How many expressions postfix words take and leave.
-use Rattle.pb_proof.specs.declared.word.PolWord.{PolWord}
-use Rattle.pb_proof.specs.meaning.Postfix.{Tree, words, IsPostfix}
+use Rattle.pb_proof.specs.{declared.word.PolWord.PolWord, meaning.Postfix.Tree, meaning.Postfix.words, meaning.Postfix.IsPostfix}
 use Rattle.std.specs.Prelude.{◌≡◌, ℕ, ◌+◌, ◌-◌, ◌≤◌, ◌↔◌, List, [], ◌∷◌}
 
 -- how many finished expressions a word takes

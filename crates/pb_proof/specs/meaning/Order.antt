@@ -1,6 +1,5 @@
 -- The order of the statements of a proof.
-use Rattle.pb_proof.specs.{declared.machine.phase.Stage.Stage, declared.statement.Statement.Statement, meaning.Lines.SpellsStatement}
-use Rattle.pb_proof.specs.meaning.Proofs.{IsGap}
+use Rattle.pb_proof.specs.{declared.machine.phase.Stage.Stage, declared.statement.Statement.Statement, meaning.Lines.SpellsStatement, meaning.Proofs.IsGap}
 use Rattle.pb_text.specs.meaning.Spelling.{Item}
 use Rattle.std.specs.Prelude.{◌≡◌, ℕ, List, [], ◌∷◌}
 

@@ -1,6 +1,6 @@
-use Rattle.pb_proof.proofs.Common.{begin, proofs}
-use Rattle.pb_text.proofs.lemmas.text.FixedSpans as spans
+use Rattle.pb_proof.proofs.{Common.begin, Common.proofs}
 use Rattle.pb_proof.proofs.lemmas.machine.Exact.{reads_proofs}
+use Rattle.pb_text.proofs.lemmas.text.FixedSpans as spans
 use Rattle.pb_proof.proofs.laws.fixed_spans.Goals as goal
 
 pub returns : goal.returns

@@ -1,20 +1,23 @@
 -- What the conclusion machine has read in each of its states.
-use Rattle.pb_proof.proofs.Common.{ℕ, ℤ, ◌++◌, ◌∷◌, ◌≡◌, [], ap, append_assoc, List, None, Option, refl, Some, true, Literal, none_yet, arith, rules, ◌⋅◌}
-use Rattle.pb_proof.proofs.Common.{Blanks0, Blanks1, Byte, Bytes, Empty, Language, Letter, Bound, Concluding, Owner, Showing, Side, conclusion_value}
-use Rattle.pb_proof.proofs.Common.{showing_value, SpellsJoined, bounds_word, IdShown, LineEnd, none_word, sat_word, SpellsBound, SpellsConclusion}
-use Rattle.pb_proof.proofs.Common.{SpellsConclusionLine, SpellsId, SpellsShown, unsat_word, ◌&&◌, ◌*◌, ◌+◌, ◌-◌, ◌<◌, ◌∙◌, ◌≤◌, Bool, false, inl, inr, length}
-use Rattle.pb_proof.proofs.Common.{nat_eq, nat_le, subst, sym, take, slice_index, and_parts, cond_both, eqb-true, ends_walk, Keeps, On, Walks, walks_more}
-use Rattle.pb_proof.proofs.Common.{digits-grown, digits-one, after_it, grown, inside, next, regroup, as_unmarked, some_digit, word_grown, word_whole, End, Go}
-use Rattle.pb_proof.proofs.Common.{Next, Refuse, is_blank, is_digit, digit, unmarked, Digits, Sign, signed, plain, Finite, Infinite, cond, Conclusion, Stop, To}
-use Rattle.pb_proof.proofs.Common.{Word, after_bound, after_id, begin_bound, between, colon, digits, first_word, id_digits, phase_after_bound, phase_after_word}
-use Rattle.pb_proof.proofs.Common.{PhaseFits, spell, word_of, conclusion_at, conclusion_automaton, ConclusionState, is_in_number, solution_automaton}
-use Rattle.pb_proof.proofs.Common.{solution_first, SolutionState, inf_word, conclusion_next as next_action, conclusion_transition as transition}
-use Rattle.pb_proof.proofs.Common.{conclusion_giving as giving, conclusion_act as act, conclusion_over as over, ConclusionPhase as Phase}
-use Rattle.pb_proof.proofs.{Common.ConclusionAction as Action, lemmas.Solution.solution_reads, lemmas.Solution.solution_of_one}
-use Rattle.pb_proof.proofs.lemmas.conclusion.Steps.{continues}
-use Rattle.pb_proof.proofs.lemmas.line.Ends.{Gapped, Closing, blank_more, blank_closing, semicolon_after_blanks, line_after_blanks, line_closing, gapped}
-use Rattle.pb_proof.proofs.lemmas.line.Ends.{gapped_some, first_blank, further_blank, blanks_begin, blanks_go_on, positive}
-use Rattle.pb_proof.specs.meaning.Lines.{Minus}
+use Rattle.pb_proof.proofs.Common.{ℕ, conclusion_at, SolutionState, showing_value, solution_first, ℤ, ◌≡◌, ◌≤◌, sym, End, To, ◌∙◌, ◌∷◌, [], ap, ◌⋅◌, ◌*◌, inl}
+use Rattle.pb_proof.proofs.Common.{inr, ◌-◌, On, ◌+◌, nat_le, Refuse, digits, signed, IdShown, LineEnd, regroup, ◌<◌, cond, List, refl, true}
+use Rattle.pb_proof.proofs.Common.{Next, Stop, Side, Word, ◌++◌, Some, take, None, Byte, ◌&&◌, next, Sign, arith, false, Letter, Finite, Digits, inside}
+use Rattle.pb_proof.proofs.Common.{Option, Bool, subst, Bound, Owner, spell, Walks, Bytes, plain, rules, Empty, Keeps, grown, digit, colon}
+use Rattle.pb_proof.proofs.Common.{length, conclusion_automaton, conclusion_act as act, conclusion_over as over, ConclusionPhase as Phase}
+use Rattle.pb_proof.proofs.Common.{SpellsConclusionLine, nat_eq, slice_index, after_bound, SpellsBound, bounds_word, SpellsShown, and_parts, id_digits}
+use Rattle.pb_proof.proofs.Common.{PhaseFits, word_whole, unsat_word, walks_more, digits-one, some_digit, Literal, phase_after_bound, phase_after_word}
+use Rattle.pb_proof.proofs.Common.{solution_automaton, Showing, between, word_of, SpellsId, Blanks0, Blanks1, sat_word, eqb-true, after_it, none_yet, Go}
+use Rattle.pb_proof.proofs.Common.{ConclusionState, conclusion_value, SpellsConclusion, is_blank, Infinite, after_id, is_digit, Language, unmarked, inf_word}
+use Rattle.pb_proof.proofs.Common.{none_word, cond_both, ends_walk, Conclusion, append_assoc, is_in_number, SpellsJoined, digits-grown, Concluding}
+use Rattle.pb_proof.proofs.Common.{word_grown, as_unmarked, begin_bound, conclusion_next as next_action, conclusion_transition as transition}
+use Rattle.pb_proof.proofs.Common.{conclusion_giving as giving, ConclusionAction as Action}
+use Rattle.pb_proof.proofs.lemmas.{Solution.solution_of_one, Solution.solution_reads}
+use Rattle.pb_proof.proofs.lemmas.line.Ends.{blank_closing, semicolon_after_blanks, line_after_blanks, further_blank, Gapped, Closing, blank_more, gapped}
+use Rattle.pb_proof.proofs.lemmas.line.Ends.{positive, gapped_some, first_blank, line_closing, blanks_begin, blanks_go_on}
+use Rattle.pb_proof.specs.{meaning.Lines.Minus}
+use Rattle.pb_proof.proofs.lemmas.conclusion.Steps.{continues, at}
+
+-- What the machine has read in each of its states.
 
 module _ (limit top : ℕ) where
   -- a conclusion without literals, after the first blanks
@@ -84,9 +87,6 @@ module _ (limit top : ℕ) where
   shown_line (l ∷ ls) p (c, t, e, x, (blr, f, i, (bl, r, j, (b, s, k, y, z), u), v)) =
       (((c ++ b) ++ s) ++ r, f, rw (e, i, j, k) (simp append_assoc), ((c ++ b) ++ s, r, refl, (c ++ b, s, refl, (c, b, refl, x, y), z), u), v)
 
-  pub line_shown : (ls : List Literal) (p : List Letter) → (SpellsShown ls ⋅ LineEnd) p → (Byte 58 ⋅ SpellsJoined true ls) p
-  line_shown ls p h = search (rules, append_assoc)
-
   showing_some : (x : Showing) (ls : List Literal) (q : List Letter) → (Body x ⋅ (Blanks0 ⋅ SpellsShown ls)) q → SpellsConclusion limit top (showing_value x (Some ls)) q
   showing_some x ls q h = grind arith
 
@@ -146,13 +146,13 @@ module _ (s : ConclusionState) (l : Letter) (p : List Letter) where
   abbrev IdRead : Owner → Language
   IdRead = BeforeIdRead s.limit s.top
 
-  abbrev Lower : Bound → Language
+  abbrev pub Lower : Bound → Language
   Lower = LowerRead s.limit s.top
 
   abbrev ConclusionOf : Concluding → Language
   ConclusionOf = ConclusionRead s.limit s.top
 
-  byte : (b : ℕ) → l.numeral ≡ false → nat_eq l.byte b ≡ true → l ∷ [] ≡ unmarked b ∷ []
+  pub byte : (b : ℕ) → l.numeral ≡ false → nat_eq l.byte b ≡ true → l ∷ [] ≡ unmarked b ∷ []
   byte b n e = ap (λ x. x ∷ []) (as_unmarked l b n (eqb-true l.byte b e))
 
   -- words
@@ -170,21 +170,15 @@ module _ (s : ConclusionState) (l : Letter) (p : List Letter) where
       longer n e = grown P (Bytes (take j w)) (Bytes (take (j + 1) w)) p l (word_grown w j l i n (eqb-true l.byte (slice_index w j) e)) h
 
   in_word : (w : Word) (j : ℕ) → j < length (word_of w) → (Blanks1 ⋅ Bytes (take j (word_of w))) p → After (spell (word_of w) j l.byte (Phase.Word w (j + 1)) (phase_after_word w))
-  in_word Word.NoClaim j i h = search (rules, spelled, gapped)
-  in_word Word.Unsat j i h = search (rules, spelled, gapped)
-  in_word Word.Sat j i h = search (rules, spelled, gapped)
   in_word Word.Bounds j i h =
       spelled Blanks1 (word_of Word.Bounds) j (Phase.Word Word.Bounds (j + 1)) (phase_after_word Word.Bounds) (λ n. n) (λ n. n) (λ r. r) (λ r. r) i h
-
-  before_word : Blanks1 p → After (first_word l.byte)
-  before_word h = grind (arith, nat_eq, next, take)
+  in_word _ j i h = search (rules, spelled, gapped)
 
   -- after a conclusion
   in_colon : (c : Concluding) → nat_eq l.byte 58 ≡ true → Gapped (ConclusionOf c) p → After (colon c)
-  in_colon Concluding.NoClaim e h = tt
   in_colon (Concluding.Unsat None) e h = search (rules, gapped, next, byte)
-  in_colon (Concluding.Unsat (Some id)) e h = tt
   in_colon (Concluding.Shows x) e h = search (rules, none_yet, next, byte)
+  in_colon _ e h = tt
 
   in_after : (c : Concluding) → Gapped (ConclusionOf c) p → After (next_action c l.byte)
   in_after c h =
@@ -228,13 +222,11 @@ module _ (s : ConclusionState) (l : Letter) (p : List Letter) where
   in_after_bound Side.Lower y h = in_between y h
   in_after_bound (Side.Upper x id) y h = search (rules, in_after, gapped, bounds_body)
 
-  number_of : (P : Language) (negative : Bool) (n : ℕ) → n ≤ s.limit → (P ⋅ Sign negative ⋅ Digits n) p → (P ⋅ SpellsBound s.limit (Finite (signed negative n))) p
-  number_of P negative n i h = search (rules, after_it, regroup)
-
-  in_number : (x : Side) (negative : Bool) (n : ℕ) → n ≤ s.limit → (LeadOf x ⋅ Blanks1 ⋅ Sign negative ⋅ Digits n) p
+  pub in_number : (x : Side) (negative : Bool) (n : ℕ) → n ≤ s.limit → (LeadOf x ⋅ Blanks1 ⋅ Sign negative ⋅ Digits n) p
       → After (transition s.limit s.top (Phase.Digits x negative n) l.byte)
   in_number x negative n i h =
-      cond_both (is_digit l.byte) _ _ After (λ _. next_digit x negative n h) (λ _. in_after_bound x (Finite (signed negative n)) (number_of (LeadOf x ⋅ Blanks1) negative n i h))
+      cond_both (is_digit l.byte) _ _ After (λ _. next_digit x negative n h) (λ _.
+      in_after_bound x (Finite (signed negative n)) (search (rules, after_it, regroup)))
 
   in_infinity : (x : Side) (j : ℕ) → j < length inf_word → (LeadOf x ⋅ Blanks1 ⋅ Bytes (take j inf_word)) p
       → After (spell inf_word j l.byte (Phase.Infinity x (j + 1)) (phase_after_bound x Infinite))
@@ -261,10 +253,6 @@ module _ (s : ConclusionState) (l : Letter) (p : List Letter) where
       cond_both (nat_eq l.byte 45) _ _ After (λ e u n. next (IdRead x) (Minus true) p l h (byte 45 n e)) (λ _.
       first_id_digit x false (none_yet (IdRead x) (Minus false) p refl h)))
 
-  id_of : (x : Owner) (negative : Bool) (n : ℕ) → 0 < n → n ≤ s.top → (IdRead x ⋅ Minus negative ⋅ Digits n) p
-      → (IdLead s.limit s.top x ⋅ IdShown s.limit s.top (Some (signed negative n))) p
-  id_of x negative n z i h = search (rules, id_shown, after_it, regroup)
-
   in_after_id : (x : Owner) (id : ℤ) → (IdLead s.limit s.top x ⋅ IdShown s.limit s.top (Some id)) p → After (after_id x id l.byte)
   in_after_id Owner.Unsat id h = search (rules, in_after, gapped, regroup)
   in_after_id (Owner.Lower x) id h = cond_both (is_blank l.byte) _ _ After (λ e u n. blanks_begin (LeadOf (Side.Upper x (Some id))) l p e n h) (λ _. tt)
@@ -274,7 +262,7 @@ module _ (s : ConclusionState) (l : Letter) (p : List Letter) where
   in_id x negative n i h =
       cond_both (is_digit l.byte) _ _ After
       (λ _. in_digits s.top n (Phase.IdDigits x negative (Value n)) (λ i. i) (λ d j. grown (IdRead x ⋅ Minus negative) (Digits n) (Digits (Value n)) p l (digits-grown n (l.byte - 48) l d j) h)) (λ _.
-      cond_both (nat_eq n 0) _ _ After (λ _. tt) (λ z. in_after_id x (signed negative n) (id_of x negative n (positive n z) i h)))
+      cond_both (nat_eq n 0) _ _ After (λ _. tt) (λ z. in_after_id x (signed negative n) (search (rules, id_shown, after_it, regroup, positive n z))))
 
   -- literals
   in_shown : (x : Showing) → s.phase ≡ Phase.Shown x → (Colon s.limit s.top (ConclusionOf (Concluding.Shows x)) ⋅ Walked s.literals) p
@@ -292,7 +280,7 @@ module _ (s : ConclusionState) (l : Letter) (p : List Letter) where
 
   sound : (q : Phase) → s.phase ≡ q → PhaseFits s.limit s.top q → prefix s.limit s.top s.literals q p → After (transition s.limit s.top q l.byte)
   sound Phase.Start at f h = cond_both (is_blank l.byte) _ _ After (λ e u n. first_blank l p e n h) (λ _. tt)
-  sound Phase.Before at f h = cond_both (is_blank l.byte) _ _ After (λ e u n. further_blank l p e n h) (λ _. before_word h)
+  sound Phase.Before at f h = cond_both (is_blank l.byte) _ _ After (λ e u n. further_blank l p e n h) (λ _. grind (arith, nat_eq, next, take, h))
   sound (Phase.Word w k) at f h = in_word w k f h
   sound (Phase.AfterValue c) at f h = in_after c h
   sound (Phase.Semicolon c) at f h =

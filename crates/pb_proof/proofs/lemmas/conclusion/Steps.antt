@@ -1,16 +1,19 @@
--- What a byte preserves in the conclusion machine, and how it walks through the parts of a conclusion.
-use Rattle.pb_proof.proofs.Common.{ℕ, ℤ, ◌+◌, ◌<◌, ◌^◌, ◌≡◌, ◌≤◌, arith, Bool, cond, false, length, List, nat_eq, nat_le, refl, subst, sym, true, slice_index}
-use Rattle.pb_proof.proofs.Common.{and_parts, leb-true, Literal, further, End, Go, Next, Refuse, is_blank, Bound, Infinite, Conclusion, Stop, To, Concluding}
-use Rattle.pb_proof.proofs.Common.{Owner, Showing, Side, Word, after_bound, after_id, between, digits, first_word, id_digits, is_within, phase_after_bound}
-use Rattle.pb_proof.proofs.Common.{phase_after_word, PhaseFits, spell, conclusion_at, conclusion_automaton, conclusion_last, ConclusionState}
-use Rattle.pb_proof.proofs.Common.{IsConclusionInOrder, spent, solution_automaton, SolutionState, conclusion_next as next_action}
-use Rattle.pb_proof.proofs.Common.{conclusion_transition as transition, conclusion_giving as giving, conclusion_act as act, conclusion_over as over}
-use Rattle.pb_proof.proofs.Common.{ConclusionPhase as Phase, ConclusionAction as Action, ◌++◌, ◌∙◌, ◌∷◌, [], ap, append-nil, append_assoc, drop, length-append}
-use Rattle.pb_proof.proofs.Common.{Some, take, take-append-drop, get_or-append_seam, eq-eqb, nat_tests, length-take-le, Leads, Walks, walks_then, blank_digit}
-use Rattle.pb_proof.proofs.Common.{is_digit, ◌⋅◌, Bytes, Language, signed, Letter, plain, Finite, word_of, conclusion_value, ◌*◌, inl, inr, None, le-leb}
-use Rattle.pb_proof.proofs.Common.{digits_lead, digit_blank, digit_byte, unmarked, Digits, Number, is_in_number, inf_word, SpellsBound, SpellsId}
-use Rattle.pb_proof.proofs.lemmas.{Solution.solution_of_one, line.Ends.TakesBlanks, line.Ends.MayEnd, line.Ends.closing_feeds, line.Ends.not_zero}
-use Rattle.pb_proof.specs.engine.line.ConclusionState.{Holds}
+-- How the conclusion machine walks through the parts of a conclusion, and what a byte preserves.
+use Rattle.pb_proof.proofs.Common.{ℕ, conclusion_at, SolutionState, length-append, ℤ, ◌^◌, ◌≡◌, ◌≤◌, sym, End, To, ◌∙◌, ◌∷◌, [], ap, ◌⋅◌, ◌*◌, inl, inr, ◌+◌}
+use Rattle.pb_proof.proofs.Common.{nat_le, Refuse, digits, eq-eqb, signed, ◌<◌, cond, List, refl, true, Next, Side, Word, ◌++◌, drop, Some, take, None, next}
+use Rattle.pb_proof.proofs.Common.{arith, false, Letter, Finite, le-leb, Digits, Number, Bool, subst, Bound, Owner, spell, spent, Leads, Walks, Bytes, plain}
+use Rattle.pb_proof.proofs.Common.{length, conclusion_automaton, conclusion_act as act, conclusion_over as over, ConclusionPhase as Phase, nat_eq}
+use Rattle.pb_proof.proofs.Common.{slice_index, blank_digit, digits_lead, digit_blank, SpellsBound, and_parts, leb-true, id_digits, is_within, PhaseFits}
+use Rattle.pb_proof.proofs.Common.{Literal, phase_after_bound, phase_after_word, IsConclusionInOrder, solution_automaton, get_or-append_seam, further}
+use Rattle.pb_proof.proofs.Common.{Showing, between, word_of, SpellsId, Go, conclusion_last, ConclusionState, take-append-drop, length-take-le}
+use Rattle.pb_proof.proofs.Common.{conclusion_value, Infinite, after_id, nat_tests, is_digit, Language, unmarked, inf_word, Conclusion, append_assoc}
+use Rattle.pb_proof.proofs.Common.{Concluding, first_word, append-nil, walks_then, digit_byte, conclusion_next as next_action}
+use Rattle.pb_proof.proofs.Common.{conclusion_transition as transition, conclusion_giving as giving, ConclusionAction as Action}
+use Rattle.pb_proof.proofs.lemmas.{Solution.solution_of_one}
+use Rattle.pb_proof.proofs.lemmas.line.Ends.{TakesBlanks, closing_feeds, MayEnd, not_zero}
+use Rattle.pb_proof.specs.{engine.line.ConclusionState.Holds}
+
+-- What a byte preserves, and how the machine walks through the parts of a conclusion.
 
 abbrev N : Type 0
 N = Next ConclusionState Conclusion
@@ -25,53 +28,35 @@ OnAction s p (Action.Give shows) = p ≡ Phase.Shown shows
 OnAction s p _ = Unit {0}
 
 module _ (s : ConclusionState) (p : Phase) where
-  abbrev On : Action → Type 0
-  On = OnAction s p
+  abbrev OnMove : Action → Type 0
+  OnMove = OnAction s p
 
-  on_cond : (c : Bool) (x y : Action) → On x → On y → On (cond c x y)
+  on_cond : (c : Bool) (x y : Action) → OnMove x → OnMove y → OnMove (cond c x y)
   on_cond c x y h k = grind arith
 
-  on_digits : (x : Side) (negative : Bool) (n b : ℕ) → On (digits s.limit x negative n b)
+  on_digits : (x : Side) (negative : Bool) (n b : ℕ) → OnMove (digits s.limit x negative n b)
   on_digits x negative n b = grind (arith, nat_le, leb-true, and_parts)
 
-  on_id_digits : (x : Owner) (negative : Bool) (n b : ℕ) → On (id_digits s.top x negative n b)
+  on_id_digits : (x : Owner) (negative : Bool) (n b : ℕ) → OnMove (id_digits s.top x negative n b)
   on_id_digits x negative n b = grind (arith, nat_le, leb-true, and_parts)
 
-  on_after : (c : Concluding) (b : ℕ) → On (next_action c b)
+  on_after : (c : Concluding) (b : ℕ) → OnMove (next_action c b)
   on_after c b = grind (arith, on_cond, nat_eq)
 
-  on_between : (x : Bound) (b : ℕ) → On (between x b)
+  on_between : (x : Bound) (b : ℕ) → OnMove (between x b)
   on_between x b = grind (arith, on_cond, nat_eq)
 
-  on_first : (b : ℕ) → On (first_word b)
+  on_first : (b : ℕ) → OnMove (first_word b)
   on_first b = grind (arith, on_cond, nat_eq)
 
 -- the transitions of each phase
 module _ (s : ConclusionState) where
-  next_word : (w : Word) (k : ℕ) → IsNext s (Phase.Word w k) (phase_after_word w)
-  next_word w k = grind arith
-
   next_bound : (x : Side) (k : ℕ) → IsNext s (Phase.Infinity x k) (phase_after_bound x Infinite)
   next_bound x k = grind arith
 
   pub on_transition : (p : Phase) (b : ℕ) → OnAction s p (transition s.limit s.top p b)
-  on_transition Phase.Start b = on_cond s Phase.Start (is_blank b) (To Phase.Before) Stop (refl, λ f. tt) tt
-  on_transition Phase.Before b = on_cond s Phase.Before (is_blank b) (To Phase.Before) _ (refl, λ f. tt) (on_first s Phase.Before b)
-  on_transition (Phase.Word w k) b = grind (arith, on_cond, nat_eq, slice_index, further, length)
-  on_transition (Phase.AfterValue c) b = on_after s (Phase.AfterValue c) c b
-  on_transition (Phase.Semicolon c) b = grind (arith, on_cond, nat_eq)
-  on_transition Phase.Bounded b = on_cond s Phase.Bounded (is_blank b) (To (Phase.BeforeBound Side.Lower)) Stop (refl, λ f. tt) tt
-  on_transition (Phase.BeforeBound x) b = grind (arith, on_cond, nat_eq, on_digits)
-  on_transition (Phase.Signed x negative) b = on_digits s (Phase.Signed x negative) x negative 0 b
-  on_transition (Phase.Digits x negative n) b = grind (arith, on_cond, on_digits, on_between, on_after)
-  on_transition (Phase.Infinity x k) b = grind (arith, on_cond, nat_eq, slice_index, next_bound, further, length)
-  on_transition (Phase.Between x) b = on_between s (Phase.Between x) x b
-  on_transition (Phase.Spaced x) b = grind (arith, on_cond, nat_eq, on_digits)
-  on_transition (Phase.BeforeId x) b = grind (arith, on_cond, nat_eq, on_id_digits)
-  on_transition (Phase.IdSigned x) b = on_id_digits s (Phase.IdSigned x) x true 0 b
-  on_transition (Phase.IdDigits x negative n) b = grind (arith, on_cond, on_id_digits, nat_eq, on_after)
   on_transition (Phase.Shown shows) b = refl
-  on_transition Phase.Done b = tt
+  on_transition _ b = grind (arith, on_cond, nat_eq, slice_index, further, length, on_first, on_digits, on_id_digits, on_between, on_after, next_bound)
 
 -- what holds after a byte
 pub record Continues (s next : ConclusionState) : Type 0 where
@@ -104,13 +89,9 @@ module _ (s : ConclusionState) (shows : Showing) (p : s.phase ≡ Phase.Shown sh
   given : (n : Next SolutionState (List Literal)) → solution_automaton.step s.literals b ≡ n → Stepped s (over s shows n)
   given n e = grind (arith, given_order, given_grows)
 
--- nothing is stored if no literal is read
-idle_holds : (limit top : ℕ) (p : Phase) → Holds (conclusion_at limit top p) p
-idle_holds limit top p = grind arith
-
 -- a state in which no literal is read
 pub idle_order : (limit top : ℕ) (p : Phase) → limit < 2 ^ 127 → top < 2 ^ 63 → 0 < top → PhaseFits limit top p → IsConclusionInOrder (conclusion_at limit top p)
-idle_order limit top p l t z f = record { limit = l; top = t; some = z; fits = f; holds = idle_holds limit top p; literals = λ i. (refl, refl) }
+idle_order limit top p l t z f = record { limit = l; top = t; some = z; fits = f; holds = grind (arith, p); literals = λ i. (refl, refl) }
 
 acted : (s : ConclusionState) (b : ℕ) (m : Action) → OnAction s s.phase m → Stepped s (act s b m)
 acted s b m h = grind (arith, idle_order, given)
@@ -123,9 +104,6 @@ continues s next b e = subst (Stepped s) e (stepped s b)
 
 pub ends : (s next : ConclusionState) (b : ℕ) (c : Conclusion) → conclusion_automaton.step s b ≡ End c next → next ≡ conclusion_last s.limit s.top
 ends s next b c e = subst (Stepped s) e (stepped s b)
-
-pub nothing_spent : (s : ConclusionState) (p : Phase) → is_within p ≡ false → spent s p ≡ 0
-nothing_spent s p h = grind arith
 
 -- bytes are given to the literals machine only where literals are shown
 pub give_phase : (s : ConclusionState) (b : ℕ) (x : Showing) → transition s.limit s.top s.phase b ≡ Action.Give x → s.phase ≡ Phase.Shown x
@@ -162,10 +140,10 @@ module _ (limit top : ℕ) where
       → spell w (length prefix) b more whole ≡ To (cond x whole more)
   spell_next w prefix left b more whole x e f = grind (arith, slice_index, length, get_or-append_seam, eq-eqb)
 
-  spelled : (w : List ℕ) (more : ℕ → Phase) (whole : Phase) → Spelled w more whole → (prefix left : List ℕ) (b : ℕ) → w ≡ prefix ++ b ∷ left
+  spells : (w : List ℕ) (more : ℕ → Phase) (whole : Phase) → Spelled w more whole → (prefix left : List ℕ) (b : ℕ) → w ≡ prefix ++ b ∷ left
       → Walks conclusion_automaton (at (more (length prefix))) (plain (b ∷ left)) (at whole)
-  spelled w more whole h prefix [] b e = grind (arith, nat_eq, length, length-append, eq-eqb, spell_next)
-  spelled w more whole h prefix (c ∷ left) b e =
+  spells w more whole h prefix [] b e = grind (arith, nat_eq, length, length-append, eq-eqb, spell_next)
+  spells w more whole h prefix (c ∷ left) b e =
       let m : length w ≡ length prefix + (2 + length left) = ap length e ∙ (length-append prefix (b ∷ c ∷ left) ∙ omega arith) in
       let n : nat_eq (length prefix + 1) (length w) ≡ false = rw m (grind (arith, nat_tests)) in (
         at (more (length prefix + 1)),
@@ -173,7 +151,7 @@ module _ (limit top : ℕ) where
         h.within (length prefix + 1),
         sym (h.number (length prefix + 1)),
         subst (λ k. Walks conclusion_automaton (at (more k)) (plain (c ∷ left)) (at whole)) (length-append prefix (b ∷ []))
-            (spelled w more whole h (prefix ++ b ∷ []) left c (e ∙ sym (append_assoc prefix (b ∷ []) (c ∷ left)))),
+            (spells w more whole h (prefix ++ b ∷ []) left c (e ∙ sym (append_assoc prefix (b ∷ []) (c ∷ left)))),
       )
 
   -- the rest of a word
@@ -185,13 +163,10 @@ module _ (limit top : ℕ) where
 
       go : (left : List ℕ) → w ≡ take k w ++ left → Walks conclusion_automaton (at (more k)) (plain left) (at whole)
       go [] e = absurd (omega (arith, size, ap length e, ap length (append-nil (take k w))))
-      go (b ∷ left) e = subst (λ x. Walks conclusion_automaton (at (more x)) (plain (b ∷ left)) (at whole)) size (spelled w more whole h (take k w) left b e)
-
-  spelled_word : (w : Word) → is_within (phase_after_word w) ≡ true → conclusion_automaton.in_number (at (phase_after_word w)) ≡ false → Spelled (word_of w) (λ k. Phase.Word w k) (phase_after_word w)
-  spelled_word w i n = record { planned = λ k b. refl; within = λ k. refl; number = λ k. refl; within_whole = i; number_whole = n }
+      go (b ∷ left) e = subst (λ x. Walks conclusion_automaton (at (more x)) (plain (b ∷ left)) (at whole)) size (spells w more whole h (take k w) left b e)
 
   word_spelled : (w : Word) → Spelled (word_of w) (λ k. Phase.Word w k) (phase_after_word w)
-  word_spelled w = grind (arith, spelled_word)
+  word_spelled w = grind arith
 
   pub word_left : (w : Word) (k : ℕ) → k < length (word_of w) → Walks conclusion_automaton (at (Phase.Word w k)) (plain (drop k (word_of w))) (at (phase_after_word w))
   word_left w k i = left_walk (word_of w) (λ j. Phase.Word w j) (phase_after_word w) (word_spelled w) k i
@@ -205,16 +180,6 @@ module _ (limit top : ℕ) where
   pub word_leads : (w : Word) → Leads conclusion_automaton (at Phase.Before) (Bytes (word_of w)) (at (phase_after_word w))
   word_leads w = grind (arith, begins_word)
 
-  -- blanks
-  pub start_blanks : TakesBlanks conclusion_automaton (at Phase.Start) (at Phase.Before)
-  start_blanks = record { enters = λ b h. rw h refl; stays = λ b h. rw h refl; begun = refl; plain = refl }
-
-  pub bounded_blanks : TakesBlanks conclusion_automaton (at Phase.Bounded) (at (Phase.BeforeBound Side.Lower))
-  bounded_blanks = record { enters = λ b h. rw h refl; stays = λ b h. rw h refl; begun = refl; plain = refl }
-
-  pub id_blanks : (x : Owner) → TakesBlanks conclusion_automaton (at (Phase.BeforeId x)) (at (Phase.BeforeId x))
-  id_blanks x = record { enters = λ b h. rw h refl; stays = λ b h. rw h refl; begun = refl; plain = refl }
-
   -- A state that has, for each byte but a digit, the same step as that of a phase.
   abbrev pub Follows : Phase → ConclusionState → Type 0
   Follows p s = (b : ℕ) → is_digit b ≡ false → conclusion_automaton.step s b ≡ conclusion_automaton.step (at p) b
@@ -224,9 +189,6 @@ module _ (limit top : ℕ) where
 
   pub after_blanks_of : (c : Concluding) → TakesBlanks conclusion_automaton (at (Phase.AfterValue c)) (at (Phase.AfterValue c))
   after_blanks_of c = record { enters = λ b h. rw h refl; stays = λ b h. rw h refl; begun = refl; plain = refl }
-
-  pub between_blanks : (x : Bound) → TakesBlanks conclusion_automaton (at (Phase.Between x)) (at (Phase.Spaced x))
-  between_blanks x = record { enters = λ b h. rw h refl; stays = λ b h. rw h refl; begun = refl; plain = refl }
 
   -- the end of the line after a conclusion
   pub may_end : (c : Concluding) (s : ConclusionState) → Follows (Phase.AfterValue c) s → MayEnd conclusion_automaton s (at (Phase.AfterValue c)) (at (Phase.Semicolon c)) (conclusion_value c) (conclusion_last limit top)
@@ -303,13 +265,8 @@ module _ (limit top : ℕ) where
   number_carries x z s t o (false, n, l, e, (u, v, f, inl sign, ds)) =
       number_read x false n z s t e (subst (λ y. Walks conclusion_automaton s y (here (Phase.Digits x false n))) (sym (f ∙ ap (λ y. y ++ v) sign)) (number_lead x false s o.first n l v ds))
 
-  -- the rest of `INF`
-  infinity_spelled : (x : Side) → is_within (phase_after_bound x Infinite) ≡ true → is_in_number (here (phase_after_bound x Infinite)) (phase_after_bound x Infinite) ≡ false
-      → Spelled limit top inf_word (λ k. Phase.Infinity x k) (phase_after_bound x Infinite)
-  infinity_spelled x i n = record { planned = λ k b. refl; within = λ k. refl; number = λ k. refl; within_whole = i; number_whole = n }
-
   spelled_of : (x : Side) → Spelled limit top inf_word (λ k. Phase.Infinity x k) (phase_after_bound x Infinite)
-  spelled_of x = grind (arith, infinity_spelled)
+  spelled_of x = grind arith
 
   pub infinity_left : (x : Side) (k : ℕ) → k < length inf_word → Walks conclusion_automaton (here (Phase.Infinity x k)) (plain (drop k inf_word)) (here (phase_after_bound x Infinite))
   infinity_left x k i = left_walk limit top inf_word (λ j. Phase.Infinity x j) (phase_after_bound x Infinite) (spelled_of x) k i

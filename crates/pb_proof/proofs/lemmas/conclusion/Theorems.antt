@@ -1,39 +1,42 @@
--- The conclusion machine reads each conclusion, and its laws.
-use Rattle.pb_proof.proofs.Common.{ℕ, ℤ, ◌++◌, ◌∙◌, ◌∷◌, ◌≡◌, [], ap, append_assoc, List, None, Option, refl, Some, subst, sym, true, Literal, longer}
-use Rattle.pb_proof.proofs.Common.{reads_after, arith, rules, Walks, blank_digit, after_it, inside, Go, ReadsStatement, ◌⋅◌, Blanks0, Blanks1, Byte, Bytes}
-use Rattle.pb_proof.proofs.Common.{Empty, Language, unmarked, Letter, Bound, Conclusion, Bounds, NoClaim, Sat, Unsat, Concluding, Owner, Showing}
-use Rattle.pb_proof.proofs.Common.{phase_after_word, word_of, conclusion_automaton, conclusion_first, conclusion_last, conclusion_value, ConclusionState}
-use Rattle.pb_proof.proofs.Common.{showing_value, solution_automaton, solution_first, solution_last, SolutionState, SpellsJoined, bounds_word, IdShown, LineEnd}
-use Rattle.pb_proof.proofs.Common.{LiteralsShown, none_word, SpellsBound, SpellsConclusionLine, SpellsId, SpellsShown, unsat_word, conclusion_giving as giving}
-use Rattle.pb_proof.proofs.Common.{ConclusionPhase as Phase, Word, Side, ◌<◌, ◌↔◌, ◌≤◌, ◌⊎◌, Bool, drop, false, inl, inr, suc, zero, false≢true, reads_before}
-use Rattle.pb_proof.proofs.Common.{ReadsOn, is_state, IsOfOne, IsState, signed, plain, Infinite, is_within, phase_after_bound, PhaseFits, conclusion_at}
-use Rattle.pb_proof.proofs.Common.{IsConclusionInOrder, kept, spent, IsSolutionInOrder, inf_word, ◌&&◌, IsTrue, admits, end_or_refuse, go_or_refuse, refuses}
-use Rattle.pb_proof.proofs.Common.{Admits, End, is_large, Next, Refuse, Limits, is_digit, largest, top_of, asks, is_in_number}
-use Rattle.pb_proof.proofs.Common.{conclusion_transition as transition, conclusion_act as act, conclusion_over as over, ConclusionAction as Action}
-use Rattle.pb_proof.proofs.lemmas.{Carried.Nests, Carried.reads_in, Solution.solution_reads, Solution.solution_of_one}
-use Rattle.pb_proof.proofs.lemmas.conclusion.Prefix.{Body, line_shown}
-use Rattle.pb_proof.proofs.lemmas.conclusion.Steps.{Opens, before_opens, spaced_opens, bound_carries, AtId, id_carries, at, Carries, carries_then, Is}
-use Rattle.pb_proof.proofs.lemmas.conclusion.Steps.{leads_carry, word_leads, start_blanks, bounded_blanks, id_blanks, Follows, follows_blanks, after_blanks_of}
-use Rattle.pb_proof.proofs.lemmas.conclusion.Steps.{between_blanks, may_end, id_steps, id_follows, infinity_leads, infinity_left, signed_step, id_step}
-use Rattle.pb_proof.proofs.lemmas.conclusion.Steps.{first_id_step, signed_id_step, word_left, continues, ends, nothing_spent, give_phase, idle_order}
-use Rattle.pb_proof.proofs.lemmas.line.Ends.{TakesBlanks, blanks1_lead, blanks0_lead, after_blanks, line_reads, nil_last, reads_exactly}
-use Rattle.pb_proof.specs.engine.line.{Conclusion.is_done, ConclusionState.Holds}
+-- The machine reads each conclusion, and its laws.
+use Rattle.pb_proof.proofs.Common.{ℕ, conclusion_at, SolutionState, showing_value, solution_first, end_or_refuse, ReadsStatement, AsksConclusion, ℤ, ◌≡◌, sym}
+use Rattle.pb_proof.proofs.Common.{End, ◌∙◌, ◌∷◌, [], ap, ◌⋅◌, inl, inr, suc, Sat, ◌↔◌, ◌⊎◌, Refuse, signed, IdShown, LineEnd, NoClaim, ReadsOn, IsOfOne}
+use Rattle.pb_proof.proofs.Common.{IsState, refuses, largest, ◌<◌, List, refl, true, Next, Side, Word, ◌++◌, drop, Some, None, Byte, ◌&&◌, next, zero, asks}
+use Rattle.pb_proof.proofs.Common.{arith, false, Letter, inside, Option, Limits, top_of, longer, Bounds, IsTrue, admits, Admits, Bool, subst, Bound}
+use Rattle.pb_proof.proofs.Common.{Owner, Walks, Bytes, plain, rules, Empty, colon, Unsat, bytes, conclusion_automaton, conclusion_act as act}
+use Rattle.pb_proof.proofs.Common.{conclusion_over as over, ConclusionPhase as Phase, SpellsConclusionLine, blank_digit, SpellsBound, bounds_word}
+use Rattle.pb_proof.proofs.Common.{SpellsShown, bytes-append, is_within, PhaseFits, unsat_word, false≢true, Literal, phase_after_bound, phase_after_word}
+use Rattle.pb_proof.proofs.Common.{IsConclusionInOrder, solution_automaton, IsSolutionInOrder, Showing, word_of, SpellsId, Blanks0, Blanks1, after_it}
+use Rattle.pb_proof.proofs.Common.{is_state, is_large, Go, conclusion_last, ConclusionState, conclusion_value, conclusion_first, Infinite, is_digit, Language}
+use Rattle.pb_proof.proofs.Common.{unmarked, inf_word, none_word, AsksShown, Conclusion, append_assoc, is_in_number, SpellsJoined, reads_before, go_or_refuse}
+use Rattle.pb_proof.proofs.Common.{solution_last, LiteralsShown, Concluding, reads_after, prefixes_of, conclusion_transition as transition}
+use Rattle.pb_proof.proofs.Common.{conclusion_giving as giving, ConclusionAction as Action}
+use Rattle.pb_proof.proofs.lemmas.{Solution.solution_of_one, Solution.solution_reads, line.Asks.solution_asked}
+use Rattle.pb_proof.proofs.lemmas.line.Ends.{TakesBlanks, reads_exactly, line_reads, nil_last, blanks1_lead, blanks0_lead, after_blanks}
+use Rattle.pb_proof.specs.{engine.line.ConclusionState.Holds, engine.line.Conclusion.is_done}
+use Rattle.pb_proof.proofs.lemmas.Carried.{Nests, reads_in, reads_out}
 use Rattle.std.proofs.Math.Pow.{pow_mono}
-use Rattle.pb_proof.proofs.lemmas.conclusion.Prefix as prefixes
+use Rattle.pb_proof.proofs.lemmas.conclusion.Steps.{OnAction, on_transition, idle_order, continues, ends, give_phase, at, Carries, carries_then, Is}
+use Rattle.pb_proof.proofs.lemmas.conclusion.Steps.{leads_carry, word_left, word_leads, Follows, follows_blanks, after_blanks_of, may_end, id_steps}
+use Rattle.pb_proof.proofs.lemmas.conclusion.Steps.{id_follows, Opens, before_opens, spaced_opens, signed_step, infinity_left, infinity_leads, bound_carries}
+use Rattle.pb_proof.proofs.lemmas.conclusion.Steps.{id_step, first_id_step, signed_id_step, AtId, id_carries}
+use Rattle.pb_proof.proofs.lemmas.conclusion.Prefix.{Body, prefix, Reported, Known, keeps}
+
+-- The machine reads each conclusion.
 
 module _ (limit top : ℕ) where
-  abbrev here : Phase → ConclusionState
-  here p = at limit top p
+  abbrev now : Phase → ConclusionState
+  now p = at limit top p
 
   -- the state with this state of the literals machine
   abbrev pub shown_at : Showing → SolutionState → ConclusionState
-  shown_at x inner = giving (here (Phase.Shown x)) inner
+  shown_at x inner = giving (now (Phase.Shown x)) inner
 
   -- What the literals machine reads is read as the shown literals.
   pub shown_nests : (x : Showing) → Nests solution_automaton conclusion_automaton (shown_at x) (λ ls. showing_value x (Some ls)) (λ ls inner. conclusion_last limit top)
   shown_nests x = record { step = λ s b. refl; begins = solution_of_one.begins; begun = λ s h. refl; in_number = λ s. refl }
 
-  itself : (p : Phase) → Follows limit top p (here p)
+  itself : (p : Phase) → Follows limit top p (now p)
   itself p b e = refl
 
   ends_line : (c : Concluding) (P : Language) → Carries limit top (Is limit top Phase.Start) P (Follows limit top (Phase.AfterValue c))
@@ -44,27 +47,27 @@ module _ (limit top : ℕ) where
       (conclusion_last limit top)) (sym e)
       (reads_after conclusion_automaton a b (conclusion_first limit top) mid (conclusion_last limit top)
       (conclusion_value c) w
-      (line_reads conclusion_automaton mid (here (Phase.AfterValue c)) (here (Phase.Semicolon c)) (conclusion_last limit top) (conclusion_value c) (may_end limit top c mid o) b k))
+      (line_reads conclusion_automaton mid (now (Phase.AfterValue c)) (now (Phase.Semicolon c)) (conclusion_last limit top) (conclusion_value c) (may_end limit top c mid o) b k))
 
   -- shown literals, and the end of the line
   colon_reads : (x : Showing) (ls : List Literal) (s : ConclusionState) → Follows limit top (Phase.AfterValue (Concluding.Shows x)) s
       → (t : List Letter) → (Byte 58 ⋅ SpellsJoined true ls) t → ReadsStatement conclusion_automaton s t (showing_value x (Some ls)) (conclusion_last limit top)
   colon_reads x ls s f t (a, b, e, h, k) =
       subst (λ y. ReadsStatement conclusion_automaton s y (showing_value x (Some ls)) (conclusion_last limit top)) (sym (e ∙ ap (λ y. y ++ b) h))
-      (longer conclusion_automaton (unmarked 58) b s (here (Phase.Shown x)) (conclusion_last limit top) (showing_value x (Some ls)) (f 58 refl) refl refl
+      (longer conclusion_automaton (unmarked 58) b s (now (Phase.Shown x)) (conclusion_last limit top) (showing_value x (Some ls)) (f 58 refl) refl refl
       (reads_in _ _ _ _ _ (shown_nests x) b (solution_first true) ls (solution_last true) ((solution_reads true b ls (solution_last true)).1 (k, refl))))
 
   some_shown : (x : Showing) (ls : List Literal) (s : ConclusionState) → Follows limit top (Phase.AfterValue (Concluding.Shows x)) s
       → (t : List Letter) → (Blanks0 ⋅ (SpellsShown ls ⋅ LineEnd)) t → ReadsStatement conclusion_automaton s t (showing_value x (Some ls)) (conclusion_last limit top)
   some_shown x ls s f t (a, b, e, h, k) =
-      let c : (Byte 58 ⋅ SpellsJoined true ls) b = line_shown limit top ls b k in
-      let gap : ConclusionState = here (Phase.AfterValue (Concluding.Shows x)) in
+      let c : (Byte 58 ⋅ SpellsJoined true ls) b = search (rules, append_assoc, k) in
+      let gap : ConclusionState = now (Phase.AfterValue (Concluding.Shows x)) in
       rw e (after_blanks conclusion_automaton s gap (conclusion_last limit top) (showing_value x (Some ls)) a b
       (follows_blanks limit top (Phase.AfterValue (Concluding.Shows x)) (Phase.AfterValue (Concluding.Shows x)) s (after_blanks_of limit top (Concluding.Shows x)) f) h
       (colon_reads x ls s f b c) (colon_reads x ls gap (itself (Phase.AfterValue (Concluding.Shows x))) b c))
 
   start_carries : Carries limit top (Is limit top Phase.Start) Blanks1 (Is limit top Phase.Before)
-  start_carries = leads_carry limit top Phase.Start Phase.Before Blanks1 (blanks1_lead conclusion_automaton (here Phase.Start) (here Phase.Before) (start_blanks limit top))
+  start_carries = leads_carry limit top Phase.Start Phase.Before Blanks1 (blanks1_lead conclusion_automaton (now Phase.Start) (now Phase.Before) (grind arith))
 
   -- the parts of a line with shown literals
   shown_parts : (x : Showing) (ls : List Literal) (t : List Letter) → (Blanks1 ⋅ (Body limit top x ⋅ (Blanks0 ⋅ SpellsShown ls)) ⋅ LineEnd) t
@@ -94,18 +97,15 @@ module _ (limit top : ℕ) where
 
   -- a state that takes the `:` before an id
   abbrev Colons : Owner → ConclusionState → Type 0
-  Colons x s = conclusion_automaton.step s 58 ≡ Go (here (Phase.BeforeId x))
-
-  colon_carries : (x : Owner) → Carries limit top (Colons x) (Byte 58) (Is limit top (Phase.BeforeId x))
-  colon_carries x s t i h = grind arith
+  Colons x s = conclusion_automaton.step s 58 ≡ Go (now (Phase.BeforeId x))
 
   id_shown_carries : (x : Owner) (id : ℤ) (A : ConclusionState → Type 0) → Carries limit top A Blanks0 (Colons x) → Carries limit top A (IdShown limit top (Some id)) (AtId limit top x id)
   id_shown_carries x id A f =
       let B : ConclusionState → Type 0 = Is limit top (Phase.BeforeId x) in
       carries_then limit top A B (AtId limit top x id) (Blanks0 ⋅ Byte 58 ⋅ Blanks0) (SpellsId top id)
       (carries_then limit top A B B (Blanks0 ⋅ Byte 58) Blanks0
-      (carries_then limit top A (Colons x) B Blanks0 (Byte 58) f (colon_carries x))
-      (leads_carry limit top (Phase.BeforeId x) (Phase.BeforeId x) Blanks0 (blanks0_lead conclusion_automaton (here (Phase.BeforeId x)) (id_blanks limit top x))))
+      (carries_then limit top A (Colons x) B Blanks0 (Byte 58) f (λ s t i h. grind (arith, i, h)))
+      (leads_carry limit top (Phase.BeforeId x) (Phase.BeforeId x) Blanks0 (blanks0_lead conclusion_automaton (now (Phase.BeforeId x)) (grind arith))))
       (id_carries limit top x id)
 
   -- the empty text
@@ -122,14 +122,7 @@ module _ (limit top : ℕ) where
   word_follows : (w : Word) (c : Concluding) → phase_after_word w ≡ Phase.AfterValue c → Carries limit top (Is limit top Phase.Before) (Bytes (word_of w)) (Follows limit top (Phase.AfterValue c))
   word_follows w c e =
       carries_to (Is limit top Phase.Before) (Is limit top (phase_after_word w)) (Follows limit top (Phase.AfterValue c)) (Bytes (word_of w))
-      (λ s i. subst (Follows limit top (Phase.AfterValue c)) (sym (i ∙ ap (λ q. here q) e)) (itself (Phase.AfterValue c))) (word_carries w)
-
-  -- `UNSAT`, and an id
-  unsat_gap : (s : ConclusionState) → s ≡ here (Phase.AfterValue (Concluding.Unsat None)) → TakesBlanks conclusion_automaton s (here (Phase.AfterValue (Concluding.Unsat None))) × Colons Owner.Unsat s
-  unsat_gap s e = grind (arith, after_blanks_of)
-
-  unsat_id : (id : ℤ) (s : ConclusionState) → AtId limit top Owner.Unsat id s → Follows limit top (Phase.AfterValue (Concluding.Unsat (Some id))) s
-  unsat_id id s h = grind (arith, id_follows)
+      (λ s i. subst (Follows limit top (Phase.AfterValue c)) (sym (i ∙ ap (λ q. now q) e)) (itself (Phase.AfterValue c))) (word_carries w)
 
   unsat_carries : (id : Option ℤ) → Carries limit top (Is limit top Phase.Before) (Bytes unsat_word ⋅ IdShown limit top id) (Follows limit top (Phase.AfterValue (Concluding.Unsat id)))
   unsat_carries None =
@@ -139,32 +132,31 @@ module _ (limit top : ℕ) where
       let A : ConclusionState → Type 0 = Is limit top (Phase.AfterValue (Concluding.Unsat None)) in
       carries_then limit top (Is limit top Phase.Before) A (Follows limit top (Phase.AfterValue (Concluding.Unsat (Some id)))) (Bytes unsat_word) (IdShown limit top (Some id))
       (word_carries Word.Unsat)
-      (carries_to A (AtId limit top Owner.Unsat id) (Follows limit top (Phase.AfterValue (Concluding.Unsat (Some id)))) (IdShown limit top (Some id)) (unsat_id id)
-      (id_shown_carries Owner.Unsat id A (blanks_carry A (Colons Owner.Unsat) (here (Phase.AfterValue (Concluding.Unsat None))) unsat_gap refl)))
+      (carries_to A (AtId limit top Owner.Unsat id) (Follows limit top (Phase.AfterValue (Concluding.Unsat (Some id)))) (IdShown limit top (Some id))
+      (λ s h. grind (arith, h, id_follows))
+      (id_shown_carries Owner.Unsat id A (blanks_carry A (Colons Owner.Unsat) (now (Phase.AfterValue (Concluding.Unsat None)))
+      (λ s e. grind (arith, e, after_blanks_of)) refl)))
 
   -- the lower bound, and an id
   abbrev Middle : Bound → Option ℤ → ConclusionState → Type 0
   Middle x None = Follows limit top (Phase.Between x)
   Middle x (Some id) = AtId limit top (Owner.Lower x) id
 
-  lower_gap : (x : Bound) (s : ConclusionState) → Follows limit top (Phase.Between x) s → TakesBlanks conclusion_automaton s (here (Phase.Spaced x)) × Colons (Owner.Lower x) s
-  lower_gap x s f = (follows_blanks limit top (Phase.Between x) (Phase.Spaced x) s (between_blanks limit top x) f, f 58 refl)
+  lower_gap : (x : Bound) (s : ConclusionState) → Follows limit top (Phase.Between x) s → TakesBlanks conclusion_automaton s (now (Phase.Spaced x)) × Colons (Owner.Lower x) s
+  lower_gap x s f = (follows_blanks limit top (Phase.Between x) (Phase.Spaced x) s (grind arith) f, f 58 refl)
 
   middle_carries : (x : Bound) (id : Option ℤ) → Carries limit top (Follows limit top (Phase.Between x)) (IdShown limit top id) (Middle x id)
   middle_carries x None = empty_carries (Follows limit top (Phase.Between x))
   middle_carries x (Some id) =
       let A : ConclusionState → Type 0 = Follows limit top (Phase.Between x) in
-      id_shown_carries (Owner.Lower x) id A (blanks_carry A (Colons (Owner.Lower x)) (here (Phase.Spaced x)) (lower_gap x) refl)
-
-  before_upper : (x : Bound) (id : ℤ) (s : ConclusionState) → AtId limit top (Owner.Lower x) id s → TakesBlanks conclusion_automaton s (here (Phase.BeforeBound (Side.Upper x (Some id))))
-  before_upper x id s h = grind (arith, id_steps, blank_digit)
+      id_shown_carries (Owner.Lower x) id A (blanks_carry A (Colons (Owner.Lower x)) (now (Phase.Spaced x)) (lower_gap x) refl)
 
   gap_carries : (x : Bound) (id : Option ℤ) → Carries limit top (Middle x id) Blanks1 (Opens limit top (Side.Upper x id))
   gap_carries x None s t f h =
-      (here (Phase.Spaced x), blanks1_lead conclusion_automaton s (here (Phase.Spaced x)) (lower_gap x s f).0 t h, spaced_opens limit top x)
+      (now (Phase.Spaced x), blanks1_lead conclusion_automaton s (now (Phase.Spaced x)) (lower_gap x s f).0 t h, spaced_opens limit top x)
   gap_carries x (Some id) s t f h = (
-    here (Phase.BeforeBound (Side.Upper x (Some id))),
-    blanks1_lead conclusion_automaton s (here (Phase.BeforeBound (Side.Upper x (Some id)))) (before_upper x id s f) t h,
+    now (Phase.BeforeBound (Side.Upper x (Some id))),
+    blanks1_lead conclusion_automaton s (now (Phase.BeforeBound (Side.Upper x (Some id)))) (grind (arith, f, id_steps, blank_digit)) t h,
     before_opens limit top (Side.Upper x (Some id)),
   )
 
@@ -176,7 +168,8 @@ module _ (limit top : ℕ) where
       carries_then limit top A B C (Bytes bounds_word ⋅ Blanks1) (SpellsBound limit x)
       (carries_then limit top A (Is limit top Phase.Bounded) B (Bytes bounds_word) Blanks1
       (word_carries Word.Bounds)
-      (leads_carry limit top Phase.Bounded (Phase.BeforeBound Side.Lower) Blanks1 (blanks1_lead conclusion_automaton (here Phase.Bounded) (here (Phase.BeforeBound Side.Lower)) (bounded_blanks limit top))))
+      (leads_carry limit top Phase.Bounded (Phase.BeforeBound Side.Lower) Blanks1
+      (blanks1_lead conclusion_automaton (now Phase.Bounded) (now (Phase.BeforeBound Side.Lower)) (grind arith))))
       (λ s t i h. bound_carries limit top Side.Lower x s t (subst (Opens limit top Side.Lower) (sym i) (before_opens limit top Side.Lower)) h)
 
   bounds_carries : (x : Bound) (id : Option ℤ) (y : Bound)
@@ -202,9 +195,6 @@ module _ (limit top : ℕ) where
   conclusion_each (Bounds x id y shown) t h = showing_reads (Showing.Bounds x id y) shown (bounds_carries x id y) t h
 
 -- The laws of the conclusion machine.
-
-abbrev last : ConclusionState → ConclusionState
-last s = conclusion_last s.limit s.top
 
 abbrev SomeText : ConclusionState → Type 0
 SomeText s = ReadsOn conclusion_automaton s
@@ -302,16 +292,7 @@ same_shown s x e = rw e refl
 same_idle : (s : ConclusionState) → s.literals ≡ solution_first true → conclusion_at s.limit s.top s.phase ≡ s
 same_idle s e = rw e refl
 
-goes_on : (s : ConclusionState) → IsConclusionInOrder s → conclusion_automaton.done s ≡ false → SomeText s
-goes_on s h d = elim (shown_or_idle s s.phase h.holds) [
-  | inl k ↦ subst SomeText (same_shown s k.0 k.1) (shown_text s.limit s.top k.0 s.literals h.literals (subst (Holds s) k.1 h.holds))
-  | inr k ↦ subst SomeText (same_idle s k) (some_text s.limit s.top s.phase h.some h.fits d)
-]
-
-bounded : (s : ConclusionState) (p : Phase) → kept s p ≤ spent s p
-bounded s p = grind arith
-
-pub conclusion_of_one : IsOfOne conclusion_automaton IsConclusionInOrder last
+pub conclusion_of_one : IsOfOne conclusion_automaton IsConclusionInOrder (λ s. conclusion_last s.limit s.top)
 conclusion_of_one = record {
   keeps = λ s next b h e. (continues s next b e).keeps h;
   begins = λ s next b e. (continues s next b e).within;
@@ -320,33 +301,36 @@ conclusion_of_one = record {
   ends = λ s next b c e. ends s next b c e;
   done = λ s. refl;
   stops = λ s d b. grind arith;
-  goes_on = goes_on;
+  goes_on = λ s h d. elim (shown_or_idle s s.phase h.holds) [
+    | inl k ↦ subst SomeText (same_shown s k.0 k.1) (shown_text s.limit s.top k.0 s.literals h.literals (subst (Holds s) k.1 h.holds))
+    | inr k ↦ subst SomeText (same_idle s k) (some_text s.limit s.top s.phase h.some h.fits d)
+  ];
   plain = λ s h. grind arith;
   grows = λ s next b e. (continues s next b e).grows;
-  bounds = λ s. bounded s s.phase;
+  bounds = λ s. grind (arith, s.phase);
 }
 
 -- A new machine reads exactly the conclusions.
 pub conclusion_reads : (limit top : ℕ) (text : List Letter) (e : Conclusion) (after : ConclusionState) →
     ReadsStatement conclusion_automaton (conclusion_first limit top) text e after ↔ (SpellsConclusionLine limit top e text × (after ≡ conclusion_last limit top))
 conclusion_reads limit top text e after =
-    reads_exactly conclusion_automaton IsConclusionInOrder last conclusion_of_one prefixes.Known prefixes.Reported prefixes.keeps (conclusion_first limit top) text e after (tt, refl)
+    reads_exactly _ _ _ conclusion_of_one Known Reported keeps (conclusion_first limit top) text e after (tt, refl)
     (conclusion_each limit top e text)
 
 pub conclusion_is_state : (s : ConclusionState) → IsConclusionInOrder s → IsState conclusion_automaton s
-conclusion_is_state s h = is_state conclusion_automaton IsConclusionInOrder last conclusion_of_one s h (λ i. nothing_spent s s.phase i)
+conclusion_is_state s h = is_state _ _ _ conclusion_of_one s h (λ i. grind (arith, s.phase, i))
 
 -- A push of the conclusion machine does what its transition says.
 
 module _ (s : ConclusionState) (h : IsConclusionInOrder s) (b : ℕ) (x : Showing) (planned : transition s.limit s.top s.phase b ≡ Action.Give x) where
-  given : (n : Next SolutionState (List Literal)) → solution_automaton.step s.literals b ≡ n → conclusion_automaton.step s b ≡ over s x n
-  given n e = ap (act s b) planned ∙ ap (over s x) e
+  given_step : (n : Next SolutionState (List Literal)) → solution_automaton.step s.literals b ≡ n → conclusion_automaton.step s b ≡ over s x n
+  given_step n e = ap (act s b) planned ∙ ap (over s x) e
 
   pub give_order : (inner : SolutionState) → solution_automaton.step s.literals b ≡ Go inner → IsConclusionInOrder (giving s inner)
-  give_order inner e = (continues s (giving s inner) b (given (Go inner) e)).keeps h
+  give_order inner e = (continues s (giving s inner) b (given_step (Go inner) e)).keeps h
 
   pub give_refused : solution_automaton.step s.literals b ≡ Refuse → (conclusion_automaton.step s b ≡ Refuse) × (is_large conclusion_automaton s b ≡ false)
-  give_refused e = (given Refuse e, ap (λ q. is_in_number s q && is_digit b) (give_phase s b x planned))
+  give_refused e = (given_step Refuse e, ap (λ q. is_in_number s q && is_digit b) (give_phase s b x planned))
 
   taken : (n : Next SolutionState (List Literal)) → solution_automaton.step s.literals b ≡ n → Admits solution_automaton s.literals b → over s x n ≡ Refuse → ⊥
   taken (Go inner) e a i = go_or_refuse _ i
@@ -357,7 +341,7 @@ module _ (s : ConclusionState) (h : IsConclusionInOrder s) (b : ℕ) (x : Showin
   give_admits asking a =
       let n : Next SolutionState (List Literal) = solution_automaton.step s.literals b in (
         subst (λ (m : Action). IsTrue (asks s b m)) (sym planned) asking,
-        admits conclusion_automaton IsConclusionInOrder _ conclusion_of_one s b (over s x n) h (given n refl) (taken n refl a),
+        admits conclusion_automaton IsConclusionInOrder _ conclusion_of_one s b (over s x n) h (given_step n refl) (taken n refl a),
       )
 
 pub same_inner : (s : ConclusionState) (inner : SolutionState) → inner ≡ s.literals → giving s inner ≡ s
@@ -366,3 +350,38 @@ same_inner s inner e = ap (λ i. giving s i) e
 -- a new machine
 pub first_order : (limits : Limits) → IsConclusionInOrder (conclusion_first (largest limits) (top_of limits))
 first_order limits = grind (arith, idle_order, pow_mono)
+
+-- Where the machine may allocate.
+
+-- only within shown literals
+asks_shown : (s : ConclusionState) (p : Phase) (b : ℕ) (m : Action) → OnAction s p m → asks s b m ≡ true → (x : Showing) × (p ≡ Phase.Shown x)
+asks_shown s p b m h a = grind (arith, false≢true)
+
+-- What is read there is shown literals.
+shown_reads : (t : List Letter) (s : ConclusionState) (x : Showing) (c : Conclusion) (next : ConclusionState) → s.phase ≡ Phase.Shown x → ReadsStatement conclusion_automaton s t c next
+    → (ls : List Literal) × (c ≡ showing_value x (Some ls))
+shown_reads t s x c next at r =
+    let (ls, after, same, k) = reads_out solution_automaton conclusion_automaton _ _ _ (shown_nests s.limit s.top x) t s.literals c next
+    (subst (λ y. ReadsStatement conclusion_automaton y t c next) (sym (same_shown s x at)) r) in
+    (ls, same)
+
+module _ (limit top : ℕ) where
+  asks_at : (s : ConclusionState) (x : Showing) (t : List Letter) (b : ℕ) → s.phase ≡ Phase.Shown x → prefix s.limit s.top s.literals s.phase t
+      → conclusion_automaton.asks s b ≡ true → AsksShown (bytes t) b
+  asks_at s x t b at f h =
+      let (a, c, e, (u, v, i, j, colon), w) = subst (λ q. prefix s.limit s.top s.literals q t) at f in
+      let asks_it : solution_automaton.asks s.literals b ≡ true = subst (λ q. asks s b (transition s.limit s.top q b) ≡ true) at h in
+      let lead : bytes a ≡ bytes u ++ 58 ∷ [] = ap bytes i ∙ (bytes-append u v ∙ ap (λ (y : List ℕ). bytes u ++ y) (ap bytes colon)) in (
+        bytes u,
+        bytes c,
+        ap bytes e ∙ (bytes-append a c ∙ (ap (λ (y : List ℕ). y ++ bytes c) lead ∙ append_assoc (bytes u) (58 ∷ []) (bytes c))),
+        solution_asked true c s.literals b w asks_it,
+      )
+
+  pub conclusion_asked : (t rest : List Letter) (l : Letter) (s next : ConclusionState) (c : Conclusion) → Walks conclusion_automaton (conclusion_first limit top) t s → ReadsStatement conclusion_automaton s (l ∷ rest) c next
+      → conclusion_automaton.asks s l.byte ≡ true → AsksConclusion c (bytes t) l.byte
+  conclusion_asked t rest l s next c w r h =
+      let (x, at) = asks_shown s s.phase l.byte (transition s.limit s.top s.phase l.byte) (on_transition s s.phase l.byte) h in
+      let (ls, same) = shown_reads (l ∷ rest) s x c next at r in
+      let f = prefixes_of conclusion_automaton Known Reported keeps t (conclusion_first limit top) [] s w (tt, refl) in
+      subst (λ y. AsksConclusion y (bytes t) l.byte) (sym same) (grind (arith, x, asks_at s x t l.byte at f.1 h))

@@ -64,12 +64,6 @@ Allows (SolutionPhase.More negated) b = Unit {0}
 Allows _ b = IsTrue (is_letter b)
 
 module _ (b : ℕ) where
-  letter : (c : ℕ) → NameMeans (NameByte.Letter c) b → IsTrue (is_letter b)
-  letter c m = subst (λ (x : ℕ). IsTrue (is_letter x)) (sym m.0) m.1
-
-  begins : (k : NameByte) → NameMeans k b → (adds (solution.before k) || false) ≡ true → IsTrue (is_letter b)
-  begins k m h = grind (arith, false≢true)
-
   allows : (joined : Bool) (ph : SolutionPhase) (k : NameByte) → NameMeans k b → (adds (solution.transition joined ph k) || is_more ph) ≡ true → Allows ph b
   allows joined ph k m h = grind (arith, false≢true, letter_name)
 

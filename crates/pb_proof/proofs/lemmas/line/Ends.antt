@@ -1,11 +1,10 @@
 -- Bytes of lines, and the ends of lines.
-use Rattle.pb_proof.proofs.Common.{ℕ, ◌+◌, ◌<◌, ◌≡◌, ◌≤◌, ◌⊎◌, arith, false, IsTrue, refl, eqb-true, rules, nat_tests, letter_name, name_high, is_blank}
-use Rattle.pb_proof.proofs.Common.{is_letter, is_name_byte, NameByte, NumberByte, name_byte, number_byte, nat_eq, ◌++◌, ◌∙◌, ◌∷◌, [], ap, append-nil}
-use Rattle.pb_proof.proofs.Common.{append_assoc, inl, inr, List, subst, sym, true, Leads, longer, reads_after, Walks, walks_then, after_it, grown, many-grown}
-use Rattle.pb_proof.proofs.Common.{next, none_yet, regroup, regroup3, some-grown, some-many, some-one, as_unmarked, Automaton, End, Go, ReadsStatement, ◌⋅◌}
-use Rattle.pb_proof.proofs.Common.{Blanks0, Blanks1, Byte, Bytes, Each, Empty, Language, unmarked, Letter, Feed, LineEnd, Listed, ◌↔◌, IsOfOne, reads_last}
-use Rattle.pb_proof.proofs.Common.{Keeps, reported, ◌*◌, ◌-◌, Digits, AreDigits, value_from, bytes, bytes-append, digit, digit_of, digits-grown, digits-one}
-use Rattle.pb_proof.proofs.Common.{is_state, never, Runs}
+use Rattle.pb_proof.proofs.Common.{ℕ, ◌+◌, ◌<◌, ◌≡◌, ◌≤◌, ◌⊎◌, ◌∙◌, ◌∷◌, [], ap, inl, inr, sym, next, End, Go, ◌⋅◌, Byte, Each, Feed, ◌↔◌, ◌*◌, ◌-◌, Runs}
+use Rattle.pb_proof.proofs.Common.{arith, nat_eq, longer, regroup, Blanks0, Blanks1, Language, unmarked, Letter, LineEnd, IsOfOne, reported, digit_of, is_state}
+use Rattle.pb_proof.proofs.Common.{false, refl, rules, ◌++◌, List, subst, true, Leads, Walks, grown, Bytes, Empty, Listed, Keeps, Digits, bytes, digit, never}
+use Rattle.pb_proof.proofs.Common.{IsTrue, nat_tests, name_high, NumberByte, append-nil, walks_then, many-grown, some-grown, reads_last, value_from, digits-one}
+use Rattle.pb_proof.proofs.Common.{eqb-true, is_blank, is_letter, NameByte, name_byte, after_it, none_yet, regroup3, some-many, some-one, Automaton, AreDigits}
+use Rattle.pb_proof.proofs.Common.{letter_name, is_name_byte, number_byte, append_assoc, reads_after, as_unmarked, ReadsStatement, bytes-append, digits-grown}
 
 abbrev pub NumberMeans : NumberByte → ℕ → Type 0
 NumberMeans NumberByte.Blank b = IsTrue (is_blank b)
@@ -166,9 +165,6 @@ module _ (P : Language) (l : Letter) (p : List Letter) where
   pub semicolon_after_blanks : l.byte ≡ 59 → l.numeral ≡ false → Gapped P p → Closing P (p ++ l ∷ [])
   semicolon_after_blanks h n k = search (rules, grown, gapped, next, as_unmarked)
 
-  pub semicolon_after : l.byte ≡ 59 → l.numeral ≡ false → P p → Closing P (p ++ l ∷ [])
-  semicolon_after h n k = semicolon_after_blanks h n (gapped P p k)
-
   pub blank_closing : IsTrue (is_blank l.byte) → l.numeral ≡ false → Closing P p → Closing P (p ++ l ∷ [])
   blank_closing h n k = search (rules, grown, blank0)
 
@@ -180,9 +176,6 @@ module _ (P : Language) (l : Letter) (p : List Letter) where
 
   pub line_after_blanks : l.byte ≡ 10 → l.numeral ≡ false → Gapped P p → (P ⋅ LineEnd) (p ++ l ∷ [])
   line_after_blanks h n k = after_it P Feed LineEnd (p ++ l ∷ []) (λ q i. inl i) (feed_after_blanks h n k)
-
-  pub line_end_after : l.byte ≡ 10 → l.numeral ≡ false → P p → (P ⋅ LineEnd) (p ++ l ∷ [])
-  line_end_after h n k = line_after_blanks h n (gapped P p k)
 
   pub line_closing : l.byte ≡ 10 → l.numeral ≡ false → Closing P p → (P ⋅ LineEnd) (p ++ l ∷ [])
   line_closing h n k = grown P (Blanks0 ⋅ Byte 59 ⋅ Blanks0) LineEnd p l (λ q i. inr (grown (Blanks0 ⋅ Byte 59) Blanks0 Feed q l (feed h n) i)) k

@@ -1,15 +1,14 @@
 -- What holds of the machines that read the text after the first word of a statement.
-use Rattle.pb_proof.proofs.Common.{ℕ, ◌<◌, ◌^◌, ◌≡◌, false, List, refl, first_is_state, Blank, IsState, ReadsStatement, Letter, LineMachine, arith, LineKind}
-use Rattle.pb_proof.proofs.Common.{Statement, conclusion_automaton, conclusion_first, conclusion_last, formula_automaton, formula_last, formula_first}
-use Rattle.pb_proof.proofs.Common.{delete_automaton, delete_first, delete_last, solution_automaton, solution_first, solution_last, line_automaton, line_first}
-use Rattle.pb_proof.proofs.Common.{SpellsRest, rules, pol_automaton, pol_first, pol_last, rup_automaton, rup_first, rup_last, Automaton, Part}
-use Rattle.pb_proof.proofs.lemmas.Carried.{Carries, reads_in, reads_out, state_in, begins_in}
-use Rattle.pb_proof.proofs.lemmas.Delete.{delete_of_one, delete_reads, delete_is_state}
-use Rattle.pb_proof.proofs.lemmas.Formula.{formula_reads, formula_is_state, formula_of_one}
-use Rattle.pb_proof.proofs.lemmas.Rup.{rup_reads, rup_is_state, rup_begins, rup_first_in_order}
-use Rattle.pb_proof.proofs.lemmas.Solution.{solution_of_one, solution_reads, solution_is_state}
+use Rattle.pb_proof.proofs.Common.{ℕ, ◌<◌, ◌^◌, ◌≡◌, false, Blank, IsState, Letter, arith, rules, rup_last, Part, List, LineKind}
+use Rattle.pb_proof.proofs.Common.{refl, pol_last, LineMachine, Statement, formula_last, delete_first, delete_last, pol_first, rup_first, Automaton, line_first}
+use Rattle.pb_proof.proofs.Common.{SpellsRest, conclusion_automaton, conclusion_first, conclusion_last, formula_automaton, delete_automaton, solution_automaton}
+use Rattle.pb_proof.proofs.Common.{first_is_state, ReadsStatement, formula_first, solution_first, solution_last, line_automaton, pol_automaton, rup_automaton}
+use Rattle.pb_proof.proofs.lemmas.{Carried.Carries, Carried.reads_out, Delete.delete_of_one, Delete.delete_reads, Formula.formula_reads, Formula.formula_of_one}
+use Rattle.pb_proof.proofs.lemmas.{Carried.reads_in, Carried.state_in, Carried.begins_in, Rup.rup_is_state, Rup.rup_begins, Rup.rup_reads}
+use Rattle.pb_proof.proofs.lemmas.pol.Theorems.{pol_reads, of_one, pol_is_state, pol_first_in_order}
+use Rattle.pb_proof.proofs.lemmas.{Delete.delete_is_state, Solution.solution_of_one, Solution.solution_reads, Formula.formula_is_state}
+use Rattle.pb_proof.proofs.lemmas.{Solution.solution_is_state}
 use Rattle.pb_proof.proofs.lemmas.conclusion.Theorems.{conclusion_of_one, conclusion_reads, conclusion_is_state}
-use Rattle.pb_proof.proofs.lemmas.pol.Theorems.{pol_reads, pol_is_state, pol_first_in_order, of_one}
 use Rattle.pb_proof.specs.declared.machine.phase.LineKind.TheVariants.{Formula, Pol, Rup, Soli, Solx, Delete, Conclusion}
 use Rattle.pb_text.proofs.lemmas.machine.Living.{BeginsAtOnce}
 
@@ -79,7 +78,7 @@ module _ (limit top : ℕ) where
   pub line_first_state : limit < 2 ^ 127 → top < 2 ^ 63 → 0 < top → (r : LineKind) → IsState line_automaton (line_first limit top r)
   line_first_state l t some Formula = state_in _ _ _ _ formula_carries (formula_first top) (formula_is_state (formula_first top) (t, tt))
   line_first_state l t some Pol = state_in _ _ _ _ pol_carries (pol_first limit top) (pol_is_state (pol_first limit top) (pol_first_in_order limit top some))
-  line_first_state l t some Rup = state_in _ _ _ _ rup_carries (rup_first limit) (rup_is_state (rup_first limit) (rup_first_in_order limit (first_is_state Blank Part.AtLeast limit)))
+  line_first_state l t some Rup = state_in _ _ _ _ rup_carries (rup_first limit) (rup_is_state (rup_first limit) (record { holds = (refl, refl); state = first_is_state Blank Part.AtLeast limit }))
   line_first_state l t some Soli = state_in _ _ _ _ soli_carries (solution_first false) (solution_is_state (solution_first false) (λ i. (refl, refl)))
   line_first_state l t some Solx = state_in _ _ _ _ solx_carries (solution_first false) (solution_is_state (solution_first false) (λ i. (refl, refl)))
   line_first_state l t some Delete = state_in _ _ _ _ delete_carries (delete_first top) (delete_is_state (delete_first top) (t, some, tt, λ i. refl))

@@ -1,17 +1,20 @@
 -- If the proof machine may allocate at a byte, that byte is at a position of its statement that may allocate.
-use Rattle.pb_proof.proofs.Common.{ℕ, ◌++◌, ◌∙◌, ◌∷◌, ◌≡◌, [], ap, Bool, false, IsTrue, List, None, refl, Some, subst, sym, true, false≢true, arith, prefixes_of}
-use Rattle.pb_proof.proofs.Common.{reads_after, Walks, never, bytes-append, End, Go, MayAsk, Next, ReadsStatement, Refuse, bytes, Letter, LineMachine, LineKind}
-use Rattle.pb_proof.proofs.Common.{Stage, Opening, Statement, conclusion_first, formula_first, delete_first, solution_first, line_automaton, line_first, SpellsRest}
-use Rattle.pb_proof.proofs.Common.{pol_first, rup_first, at, begin, idle, proofs, ProofState, Asks, AsksAfter, FirstWord, stage_after, IsProof, Automaton}
-use Rattle.pb_proof.proofs.Common.{proof_transition as transition, proof_within as is_within, ProofAction as Action, ProofPhase as Phase}
+use Rattle.pb_proof.proofs.Common.{ℕ, ◌++◌, List, None, refl, Some, sym, true, at, idle, Asks, ◌∙◌, [], ◌∷◌, ap, bytes}
+use Rattle.pb_proof.proofs.Common.{◌≡◌, conclusion_first, proof_transition as transition, proof_within as is_within, ProofAction as Action, ProofPhase as Phase}
+use Rattle.pb_proof.proofs.Common.{Go, Stage, begin, false, subst, arith, Walks, never, Letter, LineKind, proofs, IsTrue, MayAsk, Statement, pol_first, IsProof}
+use Rattle.pb_proof.proofs.Common.{rup_first, AsksAfter, FirstWord, Automaton, false≢true, line_first, SpellsRest, ProofState, LineMachine, stage_after}
+use Rattle.pb_proof.proofs.Common.{Opening, prefixes_of, reads_after, bytes-append, ReadsStatement, formula_first, delete_first, solution_first, line_automaton}
 use Rattle.pb_text.specs.meaning.Asking.{AsksOnly}
+use Rattle.pb_proof.proofs.lemmas.{Carried.Carries, Carried.walks_out, Carried.reads_out, line.Laws.line_only}
+use Rattle.pb_proof.proofs.lemmas.pol.Sound.{pol_asked}
+use Rattle.pb_proof.proofs.lemmas.conclusion.Theorems.{conclusion_asked}
+use Rattle.pb_proof.proofs.lemmas.line.Asks.{delete_asked, solution_asked, rup_asked}
+use Rattle.pb_proof.proofs.lemmas.line.Laws.{formula_carries, pol_carries, rup_carries, soli_carries, solx_carries, delete_carries, conclusion_carries}
+use Rattle.pb_proof.proofs.lemmas.machine.Complete.{line_nests, is_giving}
+use Rattle.pb_proof.proofs.lemmas.machine.Exact.{reads_proofs, comment_reads}
+use Rattle.pb_proof.specs.engine.machine.State.{asks}
 use Rattle.pb_text.proofs.lemmas.machine.Asked as asked
 use Rattle.pb_proof.specs.engine.machine.State as state
-use Rattle.pb_proof.proofs.lemmas.{Carried.Carries, Carried.walks_out, Carried.reads_out, conclusion.Asks.conclusion_asked}
-use Rattle.pb_proof.proofs.lemmas.line.Asks.{delete_asked, solution_asked, rup_asked}
-use Rattle.pb_proof.proofs.lemmas.line.Laws.{formula_carries, pol_carries, rup_carries, soli_carries, solx_carries, delete_carries, conclusion_carries, line_only}
-use Rattle.pb_proof.proofs.lemmas.machine.{Complete.line_nests, Complete.is_giving, Exact.reads_proofs, Exact.comment_reads}
-use Rattle.pb_proof.{proofs.lemmas.pol.Asks.pol_asked, specs.engine.machine.State.asks}
 use Rattle.pb_proof.proofs.lemmas.machine.Sound as sound
 
 module _ (limit top : ℕ) where
@@ -51,11 +54,6 @@ module _ (limit top : ℕ) where
   -- ---- between two statements
   abbrev Idle : ProofState → Type 0
   Idle s = (p : Phase) × (s ≡ at limit top p) × (is_within p ≡ false)
-
-  abbrev InGap : Next ProofState Statement → Bool → Type 0
-  InGap (Go next) x = proofs.begun next ≡ false → Idle next × (x ≡ false)
-  InGap (End e next) x = Unit {0}
-  InGap Refuse x = Unit {0}
 
   gaps : (s next : ProofState) (b : ℕ) → Idle s → proofs.step s b ≡ Go next → proofs.begun next ≡ false → Idle next × (proofs.asks s b ≡ false)
   gaps s next b h g o = grind (arith, never)

@@ -1,15 +1,19 @@
 -- The proof machine reads each statement from its stage.
-use Rattle.pb_proof.proofs.Common.{or-false, ℕ, ◌&&◌, ◌++◌, ◌+◌, ◌-◌, ◌||◌, ◌∙◌, ◌∷◌, ◌≡◌, [], ap, append-nil, append_assoc, ap₂, arith, Bool, cond, false}
-use Rattle.pb_proof.proofs.Common.{Some, IsTrue, length, length-append, List, nat_eq, not, refl, subst, sym, true, slice_index, get_or-append_seam, and_parts}
-use Rattle.pb_proof.proofs.Common.{eq-eqb, eqb-true, not-true, nat_tests, ends_walk, longer, reads_after, same_first, Walks, walks_more, walks_then, Go}
-use Rattle.pb_proof.proofs.Common.{ReadsStatement, is_blank, ◌⋅◌, Blanks1, Byte, Each, Language, unmarked, Bytes, Letter, plain, LineMachine, Keyword, LineKind}
-use Rattle.pb_proof.proofs.Common.{Closing, Complete, Formula, Opening, Steps, Statement, line_automaton, line_first, SpellsRest, act, at, giving, idle}
-use Rattle.pb_proof.proofs.Common.{next_stage, proofs, ProofState, meets, next_action, sol_word, words_of, Feed, LineEnd, SpellsStatement, stage_after}
-use Rattle.pb_proof.proofs.Common.{stage_of, proof_spell as spell, proof_transition as transition, ProofAction as Action, ProofPhase as Phase, Stage}
-use Rattle.pb_proof.proofs.lemmas.Carried.{Nests, reads_in}
-use Rattle.pb_proof.proofs.lemmas.Spaced.{Spaced, One, chooses, KeywordWords, keyword_each}
-use Rattle.pb_proof.proofs.lemmas.line.{Ends.Feeds, Ends.feed_reads, Ends.MayEnd, Ends.line_reads, Laws.line_begins, Laws.line_each, Laws.line_fresh}
+use Rattle.pb_proof.proofs.Common.{ℕ, and_parts, ends_walk, Statement, nat_tests, ◌&&◌, walks_more, line_first, SpellsRest, next_stage}
+use Rattle.pb_proof.proofs.Common.{ProofState, append-nil, same_first, walks_then, ◌++◌, stage_of, or-false, not-true, unmarked, ◌+◌, ◌-◌, ◌∙◌, ◌∷◌, ◌≡◌}
+use Rattle.pb_proof.proofs.Common.{refl, Some, sym, true, idle, ◌||◌, cond, Byte, Each, Feed, [], eqb-true, is_blank, Language, LineKind, Complete, sol_word}
+use Rattle.pb_proof.proofs.Common.{words_of, line_automaton, append_assoc, length-append, ap, Go, ◌⋅◌, act, ap₂, not, at, arith, slice_index}
+use Rattle.pb_proof.proofs.Common.{LineMachine, next_action, stage_after, reads_after, Bool, false, nat_eq, Letter, proofs, eq-eqb, longer, giving, IsTrue}
+use Rattle.pb_proof.proofs.Common.{length, Keyword, Closing, Formula, Opening, LineEnd, Blanks1, List, subst, Walks, Bytes, Stage}
+use Rattle.pb_proof.proofs.Common.{Steps, meets, plain, ReadsStatement, SpellsStatement, proof_spell as spell, ProofPhase as Phase, get_or-append_seam}
+use Rattle.pb_proof.proofs.Common.{proof_transition as transition, ProofAction as Action}
+use Rattle.pb_proof.proofs.lemmas.Spaced.{Spaced, KeywordWords, One, chooses, keyword_each}
+use Rattle.pb_proof.proofs.lemmas.line.Ends.{Feeds, feed_reads, MayEnd, line_reads}
+use Rattle.pb_proof.proofs.lemmas.line.Laws.{line_begins, line_fresh, line_each}
+use Rattle.pb_proof.{proofs.lemmas.Carried.Nests, proofs.lemmas.Carried.reads_in}
 use Rattle.pb_proof.proofs.lemmas.machine.Sound.{stage_keyword}
+
+-- The machine reads each statement from its stage.
 
 -- In the words, the byte after a space is not a blank.
 abbrev dark_first : List ℕ → Bool
@@ -56,17 +60,12 @@ module _ (limit top : ℕ) where
       → spell f (length prefix) b other ≡ cond x (next_action f) (Action.To (Phase.Spelling f (length prefix + 1)))
   spell_next f prefix left c b x other e m n = grind (arith, nat_eq, length, at_seam)
 
-  more_left : (f : Keyword) (prefix left : List ℕ) (c d : ℕ) → words_of f ≡ prefix ++ c ∷ d ∷ left → nat_eq (length prefix + 1) (length (words_of f)) ≡ false
-  more_left f prefix left c d e = grind (arith, length, length-append, nat_tests)
-
-  pub last_left : (f : Keyword) (prefix : List ℕ) (c : ℕ) → words_of f ≡ prefix ++ c ∷ [] → nat_eq (length prefix + 1) (length (words_of f)) ≡ true
-  last_left f prefix c e = grind (arith, length, length-append, eq-eqb)
-
   pub step_on : (f : Keyword) (prefix left : List ℕ) (c d b : ℕ) → words_of f ≡ prefix ++ c ∷ d ∷ left → meets c b ≡ true → proofs.step (spelt f (length prefix)) b ≡ Go (spelt f (length prefix + 1))
-  step_on f prefix left c d b e m = ap (act (spelt f (length prefix)) b) (spell_next f prefix (d ∷ left) c b false _ e m (more_left f prefix left c d e))
+  step_on f prefix left c d b e m = ap (act (spelt f (length prefix)) b) (spell_next f prefix (d ∷ left) c b false _ e m
+      (grind (arith, length, length-append, nat_tests)))
 
   pub step_last : (f : Keyword) (prefix : List ℕ) (c b : ℕ) → words_of f ≡ prefix ++ c ∷ [] → meets c b ≡ true → proofs.step (spelt f (length prefix)) b ≡ act (spelt f (length prefix)) b (next_action f)
-  step_last f prefix c b e m = ap (act (spelt f (length prefix)) b) (spell_next f prefix [] c b true _ e m (last_left f prefix c e))
+  step_last f prefix c b e m = ap (act (spelt f (length prefix)) b) (spell_next f prefix [] c b true _ e m (grind (arith, length, length-append, eq-eqb)))
 
   -- more blanks after a space
   blank_stays : (f : Keyword) (prefix left : List ℕ) (d b : ℕ) → words_of f ≡ prefix ++ 32 ∷ d ∷ left → is_blank b ≡ true → proofs.step (spelt f (length prefix + 1)) b ≡ Go (spelt f (length prefix + 1))
@@ -108,7 +107,7 @@ module _ (limit top : ℕ) where
       not-true (nat_eq c 32) (sym (or-false (not (nat_eq c 32))) ∙ laid)
 
   -- a text of the words after some of their bytes: the walk to its last letter, and the step at that letter
-  record Spelled (f : Keyword) (from : ℕ) (t : List Letter) : Type 0 where
+  pub record Spelled (f : Keyword) (from : ℕ) (t : List Letter) : Type 0 where
     pub count : ℕ
     pub text : List Letter
     pub final : ℕ
@@ -116,7 +115,7 @@ module _ (limit top : ℕ) where
     pub walks : Walks proofs (spelt f from) text (spelt f count)
     pub last : proofs.step (spelt f count) final ≡ act (spelt f count) final (next_action f)
 
-  spelled : (f : Keyword) (prefix left : List ℕ) (c : ℕ) (t : List Letter) → words_of f ≡ prefix ++ c ∷ left → Spaced (c ∷ left) t → Spelled f (length prefix) t
+  pub spelled : (f : Keyword) (prefix left : List ℕ) (c : ℕ) (t : List Letter) → words_of f ≡ prefix ++ c ∷ left → Spaced (c ∷ left) t → Spelled f (length prefix) t
   spelled f prefix [] c t e (a, b, g, h, i) =
       let dark = last_dark f prefix c e in
       let is : a ≡ unmarked c ∷ [] = subst (λ x. chooses x Blanks1 (Byte c) a) dark h in
@@ -148,9 +147,6 @@ module _ (limit top : ℕ) where
   abbrev first_byte : Keyword → ℕ
   first_byte f = slice_index (words_of f) 0
 
-  pub enters : (f : Keyword) → proofs.step (idle limit top (stage_keyword f)) (first_byte f) ≡ proofs.step (spelt f 0) (first_byte f)
-  enters f = grind arith
-
   begins_with : (f : Keyword) (t : List Letter) → Spaced (words_of f) t → (u : List Letter) × (t ≡ unmarked (first_byte f) ∷ u)
   begins_with f t h = grind arith
 
@@ -159,7 +155,7 @@ module _ (limit top : ℕ) where
       → ReadsStatement proofs (idle limit top (stage_keyword f)) (t ++ u) e after
   entered f t u e after h r =
       let (v, g) = begins_with f t h in
-      rw g (same_first proofs (unmarked (first_byte f)) (v ++ u) (idle limit top (stage_keyword f)) (spelt f 0) after e (enters f)
+      rw g (same_first proofs (unmarked (first_byte f)) (v ++ u) (idle limit top (stage_keyword f)) (spelt f 0) after e (grind (arith, f))
       (subst (λ x. ReadsStatement proofs (spelt f 0) (x ++ u) e after) g r))
 
   words_then : (f : Keyword) (next : ProofState) → ((k b : ℕ) → act (spelt f k) b (next_action f) ≡ Go next) → proofs.begun next ≡ true → proofs.in_number next ≡ false
@@ -189,9 +185,6 @@ module _ (limit top : ℕ) where
 
   abbrev pub output_end : Bool → ProofState
   output_end may = at limit top (Phase.OutputEnd may)
-
-  header_feeds : Feeds proofs header_end header_end Statement.Header (idle limit top Formula)
-  header_feeds = grind arith
 
   output_feeds : (may : Bool) → Feeds proofs (output_end may) (output_end may) Statement.Output (idle limit top Stage.Concluding)
   output_feeds may = grind arith
@@ -235,7 +228,7 @@ module _ (limit top : ℕ) where
   statement_each t Statement.Header h =
       by_parts (KeywordWords Keyword.Header) Feed t Statement.Header (idle limit top Opening) (idle limit top Formula)
       (λ a b i k. words_then Keyword.Header header_end (λ j c. refl) refl refl a b Statement.Header (idle limit top Formula) i
-      (feed_reads proofs header_end header_end (idle limit top Formula) Statement.Header header_feeds b k)) h
+      (feed_reads proofs header_end header_end (idle limit top Formula) Statement.Header (grind arith) b k)) h
   statement_each t (Statement.F c) h = line_then Keyword.Formula LineKind.Formula t (Statement.F c) refl h
   statement_each t (Statement.Pol c) h = line_then Keyword.Pol LineKind.Pol t (Statement.Pol c) refl h
   statement_each t (Statement.Rup c) h = line_then Keyword.Rup LineKind.Rup t (Statement.Rup c) refl h

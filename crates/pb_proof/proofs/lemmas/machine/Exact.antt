@@ -1,14 +1,17 @@
 -- What the proof machine accepts from a stage is the statements in order.
-use Rattle.pb_proof.proofs.Common.{ℕ, ◌&&◌, ◌++◌, ◌||◌, ◌∙◌, ◌∷◌, ◌≡◌, [], ap, append-nil, append_assoc, Bool, cond, false, length, List, arith, nat_eq, not}
-use Rattle.pb_proof.proofs.Common.{refl, subst, sym, true, slice_index, or-true, eqb-true, never, white_each, End, Go, Next, ReadsStatement, Refuse, SkipsGap}
-use Rattle.pb_proof.proofs.Common.{in_comment, IsBlank, Nothing, is_white, Letter, Stage, Complete, Opening, Statement, act, at, HasGaps, idle, proofs}
-use Rattle.pb_proof.proofs.Common.{ProofState, enter, IsGap, go_or_end, one_state, refuse_or_end, refuse_or_go, AcceptsItems, Item, is_complete, GapAt}
-use Rattle.pb_proof.proofs.Common.{IsStaged, stage_after, stage_of, proof_within as is_within, ProofAction as Action, ProofPhase as Phase, ◌↔◌, All, IsTrue}
-use Rattle.pb_proof.proofs.Common.{All-cons, All-head, All-nil, All-tail, one_spelling, events_of, Conclusion, Closing, Formula, Steps, Proof, Conclude, Delete}
-use Rattle.pb_proof.proofs.Common.{F, Header, Output, Pol, Rup, Soli, Solx, begin, SpellsStatement, AreSpelled, BeginsAtOnce, IsProof, IsStep, statements_of}
-use Rattle.pb_proof.proofs.{Common.proof_transition as transition, lemmas.machine.Complete.statement_each, lemmas.machine.Sound.statement_only}
-use Rattle.pb_proof.specs.{contract.Formats.OneProof, engine.machine.State.is_done}
+use Rattle.pb_proof.proofs.Common.{ℕ, Statement, go_or_end, Conclusion, AreSpelled, ◌&&◌, ProofState, append-nil, white_each, in_comment, ◌++◌, stage_of}
+use Rattle.pb_proof.proofs.Common.{SkipsGap, is_white, IsStaged, All-cons, All-head, All-tail, ◌∙◌, ◌∷◌, ◌≡◌, refl, sym, true, Next, idle, ◌||◌, cond, Item}
+use Rattle.pb_proof.proofs.Common.{[], eqb-true, Complete, one_state, events_of, append_assoc, refuse_or_end, refuse_or_go, AcceptsItems, statements_of, ap}
+use Rattle.pb_proof.proofs.Common.{End, Go, act, not, at, ◌↔◌, All, F, arith, slice_index, stage_after, is_complete, one_spelling, BeginsAtOnce, Bool, false}
+use Rattle.pb_proof.proofs.Common.{nat_eq, Refuse, Letter, proofs, IsTrue, Header, Output, IsProof, IsStep, length, Closing, Formula, Opening, or-true}
+use Rattle.pb_proof.proofs.Common.{IsBlank, Nothing, HasGaps, All-nil, Conclude, List, subst, never, Stage, Steps, enter, IsGap, GapAt, Proof, begin}
+use Rattle.pb_proof.proofs.Common.{ReadsStatement, SpellsStatement, ProofPhase as Phase, ProofAction as Action, proof_within as is_within}
+use Rattle.pb_proof.{specs.contract.Formats.OneProof}
 use Rattle.pb_text.proofs.lemmas.text.Blanks.{blank_passes, in_comment-snoc, IsBlank-snoc, passes_at}
+use Rattle.pb_proof.proofs.lemmas.machine.Sound.{first, statement_only}
+use Rattle.pb_proof.proofs.lemmas.machine.Complete.{spelled, statement_each}
+
+-- What the machine accepts from a stage is the statements in order.
 
 abbrev pub Inside : Action → Type 0
 Inside (Action.To p) = is_within p ≡ true
@@ -67,10 +70,6 @@ module _ (limit top : ℕ) (s : Stage) (gaps : HasGaps s) where
       let k = gap_only gap (before ++ b ∷ []) mid (subst (λ x. SkipsGap proofs x gap mid) (f.1 ∙ ap gap_state (mode_after before b)) h) (IsBlank-snoc before b blank f.0) in
       subst (λ x. IsBlank x × (mid ≡ gap_state (in_comment x))) (append_assoc before (b ∷ []) gap) k
 
-  -- the converse
-  outside : (commented : Bool) → proofs.begun (gap_state commented) ≡ false
-  outside commented = grind arith
-
   gap_each : (gap before : List ℕ) → IsBlank (before ++ gap) → SkipsGap proofs (gap_state (in_comment before)) gap (gap_state (in_comment (before ++ gap)))
   gap_each [] before h = ap (λ x. gap_state (in_comment x)) (append-nil before)
   gap_each (b ∷ gap) before h =
@@ -79,7 +78,7 @@ module _ (limit top : ℕ) (s : Stage) (gaps : HasGaps s) where
       let m = mode_after before b in (
         gap_state (next_mode b (in_comment before)),
         gap_step (in_comment before) b (passes_at before gap b (blank_passes (before ++ b ∷ gap) h)),
-        outside (next_mode b (in_comment before)),
+        grind (arith, next_mode b (in_comment before)),
         subst (λ x. SkipsGap proofs x gap (gap_state (in_comment (before ++ b ∷ gap)))) (ap gap_state (sym m))
             (subst (λ x. SkipsGap proofs (gap_state (in_comment (before ++ b ∷ []))) gap (gap_state (in_comment x))) (sym e) k),
       )
@@ -98,9 +97,6 @@ module _ (limit top : ℕ) (s : Stage) (gaps : HasGaps s) where
   gap_skips gap (blank, c) = subst (λ x. SkipsGap proofs (idle limit top s) gap (gap_state x)) c (gap_each gap [] blank)
 
 -- What the proof machine accepts from a stage is the statements in order.
-
-complete : (at : Stage) → is_complete at ≡ true → at ≡ Complete
-complete at h = grind (arith, never)
 
 module _ (limit top : ℕ) where
   -- no white space or comment comes before the first statement, and nothing after the last one
@@ -129,15 +125,11 @@ module _ (limit top : ℕ) where
   gap_at at gap mid after t e h r = gap_before limit top at tt gap mid after t e h r
 
   pub ordered_only : (items : List (Item Statement)) (at : Stage) → AcceptsItems proofs (idle limit top at) items → IsStaged limit top at items
-  ordered_only [] at h = complete at h
+  ordered_only [] at h = grind (arith, never, at)
   ordered_only (i ∷ rest) at (mid, after, g, r, a) =
       let k = gap_at at i.gap mid after i.text i.event g r in
       let s = statement_only limit top at i.text i.event after (subst (λ x. ReadsStatement proofs x i.text i.event after) k.1 r) in
       (k.0, s.0, s.1, ordered_only rest (stage_after i.event) (subst (λ x. AcceptsItems proofs x rest) s.2 a))
-
-  -- no statement comes after the last one
-  stage_some : (e : Statement) → stage_of e ≡ Complete → ⊥
-  stage_some e h = grind arith
 
   skips_at : (at : Stage) (gap : List ℕ) → (at ≡ Complete → ⊥) → GapAt at gap → SkipsGap proofs (idle limit top at) gap (idle limit top at)
   skips_at at gap n h = grind (arith, gap_skips)
@@ -147,7 +139,7 @@ module _ (limit top : ℕ) where
   ordered_each (i ∷ rest) at (g, s, t, h) = (
     idle limit top at,
     idle limit top (stage_after i.event),
-    skips_at at i.gap (λ k. stage_some i.event (s ∙ k)) g,
+    skips_at at i.gap (λ k. grind (arith, i.event, s ∙ k)) g,
     subst (λ x. ReadsStatement proofs (idle limit top x) i.text i.event (idle limit top (stage_after i.event))) s (statement_each limit top i.text i.event t),
     ordered_each rest (stage_after i.event) h,
   )
@@ -187,12 +179,7 @@ step_then e es h (steps, c, k, g) = (e ∷ steps, c, All-cons IsStep e steps h k
 at_steps : (es : List Statement) → InOrder Steps es → Ends es
 at_steps [] h = cc
 at_steps (Output ∷ es) h = let (c, e) = at_conclusion es h.1 in ([], c, All-nil IsStep, ap (λ x. Output ∷ x) e)
-at_steps (Pol ws ∷ es) h = step_then (Pol ws) es tt (at_steps es h.1)
-at_steps (Rup c ∷ es) h = step_then (Rup c) es tt (at_steps es h.1)
-at_steps (Soli ls ∷ es) h = step_then (Soli ls) es tt (at_steps es h.1)
-at_steps (Solx ls ∷ es) h = step_then (Solx ls) es tt (at_steps es h.1)
-at_steps (Delete ids ∷ es) h = step_then (Delete ids) es tt (at_steps es h.1)
-at_steps (_ ∷ es) h = cc
+at_steps (_ ∷ es) h = grind (arith, step_then, at_steps es)
 
 abbrev IsOf : List Statement → Type 0
 IsOf es = (v : Proof) × All IsStep v.steps × (es ≡ statements_of v)
@@ -223,40 +210,32 @@ pub no_gap : IsGap []
 no_gap = (Nothing, refl)
 
 module _ (limit top : ℕ) where
-  abbrev Spelled : Item Statement → Type 0
-  Spelled i = IsGap i.gap × SpellsStatement limit top i.event i.text
+  abbrev SpelledItem : Item Statement → Type 0
+  SpelledItem i = IsGap i.gap × SpellsStatement limit top i.event i.text
 
   spelled_only : (items : List (Item Statement)) (at : Stage) → IsStaged limit top at items → InOrder at (events_of items) × AreSpelled limit top items
-  spelled_only [] at h = (h, All-nil Spelled)
+  spelled_only [] at h = (h, All-nil SpelledItem)
   spelled_only (i ∷ rest) at (g, s, t, h) = grind (arith, All-cons, no_gap, spelled_only rest (stage_after i.event) h)
-
-  -- after the first statement, white space and comments may come
-  gap_later : (e : Statement) (gap : List ℕ) → IsGap gap → GapAt (stage_after e) gap
-  gap_later e gap h = grind arith
 
   later_each : (items : List (Item Statement)) (before : Statement) → InOrder (stage_after before) (events_of items) → AreSpelled limit top items → IsStaged limit top (stage_after before) items
   later_each [] before h s = h
   later_each (i ∷ rest) before (e, h) s =
-      let k = All-head Spelled i rest s in
-      (gap_later before i.gap k.0, e, k.1, later_each rest i.event h (All-tail Spelled i rest s))
+      let k = All-head SpelledItem i rest s in
+      (grind (arith, before, k.0), e, k.1, later_each rest i.event h (All-tail SpelledItem i rest s))
 
   pub proof_each : (items : List (Item Statement)) → IsProof limit top items → IsStaged limit top Opening items
   proof_each items (v, (steps, e, first, spelled)) = from_first items (subst (InOrder Opening) (sym e) (refl, (refl, steps_order v.steps v.conclusion steps))) first spelled
     where
       from_first : (items : List (Item Statement)) → InOrder Opening (events_of items) → BeginsAtOnce limit top items → AreSpelled limit top items → IsStaged limit top Opening items
       from_first [] h f s = absurd f
-      from_first (i ∷ rest) (e, h) f s = (f, e, (All-head Spelled i rest s).1, later_each rest i.event h (All-tail Spelled i rest s))
+      from_first (i ∷ rest) (e, h) f s = (f, e, (All-head SpelledItem i rest s).1, later_each rest i.event h (All-tail SpelledItem i rest s))
 
   -- A new machine accepts exactly the proofs.
   pub reads_proofs : (items : List (Item Statement)) → AcceptsItems proofs (begin limit top) items ↔ IsProof limit top items
   reads_proofs items = grind (arith, spelled_only, at_opening, ordered_only, ordered_each, proof_each)
 
--- No byte is taken after a complete proof.
-pub done_stops : (s : ProofState) (p : Phase) (b : ℕ) → is_done p ≡ true → act s b (transition p b) ≡ Refuse
-done_stops s p b h = grind (arith, never)
-
 pub finishes : (s : ProofState) → IsTrue (proofs.done s) → (b : ℕ) → proofs.step s b ≡ Refuse
-finishes s h b = done_stops s s.phase b h
+finishes s h b = grind (arith, never, s.phase)
 
 -- each text is of one proof only
 pub one_proof : OneProof

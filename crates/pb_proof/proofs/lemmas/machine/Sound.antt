@@ -1,15 +1,18 @@
 -- What the proof machine reads from a stage is a statement of that stage.
-use Rattle.pb_proof.proofs.Common.{ℕ, ◌&&◌, ◌++◌, ◌+◌, ◌-◌, ◌<◌, ◌∙◌, ◌∷◌, ◌≡◌, [], add-one, ap, arith, Bool, false, length, List, nat_eq, None, refl, Some, rules}
-use Rattle.pb_proof.proofs.Common.{subst, sym, take, true, slice_index, take-suc, and_parts, cond_both, eqb-true, take_all, ends_walk, Keeps, On, reported}
-use Rattle.pb_proof.proofs.Common.{Walks, walks_more, never, grown, none_yet, as_unmarked, further, End, Go, Next, ReadsStatement, Refuse, is_blank}
-use Rattle.pb_proof.proofs.Common.{◌⋅◌, Bytes, Language, Letter, LineMachine, Keyword, LineKind, Stage, Closing, Complete, Formula, Opening, Steps}
-use Rattle.pb_proof.proofs.Common.{Statement, line_automaton, line_first, SpellsRest, act, asked, idle, next_stage, proofs, ProofState, step_line, enter}
-use Rattle.pb_proof.proofs.Common.{meets, next_action, sol_word, step_keyword, words_of, conclusion_word, f_word, pol_word, rup_word, soli_word}
-use Rattle.pb_proof.proofs.Common.{solx_word, SpellsStatement, stage_after, stage_of, proof_spell as spell, proof_between as between}
-use Rattle.pb_proof.proofs.Common.{proof_transition as transition, proof_over as over, ProofPhase as Phase, ProofAction as Action}
+use Rattle.pb_proof.proofs.Common.{ℕ, and_parts, cond_both, ends_walk, Statement, step_line, soli_word, solx_word, ◌&&◌, walks_more, line_first}
+use Rattle.pb_proof.proofs.Common.{SpellsRest, next_stage, ProofState, ◌++◌, pol_word, rup_word, stage_of, ◌+◌, ◌-◌, ◌<◌, ◌∙◌, ◌∷◌, ◌≡◌, None, refl, Some}
+use Rattle.pb_proof.proofs.Common.{sym, take, true, Next, idle, [], eqb-true, take_all, reported, none_yet, is_blank, Language, LineKind, Complete, sol_word}
+use Rattle.pb_proof.proofs.Common.{words_of, add-one, line_automaton, step_keyword, ap, On, End, Go, ◌⋅◌, act, at, arith, slice_index, as_unmarked}
+use Rattle.pb_proof.proofs.Common.{LineMachine, next_action, stage_after, Bool, false, nat_eq, Refuse, Letter, proofs, f_word, length}
+use Rattle.pb_proof.proofs.Common.{further, Keyword, Closing, Formula, Opening, List, rules, subst, Keeps, Walks, never, grown, Bytes, Stage, Steps, asked}
+use Rattle.pb_proof.proofs.Common.{enter, meets, take-suc, ReadsStatement, SpellsStatement, proof_spell as spell, proof_over as over, ProofPhase as Phase}
+use Rattle.pb_proof.proofs.Common.{conclusion_word, proof_between as between, proof_transition as transition, ProofAction as Action}
 use Rattle.pb_proof.proofs.lemmas.Spaced.{Spaced, one_met, spaced_more, spaced_blank, KeywordWords, keyword_only, some_byte}
-use Rattle.pb_proof.proofs.lemmas.line.Ends.{Gapped, Closing as Closed, blank_more, semicolon_after_blanks, blank_closing, line_after_blanks, line_closing, feed_after_blanks, gapped}
+use Rattle.pb_proof.proofs.lemmas.line.Ends.{Gapped, blank_more, gapped, Closing as Closed, semicolon_after_blanks, blank_closing, line_after_blanks}
+use Rattle.pb_proof.proofs.lemmas.line.Ends.{line_closing, feed_after_blanks}
 use Rattle.pb_proof.proofs.lemmas.line.Laws.{line_only, line_begins, line_fresh}
+
+-- What the machine reads from a stage is a statement of that stage.
 
 -- the stage of a statement, by its first words and by the kind of its line
 abbrev pub stage_keyword : Keyword → Stage
@@ -91,20 +94,16 @@ module _ (limit top : ℕ) (here : Stage) where
     plain_letter e n = n ∙ ap (asked false line_automaton.in_number) e
 
     -- a line machine begins
-    begins : (r : LineKind) → stage_rest r ≡ here → (l.numeral ≡ false → Before r (p ++ l ∷ [])) → After (Action.Begin r)
+    pub begins : (r : LineKind) → stage_rest r ≡ here → (l.numeral ≡ false → Before r (p ++ l ∷ [])) → After (Action.Begin r)
     begins r at h = search (rules, none_yet, line_fresh)
 
     -- all words have been read
     whole : s.line ≡ None → (f : Keyword) → stage_keyword f ≡ here → (l.numeral ≡ false → KeywordWords f (p ++ l ∷ [])) → After (next_action f)
     whole o Keyword.Header at h = λ w n. (k, (at, gapped (KeywordWords Keyword.Header) (p ++ l ∷ []) (h (plain_letter o n)), o))
-    whole o Keyword.Formula at h = begins LineKind.Formula at h
-    whole o Keyword.Pol at h = begins LineKind.Pol at h
-    whole o Keyword.Rup at h = begins LineKind.Rup at h
     whole o Keyword.Solution at h = λ w n. (k, (at, h (plain_letter o n), o))
-    whole o Keyword.Delete at h = begins LineKind.Delete at h
     whole o Keyword.Output at h = λ w n. (k, (at, gapped (KeywordWords Keyword.Output) (p ++ l ∷ []) (h (plain_letter o n)), o))
-    whole o Keyword.Conclusion at h = begins LineKind.Conclusion at h
     whole o Keyword.End at h = λ n. (at, h n, same_idle s.limit s.top Complete Complete k.0 k.1 refl)
+    whole o _ at h = search (rules, begins)
 
     -- the next byte of the words
     spells : s.line ≡ None → (f : Keyword) → stage_keyword f ≡ here → (j : ℕ) → j < length (words_of f) → Spaced (take j (words_of f)) p → (other : Action) → After other
@@ -125,24 +124,20 @@ module _ (limit top : ℕ) (here : Stage) where
         (k, (at, some, h, word_blank (words_of f) j l p some h g.1 g.0 (plain_letter o n) q, o)))
         (λ _. tt))
 
-    first : s.line ≡ None → p ≡ [] → (f : Keyword) → stage_keyword f ≡ here → After (spell f 0 l.byte Action.Stop)
+    pub first : s.line ≡ None → p ≡ [] → (f : Keyword) → stage_keyword f ≡ here → After (spell f 0 l.byte Action.Stop)
     first o e f at = spells o f at 0 (some_byte f) e Action.Stop tt
 
-    step_stage : (b : ℕ) → stage_keyword (step_keyword b) ≡ Steps
-    step_stage b = grind (arith, nat_eq)
+    keyword_stage : (b : ℕ) → stage_keyword (step_keyword b) ≡ Steps
+    keyword_stage b = grind (arith, nat_eq)
 
-    enters : (at : Stage) → at ≡ here → p ≡ [] → s.line ≡ None → After (enter at l.byte)
-    enters Opening at e o = first o e Keyword.Header at
-    enters at same e o = grind (arith, first, step_stage)
+    enters_stage : (at : Stage) → at ≡ here → p ≡ [] → s.line ≡ None → After (enter at l.byte)
+    enters_stage Opening at e o = first o e Keyword.Header at
+    enters_stage at same e o = grind (arith, first, keyword_stage)
 
     between_two : (at : Stage) → at ≡ here → p ≡ [] → s.line ≡ None → After (between at l.byte)
-    between_two Opening at e o = enters Opening at e o
+    between_two Opening at e o = enters_stage Opening at e o
     between_two Complete at e o = tt
-    between_two at same e o = grind (arith, never, nat_eq, enters)
-
-    -- `i` or `x` after `sol`
-    logged : Steps ≡ here → Bytes sol_word p → After (transition Phase.Solution l.byte)
-    logged at e = grind (arith, nat_eq, as_unmarked, eqb-true)
+    between_two at same e o = grind (arith, never, nat_eq, enters_stage)
 
     header_ends : Opening ≡ here → Gapped (KeywordWords Keyword.Header) p → s.line ≡ None → After (transition Phase.HeaderEnd l.byte)
     header_ends at h o = cond_both (is_blank l.byte) _ _ After
@@ -194,7 +189,7 @@ module _ (limit top : ℕ) (here : Stage) where
     sound (Phase.Between at) h = between_two at h.0 h.1 h.2
     sound (Phase.Comment at) h = absurd h
     sound (Phase.Spelling f j) h = spelling f j h.0 h.1 h.2 h.3 h.4
-    sound Phase.Solution h = logged h.0 h.1
+    sound Phase.Solution (at, e, o) = grind (arith, nat_eq, as_unmarked, eqb-true)
     sound Phase.HeaderEnd h = header_ends h.0 h.1 h.2
     sound (Phase.OutputEnd may) h = output_ends may h
     sound (Phase.Inside r) (at, (i, e, h)) = subst (λ x. Leaves (over s r (step_line x l.byte))) (sym e) (given r at i h (line_automaton.step i l.byte) refl)

@@ -1,27 +1,25 @@
--- What holds of each state that the proof machine can be in, and what it accepts from there.
-use Rattle.pb_proof.proofs.Common.{ℕ, ◌++◌, ◌+◌, ◌<◌, ◌^◌, ◌∙◌, ◌∷◌, ◌≡◌, [], append_assoc, arith, Bool, drop, false, length, length-append, List, None, refl}
-use Rattle.pb_proof.proofs.Common.{subst, suc, sym, take, true, slice_index, split_at, eqb-true, length-take-le, accepted, final, IsAlive, reads_on, ReadsOn}
-use Rattle.pb_proof.proofs.Common.{AcceptsItems, IsState, unmarked, Item, Letter, plain, NoClaim, LineMachine, Keyword, LineKind, Stage, Closing, Complete}
-use Rattle.pb_proof.proofs.Common.{Formula, Opening, Steps, Statement, line_automaton, line_first, act, at, giving, HasGaps, Holds, idle, IsInOrder, next_stage}
-use Rattle.pb_proof.proofs.Common.{proofs, ProofState, next_action, words_of, conclusion_word, f_word, none_word, IsStaged, ProofPhaseFits as PhaseFits}
-use Rattle.pb_proof.proofs.Common.{ProofPhase as Phase, ◌&&◌, ◌-◌, ◌≤◌, ap, IsTrue, nat_eq, Option, Some, cond_both, same_Some, admits_before, admits_final}
-use Rattle.pb_proof.proofs.Common.{admitted_on, refuses, never, further, Admits, End, Go, Next, Refuse, is_blank, asked, is_complete, step_line, enter, meets}
-use Rattle.pb_proof.proofs.Common.{pass, step_keyword, proof_spell as spell, proof_between as between, proof_transition as transition, proof_over as over}
-use Rattle.pb_proof.proofs.{Common.proof_within as is_within, Common.ProofAction as Action, lemmas.Carried.reads_in}
-use Rattle.pb_proof.proofs.lemmas.Spaced.{Spaced, One, chooses, KeywordWords, keyword_only, some_byte}
-use Rattle.pb_proof.proofs.lemmas.line.{Ends.fed, Ends.ended, Laws.line_begins, Laws.line_fresh, Laws.line_first_state}
-use Rattle.pb_proof.proofs.lemmas.machine.Complete.{spelt, header_end, output_end, step_on, step_last, line_nests, is_giving, meets_any}
+-- What holds of each state that the proof machine can be in.
+use Rattle.pb_proof.proofs.Common.{ℕ, split_at, eqb-true, accepted, reads_on, unmarked, LineKind, Complete, words_of, IsStaged, IsInOrder, next_action}
+use Rattle.pb_proof.proofs.Common.{admitted_on, is_complete, slice_index, line_first, next_stage, End, none_word, cond_both, same_Some, Statement, step_line}
+use Rattle.pb_proof.proofs.Common.{◌≤◌, conclusion_word, ProofPhase as Phase, proof_spell as spell, proof_over as over, ProofAction as Action, Go, ◌≡◌, suc}
+use Rattle.pb_proof.proofs.Common.{sym, act, at, ◌-◌, [], ap, true, Item, idle, ◌&&◌, Some, Next, Bool, ◌+◌, ◌<◌, ◌^◌, length, Letter, giving, proofs}
+use Rattle.pb_proof.proofs.Common.{refuses, further, IsAlive, f_word, ReadsOn, IsState, NoClaim, Keyword, ◌∙◌, Holds, never, asked, enter, meets, arith}
+use Rattle.pb_proof.proofs.Common.{IsTrue, nat_eq, Option, Admits, Refuse, ◌∷◌, ◌++◌, drop, List, None, refl, take, false, subst, final, plain}
+use Rattle.pb_proof.proofs.Common.{Stage, Steps, rules, LineMachine, append_assoc, AcceptsItems, admits_final, length-append, line_automaton, admits_before}
+use Rattle.pb_proof.proofs.Common.{length-take-le, ProofState, ProofPhaseFits as PhaseFits, proof_between as between, proof_transition as transition}
+use Rattle.pb_proof.proofs.Common.{proof_within as is_within, Closing, Formula, Opening, HasGaps, is_blank}
+use Rattle.pb_proof.proofs.lemmas.{Carried.reads_in, line.Ends.fed, line.Ends.ended}
+use Rattle.pb_proof.proofs.lemmas.machine.Complete.{spelt}
+use Rattle.pb_proof.proofs.lemmas.line.Laws.{line_begins, line_fresh, line_first_state}
+use Rattle.pb_proof.proofs.lemmas.Spaced.{Spaced, chooses, KeywordWords, keyword_only, some_byte}
+use Rattle.pb_proof.proofs.lemmas.machine.Complete.{header_end, output_end, step_on, step_last, line_nests, is_giving, meets_any}
 use Rattle.pb_proof.proofs.lemmas.machine.Exact.{no_gap, finishes, ordered_each}
-use Rattle.pb_proof.specs.engine.machine.State.{asks, is_done}
+use Rattle.pb_proof.specs.engine.machine.{State.asks, State.is_done}
 use Rattle.pb_text.proofs.lemmas.machine.Living.{before}
-
--- the words as they are written
-one_plain : (c : ℕ) → One c (unmarked c ∷ [])
-one_plain c = grind (arith, chooses, eqb-true)
 
 plain_spaced : (w : List ℕ) → Spaced w (plain w)
 plain_spaced [] = refl
-plain_spaced (c ∷ w) = (unmarked c ∷ [], plain w, refl, one_plain c, plain_spaced w)
+plain_spaced (c ∷ w) = (unmarked c ∷ [], plain w, refl, grind (arith, chooses, eqb-true), plain_spaced w)
 
 written : (f : Keyword) → KeywordWords f (plain (words_of f))
 written f = keyword_only f (plain (words_of f)) (plain_spaced (words_of f))
@@ -113,14 +111,10 @@ module _ (limit top : ℕ) where
 
     after_alive : (f : Keyword) (k c : ℕ) → proofs.step (spelt limit top f k) c ≡ act (spelt limit top f k) c (next_action f) → IsAlive proofs (spelt limit top f k)
     after_alive Keyword.Header k c e = before proofs (spelt limit top Keyword.Header k) (header_end limit top) c e refl header_end_alive
-    after_alive Keyword.Formula k c e = before proofs (spelt limit top Keyword.Formula k) (giving limit top LineKind.Formula (line_first limit top LineKind.Formula)) c e refl (first_alive LineKind.Formula)
-    after_alive Keyword.Pol k c e = before proofs (spelt limit top Keyword.Pol k) (giving limit top LineKind.Pol (line_first limit top LineKind.Pol)) c e refl (first_alive LineKind.Pol)
-    after_alive Keyword.Rup k c e = before proofs (spelt limit top Keyword.Rup k) (giving limit top LineKind.Rup (line_first limit top LineKind.Rup)) c e refl (first_alive LineKind.Rup)
     after_alive Keyword.Solution k c e = before proofs (spelt limit top Keyword.Solution k) (at limit top Phase.Solution) c e refl solution_alive
-    after_alive Keyword.Delete k c e = before proofs (spelt limit top Keyword.Delete k) (giving limit top LineKind.Delete (line_first limit top LineKind.Delete)) c e refl (first_alive LineKind.Delete)
     after_alive Keyword.Output k c e = before proofs (spelt limit top Keyword.Output k) (output_end limit top true) c e refl (output_end_alive true)
-    after_alive Keyword.Conclusion k c e = before proofs (spelt limit top Keyword.Conclusion k) (giving limit top LineKind.Conclusion (line_first limit top LineKind.Conclusion)) c e refl (first_alive LineKind.Conclusion)
     after_alive Keyword.End k c e = final proofs (spelt limit top Keyword.End k) (idle limit top Complete) c Statement.End e [] refl
+    after_alive _ k c e = search (rules, before, first_alive)
 
     spelling_on : (f : Keyword) (before_it left : List ℕ) (c : ℕ) → words_of f ≡ before_it ++ c ∷ left → IsAlive proofs (spelt limit top f (length before_it))
     spelling_on f before_it [] c e = after_alive f (length before_it) c (step_last limit top f before_it c c e (meets_any c))
@@ -207,13 +201,10 @@ on_enter p o s b = grind (arith, on_spell, some_byte)
 gaps_incomplete : (s : Stage) → HasGaps s → is_complete s ≡ false
 gaps_incomplete s h = grind arith
 
-on_pass : (s : Stage) (b : ℕ) → HasGaps s → OnAction (Phase.Between s) (pass s b)
-on_pass s b h = grind (arith, gaps_incomplete, on_enter)
-
 on_between : (s : Stage) (b : ℕ) → OnAction (Phase.Between s) (between s b)
 on_between Opening b = on_enter (Phase.Between Opening) tt Opening b
 on_between Complete b = tt
-on_between s b = on_pass s b tt
+on_between s b = grind (arith, gaps_incomplete, on_enter)
 
 -- the transitions of each phase
 pub on_transition : (p : Phase) (b : ℕ) → PhaseFits p → OnAction p (transition p b)
@@ -231,11 +222,8 @@ on_transition (Phase.Inside r) b h = refl
 pub plain_holds : (s : ProofState) (p : Phase) → IsPlain p → Holds s p → s.line ≡ None
 plain_holds s p o h = grind arith
 
-holds_plain : (s : ProofState) (p : Phase) → IsPlain p → s.line ≡ None → Holds s p
-holds_plain s p o h = grind arith
-
 -- what holds after a byte
-record Continues (s next : ProofState) : Type 0 where
+pub record Continues (s next : ProofState) : Type 0 where
   pub owes : proofs.done next ≡ false
   pub stays : proofs.begun s ≡ true → proofs.begun next ≡ true
   pub grows : proofs.spent next ≤ proofs.spent s + 1
@@ -255,7 +243,7 @@ on_act s h b m k = grind (arith, line_first_state, line_fresh, inside_of)
 steps : (s : ProofState) → IsInOrder s → (b : ℕ) → On s (proofs.step s b)
 steps s h b = on_act s h b (transition s.phase b) (on_transition s.phase b h.fits)
 
-continues : (s next : ProofState) (b : ℕ) → IsInOrder s → proofs.step s b ≡ Go next → Continues s next
+pub continues : (s next : ProofState) (b : ℕ) → IsInOrder s → proofs.step s b ≡ Go next → Continues s next
 continues s next b h e = subst (On s) e (steps s h b)
 
 pub is_state : (s : ProofState) → IsInOrder s → IsState proofs s
@@ -268,7 +256,7 @@ module _ (s : ProofState) (h : IsInOrder s) (b : ℕ) where
 
   -- without a line machine
   pub at_order : (p : Phase) → IsPlain p → PhaseFits p → (i : Option LineMachine) → i ≡ None → IsInOrder (record { limit = s.limit; top = s.top; phase = p; line = i })
-  at_order p o f i e = record { limit = h.limit; top = h.top; some = h.some; fits = f; holds = holds_plain (record { limit = s.limit; top = s.top; phase = p; line = i }) p o e }
+  at_order p o f i e = record { limit = h.limit; top = h.top; some = h.some; fits = f; holds = grind (arith, p, o, e) }
 
   pub to_order : (p : Phase) → transition s.phase b ≡ Action.To p → IsInOrder (record s { phase = p })
   to_order p e =

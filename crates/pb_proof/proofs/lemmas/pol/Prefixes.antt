@@ -1,21 +1,13 @@
--- What the `pol` machine has read.
-use Rattle.pb_proof.proofs.Common.{ℕ, ◌++◌, ◌-◌, ◌<◌, ◌∙◌, ◌∷◌, ◌≡◌, ◌≤◌, [], ap, append_assoc, arith, false, List, pos, refl, subst, suc, sym, true}
-use Rattle.pb_proof.proofs.Common.{le-max_left, le-max_right, FirstOf, LiteralOf, IsName, regroup3, ◌⋅◌, Blanks1, Byte, Bytes, Language, Digits, Letter, Held}
-use Rattle.pb_proof.proofs.Common.{Phase, Role, PolWord, Axiom, Id, Multiply, bound, with_last, PolState, Listed, SpellsWord, SpellsWords, IsFree}
-use Rattle.pb_proof.proofs.lemmas.{line.Ends.Closing, line.Ends.listed_append, pol.Postfix.Counts}
-
--- ids and factors are within the bound of a number
-pub bound_of_id : (limit top d n : ℕ) → n ≤ top → n ≤ bound limit top d
-bound_of_id limit top d n h = grind (arith, le-max_right)
-
-pub bound_of_factor : (limit top d n : ℕ) → n ≤ limit → n ≤ bound limit top (suc d)
-bound_of_factor limit top d n h = let i = le-max_left limit top in omega (arith, i)
-
--- the last of some words
-pub with_last_append : (f : PolWord → PolWord) (ws : List PolWord) (w : PolWord) → with_last f (ws ++ w ∷ []) ≡ ws ++ f w ∷ []
-with_last_append f [] w = refl
-with_last_append f (x ∷ []) w = refl
-with_last_append f (x ∷ y ∷ ws) w = ap (λ t. x ∷ t) (with_last_append f (y ∷ ws) w)
+-- Prefixes of a `pol` line, and the steps that continue them.
+use Rattle.pb_proof.proofs.Common.{ℕ, SpellsWord, close_lone, held_number, LiteralOf, with_last, nat_tests, held_name, ◌++◌, regroup3, SpellsWords}
+use Rattle.pb_proof.proofs.Common.{as_unmarked, append_assoc, close_number, List, plain, arith, Change, IsName, Digits, Letter, Listed, IsFree, nat_eq, refl}
+use Rattle.pb_proof.proofs.Common.{true, Byte, Held, Role, false, subst, Bytes, Phase, Axiom, bound, close, neg_ℤ, Bool, cond, None, nat_le, Language}
+use Rattle.pb_proof.proofs.Common.{Multiply, PolState, leb-true, is_blank, FirstOf, Blanks1, IsTrue, turned, ◌<◌, PolWord, regroup, Blanks0, changed, counted}
+use Rattle.pb_proof.proofs.Common.{◌-◌, ◌∙◌, ◌∷◌, ◌≡◌, ◌≤◌, pos, suc, sym, ◌⋅◌, Some, zero, [], ap, Id}
+use Rattle.pb_proof.proofs.lemmas.line.Ends.{Closing, gapped, positive, gapped_some, first_blank, listed_append, further_blank}
+use Rattle.pb_proof.{proofs.lemmas.pol.Postfix.Counts}
+use Rattle.pb_proof.proofs.lemmas.pol.Moves.{with_last_append}
+use Rattle.pb_proof.specs.engine.line.Pol as pol
 
 -- after these words there are `d` expressions
 abbrev pub Leads : List PolWord → ℕ → Type 0
@@ -129,3 +121,122 @@ Prefix s = prefix s.limit s.top s.work.phase s.work.words s.work.depth s.work.na
 
 abbrev pub Whole : List PolWord → PolState → Language
 Whole ws after = SpellsWords after.limit after.top ws
+
+-- The machine has read a prefix of a line: one lemma for each step that continues.
+
+-- letters
+
+pub one : (l : Letter) (b : ℕ) → l.byte ≡ b → l.numeral ≡ false → l ∷ [] ≡ plain (b ∷ [])
+one l b e f = ap (λ x. x ∷ []) (as_unmarked l b f e)
+
+pub blanks_more : (l : Letter) → IsTrue (is_blank l.byte) → l.numeral ≡ false → (q : List Letter) → Blanks0 q → Blanks1 (q ++ l ∷ [])
+blanks_more l h f q ([], i, e) = first_blank l q h f e
+blanks_more l h f q (b ∷ bs, i, e) = further_blank l q h f (b, bs, i.0, i.1, e)
+
+module _ (limit top : ℕ) (ws : List PolWord) (d : ℕ) (name : List ℕ) where
+  abbrev before : Phase → Language
+  before p = prefix limit top p ws d name
+
+  abbrev Has : List PolWord → ℕ → Language
+  Has = Settled limit top
+
+  -- what has been read if a word ends
+  abbrev pub Closed : pol.Closing → Language
+  Closed None p = Unit {0}
+  Closed (Some (c, h)) p = (Holds limit top h (changed c ws name) (counted c d) ⋅ Blanks0) p
+
+  closed_test : (b : Bool) (c : pol.Closing) (p : List Letter) → (b ≡ false → Closed c p) → Closed (cond b None c) p
+  closed_test b c p h = grind arith
+
+  closes_number : (n : ℕ) (p : List Letter) → 0 < n → before (Phase.Number n) p → Closed (close_number limit top d n) p
+  closes_number n p h (le, t) = go d refl (nat_le n top) refl (nat_le n limit) refl
+    where
+      as_id : n ≤ top → Has (ws ++ PolWord.Id (pos n) ∷ []) (suc d) p
+      as_id i = let (a, b, g, r, k) = t in settle limit top ws d (suc d) (PolWord.Id (pos n)) p (λ rest r. r) (a, b, g, r, (false, n, h, i, refl, ([], b, refl, refl, k)))
+
+      large_fits : (e : ℕ) → d ≡ suc e → nat_le n top ≡ false → n ≤ limit
+      large_fits e f g = let k : n ≤ bound limit top (suc e) = subst (λ x. n ≤ bound limit top x) f le in grind (arith, nat_tests)
+
+      leads_of : (e : ℕ) → d ≡ suc e → (Words limit top ws ⋅ Blanks1 ⋅ Digits n) p × ((rest : List PolWord) → Counts (suc e) rest → Counts 0 (ws ++ rest))
+      leads_of e f = let (a, b, g, (u, v, i, (m, o), j), k) = t in ((a, b, g, (u, v, i, o, j), k), λ rest r. m rest (subst (λ x. Counts x rest) (sym f) r))
+
+      go : (e : ℕ) → d ≡ e → (x : Bool) → nat_le n top ≡ x → (y : Bool) → nat_le n limit ≡ y →
+          Closed (cond x (Some (Change.Id (pos n), held_number limit e n)) (Some (Change.Large (pos n), Held.Large))) p
+      go zero f true i y j = gapped (Has (ws ++ PolWord.Id (pos n) ∷ []) (suc d)) p (as_id (leb-true n top i))
+      go (suc e) f true i true j = rw j (
+          let (m, o) = leads_of e f in
+          gapped (Holds limit top Held.Number (ws ++ PolWord.Id (pos n) ∷ []) (suc d)) p
+          (ws, e, n, refl, ap suc f, h, leb-true n limit j, leb-true n top i, o, m)
+          )
+      go (suc e) f true i false j = rw j (gapped (Has (ws ++ PolWord.Id (pos n) ∷ []) (suc d)) p (as_id (leb-true n top i)))
+      go zero f false i y j = absurd (too_large (subst (λ x. n ≤ bound limit top x) f le))
+        where
+          too_large : n ≤ top → ⊥
+          too_large k = grind (arith, nat_tests)
+      go (suc e) f false i y j =
+          let (m, o) = leads_of e f in
+          gapped (Holds limit top Held.Large (ws ++ PolWord.Multiply (pos n) ∷ []) (suc d)) p
+          (ws, e, n, refl, ap suc f, h, large_fits e f i, tt, o, m)
+
+  -- a letter that is an operator
+  operator : (b : ℕ) (P : Language) (p : List Letter) → name ≡ b ∷ [] → (P ⋅ Blanks1 ⋅ FirstOf false name) p → (P ⋅ Blanks1 ⋅ Byte b) p
+  operator b P p e (x, y, f, r, (k, g)) = (x, y, f, r, g ∙ ap plain e)
+
+  divides : (n : ℕ) (q : List Letter) → 0 < n → n ≤ limit → (Digits n ⋅ Blanks1 ⋅ Byte 100) q → SpellsWord limit top (PolWord.Divide (pos n)) q
+  divides n q i l (a, b, g, (u, v, k, o, j), m) = (a, b, g, (u, v, k, (n, i, l, refl, o), j), m)
+
+  closes_lone : (r : Role) (p : List Letter) → before (Phase.Lone r) p → Closed (close_lone r) p
+  closes_lone Role.Name p h = tt
+  closes_lone Role.Saturate p (e, t) =
+      gapped (Has (ws ++ PolWord.Saturate ∷ []) d) p
+      (let (a, b, g, (u, v, i, (m, o), j), k) = operator 115 (Before limit top Role.Saturate ws d) p e t in
+      settle limit top ws d d PolWord.Saturate p (λ rest r. grind (arith, m, r)) (a, b, g, (u, v, i, o, j), k))
+  closes_lone Role.Divide p (e, t) =
+      gapped (Has (changed Change.Divide ws name) (d - 1)) p
+      (takes_number limit top (λ n. PolWord.Id (pos n)) (λ n. PolWord.Divide (pos n)) (λ n. n ≤ top) (turned Change.Divide) 100 (λ n. refl)
+      divides (λ n e rest r. r) ws d p (operator 100 (Holds limit top Held.Number ws d) p e t))
+  closes_lone Role.DivideLarge p (e, t) =
+      gapped (Has (changed Change.Divide ws name) (d - 1)) p
+      (takes_number limit top (λ n. PolWord.Multiply (pos n)) (λ n. PolWord.Divide (pos n)) (λ n. Unit {0}) (turned Change.Divide) 100 (λ n. refl)
+      divides (λ n e rest r. r) ws d p (operator 100 (Holds limit top Held.Large ws d) p e t))
+  closes_lone Role.Weaken p (e, t) =
+      gapped (Has (changed Change.Weaken ws name) (d - 1)) p (weakens (operator 119 (Holds limit top Held.Name ws d) p e t))
+    where
+      weakens : (Named limit top ws d ⋅ Blanks1 ⋅ Byte 119) p → Has (changed Change.Weaken ws name) (d - 1) p
+      weakens (ab, c, i, (a, s, j, (vs, e, x, k, m, is, leads, t), u), v) =
+          let g : d - 1 ≡ suc e = omega arith in
+          let w : PolWord = PolWord.Weaken x in
+          let (y, z, r, o, q) = regroup3 (Words limit top vs ⋅ Blanks1) (Bytes x) Blanks1 (Byte 119) p (ab, c, i, (a, s, j, t, u), v) in
+          at limit top (changed Change.Weaken ws name) (vs ++ w ∷ []) (d - 1) (suc e) p
+          (ap (with_last (turned Change.Weaken)) k ∙ with_last_append (turned Change.Weaken) vs _) g
+          (settle limit top vs (suc e) (suc e) w p (λ rest r. r)
+          (lead limit top vs (suc e) Blanks1 (SpellsWord limit top w) p leads (y, z, r, o, (is, q))))
+
+  closes_name : (negated : Bool) (p : List Letter) → before (Phase.Name negated) p → Closed (Some (Change.Axiom negated, held_name negated d)) p
+  closes_name negated p h = go negated d refl h
+    where
+      literal : Bool → PolWord
+      literal n = PolWord.Axiom (record { negated = n; name = name })
+
+      as_literal : (n : Bool) → before (Phase.Name n) p → (Has (ws ++ literal n ∷ []) (suc d) ⋅ Blanks0) p
+      as_literal n k = gapped (Has (ws ++ literal n ∷ []) (suc d)) p (settle limit top ws d (suc d) (literal n) p (λ rest r. r) k)
+
+      go : (n : Bool) (e : ℕ) → d ≡ e → before (Phase.Name n) p → (Holds limit top (held_name n e) (ws ++ literal n ∷ []) (suc d) ⋅ Blanks0) p
+      go true e f k = as_literal true k
+      go false zero f k = as_literal false k
+      go false (suc e) f (a, b, g, (u, v, i, (m, o), j), k) =
+          gapped (Holds limit top Held.Name (ws ++ literal false ∷ []) (suc d)) p
+          (ws, e, name, refl, ap suc f, k.0, (λ rest r. m rest (subst (λ x. Counts x rest) (sym f) r)), (a, b, g, (u, v, i, o, j), k.1))
+
+  pub finishes : (ph : Phase) (p : List Letter) → before ph p → Closed (close limit top d ph) p
+  finishes Phase.Start p (e, f, g) = gapped (Has ws d) p (at limit top ws [] d 0 p e f (λ rest r. r, g))
+  finishes Phase.After p h = gapped (Has ws d) p h
+  finishes (Phase.Gap h) p k = gapped_some (Holds limit top h ws d) p k
+  finishes (Phase.Signed n) p (le, t) = closed_test (nat_eq n 0) (Some (Change.Id (neg_ℤ (pos n)), Held.Nothing)) p (λ e.
+      let (a, b, g, r, k) = regroup (Has ws d ⋅ Blanks1) (Byte 45) (Digits n) p t in
+      gapped (Has (ws ++ PolWord.Id (neg_ℤ (pos n)) ∷ []) (suc d)) p
+      (settle limit top ws d (suc d) (PolWord.Id (neg_ℤ (pos n))) p (λ rest r. r) (a, b, g, r, (true, n, positive n e, le, refl, k))))
+  finishes (Phase.Number n) p h = closed_test (nat_eq n 0) (close_number limit top d n) p (λ e. closes_number n p (positive n e) h)
+  finishes (Phase.Lone r) p h = closes_lone r p h
+  finishes (Phase.Name negated) p h = closes_name negated p h
+  finishes _ p h = tt

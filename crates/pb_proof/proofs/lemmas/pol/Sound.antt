@@ -1,142 +1,19 @@
--- The `pol` machine has read a prefix of a line of postfix words: one lemma for each step that continues.
-use Rattle.pb_proof.proofs.Common.{cond_both, ℕ, ◌&&◌, ◌++◌, ◌+◌, ◌-◌, ◌<◌, ◌∙◌, ◌∷◌, ◌≡◌, ◌≤◌, [], ap, append-nil, arith, Bool, cond, false, IsTrue, List, nat_eq, rules}
-use Rattle.pb_proof.proofs.Common.{nat_le, None, pos, refl, Some, subst, suc, sym, true, zero, neg_ℤ, and_parts, eqb-true, false≢true, leb-true, nat_tests}
-use Rattle.pb_proof.proofs.Common.{FirstOf, LiteralOf, Keeps, On, digits-grown, digits-one, grown, inside, regroup, regroup3, as_digit, as_unmarked}
-use Rattle.pb_proof.proofs.Common.{Next, is_blank, is_name_byte, ◌⋅◌, Blanks0, Blanks1, Byte, Bytes, Language, unmarked, Digits, Letter}
-use Rattle.pb_proof.proofs.Common.{plain, Action, Held, Kind, Phase, Role, PolWord, blank, bound, changed, close, close_lone, close_number, counted, feed}
-use Rattle.pb_proof.proofs.Common.{held_name, held_number, is_letter_kind, is_name_kind, kind_of, late, may_be_name, next_large, next_word, number, read}
-use Rattle.pb_proof.proofs.Common.{role_of, semicolon, star, transition, turned, with_last, work, over, pol_automaton, pol_first, PolState, LineEnd}
-use Rattle.pb_proof.proofs.Common.{SpellsWord, SpellsWords, IsFree, next as next_part, pol_act as act, pol_next as next, pol_signed as signed, Change}
+-- What the `pol` machine has read in each of its states, and where it may allocate.
+use Rattle.pb_proof.proofs.Common.{ℕ, next_large, transition, append-nil, false≢true, SpellsWord, digits-one, may_be_name, prefixes_of, LiteralOf, cond_both}
+use Rattle.pb_proof.proofs.Common.{and_parts, nat_tests, next_word, semicolon, pol_first, ◌++◌, is_letter, SpellsWords, as_unmarked, digits-grown}
+use Rattle.pb_proof.proofs.Common.{is_name_byte, is_name_kind, ends_nothing, name_further, List, Keeps, grown, plain, blank, Walks, bytes, wants, arith}
+use Rattle.pb_proof.proofs.Common.{Change, EndsIn, Digits, Letter, IsFree, nat_eq, refl, true, Byte, Held, Role, false, subst, Phase, close, rules, over}
+use Rattle.pb_proof.proofs.Common.{◌&&◌, Bool, cond, None, nat_le, Language, PolState, eqb-true, leb-true, as_digit, is_blank, unmarked, is_digit}
+use Rattle.pb_proof.proofs.Common.{AsksWord, FirstOf, Blanks1, inside, IsTrue, Action, turned, ◌<◌, PolWord, Blanks0, changed, counted, kind_of, role_of}
+use Rattle.pb_proof.proofs.Common.{LineEnd, at_name, ◌-◌, is_letter_kind, pol_automaton, next as next_part, pol_act as act, pol_next as next, first_further}
+use Rattle.pb_proof.proofs.Common.{◌∙◌, ◌∷◌, ◌≡◌, ◌≤◌, pos, ◌⋅◌, Some, Next, Kind, feed, late, read, star, work, [], ap, inr, inl}
+use Rattle.pb_proof.proofs.{Common.On, lemmas.line.Asks.number_end, lemmas.line.Asks.literal_end, lemmas.Solution.first_grown, lemmas.Solution.more_grown}
+use Rattle.pb_proof.proofs.lemmas.line.Ends.{semicolon_after_blanks, blank_closing, line_after_blanks, line_closing}
+use Rattle.pb_proof.{proofs.lemmas.pol.Postfix.Counts, proofs.lemmas.pol.Postfix.counts_postfix, specs.engine.line.Pol.adds}
+use Rattle.pb_proof.proofs.lemmas.pol.Moves.{Says, kind_says, letter_kind, name_kind}
 use Rattle.pb_proof.specs.engine.line.Pol as pol
-use Rattle.pb_proof.proofs.lemmas.Solution.{first_grown, more_grown}
-use Rattle.pb_proof.proofs.lemmas.line.Ends.{semicolon_after_blanks, blank_closing, line_after_blanks, line_closing, gapped, first_blank, further_blank}
-use Rattle.pb_proof.proofs.lemmas.{line.Ends.gapped_some, line.Ends.positive, pol.Postfix.Counts, pol.Postfix.counts_postfix}
-use Rattle.pb_proof.proofs.lemmas.pol.Prefixes.{Words, Settled, settle, Holds, released, whole, takes_number, with_last_append, lead, at, Named, IsRole, Before, prefix, Prefix, Whole}
-use Rattle.pb_proof.proofs.lemmas.pol.Sane.{Says, kind_says, letter_kind, name_kind}
-
--- letters
-
-one : (l : Letter) (b : ℕ) → l.byte ≡ b → l.numeral ≡ false → l ∷ [] ≡ plain (b ∷ [])
-one l b e f = ap (λ x. x ∷ []) (as_unmarked l b f e)
-
-blanks_more : (l : Letter) → IsTrue (is_blank l.byte) → l.numeral ≡ false → (q : List Letter) → Blanks0 q → Blanks1 (q ++ l ∷ [])
-blanks_more l h f q ([], i, e) = first_blank l q h f e
-blanks_more l h f q (b ∷ bs, i, e) = further_blank l q h f (b, bs, i.0, i.1, e)
-
--- counts
-sum_counts : (d : ℕ) (rest : List PolWord) → 2 ≤ d → Counts (d - 1) rest → Counts d (PolWord.Add ∷ rest)
-sum_counts d rest h c = grind arith
-
-saturate_counts : (d : ℕ) (rest : List PolWord) → 0 < d → Counts d rest → Counts d (PolWord.Saturate ∷ rest)
-saturate_counts d rest h c = grind arith
-
-module _ (limit top : ℕ) (ws : List PolWord) (d : ℕ) (name : List ℕ) where
-  abbrev before : Phase → Language
-  before p = prefix limit top p ws d name
-
-  abbrev Has : List PolWord → ℕ → Language
-  Has = Settled limit top
-
-  -- what has been read if a word ends
-  abbrev Closed : pol.Closing → Language
-  Closed None p = Unit {0}
-  Closed (Some (c, h)) p = (Holds limit top h (changed c ws name) (counted c d) ⋅ Blanks0) p
-
-  closed_test : (b : Bool) (c : pol.Closing) (p : List Letter) → (b ≡ false → Closed c p) → Closed (cond b None c) p
-  closed_test b c p h = grind arith
-
-  closes_number : (n : ℕ) (p : List Letter) → 0 < n → before (Phase.Number n) p → Closed (close_number limit top d n) p
-  closes_number n p h (le, t) = go d refl (nat_le n top) refl (nat_le n limit) refl
-    where
-      as_id : n ≤ top → Has (ws ++ PolWord.Id (pos n) ∷ []) (suc d) p
-      as_id i = let (a, b, g, r, k) = t in settle limit top ws d (suc d) (PolWord.Id (pos n)) p (λ rest r. r) (a, b, g, r, (false, n, h, i, refl, ([], b, refl, refl, k)))
-
-      large_fits : (e : ℕ) → d ≡ suc e → nat_le n top ≡ false → n ≤ limit
-      large_fits e f g = let k : n ≤ bound limit top (suc e) = subst (λ x. n ≤ bound limit top x) f le in grind (arith, nat_tests)
-
-      leads_of : (e : ℕ) → d ≡ suc e → (Words limit top ws ⋅ Blanks1 ⋅ Digits n) p × ((rest : List PolWord) → Counts (suc e) rest → Counts 0 (ws ++ rest))
-      leads_of e f = let (a, b, g, (u, v, i, (m, o), j), k) = t in ((a, b, g, (u, v, i, o, j), k), λ rest r. m rest (subst (λ x. Counts x rest) (sym f) r))
-
-      go : (e : ℕ) → d ≡ e → (x : Bool) → nat_le n top ≡ x → (y : Bool) → nat_le n limit ≡ y →
-          Closed (cond x (Some (Change.Id (pos n), held_number limit e n)) (Some (Change.Large (pos n), Held.Large))) p
-      go zero f true i y j = gapped (Has (ws ++ PolWord.Id (pos n) ∷ []) (suc d)) p (as_id (leb-true n top i))
-      go (suc e) f true i true j = rw j (
-          let (m, o) = leads_of e f in
-          gapped (Holds limit top Held.Number (ws ++ PolWord.Id (pos n) ∷ []) (suc d)) p
-          (ws, e, n, refl, ap suc f, h, leb-true n limit j, leb-true n top i, o, m)
-          )
-      go (suc e) f true i false j = rw j (gapped (Has (ws ++ PolWord.Id (pos n) ∷ []) (suc d)) p (as_id (leb-true n top i)))
-      go zero f false i y j = absurd (too_large (subst (λ x. n ≤ bound limit top x) f le))
-        where
-          too_large : n ≤ top → ⊥
-          too_large k = grind (arith, nat_tests)
-      go (suc e) f false i y j =
-          let (m, o) = leads_of e f in
-          gapped (Holds limit top Held.Large (ws ++ PolWord.Multiply (pos n) ∷ []) (suc d)) p
-          (ws, e, n, refl, ap suc f, h, large_fits e f i, tt, o, m)
-
-  -- a letter that is an operator
-  operator : (b : ℕ) (P : Language) (p : List Letter) → name ≡ b ∷ [] → (P ⋅ Blanks1 ⋅ FirstOf false name) p → (P ⋅ Blanks1 ⋅ Byte b) p
-  operator b P p e (x, y, f, r, (k, g)) = (x, y, f, r, g ∙ ap plain e)
-
-  divides : (n : ℕ) (q : List Letter) → 0 < n → n ≤ limit → (Digits n ⋅ Blanks1 ⋅ Byte 100) q → SpellsWord limit top (PolWord.Divide (pos n)) q
-  divides n q i l (a, b, g, (u, v, k, o, j), m) = (a, b, g, (u, v, k, (n, i, l, refl, o), j), m)
-
-  closes_lone : (r : Role) (p : List Letter) → before (Phase.Lone r) p → Closed (close_lone r) p
-  closes_lone Role.Name p h = tt
-  closes_lone Role.Saturate p (e, t) =
-      gapped (Has (ws ++ PolWord.Saturate ∷ []) d) p
-      (let (a, b, g, (u, v, i, (m, o), j), k) = operator 115 (Before limit top Role.Saturate ws d) p e t in
-      settle limit top ws d d PolWord.Saturate p (λ rest r. saturate_counts d rest m r) (a, b, g, (u, v, i, o, j), k))
-  closes_lone Role.Divide p (e, t) =
-      gapped (Has (changed Change.Divide ws name) (d - 1)) p
-      (takes_number limit top (λ n. PolWord.Id (pos n)) (λ n. PolWord.Divide (pos n)) (λ n. n ≤ top) (turned Change.Divide) 100 (λ n. refl)
-      divides (λ n e rest r. r) ws d p (operator 100 (Holds limit top Held.Number ws d) p e t))
-  closes_lone Role.DivideLarge p (e, t) =
-      gapped (Has (changed Change.Divide ws name) (d - 1)) p
-      (takes_number limit top (λ n. PolWord.Multiply (pos n)) (λ n. PolWord.Divide (pos n)) (λ n. Unit {0}) (turned Change.Divide) 100 (λ n. refl)
-      divides (λ n e rest r. r) ws d p (operator 100 (Holds limit top Held.Large ws d) p e t))
-  closes_lone Role.Weaken p (e, t) =
-      gapped (Has (changed Change.Weaken ws name) (d - 1)) p (weakens (operator 119 (Holds limit top Held.Name ws d) p e t))
-    where
-      weakens : (Named limit top ws d ⋅ Blanks1 ⋅ Byte 119) p → Has (changed Change.Weaken ws name) (d - 1) p
-      weakens (ab, c, i, (a, s, j, (vs, e, x, k, m, is, leads, t), u), v) =
-          let g : d - 1 ≡ suc e = omega arith in
-          let w : PolWord = PolWord.Weaken x in
-          let (y, z, r, o, q) = regroup3 (Words limit top vs ⋅ Blanks1) (Bytes x) Blanks1 (Byte 119) p (ab, c, i, (a, s, j, t, u), v) in
-          at limit top (changed Change.Weaken ws name) (vs ++ w ∷ []) (d - 1) (suc e) p
-          (ap (with_last (turned Change.Weaken)) k ∙ with_last_append (turned Change.Weaken) vs _) g
-          (settle limit top vs (suc e) (suc e) w p (λ rest r. r)
-          (lead limit top vs (suc e) Blanks1 (SpellsWord limit top w) p leads (y, z, r, o, (is, q))))
-
-  closes_name : (negated : Bool) (p : List Letter) → before (Phase.Name negated) p → Closed (Some (Change.Axiom negated, held_name negated d)) p
-  closes_name negated p h = go negated d refl h
-    where
-      literal : Bool → PolWord
-      literal n = PolWord.Axiom (record { negated = n; name = name })
-
-      as_literal : (n : Bool) → before (Phase.Name n) p → (Has (ws ++ literal n ∷ []) (suc d) ⋅ Blanks0) p
-      as_literal n k = gapped (Has (ws ++ literal n ∷ []) (suc d)) p (settle limit top ws d (suc d) (literal n) p (λ rest r. r) k)
-
-      go : (n : Bool) (e : ℕ) → d ≡ e → before (Phase.Name n) p → (Holds limit top (held_name n e) (ws ++ literal n ∷ []) (suc d) ⋅ Blanks0) p
-      go true e f k = as_literal true k
-      go false zero f k = as_literal false k
-      go false (suc e) f (a, b, g, (u, v, i, (m, o), j), k) =
-          gapped (Holds limit top Held.Name (ws ++ literal false ∷ []) (suc d)) p
-          (ws, e, name, refl, ap suc f, k.0, (λ rest r. m rest (subst (λ x. Counts x rest) (sym f) r)), (a, b, g, (u, v, i, o, j), k.1))
-
-  finishes : (ph : Phase) (p : List Letter) → before ph p → Closed (close limit top d ph) p
-  finishes Phase.Start p (e, f, g) = gapped (Has ws d) p (at limit top ws [] d 0 p e f (λ rest r. r, g))
-  finishes Phase.After p h = gapped (Has ws d) p h
-  finishes (Phase.Gap h) p k = gapped_some (Holds limit top h ws d) p k
-  finishes (Phase.Signed n) p (le, t) = closed_test (nat_eq n 0) (Some (Change.Id (neg_ℤ (pos n)), Held.Nothing)) p (λ e.
-      let (a, b, g, r, k) = regroup (Has ws d ⋅ Blanks1) (Byte 45) (Digits n) p t in
-      gapped (Has (ws ++ PolWord.Id (neg_ℤ (pos n)) ∷ []) (suc d)) p
-      (settle limit top ws d (suc d) (PolWord.Id (neg_ℤ (pos n))) p (λ rest r. r) (a, b, g, r, (true, n, positive n e, le, refl, k))))
-  finishes (Phase.Number n) p h = closed_test (nat_eq n 0) (close_number limit top d n) p (λ e. closes_number n p (positive n e) h)
-  finishes (Phase.Lone r) p h = closes_lone r p h
-  finishes (Phase.Name negated) p h = closes_name negated p h
-  finishes _ p h = tt
+use Rattle.pb_proof.proofs.lemmas.pol.Prefixes.{Settled, settle, Holds, released, whole, takes_number, IsRole, Before, prefix, Prefix, Whole, one}
+use Rattle.pb_proof.proofs.lemmas.pol.Prefixes.{blanks_more, Closed, finishes}
 
 -- What one byte adds.
 module _ (limit top : ℕ) (ws : List PolWord) (d : ℕ) (name : List ℕ) (l : Letter) (p : List Letter) where
@@ -152,19 +29,6 @@ module _ (limit top : ℕ) (ws : List PolWord) (d : ℕ) (name : List ℕ) (l : 
   test : (b : Bool) (m : Action) → (b ≡ true → OnAction m) → OnAction (cond b m Action.Stop)
   test b m h = grind arith
 
-  -- digits
-  number_one : (k : ℕ) → l.byte ≡ 48 + k → k < 10 → (Settled limit top ws d ⋅ Blanks1) p → OnAction (number limit top d 0 k)
-  number_one k e h t = grind (arith, test, nat_le, leb-true, next_part, digits-one, as_digit)
-
-  number_more : (n k : ℕ) → l.byte ≡ 48 + k → k < 10 → (Settled limit top ws d ⋅ Blanks1 ⋅ Digits n) p → OnAction (number limit top d n k)
-  number_more n k e h t = search (rules, test, nat_le, leb-true, grown, digits-grown, as_digit)
-
-  signed_one : (k : ℕ) → l.byte ≡ 48 + k → k < 10 → (Settled limit top ws d ⋅ Blanks1 ⋅ Byte 45) p → OnAction (signed top 0 k)
-  signed_one k e h t = grind (arith, test, nat_le, leb-true, next_part, digits-one, as_digit)
-
-  signed_more : (n k : ℕ) → l.byte ≡ 48 + k → k < 10 → (Settled limit top ws d ⋅ Blanks1 ⋅ Byte 45 ⋅ Digits n) p → OnAction (signed top n k)
-  signed_more n k e h t = search (rules, test, nat_le, leb-true, grown, digits-grown, as_digit)
-
   -- delimiters
   blanks : (c : pol.Closing) → IsTrue (is_blank l.byte) → Closed limit top ws d name c p → OnAction (blank c)
   blanks None e k = tt
@@ -175,7 +39,7 @@ module _ (limit top : ℕ) (ws : List PolWord) (d : ℕ) (name : List ℕ) (l : 
 
   semicolons : (c : pol.Closing) → l.byte ≡ 59 → Closed limit top ws d name c p → OnAction (semicolon d c)
   semicolons None e k = tt
-  semicolons (Some (c, h)) e k = search (rules, test, nat_eq, eqb-true, semicolon_after_blanks, settled)
+  semicolons (Some (c, h)) e k = search (rules, test, eqb-true, semicolon_after_blanks, settled)
 
   line : (vs : List PolWord) (e : ℕ) → e ≡ 1 → (Settled limit top vs e ⋅ LineEnd) (p ++ l ∷ []) → SpellsWords limit top vs (p ++ l ∷ [])
   line vs e f (a, b, g, (m, o), k) =
@@ -206,9 +70,6 @@ module _ (limit top : ℕ) (ws : List PolWord) (d : ℕ) (name : List ℕ) (l : 
   seconds : (P : Language) (negated : Bool) → IsTrue (is_name_byte l.byte) → l.numeral ≡ false → (P ⋅ FirstOf negated name) p
       → (P ⋅ LiteralOf negated (name ++ l.byte ∷ [])) (p ++ l ∷ [])
   seconds P negated i f t = first_grown P negated name l.byte l p (as_unmarked l l.byte f refl) i t
-
-  names : (negated : Bool) (k : Kind) → Says k l.byte → Was (Phase.Name negated) p → OnAction (cond (is_name_kind k) (Action.Add (Phase.Name negated)) Action.Stop)
-  names negated k e t = search (rules, test, more_grown, as_unmarked, name_kind)
 
   as_before : (r : Role) → may_be_name r ≡ true → (q : List Letter) → Before limit top r ws d q → Settled limit top ws d q
   as_before Role.Name e q h = h
@@ -260,11 +121,12 @@ module _ (limit top : ℕ) (ws : List PolWord) (d : ℕ) (name : List ℕ) (l : 
       (r, next_part (Before limit top (role_of d h k) ws d ⋅ Blanks1) (FirstOf false (l.byte ∷ [])) p l u (first_of k e j f)))
 
   nexts_word : (h : Held) → IsFree h → (k : Kind) → Says k l.byte → (Holds limit top h ws d ⋅ Blanks1) p → OnAction (next_word limit top d h k)
-  nexts_word h i (Kind.Digit k) e t = number_one k e.0 e.1 (freed h i t)
+  nexts_word h i (Kind.Digit k) e t =
+      let u = freed h i t in grind (arith, test, nat_le, leb-true, next_part, digits-one, as_digit)
   nexts_word h i Kind.Minus e t = λ g f. next_part (Settled limit top ws d ⋅ Blanks1) (Byte 45) p l (freed h i t) (one l 45 e f)
   nexts_word h i Kind.Tilde e t = λ g f. next_part (Settled limit top ws d ⋅ Blanks1) (Byte 126) p l (freed h i t) (one l 126 e f)
   nexts_word h i Kind.Plus e t = test (nat_le 2 d) (Action.Turn Change.Sum Phase.After) (λ j g f.
-      settle limit top ws d (d - 1) PolWord.Add (p ++ l ∷ []) (λ rest r. sum_counts d rest (leb-true 2 d j) r)
+      settle limit top ws d (d - 1) PolWord.Add (p ++ l ∷ []) (λ rest r. let h = leb-true 2 d j in grind (arith, r))
       (next_part (Settled limit top ws d ⋅ Blanks1) (Byte 43) p l (freed h i t) (one l 43 e f)))
   nexts_word h i Kind.Star e t = stars h e t
   nexts_word h i k e t = letters h i k e t
@@ -275,13 +137,13 @@ module _ (limit top : ℕ) (ws : List PolWord) (d : ℕ) (name : List ℕ) (l : 
 
   reads : (ph : Phase) (k : Kind) → Says k l.byte → Was ph p → OnAction (read limit top d ph k)
   reads (Phase.Gap h) k e t = nexts h k e t
-  reads Phase.Minus (Kind.Digit k) e t = signed_one k e.0 e.1 t
-  reads (Phase.Signed n) (Kind.Digit k) e t = signed_more n k e.0 e.1 t.1
-  reads (Phase.Number n) (Kind.Digit k) e t = number_more n k e.0 e.1 t.1
+  reads Phase.Minus (Kind.Digit k) e t = grind (arith, test, nat_le, leb-true, next_part, digits-one, as_digit)
+  reads (Phase.Signed n) (Kind.Digit k) e t = search (rules, test, leb-true, grown, digits-grown, as_digit)
+  reads (Phase.Number n) (Kind.Digit k) e t = search (rules, test, leb-true, grown, digits-grown, as_digit)
   reads Phase.Tilde k e t = tildes k e t
   reads Phase.First k e t = search (rules, test, seconds, name_kind)
   reads (Phase.Lone r) k e t = lones r k e t
-  reads (Phase.Name negated) k e t = names negated k e t
+  reads (Phase.Name negated) k e t = search (rules, test, more_grown, as_unmarked, name_kind)
   reads _ _ e t = tt
 
   sound : (ph : Phase) (k : Kind) → Says k l.byte → Was ph p → OnAction (transition limit top d ph k)
@@ -293,3 +155,75 @@ module _ (limit top : ℕ) (ws : List PolWord) (d : ℕ) (name : List ℕ) (l : 
 
 pub keeps : Keeps pol_automaton Prefix Whole
 keeps s l p h = sound s.limit s.top s.work.words s.work.depth s.work.name l p s.work.phase (kind_of l.byte) (kind_says l.byte) h
+
+-- Where the machine may allocate.
+
+blank_dark : (b : ℕ) → is_blank b ≡ true → (is_digit b ≡ false) × (is_name_byte b ≡ false)
+blank_dark b e = (grind (arith, nat_tests), grind (arith, nat_tests))
+
+-- what ends a word
+end_asks : (depth : ℕ) (P : Type 0) (x : pol.Closing) → ((c : Change) (h : Held) → x ≡ Some (c, h) → adds c ≡ true → P)
+    → (wants (blank x) ≡ true → P) × (wants (semicolon depth x) ≡ true → P) × (wants (feed depth x) ≡ true → P)
+end_asks depth P None ends = grind (arith, false≢true)
+end_asks depth P (Some (c, h)) ends = let k = ends c h refl in grind (arith, false≢true, nat_eq, k)
+
+module _ (limit top depth b : ℕ) (t : List Letter) where
+  -- what follows if a move may allocate
+  abbrev Then : Action → Type 0
+  Then m = wants m ≡ true → AsksWord (bytes t) b
+
+  letter_begins : IsTrue (is_letter b) → AsksWord (bytes t) b
+  letter_begins h = inl (inl ([], ends_nothing (bytes t), (h, tt)))
+
+  -- a word that ends here, at a byte that is not part of a word
+  finish_asks : (ws : List PolWord) (name : List ℕ) (ph : Phase) → prefix limit top ph ws depth name t → is_digit b ≡ false → is_name_byte b ≡ false
+      → (c : Change) (h : Held) → close limit top depth ph ≡ Some (c, h) → adds c ≡ true → AsksWord (bytes t) b
+  finish_asks ws name (Phase.Signed n) f dark plain c h e k = inr (inl (number_end _ n t b f.1 dark))
+  finish_asks ws name (Phase.Number n) f dark plain c h e k = inr (inl (number_end _ n t b f.1 dark))
+  finish_asks ws name (Phase.Lone Role.Saturate) (is, f) dark plain c h e k = inr (inr (inr (saturates f, plain)))
+    where
+      saturates : (Before limit top Role.Saturate ws depth ⋅ Blanks1 ⋅ FirstOf false name) t → EndsIn (bytes t) (115 ∷ [])
+      saturates (x, y, z, u, (v, w)) =
+          subst (λ (n : List ℕ). EndsIn (bytes t) n) is (literal_end (Before limit top Role.Saturate ws depth ⋅ Blanks1) false name t (x, y, z, u, w))
+  finish_asks ws name (Phase.Name negated) (x, y, z, u, (v, w)) dark plain c h e k =
+      inl (at_name (bytes t) name b (literal_end (Settled limit top ws depth ⋅ Blanks1) negated name t (x, y, z, u, w)) v)
+  finish_asks ws name ph f dark plain c h e k = grind (arith, false≢true)
+
+  -- the first byte of a word
+  words_next : (h : Held) (k : Kind) → Says k b → Then (next_word limit top depth h k)
+  words_next h Kind.Plus e = λ k. inr (inr (inl e))
+  words_next h _ e = grind (arith, false≢true, nat_le, letter_begins, letter_kind)
+
+  -- a further byte of a name
+  more_of : (P : Language) (negated : Bool) (name : List ℕ) → (P ⋅ FirstOf negated name) t → IsTrue (is_name_byte b) → AsksWord (bytes t) b
+  more_of P negated name (x, y, z, u, (v, w)) k = inl (inl (name, literal_end P negated name t (x, y, z, u, w), first_further name b v k))
+
+  read_asks : (ws : List PolWord) (name : List ℕ) (ph : Phase) → prefix limit top ph ws depth name t → (k : Kind) → Says k b → Then (read limit top depth ph k)
+  read_asks ws name (Phase.Gap Held.Large) f k e = grind (arith, false≢true, letter_begins, letter_kind)
+  read_asks ws name (Phase.Gap h) f k e = words_next h k e
+  read_asks ws name Phase.Minus f (Kind.Digit d) e = grind (arith, false≢true, nat_le)
+  read_asks ws name (Phase.Signed n) f (Kind.Digit d) e = grind (arith, false≢true, nat_le)
+  read_asks ws name (Phase.Number n) f (Kind.Digit d) e = grind (arith, false≢true, nat_le)
+  read_asks ws name Phase.Tilde f k e = cond_both (is_letter_kind k) _ _ Then (λ i _. letter_begins (letter_kind k b e i)) (λ _ j. absurd (false≢true j))
+  read_asks ws name Phase.First f k e =
+      cond_both (is_name_kind k) _ _ Then (λ i _. more_of (Settled limit top ws depth ⋅ Blanks1) true name f (name_kind k b e i)) (λ _ j. absurd (false≢true j))
+  read_asks ws name (Phase.Lone r) f k e =
+      cond_both (may_be_name r && is_name_kind k) _ _ Then
+      (λ i _. more_of (Before limit top r ws depth ⋅ Blanks1) false name f.1 (name_kind k b e (and_parts (may_be_name r) (is_name_kind k) i).1)) (λ _ j. absurd (false≢true j))
+  read_asks ws name (Phase.Name negated) f k e = cond_both (is_name_kind k) _ _ Then (λ i _. further f (name_kind k b e i)) (λ _ j. absurd (false≢true j))
+    where
+      further : (Settled limit top ws depth ⋅ Blanks1 ⋅ LiteralOf negated name) t → IsTrue (is_name_byte b) → AsksWord (bytes t) b
+      further (x, y, z, u, (v, w)) i =
+          inl (inl (name, literal_end (Settled limit top ws depth ⋅ Blanks1) negated name t (x, y, z, u, w), name_further name b v i))
+  read_asks ws name _ f k e = λ h. absurd (false≢true h)
+
+  plans : (ws : List PolWord) (name : List ℕ) (ph : Phase) → prefix limit top ph ws depth name t → (k : Kind) → Says k b → Then (transition limit top depth ph k)
+  plans ws name Phase.Ending f k e = grind (arith, false≢true)
+  plans ws name ph f Kind.Blank e = let d = blank_dark b e in (end_asks depth (AsksWord (bytes t) b) (close limit top depth ph) (finish_asks ws name ph f d.0 d.1)).0
+  plans ws name ph f Kind.Semicolon e = (end_asks depth (AsksWord (bytes t) b) (close limit top depth ph) (finish_asks ws name ph f (rw e refl) (rw e refl))).1
+  plans ws name ph f Kind.Feed e = (end_asks depth (AsksWord (bytes t) b) (close limit top depth ph) (finish_asks ws name ph f (rw e refl) (rw e refl))).2
+  plans ws name ph f k e = read_asks ws name ph f k e
+
+pub pol_asked : (limit top : ℕ) (t : List Letter) (s : PolState) (b : ℕ) → Walks pol_automaton (pol_first limit top) t s → pol_automaton.asks s b ≡ true → AsksWord (bytes t) b
+pol_asked limit top t s b w h =
+    plans s.limit s.top s.work.depth b t s.work.words s.work.name s.work.phase (prefixes_of pol_automaton Prefix Whole keeps t (pol_first limit top) [] s w (refl, refl, refl)) (kind_of b) (kind_says b) h

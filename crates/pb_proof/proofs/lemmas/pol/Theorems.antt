@@ -1,18 +1,22 @@
 -- The laws of the `pol` machine, and the words that it takes in one call.
-use Rattle.pb_proof.proofs.Common.{ℕ, ◌+◌, ◌-◌, ◌<◌, ◌^◌, ◌∙◌, ◌≡◌, ◌≤◌, ap, arith, false, length, List, refl, subst, sym, true, min-le_left, rules, IsOfOne}
-use Rattle.pb_proof.proofs.Common.{end_or_go, go_or_end, refuse_or_end, End, Go, Refuse, Phase, PolWord, finished, is_midway, kind_of, transition, Work}
-use Rattle.pb_proof.proofs.Common.{all_units, IsPolInOrder, over, pol_automaton, pol_with, PolState, units, ◌↔◌, admits, is_state, Admits, IsState}
-use Rattle.pb_proof.proofs.Common.{ReadsStatement, Letter, pol_first, pol_last, SpellsWords, IsTrue, end_or_refuse, go_or_refuse, never, Pushes, Push, Action}
-use Rattle.pb_proof.proofs.Common.{Change, Kind, wants, work, get_or, min, take, take_more, word_units, pol_act as act, ◌&&◌, ◌++◌, ◌∷◌, [], Bool, cond, nat_eq}
-use Rattle.pb_proof.proofs.Common.{nat_le, Option, pos, Some, eqb-true, le-leb, same_Some, Walks, Digits, runs_more, AreDigits, Runs, value_from, Held, Role}
-use Rattle.pb_proof.proofs.Common.{close, close_lone, changed, counted, held_number, drop, append-nil, inl, inr, runs_on, runs_further, blank, IsFree, EndsAs}
-use Rattle.pb_proof.proofs.Common.{AreWords, IsExpression, IsClosing, standing, no_words, suc, all_rest, IsName, bytes-plain, plain, held_name, text_after}
-use Rattle.pb_proof.proofs.lemmas.{Carried.went, line.Ends.reads_exactly, line.Ends.digits_text, line.Ends.text_run, line.Ends.not_zero}
-use Rattle.pb_proof.proofs.lemmas.pol.{Alive.alive, Complete.reads_each, Prefixes.Prefix, Prefixes.Whole, Prefixes.bound_of_id}
-use Rattle.pb_proof.proofs.lemmas.pol.{Sane.transition-sane, Sane.potential, Sane.IsNext, Sane.continues, Sane.stops, Sane.units_append, Sound.keeps}
-use Rattle.pb_proof.proofs.lemmas.pol.Walks.{state, free_number, free_name, unsigned_walk, name_walk, negated_walk}
-use Rattle.pb_proof.specs.{declared.line.pol.phase.Action.TheVariants.End as EndLine, engine.line.Pol.step}
-use Rattle.pb_proof.specs.engine.line.{PolFast.held_operator, PolFast.operator, PolFast.held_before, PolWhole.IsWord}
+use Rattle.pb_proof.proofs.Common.{ℕ, ◌^◌, ◌∙◌, ◌≡◌, ◌≤◌, sym, End, ◌↔◌, min, ◌∷◌, pos, inl, inr, suc, ◌+◌, ap, ◌-◌, Go, Held}
+use Rattle.pb_proof.proofs.Common.{◌<◌, rules, Phase, units, never, wants, arith, false, get_or, nat_eq, nat_le, Option, le-leb, Digits, IsFree, EndsAs, IsName}
+use Rattle.pb_proof.proofs.Common.{[], end_or_go, go_or_end, is_midway, all_units, pol_first, take_more, same_Some, runs_more, AreDigits, IsClosing, close_lone}
+use Rattle.pb_proof.proofs.Common.{Role, PolWord, finished, pol_with, PolState, is_state, pol_last, eqb-true, AreWords, standing, no_words, all_rest, held_name}
+use Rattle.pb_proof.proofs.Common.{subst, refuse_or_end, IsPolInOrder, pol_automaton, ReadsStatement, end_or_refuse, go_or_refuse, pol_act as act, runs_further}
+use Rattle.pb_proof.proofs.Common.{length, Refuse, admits, Admits, Letter, IsTrue, Pushes, Action, Change, kind_of, IsState, changed, counted, runs_on, IsOfOne}
+use Rattle.pb_proof.proofs.Common.{append-nil, text_after, min-le_left, transition, SpellsWords, word_units, value_from, held_number, IsExpression, bytes-plain}
+use Rattle.pb_proof.proofs.Common.{drop, List, refl, true, Work, over, Push, Kind, work, take, ◌&&◌, ◌++◌, Bool, cond, Some, Walks, Runs, close, blank, plain}
+use Rattle.pb_proof.proofs.lemmas.{Carried.went}
+use Rattle.pb_proof.proofs.lemmas.pol.Sound.{keeps}
+use Rattle.pb_proof.proofs.lemmas.pol.Prefixes.{Prefix, Whole}
+use Rattle.pb_proof.proofs.lemmas.pol.Moves.{bound_of_id, potential, transition-sane, units_append, free_number}
+use Rattle.pb_proof.proofs.lemmas.pol.Walks.{alive, reads_each, unsigned_walk, negated_walk}
+use Rattle.pb_proof.specs.engine.line.{Pol.step, PolWhole.IsWord, PolFast.held_operator, PolFast.operator, PolFast.held_before}
+use Rattle.pb_proof.proofs.lemmas.line.Ends.{reads_exactly, digits_text, text_run, not_zero}
+use Rattle.pb_proof.proofs.lemmas.pol.Moves.{stops, state, continues, free_name, IsNext}
+use Rattle.pb_proof.proofs.lemmas.pol.Walks.{name_walk}
+use Rattle.pb_proof.specs.declared.line.pol.phase.Action.TheVariants.{End as EndLine}
 
 -- Where the automaton continues, and where it ends.
 pub next_state : (s next : PolState) (b : ℕ) → pol_automaton.step s b ≡ Go next → (v : Work) × (next ≡ pol_with s v) × IsNext s.work v

@@ -1,6 +1,6 @@
-use Rattle.pb_proof.proofs.Common.{ℕ, ◌++◌, ◌∙◌, ◌∷◌, ◌≡◌, [], ap, List, Option, Some, subst, sym, Literal, Writes, Bounds, Conclude, bound_bytes}
-use Rattle.pb_proof.proofs.Common.{id_shown_bytes, listed_bytes, literal_line, statement_bytes, bounds_word, conclusion_word}
-use Rattle.pb_proof.proofs.lemmas.Written.{bounds_then}
+use Rattle.pb_proof.proofs.Common.{ℕ, Literal, Conclude, bound_bytes, id_shown_bytes, listed_bytes, literal_line, statement_bytes, bounds_word, conclusion_word}
+use Rattle.pb_proof.proofs.Common.{◌++◌, ◌∙◌, ◌∷◌, ◌≡◌, [], ap, List, Option, Some, subst, sym, Writes, Bounds}
+use Rattle.pb_proof.proofs.lemmas.Texts.{bounds_then}
 use Rattle.pb_proof.proofs.write.write_bounds.Goals as goal
 
 pub returns-in-Some : goal.returns-in-Some

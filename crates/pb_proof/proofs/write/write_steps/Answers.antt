@@ -1,5 +1,5 @@
 use Rattle.pb_proof.proofs.Common.{ℕ, arith, List, refl, subst, sym, part_broke, part_then, part_wrote, writes_nothing, Wrote}
-use Rattle.pb_proof.proofs.lemmas.Written.{ended_none, ended_more, ended_at}
+use Rattle.pb_proof.proofs.lemmas.Texts.{ended_none, ended_more, ended_at}
 use Rattle.pb_proof.proofs.write.write_steps.Goals as goal
 
 pub loop-step-init : goal.loop-step-init

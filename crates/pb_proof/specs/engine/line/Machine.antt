@@ -1,9 +1,8 @@
 -- The line machines as one automaton.
 use Rattle.pb_proof.specs.declared.{line.LineMachine.LineMachine, machine.phase.LineKind.LineKind, statement.Statement.Statement}
-use Rattle.pb_proof.specs.engine.line.{Carried.carried, ConclusionState.conclusion_automaton, ConclusionState.conclusion_first}
-use Rattle.pb_proof.specs.engine.line.{Delete.delete_automaton, Delete.delete_first, Formula.formula_automaton, Formula.formula_first}
-use Rattle.pb_proof.specs.engine.line.{PolState.pol_automaton, PolState.pol_first, Rup.rup_automaton, Rup.rup_first}
-use Rattle.pb_proof.specs.engine.line.Solution.{solution_automaton, solution_first}
+use Rattle.pb_proof.specs.engine.line.{Carried.carried, PolState.pol_automaton, PolState.pol_first, Rup.rup_automaton, Rup.rup_first}
+use Rattle.pb_proof.specs.engine.line.{ConclusionState.conclusion_automaton, ConclusionState.conclusion_first, Delete.delete_first, Solution.solution_automaton}
+use Rattle.pb_proof.specs.engine.line.{Delete.delete_automaton, Formula.formula_automaton, Formula.formula_first, Solution.solution_first}
 use Rattle.pb_proof.specs.meaning.Lines.{SpellsCount, SpellsWords, SpellsRup, SpellsLiterals, SpellsIds, SpellsConclusionLine}
 use Rattle.pb_text.specs.{contract.Automaton.Automaton, contract.Automaton.Next, declared.machine.Push.Push, meaning.Languages.Language}
 use Rattle.std.specs.Prelude.{◌≡◌, ℕ, false, Option, Some, None}

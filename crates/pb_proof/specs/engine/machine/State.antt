@@ -1,8 +1,7 @@
 -- The states of the machine for proofs, and its automaton.
-use Rattle.pb_proof.specs.declared.{line.LineMachine.LineMachine, machine.phase.Action.Action, machine.phase.LineKind.LineKind}
-use Rattle.pb_proof.specs.declared.{machine.phase.Phase.Phase, machine.phase.Stage.Stage, statement.Statement.Statement}
-use Rattle.pb_proof.specs.engine.line.{Carried.carried, Machine.line_automaton, Machine.line_first}
-use Rattle.pb_proof.specs.engine.machine.Transition.{transition, words_of}
+use Rattle.pb_proof.specs.{declared.line.LineMachine.LineMachine, declared.statement.Statement.Statement, engine.line.Carried.carried}
+use Rattle.pb_proof.specs.declared.machine.phase.{Action.Action, LineKind.LineKind, Phase.Phase, Stage.Stage}
+use Rattle.pb_proof.specs.engine.{line.Machine.line_automaton, line.Machine.line_first, machine.Transition.transition, machine.Transition.words_of}
 use Rattle.pb_text.specs.contract.Automaton.{Automaton, Next, Go, End, Refuse, IsState}
 use Rattle.std.specs.Prelude.{◌≡◌, ℕ, ◌^◌, ◌<◌, Bool, true, false, Option, Some, None, length}
 

@@ -41,7 +41,7 @@ fn turned(change: Change, word: PolWord) -> PolWord
 }
 
 /// Changes the last word.
-#[tactic(auto, using(crate::proofs::lemmas::pol::Prefixes::with_last_append))]
+#[tactic(auto, using(crate::proofs::lemmas::pol::Moves::with_last_append))]
 fn turn_last(words: &mut Vec<PolWord>, change: Change)
     ensures words { words.new.items ≡ with_last (turned change) words.old.items }
     ensures len { vec_len words.new ≡ vec_len words.old }

@@ -1,5 +1,4 @@
-use Rattle.pb_proof.proofs.Common.{◌-◌, ◌^◌, ◌≡◌, min, take}
-use Rattle.pb_proof.specs.engine.line.Solution.{units}
+use Rattle.pb_proof.{proofs.Common.◌-◌, proofs.Common.◌^◌, proofs.Common.◌≡◌, proofs.Common.min, proofs.Common.take, specs.engine.line.Solution.units}
 use Rattle.pb_proof.proofs.line.solution.count_units.Given as goal
 
 abbrev pub invariant-loop-literal : goal.invariant-loop-literal

@@ -1,6 +1,7 @@
-use Rattle.pb_proof.{proofs.Common.refl, proofs.Common.take, proofs.lemmas.machine.Taken.runs_given, specs.contracts.machine.ProofMachine.the_view}
-use Rattle.pb_proof.proofs.machine.ProofMachine.give_prefix.Goals as goal
+use Rattle.pb_proof.{proofs.Common.refl, proofs.Common.take, specs.contracts.machine.ProofMachine.the_view}
+use Rattle.pb_proof.proofs.lemmas.machine.Runs.{runs_given}
 use Rattle.pb_proof.proofs.machine.ProofMachine.give_prefix.Goals.{in-Some, in-None}
+use Rattle.pb_proof.proofs.machine.ProofMachine.give_prefix.Goals as goal
 
 pub invariant_of-self : goal.invariant_of-self
 invariant_of-self c = elim c.match-self.branch [

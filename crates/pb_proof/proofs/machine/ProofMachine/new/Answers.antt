@@ -1,6 +1,7 @@
 use Rattle.pb_proof.proofs.Common.{AcceptsItems, largest, top_of, begin, proofs, IsProof}
+use Rattle.pb_proof.proofs.lemmas.machine.{Asks.asks_only}
+use Rattle.pb_proof.proofs.lemmas.machine.Exact.{reads_proofs}
 use Rattle.pb_text.proofs.lemmas.text.Formats as formats
-use Rattle.pb_proof.proofs.lemmas.machine.{Asks.asks_only, Exact.reads_proofs}
 use Rattle.pb_proof.proofs.machine.ProofMachine.new.Goals as goal
 
 pub returns-clause-reads : goal.returns-clause-reads

@@ -1,5 +1,5 @@
 use Rattle.pb_proof.proofs.Common.{◌-◌, ◌∙◌, drop, length, sym, take, bytes_decides, arith}
-use Rattle.pb_proof.proofs.lemmas.machine.Taken.{rest_is, lacks_rest}
+use Rattle.pb_proof.proofs.lemmas.machine.Runs.{rest_is, lacks_rest}
 use Rattle.pb_proof.proofs.machine.transition.words_prefix.Goals as goal
 
 pub returns-then-not-starts_with-clause-none : goal.returns-then-not-starts_with-clause-none

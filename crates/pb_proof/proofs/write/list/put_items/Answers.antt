@@ -1,5 +1,5 @@
 use Rattle.pb_proof.proofs.Common.{ℕ, ◌++◌, ◌∙◌, ◌∷◌, ap, append_assoc, arith, drop, length, List, sym, listed_bytes}
-use Rattle.pb_proof.proofs.lemmas.Written.{listed_past, listed_from}
+use Rattle.pb_proof.proofs.lemmas.Texts.{listed_past, listed_from}
 use Rattle.pb_proof.proofs.write.list.put_items.Goals as goal
 
 pub loop-left-init : goal.loop-left-init

@@ -1,5 +1,5 @@
 use Rattle.pb_proof.proofs.Common.{ℕ, arith, List, refl, subst, sym, part_broke, part_then, part_wrote, writes_nothing, Wrote}
-use Rattle.pb_proof.proofs.lemmas.Written.{listed_none, listed_more, listed_at}
+use Rattle.pb_proof.proofs.lemmas.Texts.{listed_none, listed_more, listed_at}
 use Rattle.pb_proof.proofs.write.list.write_each.Goals as goal
 
 pub loop-item-init : goal.loop-item-init

@@ -1,5 +1,5 @@
 use Rattle.pb_proof.proofs.Common.{ℕ, ◌++◌, ◌≡◌, append_assoc, List, part_broke, part_then, listed_bytes, arith}
-use Rattle.pb_proof.proofs.lemmas.Written.{listed-append}
+use Rattle.pb_proof.proofs.lemmas.Texts.{listed-append}
 use Rattle.pb_proof.proofs.write.list.write_list.Goals as goal
 
 -- a text, and items in two parts

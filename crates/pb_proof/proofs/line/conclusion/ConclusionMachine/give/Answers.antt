@@ -1,6 +1,5 @@
-use Rattle.pb_proof.proofs.Common.{ConclusionState}
+use Rattle.pb_proof.{proofs.Common.ConclusionState, specs.contracts.line.conclusion.ConclusionMachine.the_view}
 use Rattle.pb_proof.proofs.lemmas.conclusion.Theorems.{give_order, give_refused, give_admits, same_inner}
-use Rattle.pb_proof.specs.contracts.line.conclusion.ConclusionMachine.{the_view}
 use Rattle.pb_proof.proofs.line.conclusion.ConclusionMachine.give.Goals as goal
 
 pub invariant_of-self : goal.invariant_of-self

@@ -1,5 +1,4 @@
-use Rattle.pb_proof.proofs.Common.{◌<◌, ◌≤◌, ◌^◌, arith, take, to_z_pos, w64}
-use Rattle.pb_proof.proofs.lemmas.pol.Theorems.{id_word}
+use Rattle.pb_proof.proofs.{Common.◌<◌, Common.◌≤◌, Common.◌^◌, Common.arith, Common.take, Common.to_z_pos, Common.w64, lemmas.pol.Theorems.id_word}
 use Rattle.pb_proof.proofs.line.pol.word_prefix.id_word.Goals as goal
 
 pub returns-clause-word : goal.returns-clause-word

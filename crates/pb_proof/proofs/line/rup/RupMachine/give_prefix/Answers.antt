@@ -1,6 +1,7 @@
-use Rattle.pb_proof.{proofs.Common.refl, proofs.Common.take, proofs.lemmas.machine.Taken.rup_runs_given, specs.contracts.line.rup.RupMachine.the_view}
-use Rattle.pb_proof.proofs.line.rup.RupMachine.give_prefix.Goals as goal
+use Rattle.pb_proof.{proofs.Common.refl, proofs.Common.take, specs.contracts.line.rup.RupMachine.the_view}
+use Rattle.pb_proof.proofs.lemmas.machine.Runs.{rup_runs_given}
 use Rattle.pb_proof.proofs.line.rup.RupMachine.give_prefix.Goals.{in-Inside, in-Gap, in_default}
+use Rattle.pb_proof.proofs.line.rup.RupMachine.give_prefix.Goals as goal
 
 pub invariant_of-self : goal.invariant_of-self
 invariant_of-self c =

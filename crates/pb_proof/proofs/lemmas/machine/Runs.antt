@@ -1,22 +1,26 @@
--- Runs of the proof machine.
-use Rattle.pb_proof.proofs.Common.{ℕ, ◌<◌, ◌∙◌, ◌∷◌, ◌≡◌, ◌≤◌, [], ap, ap₂, arith, false, get_or, length, List, Option, refl, Some, subst, suc, sym, take, zero}
-use Rattle.pb_proof.proofs.Common.{Linear, SumEvent, sums, SumState, End, Go, Next, Runs, is_blank, LineMachine, Give, LineKind, line_automaton, IsRupInOrder}
-use Rattle.pb_proof.proofs.Common.{rup_act, rup_automaton, rup_over, rup_transition, RupState, giving, Holds, IsInOrder, proofs, ProofState, ◌++◌, ◌+◌, ◌-◌}
-use Rattle.pb_proof.proofs.Common.{◌==◌, append_assoc, drop, length-append, length-drop, None, take-append-drop, drop-cons, take-length, length-take-le}
-use Rattle.pb_proof.proofs.Common.{bytes_decides, pointwise, never, IsState, Keyword, line_first, act, at, next_action, words_of, IsRest, LacksRest}
-use Rattle.pb_proof.proofs.Common.{proof_over as over, ProofPhaseFits as PhaseFits, ProofPhase as Phase, ProofAction as Action, RupPhase, take_more}
-use Rattle.pb_proof.proofs.Common.{first_is_state, Blank, runs_more, all_rest, TakesStatement, Inside, rup_first, sum_first, sum_last, idle, PolWord, pol_first}
-use Rattle.pb_proof.proofs.Common.{PolState, text_after, prefix_parts, IsExpression, IsClosing, Stage, Statement, Part}
-use Rattle.pb_proof.proofs.lemmas.{Carried.runs_in, Rup.rup_is_state, Rup.tail_order, line.Laws.pol_carries, line.Laws.rup_carries}
-use Rattle.pb_proof.proofs.lemmas.machine.Complete.{meets_any, spelt, step_on, step_last}
-use Rattle.pb_proof.proofs.lemmas.machine.States.{OnAction, on_after, plain_holds, at_order, begin_order, is_state}
+-- Runs of the machine, and what is taken in one call.
+use Rattle.pb_proof.proofs.Common.{◌==◌}
+use Rattle.pb_proof.proofs.Common.{ℕ, LineKind, words_of, runs_more, rup_first, IsInOrder, sum_first, next_action, line_first, text_after, length-drop}
+use Rattle.pb_proof.proofs.Common.{take-length, pol_first, IsClosing, Statement, drop-cons, pointwise, LacksRest, take_more, ◌≤◌, ProofPhase as Phase}
+use Rattle.pb_proof.proofs.Common.{proof_over as over, ProofAction as Action, take-append-drop, Go, ◌≡◌, suc, sym, act, at, ◌-◌, [], ap, ap₂, idle, Some}
+use Rattle.pb_proof.proofs.Common.{Next, ◌+◌, ◌<◌, length, giving, proofs, rup_act, PolWord, IsState, Keyword, ◌∙◌, Holds, never, Blank, arith}
+use Rattle.pb_proof.proofs.Common.{Option, Linear, IsRest, Inside, get_or, ◌∷◌, zero, sums, Runs, Give, Part, ◌++◌, drop, List, None, refl, take, false}
+use Rattle.pb_proof.proofs.Common.{subst, Stage, LineMachine, append_assoc, prefix_parts, IsExpression, IsRupInOrder, bytes_decides}
+use Rattle.pb_proof.proofs.Common.{rup_automaton, length-append, line_automaton, length-take-le, rup_transition, first_is_state, TakesStatement, ProofState}
+use Rattle.pb_proof.proofs.Common.{ProofPhaseFits as PhaseFits, is_blank, SumEvent, SumState, rup_over, RupState, RupPhase, all_rest, sum_last, PolState}
+use Rattle.pb_proof.proofs.lemmas.{Carried.runs_in, Rup.rup_is_state, Rup.tail_order}
+use Rattle.pb_proof.proofs.lemmas.machine.Complete.{spelt}
+use Rattle.pb_proof.proofs.lemmas.line.Laws.{pol_carries, rup_carries}
+use Rattle.pb_proof.proofs.lemmas.machine.Complete.{step_on, step_last, meets_any}
+use Rattle.pb_proof.specs.engine.machine.{Whole.LeadsToPol, Whole.LeadsToRup, Whole.rup_read, Whole.with_rup}
 use Rattle.pb_proof.specs.engine.line.Carried.{carried}
-use Rattle.pb_proof.specs.engine.machine.Whole.{LeadsToPol, LeadsToRup, rup_read, with_rup}
 use Rattle.pb_sums.proofs.lemmas.machine.WholeTexts.{linear_ends, last_is_state, before_semicolon, linear_some}
 use Rattle.pb_sums.specs.engine.TermParts.{LeadsToLinear}
 use Rattle.pb_proof.proofs.lemmas.Rup as rup_states
-use Rattle.pb_proof.proofs.lemmas.machine.States as states
 use Rattle.pb_proof.proofs.lemmas.pol.Theorems as pol
+use Rattle.pb_proof.proofs.lemmas.machine.States.{OnAction, on_after, plain_holds, continues, is_state, at_order, begin_order, give_order}
+
+-- Runs of the machine.
 
 -- A run of the sum machine is a run of the `rup` machine.
 
@@ -26,9 +30,9 @@ within : (limit top : ℕ) (r : LineKind) (old : LineMachine) → IsInOrder (giv
 within limit top r old h [] new same = (ap (giving limit top r) same, subst (λ (i : LineMachine). IsInOrder (giving limit top r i)) (sym same) h)
 within limit top r old h (b ∷ text) new (mid, continues, state, rest) =
     let s = giving limit top r old in
-    let k = states.give_order s h b r refl old mid refl continues state in
+    let k = give_order s h b r refl old mid refl continues state in
     let (runs, order) = within limit top r mid k text new rest in
-    ((giving limit top r mid, ap (over s r) continues, states.is_state (giving limit top r mid) k, runs), order)
+    ((giving limit top r mid, ap (over s r) continues, is_state (giving limit top r mid) k, runs), order)
 
 -- if a line machine is stored, the phase is `Inside`
 reading : (s : ProofState) (p : Phase) → Holds s p → (i : LineMachine) → s.line ≡ Some i → (r : LineKind) × (p ≡ Phase.Inside r)
@@ -48,9 +52,6 @@ runs_given s h old e text new runs =
       subst (λ x. Runs proofs x text (record s { line = Some new })) (sym same) (subst (λ x. Runs proofs (giving s.limit s.top r old) text x) further k.0),
       subst IsInOrder further k.1,
     )
-
-goes_on : (s new : RupState) (e : Linear) (n : Next SumState SumEvent) → rup_over s n ≡ End e new → ⊥
-goes_on s new e n h = grind arith
 
 -- within a constraint
 within_rup : (o : Option Linear) (old : SumState) → IsRupInOrder (record { phase = RupPhase.Inside; sums = old; linear = o }) → (text : List ℕ) (new : SumState) → Runs sums old text new

@@ -1,18 +1,110 @@
+-- What is written, in parts, and the canonical texts of statements.
+use Rattle.pb_proof.proofs.Common.{bounds_word, [], proof_bytes, degree_text, linear_text, bytes-digits, listed_bytes, literal_line, conclusion_word}
+use Rattle.pb_proof.proofs.Common.{take-append-drop, conclusion_bytes, IsStatementValue, SpellsConclusion, SpellsConclusionLine, literal_bytes, ℕ}
+use Rattle.pb_proof.proofs.Common.{SpellsLiteral, LiteralsShown, SpellsLiterals, ◌++◌, drop_all, soli_word, solx_word, SpellsIds, SpellsRup, digits_of, ◌+◌}
+use Rattle.pb_proof.proofs.Common.{get_or, length, Header, Output, Option, Letter, Finite, Bounds, Delete, Divide, Weaken, f_word, negsuc, degree, ◌-◌, ◌<◌}
+use Rattle.pb_proof.proofs.Common.{◌∙◌, ◌∷◌, ◌≡◌, ◌≤◌, suc, sym, ap₂, Sat, Pol, Rup, Add, Id, ◌^◌, All, pos, ◌⋅◌, Soli, Solx, ap, Proof, lines, IsName}
+use Rattle.pb_proof.proofs.Common.{IsWord, subst, space, bytes, plain, Factor, Listed, append-nil, proof_word, unsat_word, SpellsWord, Conclusion}
+use Rattle.pb_proof.proofs.Common.{SpellsWords, ended_lines, append_assoc, version_word, SpellsLinear, IsConclusion, bytes-degree, bytes-linear, linear_bytes}
+use Rattle.pb_proof.proofs.Common.{literal_text, bytes-append, arith, All-head, All-tail, Literal, Language, IsFactor, SpellsId, drop, Conclude, unmarked}
+use Rattle.pb_proof.proofs.Common.{Infinite, Multiply, Saturate, del_word, end_word, inf_word, pol_word, rup_word, sat_word, two_word, List, refl, take, F}
+use Rattle.pb_proof.proofs.Common.{true, ints, Byte, IsId, Feed, None, Some, Bound, Unsat, Axiom, false, Blank, Bytes, Count, drop-cons, statement_bytes}
+use Rattle.pb_proof.proofs.Common.{signed_decimal, id_shown_bytes, linear-spelled, decimal-digits, SpellsStatement, take_more, Statement, none_word, decimal}
+use Rattle.pb_proof.proofs.Common.{word_bytes, bytes-plain, bound_bytes, shown_bytes, LineEnd, output_word, pseudo_word, AreLiterals, SpellsBound}
+use Rattle.pb_proof.proofs.Common.{SpellsCount, SpellsShown, NoClaim, PolWord, id_word, Blanks0, Blanks1, IfGiven, IsBound, IdShown}
+use Rattle.pb_proof.{specs.engine.line.Ended.ended_lines, proofs.Common.ℤ, specs.meaning.Canonical.listed_bytes, proofs.lemmas.line.Ends.fed}
+use Rattle.pb_proof.{proofs.lemmas.line.Ends.ended, specs.meaning.Canonical.count_bytes}
+
+-- What is written, in parts.
+
+-- pieces one after another
+module _ {A : Type 0} (piece : A → List ℕ) (joined : List A → List ℕ) (none : joined [] ≡ []) (cons : (x : A) (xs : List A) → joined (x ∷ xs) ≡ piece x ++ joined xs) where
+  joined-append : (xs ys : List A) → joined (xs ++ ys) ≡ joined xs ++ joined ys
+  joined-append [] ys = ap (λ z. z ++ joined ys) (sym none)
+  joined-append (x ∷ xs) ys = grind (arith, append_assoc, joined-append xs ys)
+
+  joined_more : (xs : List A) (i : ℕ) (d : A) → i < length xs → joined (take (i + 1) xs) ≡ joined (take i xs) ++ piece (get_or xs i d)
+  joined_more xs i d h =
+      ap joined (take_more xs i d h) ∙ (joined-append (take i xs) (get_or xs i d ∷ [])
+      ∙ ap (λ z. joined (take i xs) ++ z) (cons (get_or xs i d) [] ∙ (ap (λ z. piece (get_or xs i d) ++ z) none ∙ append-nil (piece (get_or xs i d)))))
+
+  joined_at : (xs : List A) (i : ℕ) (d : A) → i < length xs → joined xs ≡ joined (take i xs) ++ (piece (get_or xs i d) ++ joined (drop (suc i) xs))
+  joined_at xs i d h =
+      ap joined (sym (take-append-drop i xs)) ∙ (joined-append (take i xs) (drop i xs)
+      ∙ ap (λ z. joined (take i xs) ++ z) (ap joined (drop-cons xs i d h) ∙ cons (get_or xs i d) (drop (suc i) xs)))
+
+-- each with a space before it
+module _ {A : Type 0} (line : A → List ℕ) where
+  pub listed_none : listed_bytes line [] ≡ []
+  unfolding listed_bytes
+  listed_none = refl
+
+  pub listed-cons : (x : A) (xs : List A) → listed_bytes line (x ∷ xs) ≡ (32 ∷ line x) ++ listed_bytes line xs
+  unfolding listed_bytes
+  listed-cons x xs = refl
+
+  pub listed-append : (xs ys : List A) → listed_bytes line (xs ++ ys) ≡ listed_bytes line xs ++ listed_bytes line ys
+  listed-append = joined-append (λ x. 32 ∷ line x) (listed_bytes line) listed_none listed-cons
+
+  pub listed_more : (xs : List A) (i : ℕ) (d : A) → i < length xs → listed_bytes line (take (i + 1) xs) ≡ listed_bytes line (take i xs) ++ (32 ∷ line (get_or xs i d))
+  listed_more = joined_more (λ x. 32 ∷ line x) (listed_bytes line) listed_none listed-cons
+
+  pub listed_at : (xs : List A) (i : ℕ) (d : A) → i < length xs →
+      listed_bytes line xs ≡ listed_bytes line (take i xs) ++ ((32 ∷ line (get_or xs i d)) ++ listed_bytes line (drop (suc i) xs))
+  listed_at = joined_at (λ x. 32 ∷ line x) (listed_bytes line) listed_none listed-cons
+
+  -- a prefix of the list, and the rest
+  pub listed_split : (xs : List A) (n : ℕ) → listed_bytes line xs ≡ listed_bytes line (take n xs) ++ listed_bytes line (drop n xs)
+  listed_split xs n = ap (listed_bytes line) (sym (take-append-drop n xs)) ∙ listed-append (take n xs) (drop n xs)
+
+  pub listed_past : (xs : List A) (n : ℕ) → length xs ≤ n → listed_bytes line (drop n xs) ≡ []
+  listed_past xs n h = ap (listed_bytes line) (drop_all n xs h) ∙ listed_none
+
+  -- the list from an index on
+  pub listed_from : (xs : List A) (i : ℕ) (x : A) → 0 < i → i ≤ length xs → x ≡ get_or xs (i - 1) x →
+      listed_bytes line (drop (i - 1) xs) ≡ (32 ∷ line x) ++ listed_bytes line (drop i xs)
+  listed_from xs i x some within e = grind (arith, drop-cons, listed-cons, get_or, drop)
+
+-- each with a line feed after it
+pub ended_none : ended_lines [] ≡ []
+unfolding ended_lines
+ended_none = refl
+
+pub ended-cons : (s : Statement) (xs : List Statement) → ended_lines (s ∷ xs) ≡ (statement_bytes s ++ (10 ∷ [])) ++ ended_lines xs
+unfolding ended_lines
+ended-cons s xs = refl
+
+pub ended_more : (xs : List Statement) (i : ℕ) (d : Statement) → i < length xs → ended_lines (take (i + 1) xs) ≡ ended_lines (take i xs) ++ (statement_bytes (get_or xs i d) ++ (10 ∷ []))
+ended_more = joined_more (λ s. statement_bytes s ++ (10 ∷ [])) ended_lines ended_none ended-cons
+
+pub ended_at : (xs : List Statement) (i : ℕ) (d : Statement) → i < length xs →
+    ended_lines xs ≡ ended_lines (take i xs) ++ ((statement_bytes (get_or xs i d) ++ (10 ∷ [])) ++ ended_lines (drop (suc i) xs))
+ended_at = joined_at (λ s. statement_bytes s ++ (10 ∷ [])) ended_lines ended_none ended-cons
+
+-- lines with a line feed between two
+lines-first : (x : Statement) (xs : List Statement) (y : Statement) (ys : List Statement) → lines (x ∷ (xs ++ y ∷ ys)) ≡ statement_bytes x ++ (10 ∷ lines (xs ++ y ∷ ys))
+lines-first x [] y ys = refl
+lines-first x (z ∷ xs) y ys = refl
+
+pub lines-ended : (xs : List Statement) (s : Statement) (ys : List Statement) → lines (xs ++ s ∷ ys) ≡ ended_lines xs ++ lines (s ∷ ys)
+lines-ended [] s ys = rw ended_none refl
+lines-ended (x ∷ xs) s ys =
+    lines-first x xs s ys
+    ∙ (ap (λ z. statement_bytes x ++ (10 ∷ z)) (lines-ended xs s ys)
+    ∙ (sym (append_assoc (statement_bytes x) (10 ∷ []) (ended_lines xs ++ lines (s ∷ ys)))
+    ∙ (sym (append_assoc (statement_bytes x ++ (10 ∷ [])) (ended_lines xs) (lines (s ∷ ys))) ∙ ap (λ z. z ++ lines (s ∷ ys)) (sym (ended-cons x xs)))))
+
+-- a conclusion of bounds, and the literals after it
+pub bounds_then : (a b c d x : List ℕ) → (conclusion_word ++ (32 ∷ (bounds_word ++ (32 ∷ (a ++ (b ++ (32 ∷ (c ++ d)))))))) ++ x
+    ≡ conclusion_word ++ (32 ∷ (bounds_word ++ (32 ∷ (a ++ (b ++ (32 ∷ (c ++ (d ++ x))))))))
+bounds_then a b c d x = simp append_assoc
+
+-- the parts of a proof
+pub proof_parts : (v : Proof) → proof_bytes v ≡ ((statement_bytes Header ++ (10 ∷ [])) ++ (statement_bytes (F v.count) ++ (10 ∷ [])))
+    ++ (ended_lines v.steps ++ ((statement_bytes Output ++ (10 ∷ [])) ++ (statement_bytes (Conclude v.conclusion) ++ ((10 ∷ []) ++ statement_bytes Statement.End))))
+proof_parts v = grind (arith, v.conclusion, lines-first, v.count, v.steps, lines-ended, append_assoc)
+
 -- Each statement that meets the rules has a text with its canonical bytes.
-use Rattle.pb_proof.proofs.Common.{ℕ, ℤ, ◌++◌, ◌∙◌, ◌∷◌, ◌≡◌, [], ap₂, append_assoc, List, None, Option, refl, Some, sym, subst, decimal, signed_decimal}
-use Rattle.pb_proof.proofs.Common.{bytes-degree, bytes-linear, degree_text, linear_bytes, linear_text, literal_text, space, Literal, literal_bytes}
-use Rattle.pb_proof.proofs.Common.{bytes-append, bytes-digits, bytes-plain, unmarked, bytes, digits_of, Letter, plain, Bound, Finite, Infinite, Conclusion}
-use Rattle.pb_proof.proofs.Common.{Bounds, NoClaim, Sat, Unsat, Statement, Conclude, Delete, F, Header, Output, Pol, Rup, Soli, Solx, PolWord, Add, Axiom}
-use Rattle.pb_proof.proofs.Common.{Divide, Id, Multiply, Saturate, Weaken, bound_bytes, conclusion_bytes, id_shown_bytes, listed_bytes, literal_line}
-use Rattle.pb_proof.proofs.Common.{shown_bytes, statement_bytes, word_bytes, bounds_word, conclusion_word, del_word, end_word, f_word, id_word, inf_word}
-use Rattle.pb_proof.proofs.Common.{none_word, output_word, pol_word, proof_word, pseudo_word, rup_word, sat_word, soli_word, solx_word, two_word, unsat_word}
-use Rattle.pb_proof.proofs.Common.{version_word, ◌<◌, ◌^◌, ◌≤◌, All, arith, false, pos, suc, true, negsuc, ints, All-head, All-tail, degree, linear-spelled}
-use Rattle.pb_proof.proofs.Common.{Blank, IsName, SpellsLinear, SpellsLiteral, decimal-digits, ◌⋅◌, Blanks0, Blanks1, Byte, Bytes, Language, Count, AreLiterals}
-use Rattle.pb_proof.proofs.Common.{IfGiven, IsBound, IsConclusion, IsFactor, IsId, IsStatementValue, IsWord, Factor, Feed, IdShown, LineEnd, Listed}
-use Rattle.pb_proof.proofs.Common.{LiteralsShown, SpellsBound, SpellsConclusion, SpellsConclusionLine, SpellsCount, SpellsId, SpellsIds, SpellsLiterals}
-use Rattle.pb_proof.proofs.Common.{SpellsRup, SpellsShown, SpellsStatement, SpellsWord, SpellsWords}
-use Rattle.pb_proof.proofs.lemmas.{Written.listed_none, Written.listed-cons, line.Ends.fed, line.Ends.ended}
-use Rattle.pb_proof.specs.meaning.Canonical.{count_bytes}
 
 abbrev pub line_bytes : Statement → List ℕ
 line_bytes Statement.End = statement_bytes Statement.End

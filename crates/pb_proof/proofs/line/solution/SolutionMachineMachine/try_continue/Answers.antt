@@ -1,0 +1,17 @@
+use Rattle.pb_proof.{proofs.Common.◌∙◌, proofs.Common.ap, proofs.Common.never, proofs.lemmas.Solution.stays, specs.engine.line.Solution.transition}
+use Rattle.pb_proof.proofs.line.solution.SolutionMachineMachine.try_continue.Goals.{in-End, in_default}
+use Rattle.pb_proof.proofs.line.solution.SolutionMachineMachine.try_continue.Goals as goal
+
+pub take-answer-requires-clause-action : goal.take-answer-requires-clause-action
+take-answer-requires-clause-action c = rw (← c.self.view_is) (c.transition-action.ensures.transition ∙ ap (λ k. transition c.self.inside.joined c.self.inside.phase k) c.name_byte.ensures.kind)
+
+pub returns-in_default-answer : goal.returns-in_default-answer
+returns-in_default-answer c = record {
+  continues = elim c.match-matches.branch [
+    | in-End w ↦ never _ w.matches-is c.if-matches.false
+    | in_default w ↦ stays c.args.self.now c.take-answer.new.self c.args.byte c.transition-action.result
+        (rw (← c.self.view_is) (c.transition-action.ensures.transition ∙ ap (λ k. transition c.self.inside.joined c.self.inside.phase k) c.name_byte.ensures.kind))
+        c.take-answer.result w.in_default.not-End c.in_default-answer.not-Go c.take-answer.ensures
+  ];
+  state = c.is_done-2.ensures.state;
+}
