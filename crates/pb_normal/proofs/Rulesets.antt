@@ -1,7 +1,6 @@
 -- Lemmas that the goals of functions need, by the function.
 use Rattle.pb_normal.proofs.Common.{append-nil, map-set_same, le-ltb, lt-ltb, to_z-of_z, take_all}
-use Rattle.pb_normal.proofs.lemmas.names.Appearing.{distinct, in_turn, named, prefix, present}
-use Rattle.pb_normal.proofs.lemmas.names.Loaded.{after_all}
+use Rattle.pb_normal.proofs.lemmas.names.{Appearing.distinct, Appearing.in_turn, Appearing.named, Appearing.prefix, Appearing.present, Loaded.after_all}
 use Rattle.pb_normal.proofs.lemmas.names.Numbering.{OnErr-always, has_name-append, number_in-append, number_in-below, number_in-get, slice_get-number}
 use Rattle.pb_normal.proofs.lemmas.names.WrittenForms.{HasNames-append, magnitude-read, magnitude-side, shift-side-le, total-raw}
 use Rattle.pb_normal.proofs.lemmas.rules.{Bounds.SumPasses-swap, Bounds.overflow-Memory, Bounds.overflow-Ok, Keeps.Holds-alike, Scales.IfOk-multiplied-one}

@@ -2,8 +2,7 @@
 use Rattle.std.specs.Prelude.{ℕ, zero, suc, ◌+◌, ◌-◌, ◌*◌, ◌/◌, ◌%◌, ◌^◌, [], ◌∷◌, List, length, take, drop, if◌then◌else◌, nat_le, nat_lt, slice_index, bit_or, bit_xor}
 use Rattle.std.specs.Hash.DefaultHasher as sip
 use Rattle.pb_normal.specs.declared.names.hasher.NameHasher.{NameHasher}
-use Rattle.std.specs.Hash.FoldHasher.{folded_multiply, shl}
-use Rattle.std.specs.{Int.from_le_bytes, Int.w32, Int.w64, declared.hash.DefaultHasher.DefaultHasher}
+use Rattle.std.specs.{Int.from_le_bytes, Int.w32, Int.w64, declared.hash.DefaultHasher.DefaultHasher, Hash.FoldHasher.folded_multiply, Hash.FoldHasher.shl}
 
 -- its two secret words are what the SipHash answers at once, and after the byte 1
 unfoldable pub keyed : DefaultHasher → NameHasher

@@ -1,6 +1,5 @@
 -- Terms in a map by their variables
-use Rattle.pb_normal.specs.{declared.entry.Entry.Entry, engine.Adds.Adds}
-use Rattle.pb_normal.specs.meaning.Form.{Form, IsNormal, each, total}
+use Rattle.pb_normal.specs.{declared.entry.Entry.Entry, engine.Adds.Adds, meaning.Form.Form, meaning.Form.IsNormal, meaning.Form.each, meaning.Form.total}
 use Rattle.std.specs.{BTreeMap.BTreeMap, BTreeMap.get, BTreeMap.values, Option.option_to_list, Ordering.nat_cmp}
 use Rattle.std.specs.Prelude.{◌≡◌, ℕ, ◌<◌, ◌≤◌, [], ◌∷◌, Option, IfSome, All}
 

@@ -1,7 +1,6 @@
 -- The one text that is written for an instance.
 use Rattle.pb_opb.specs.declared.event.OpbEvent.{OpbEvent, TheVariants.Header, TheVariants.Comment, TheVariants.Objective, TheVariants.Constraint}
-use Rattle.pb_opb.specs.declared.instance.Instance.{Instance}
-use Rattle.pb_opb.specs.meaning.Instances.{variable_word, constraint_word, min_word}
+use Rattle.pb_opb.specs.{declared.instance.Instance.Instance, meaning.Instances.variable_word, meaning.Instances.constraint_word, meaning.Instances.min_word}
 use Rattle.pb_sums.specs.{contract.Canonical.head_bytes, contract.Canonical.linear_bytes, declared.linear.Linear.Linear, declared.linear.Term.Term}
 use Rattle.std.specs.List.{prefix_len}
 use Rattle.std.specs.Prelude.{ℕ, ◌+◌, nat_le, List, [], ◌∷◌, ◌++◌, map, length, take, drop, Option, Some, None, decimal, codes}

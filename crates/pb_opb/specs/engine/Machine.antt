@@ -1,7 +1,6 @@
 -- The machine of an instance: what it does with one byte.
-use Rattle.pb_opb.specs.declared.phase.Action.{Action}
+use Rattle.pb_opb.specs.declared.phase.{Field.Field, Field.TheVariants.Variables, Field.TheVariants.Constraints, Phase.Phase, Action.Action}
 use Rattle.pb_opb.specs.declared.phase.Action.TheVariants.{To, Declare, BeginTail, Keep, EndHeader, EndTail, EndComment, BeginSum, Give, Stop}
-use Rattle.pb_opb.specs.declared.phase.{Field.Field, Field.TheVariants.Variables, Field.TheVariants.Constraints, Phase.Phase}
 use Rattle.pb_opb.specs.meaning.Instances.{variable_word, constraint_word, min_word}
 use Rattle.pb_text.specs.meaning.Classes.{is_blank, is_white, is_digit}
 use Rattle.std.specs.Prelude.{ℕ, ◌+◌, ◌-◌, ◌*◌, cond, ◌&&◌, List, length, slice_index, nat_eq, nat_le}

@@ -1,7 +1,6 @@
 -- The invariant of the state of a machine of instances.
-use Rattle.pb_opb.specs.declared.phase.Action.{Action}
+use Rattle.pb_opb.specs.{declared.phase.Phase.Phase, engine.Machine.word_of, declared.phase.Action.Action}
 use Rattle.pb_opb.specs.declared.phase.Action.TheVariants.{To, Declare, BeginTail, EndHeader, Give}
-use Rattle.pb_opb.specs.{declared.phase.Phase.Phase, engine.Machine.word_of}
 use Rattle.pb_opb.specs.engine.State.{OpbState, linears, objectives}
 use Rattle.pb_sums.specs.{declared.Spaces.TheVariants.White, engine.State.sums}
 use Rattle.pb_text.specs.contract.Automaton.{IsState}

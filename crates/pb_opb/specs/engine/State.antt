@@ -1,7 +1,7 @@
 -- The states of a machine of instances, and its automaton.
+use Rattle.pb_opb.specs.{declared.phase.Field.Field, declared.phase.Phase.Phase, engine.Machine.transition}
 use Rattle.pb_opb.specs.declared.{event.OpbEvent.OpbEvent, phase.Action.Action}
 use Rattle.pb_opb.specs.declared.phase.Action.TheVariants.{To, Declare, BeginTail, Keep, EndHeader, EndTail, EndComment, BeginSum, Give, Stop}
-use Rattle.pb_opb.specs.{declared.phase.Field.Field, declared.phase.Phase.Phase, engine.Machine.transition}
 use Rattle.pb_sums.specs.declared.{Part.Part, Spaces.TheVariants.White, SumEvent.SumEvent}
 use Rattle.pb_sums.specs.engine.State.{SumState, sums, first}
 use Rattle.pb_text.specs.contract.Automaton.{Automaton, Next, Go, End, Refuse}

@@ -2,9 +2,8 @@
 use Rattle.pb_opb.specs.declared.event.OpbEvent.{OpbEvent, TheVariants.Header, TheVariants.Comment, TheVariants.Objective, TheVariants.Constraint}
 use Rattle.pb_opb.specs.meaning.Instances.{variable_word, constraint_word, min_word, Whites0, IsTail}
 use Rattle.pb_sums.specs.meaning.Asking.{AsksLiteral}
-use Rattle.pb_text.specs.meaning.Blank.{IsInLine}
+use Rattle.pb_text.specs.meaning.{Numbers.Count, Spelling.Letter, Spelling.bytes, Blank.IsInLine}
 use Rattle.pb_text.specs.meaning.Languages.{Language, ◌⋅◌, Byte, Bytes, Blanks0, Blanks1}
-use Rattle.pb_text.specs.meaning.{Numbers.Count, Spelling.Letter, Spelling.bytes}
 use Rattle.std.specs.Prelude.{◌≡◌, ℕ, List, [], ◌∷◌, ◌++◌}
 
 -- the first line through its counts

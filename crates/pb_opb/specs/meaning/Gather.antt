@@ -1,6 +1,6 @@
 -- An instance, built statement by statement.
-use Rattle.pb_opb.specs.declared.event.OpbEvent.{OpbEvent, TheVariants.Header, TheVariants.Comment, TheVariants.Objective, TheVariants.Constraint}
 use Rattle.pb_opb.specs.{declared.instance.Instance.Instance, meaning.Values.comment_at}
+use Rattle.pb_opb.specs.declared.event.OpbEvent.{OpbEvent, TheVariants.Header, TheVariants.Comment, TheVariants.Objective, TheVariants.Constraint}
 use Rattle.std.specs.Prelude.{ℕ, ◌+◌, ◌-◌, ◌^◌, Bool, true, false, nat_le, IsTrue, List, [], ◌∷◌, ◌++◌, Some, None}
 
 -- the instance with one more statement, after this many objectives and constraints

@@ -1,9 +1,8 @@
 -- Instances in OPB: their statements, with the white space before them, and the texts of the statements.
 use Rattle.pb_opb.specs.declared.event.OpbEvent.{OpbEvent, TheVariants.Header, TheVariants.Comment, TheVariants.Objective, TheVariants.Constraint}
 use Rattle.pb_sums.specs.{declared.Spaces.TheVariants.White, declared.Term.Term, meaning.Sums.SpellsSum, meaning.Sums.SpellsLinear}
-use Rattle.pb_text.specs.meaning.{Blank.IsInLine, Classes.is_blank, Classes.is_white}
+use Rattle.pb_text.specs.meaning.{Blank.IsInLine, Classes.is_blank, Classes.is_white, Numbers.Count, Spelling.Item, Whole.events_of}
 use Rattle.pb_text.specs.meaning.Languages.{Language, ◌⋅◌, Byte, Bytes, Each, Many, Blanks0, Blanks1}
-use Rattle.pb_text.specs.meaning.{Numbers.Count, Spelling.Item, Whole.events_of}
 use Rattle.std.specs.Prelude.{◌≡◌, ℕ, suc, List, [], ◌∷◌, IsTrue, codes}
 
 -- the fixed words

@@ -1,4 +1,6 @@
 -- Lemmas about proofs, their texts and their values.
+use Rattle.pb_proof.{specs.engine.line.Ended.ended_lines, proofs.Common.ℤ, specs.declared.read.gather.ProofSoFar.ProofSoFar}
+use Rattle.pb_proof.{specs.meaning.Reading.AsksInProof}
 use Rattle.pb_proof.proofs.Common.{[], proof_bytes, IsProofValue, IsStatementValue, SpellsConclusion, ℕ, SpellsLiteral, statements_of, number-within}
 use Rattle.pb_proof.proofs.Common.{length-append, CanonicalProof, ReadStatements, ◌++◌, events_of, IsProofOf, leb-false, events_at, ReadsBack, length, Header}
 use Rattle.pb_proof.proofs.Common.{Output, Option, Letter, Bounds, Delete, Nothing, ◌<◌, ◌∙◌, ◌∷◌, ◌≡◌, ◌≤◌, sym, ap₂, Sat, Pol, Rup, ◌^◌, All, Soli, Solx}
@@ -9,13 +11,10 @@ use Rattle.pb_proof.proofs.Common.{spans_of, gathered, SumEvent, Conclude, List,
 use Rattle.pb_proof.proofs.Common.{rules, statement_bytes, SpellsStatement, StatementValues, Statement, AreSpelled, All-append, All-weaker, letters_of}
 use Rattle.pb_proof.proofs.Common.{false≢true, BeginProof, AreLiterals, SpellsBound, NoClaim, PolWord, IfGiven, IsBound, IdShown, Spanned, IsWhole, MayHold}
 use Rattle.pb_proof.proofs.Common.{StopsIn, IsProof, All-nil}
-use Rattle.pb_proof.{specs.engine.line.Ended.ended_lines, proofs.Common.ℤ, specs.declared.read.gather.ProofSoFar.ProofSoFar}
-use Rattle.pb_proof.{specs.meaning.Reading.AsksInProof}
 use Rattle.pb_proof.specs.contract.Gather.{with, asks, MayKeep, nothing}
 use Rattle.pb_sums.proofs.lemmas.values.{Larger.spells_larger, Within.number-within as value-within, Within.linear-within}
 use Rattle.pb_text.{proofs.lemmas.source.Wholes.spans_events, proofs.lemmas.text.Short.place_after-offset, specs.declared.Place.Place}
-use Rattle.pb_text.{specs.declared.Stop.Stop}
-use Rattle.pb_text.specs.meaning.Reading.{ended_within, IsUnderWay, IsSpelled}
+use Rattle.pb_text.{specs.declared.Stop.Stop, specs.meaning.Reading.ended_within, specs.meaning.Reading.IsUnderWay, specs.meaning.Reading.IsSpelled}
 use Rattle.pb_text.proofs.lemmas.source.Unkept as stopped
 use Rattle.pb_text.proofs.lemmas.text.Formats as formats
 use Rattle.pb_proof.proofs.lemmas.Texts.{ended_none, ended-cons, lines-ended, line_bytes, Has, line_has}
@@ -239,9 +238,7 @@ module _ {A : Type 0} where
   ends_same (x ∷ xs) [] a b c d e f h = absurd (omega (arith, ap length h, length-append xs (a ∷ b ∷ c ∷ [])))
   ends_same (x ∷ xs) (y ∷ ys) a b c d e f h =
       let tails : xs ++ a ∷ b ∷ c ∷ [] ≡ ys ++ d ∷ e ∷ f ∷ [] = cc in
-      let heads : x ≡ y = cc in
-      let r : (xs ≡ ys) × (b ≡ e) = ends_same xs ys a b c d e f tails in
-      (rw (heads, r.0) refl, r.1)
+      let heads : x ≡ y = cc in let r : (xs ≡ ys) × (b ≡ e) = ends_same xs ys a b c d e f tails in (rw (heads, r.0) refl, r.1)
 
 abbrev proof : Option ℕ → List Statement → Conclusion → Proof
 proof count steps conclusion = record { count = count; steps = steps; conclusion = conclusion }
@@ -256,8 +253,7 @@ one_value statements v w h k = same_proof v w (sym h ∙ k)
 pub halves : (P : Statement → Type 0) (xs ys : List Statement) → All P (xs ++ ys) → All P xs × All P ys
 halves P [] ys k = (All-nil P, k)
 halves P (x ∷ xs) ys k =
-    let r : All P xs × All P ys = halves P xs ys (All-tail P x (xs ++ ys) k) in
-    (All-cons P x xs (All-head P x (xs ++ ys) k) r.0, r.1)
+    let r : All P xs × All P ys = halves P xs ys (All-tail P x (xs ++ ys) k) in (All-cons P x xs (All-head P x (xs ++ ys) k) r.0, r.1)
 
 -- if the statements of a proof meet the rules, so does its value
 parts_value : (limit top : ℕ) (v : Proof) → All IsStep v.steps → All (IsStatementValue limit top) (statements_of v) → IsProofValue limit top v

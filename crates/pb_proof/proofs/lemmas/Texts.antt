@@ -1,4 +1,6 @@
 -- What is written, in parts, and the canonical texts of statements.
+use Rattle.pb_proof.{specs.engine.line.Ended.ended_lines, proofs.Common.ℤ, specs.meaning.Canonical.listed_bytes, proofs.lemmas.line.Ends.fed}
+use Rattle.pb_proof.{proofs.lemmas.line.Ends.ended, specs.meaning.Canonical.count_bytes}
 use Rattle.pb_proof.proofs.Common.{bounds_word, [], proof_bytes, degree_text, linear_text, bytes-digits, listed_bytes, literal_line, conclusion_word}
 use Rattle.pb_proof.proofs.Common.{take-append-drop, conclusion_bytes, IsStatementValue, SpellsConclusion, SpellsConclusionLine, literal_bytes, ℕ}
 use Rattle.pb_proof.proofs.Common.{SpellsLiteral, LiteralsShown, SpellsLiterals, ◌++◌, drop_all, soli_word, solx_word, SpellsIds, SpellsRup, digits_of, ◌+◌}
@@ -12,8 +14,6 @@ use Rattle.pb_proof.proofs.Common.{true, ints, Byte, IsId, Feed, None, Some, Bou
 use Rattle.pb_proof.proofs.Common.{signed_decimal, id_shown_bytes, linear-spelled, decimal-digits, SpellsStatement, take_more, Statement, none_word, decimal}
 use Rattle.pb_proof.proofs.Common.{word_bytes, bytes-plain, bound_bytes, shown_bytes, LineEnd, output_word, pseudo_word, AreLiterals, SpellsBound}
 use Rattle.pb_proof.proofs.Common.{SpellsCount, SpellsShown, NoClaim, PolWord, id_word, Blanks0, Blanks1, IfGiven, IsBound, IdShown}
-use Rattle.pb_proof.{specs.engine.line.Ended.ended_lines, proofs.Common.ℤ, specs.meaning.Canonical.listed_bytes, proofs.lemmas.line.Ends.fed}
-use Rattle.pb_proof.{proofs.lemmas.line.Ends.ended, specs.meaning.Canonical.count_bytes}
 
 -- What is written, in parts.
 

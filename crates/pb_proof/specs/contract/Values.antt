@@ -1,6 +1,6 @@
 -- The rules that statements and proofs meet.
-use Rattle.pb_proof.specs.declared.{conclusion.Bound.Bound, conclusion.Conclusion.Conclusion, proof.Proof.Proof, statement.Statement.Statement}
 use Rattle.pb_proof.specs.{declared.word.PolWord.PolWord, meaning.Postfix.IsPostfix, meaning.Proofs.IsStep}
+use Rattle.pb_proof.specs.declared.{conclusion.Bound.Bound, conclusion.Conclusion.Conclusion, proof.Proof.Proof, statement.Statement.Statement}
 use Rattle.pb_sums.specs.{contract.Canonical.IsLinear, declared.Literal.Literal, declared.Relation.TheVariants.AtLeast, meaning.Sums.IsName}
 use Rattle.std.specs.Prelude.{◌≡◌, ℕ, ℤ, pos, ◌<◌, ◌≤◌, ◌≤ℤ◌, nat_abs, List, length, All, Option, Some, None}
 

@@ -3,8 +3,7 @@ use Rattle.pb_sums.specs.contract.Canonical.{AreTerms, IsLinear, sum_bytes, sum_
 use Rattle.pb_sums.specs.declared.{linear.Linear.Linear, linear.SumEvent.SumEvent, linear.Term.Term, sum_kind.Part.Part, sum_kind.Spaces.Spaces}
 use Rattle.pb_sums.specs.engine.{Machine.finished, State.SumState, State.sums, State.first, State.last, State.with_work, State.IsInOrder}
 use Rattle.pb_sums.specs.meaning.Sums.{Spells, SpellsSum, SpellsLinear}
-use Rattle.pb_text.specs.contract.Automaton.{ReadsStatement, IsState}
-use Rattle.pb_text.specs.meaning.Spelling.{Letter, bytes}
+use Rattle.pb_text.specs.{contract.Automaton.ReadsStatement, contract.Automaton.IsState, meaning.Spelling.Letter, meaning.Spelling.bytes}
 use Rattle.std.specs.Prelude.{◌≡◌, ℕ, ◌≤◌, ◌<◌, ◌^◌, List, [], ◌++◌, ◌↔◌, false}
 
 -- A new machine reads exactly the grammar, and then it has ended.

@@ -1,8 +1,7 @@
 -- Names and numbers at the start of a text.
 use Rattle.pb_sums.specs.{contract.Canonical.relation_bytes, declared.linear.Relation.Relation, declared.phase.Phase.Phase}
 use Rattle.pb_sums.specs.{declared.sum_kind.Part.Part, meaning.Sums.allows}
-use Rattle.pb_text.specs.{contract.Digits.HasDigits, meaning.Classes.is_letter, meaning.Classes.is_name_byte, meaning.Languages.Each}
-use Rattle.pb_text.specs.meaning.Numbers.{signed}
+use Rattle.pb_text.specs.{contract.Digits.HasDigits, meaning.Classes.is_letter, meaning.Classes.is_name_byte, meaning.Languages.Each, meaning.Numbers.signed}
 use Rattle.std.specs.Prelude.{◌≡◌, ◌≢◌, ◌⊎◌, ◌<◌, ◌≤◌, ℕ, ℤ, ◌+◌, ◌-◌, Bool, IsTrue, true, false, List, [], ◌∷◌, Option, Some, None, length, take, drop, get_or}
 
 -- a sign, or none

@@ -1,6 +1,5 @@
 -- What a machine is: a step from state to state for each byte, and what a state accepts.
-use Rattle.pb_text.specs.{declared.machine.Push.Push, meaning.Classes.is_digit}
-use Rattle.pb_text.specs.meaning.Spelling.{Letter, Item, bytes_of}
+use Rattle.pb_text.specs.{declared.machine.Push.Push, meaning.Classes.is_digit, meaning.Spelling.Letter, meaning.Spelling.Item, meaning.Spelling.bytes_of}
 use Rattle.std.specs.Prelude.{◌≡◌, ℕ, ◌+◌, ◌≤◌, ◌<◌, List, [], ◌∷◌, length, take, get_or, Bool, true, false, ◌&&◌, IsTrue, Option, None, Some}
 use Rattle.pb_text.specs.declared.machine.Push.TheVariants as push
 

@@ -1,8 +1,7 @@
 -- What the events of a source yield in order.
 use Rattle.pb_text.specs.contract.Feeding.{StandsAt, WantsMemory, stop_of, place_of, halt_of, is_complete}
 use Rattle.pb_text.specs.declared.{events.Events.Events, feeder.Feeder.Feeder, machine.Machine.Ghosts, place.Spanned.Spanned, place.Stop.Stop}
-use Rattle.pb_text.specs.meaning.{Pulling.Pulls, Pulling.faults_after, PullsInARow.HasPulled, PullsInARow.PullsOn, Reading.byte_limit}
-use Rattle.pb_text.specs.meaning.Stopping.{IsShown}
+use Rattle.pb_text.specs.meaning.{Pulling.Pulls, Pulling.faults_after, PullsInARow.HasPulled, PullsInARow.PullsOn, Reading.byte_limit, Stopping.IsShown}
 use Rattle.std.specs.{Iterator.Count, Iterator.at_most, Option.option_transpose}
 use Rattle.std.specs.Prelude.{◌≡◌, ◌<◌, ℕ, ◌+◌, ◌-◌, List, Bool, true, Option, Some, None, Result, Ok, IfErr}
 

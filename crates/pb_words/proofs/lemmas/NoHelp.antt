@@ -1,14 +1,13 @@
 -- Valid arguments do not name a subcommand `help`.
-use Rattle.clap.specs.Faults.{fault_of, other_fault, step_fault, turn_fault, walk_fault, word_fault}
 use Rattle.clap.specs.{Kinds.Kinds, Kinds.or_else, Lexer.long_of, Lexer.short_of, Walk.walked}
+use Rattle.clap.specs.Faults.{fault_of, other_fault, step_fault, turn_fault, walk_fault, word_fault}
 use Rattle.pb_words.proofs.Common.{◌≡◌, ℕ, Bool, true, false, cond, List, [], ◌∷◌, ◌++◌, Option, Some, None, refl, sym, ap, ◌∙◌, subst, codes, is_some, inl}
 use Rattle.pb_words.proofs.Common.{inr, ⊎_elim, get_or, fold, find, ◌⊎◌, bytes_eq, bytes_eq-Decides, Row, answers_to, Held, Names, Outcome, Rule, Step, Text}
 use Rattle.pb_words.proofs.Common.{Waiting, Walk, after_flag, after_step, arg_by_index, done, idle, long_met, long_or_other, next, nothing_held, option, plain}
 use Rattle.pb_words.proofs.Common.{plain_word, positional, refused, short_or_plain, subcommand, subcommand_met, subcommand_or_other, to_positional, trailing}
 use Rattle.pb_words.proofs.Common.{value, waits, walk, walk_from, walked_from, word_met, bundle, arg_by_long, App, Shape, argument_words, built, entered}
 use Rattle.pb_words.proofs.Common.{label_of, names_of, rows_at, subcommand_of, IsReader, pb_command}
-use Rattle.std.proofs.lemmas.Bool.{false≢true, or_cases}
-use Rattle.std.specs.Prelude.{option_map}
+use Rattle.std.{proofs.lemmas.Bool.false≢true, proofs.lemmas.Bool.or_cases, specs.Prelude.option_map}
 
 -- ---- if two lists of kinds are empty together, the first is empty
 
@@ -58,9 +57,7 @@ rest_names_none c w position word h false = long_names_none c w word (long_of wo
 stops_by_name : (c : List Rule) (word : Text) (w : Walk) (h : Held) (s : Step) (p : Text × List Text) → w.stopped ≡ None → (after_step c word w h s).stopped ≡ Some p → s ≡ subcommand p.0
 stops_by_name c word w h (next waiting) p e k = absurd (cc)
 stops_by_name c word w h (trailing position) p e k = absurd (cc)
-stops_by_name c word w h (subcommand name) p e k =
-    let same : (name, []) ≡ p = cc in
-    ap (λ (q : Text × List Text). subcommand q.0) same
+stops_by_name c word w h (subcommand name) p e k = let same : (name, []) ≡ p = cc in ap (λ (q : Text × List Text). subcommand q.0) same
 stops_by_name c word w h value p e k = absurd (at_positional (arg_by_index c w.position) k)
   where
     at_positional : (a : Option Rule) → (to_positional c a word w h).stopped ≡ Some p → ⊥
@@ -80,11 +77,9 @@ refuses_help s names w position word h false name is on met none = go (subcomman
     go : (o : Option Text) → (subcommand_or_other s.rules o w position word h).1 ≡ subcommand name → other_fault s o word h ≡ [] → ⊥
     go None met none =
         let no : names_one (subcommand_or_other s.rules None w position word h).1 ≡ false = rest_names_none s.rules w position word h (bytes_eq word (45 ∷ 45 ∷ [])) in
-        let yes : names_one (subcommand name) ≡ false = subst (λ (t : Step). names_one t ≡ false) met no in
-        cc
+        let yes : names_one (subcommand name) ≡ false = subst (λ (t : Step). names_one t ≡ false) met no in cc
     go (Some other) met none =
-        let same : other ≡ name = cc in
-        helps s other word h (ap (λ (t : Text). bytes_eq t (codes "help")) same ∙ is) on none
+        let same : other ≡ name = cc in helps s other word h (ap (λ (t : Text). bytes_eq t (codes "help")) same ∙ is) on none
 
 -- ---- the walk
 

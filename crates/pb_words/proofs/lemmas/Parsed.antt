@@ -1,8 +1,8 @@
 -- What a parse of the command says of the arguments.
 use Rattle.clap.specs.{Words.App, Words.Row, Words.Text, Words.subcommand_of, declared.Error.Error, declared.error.ErrorKind.TheVariants.OutOfMemory}
+use Rattle.pb_words.{proofs.Common.pb_command, specs.declared.words.Job.Job}
 use Rattle.pb_words.proofs.Common.{◌≡◌, List, [], Option, Some, None, Result, Ok, Err, IfErr, IfOk, true, option_map, sym, ap, ◌∙◌, subst, inl, inr, IsErrAnd}
 use Rattle.pb_words.proofs.Common.{IsSomeAnd, HasKind, fault_of, is_simple, is_simple_and_free, kind_of, WordsFault, AsksFor, ExplainsWords, IsEntryFault}
-use Rattle.pb_words.{proofs.Common.pb_command, specs.declared.words.Job.Job}
 use Rattle.pb_words.specs.declared.words.fault.WordsFault.TheVariants.{Words, Memory}
 
 pub right_words : (a : App) (words : List Text) → a ≡ pb_command → (is_simple_and_free a ≡ true → fault_of a words ≡ []) → fault_of pb_command words ≡ []

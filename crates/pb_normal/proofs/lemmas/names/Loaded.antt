@@ -117,9 +117,7 @@ after_others old names new before own more e (k, is) =
 names_at : (cs : List Linear) (i : ℕ) (c : Linear) → i < length cs → c ≡ get_or cs i c → (more : List (List ℕ)) × (constraint_names cs ≡ constraint_names (take i cs) ++ (names_of c.terms ++ more))
 names_at [] i c lt e = absurd (omega (arith, lt))
 names_at (x ∷ cs) zero c lt e = (constraint_names cs, ap (λ (y : Linear). names_of y.terms ++ constraint_names cs) (sym e))
-names_at (x ∷ cs) (suc i) c lt e =
-    let rest = names_at cs i c (omega (arith, lt)) e in
-    (rest.0, rw (rest.1, append_assoc) refl)
+names_at (x ∷ cs) (suc i) c lt e = let rest = names_at cs i c (omega (arith, lt)) e in (rest.0, rw (rest.1, append_assoc) refl)
 
 pub after_at : (old names new : List (List ℕ)) (cs : List Linear) (i : ℕ) (c : Linear) → i < length cs → c ≡ get_or cs i c → names ≡ with_names old (constraint_names (take i cs)) → AfterPrefix names (names_of c.terms) new
     → AfterPrefix old (constraint_names cs) new

@@ -31,8 +31,7 @@ AreEnds-push start (e ∷ ends) count more h = (h.0, omega (arith, h.1), AreEnds
 last_text : (start : ℕ) (bytes name : List ℕ) → start ≡ length bytes → take (length bytes + length name - start) (drop start (bytes ++ name)) ≡ name
 last_text start bytes name e =
     let rest : drop start (bytes ++ name) ≡ name = rw e (drop-append_seam bytes name) in
-    let enough : length name ≤ length bytes + length name - start = omega (arith, e) in
-    rw rest (take_all _ name enough)
+    let enough : length name ≤ length bytes + length name - start = omega (arith, e) in rw rest (take_all _ name enough)
 
 -- the names before stay if one more follows
 pub texts-push : (start : ℕ) (ends bytes name : List ℕ) → AreEnds start ends (length bytes) → texts start (ends ++ (length bytes + length name) ∷ []) (bytes ++ name) ≡ texts start ends bytes ++ name ∷ []

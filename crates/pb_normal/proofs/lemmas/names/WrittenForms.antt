@@ -7,9 +7,9 @@ use Rattle.pb_normal.proofs.Common.{AtLeast, AtMost, Adds, is_below_0, raw_of, s
 use Rattle.pb_normal.proofs.Common.{negated_of, negative, plain_of, total, true_at, AreDistinct, has_name, HasNames, number_in, by_number, IsFormOf, IsSideOf}
 use Rattle.pb_normal.proofs.Common.{linear_of, magnitude, names_of, on_negations, SameAsForm, SameAsForms, SameSolutions, side_number, side_terms, term_of}
 use Rattle.pb_normal.proofs.Common.{true_sum, written_on, map-append, take_more}
+use Rattle.pb_normal.proofs.lemmas.{rules.Unique.Balanced, rules.Unique.IsRising-same, rules.Unique.same_form, terms.Totals.size-Adds}
 use Rattle.pb_normal.proofs.lemmas.names.Numbering.{slice_get-number, number_in-below, number_in-get, number_in-append, has_name-append, AreDistinct-prefix}
 use Rattle.pb_normal.proofs.lemmas.rules.{Keeps.total-balanced, Keeps.total-past, Keeps.All-below, Sums.at_least_0-is, Sums.turned}
-use Rattle.pb_normal.proofs.lemmas.{rules.Unique.Balanced, rules.Unique.IsRising-same, rules.Unique.same_form, terms.Totals.size-Adds}
 use Rattle.pb_sums.specs.declared.linear.Relation.TheVariants.{AtLeast as relation_least, Equal as relation_equal}
 
 pub total-raw : (names : List (List ℕ)) (ts : List Term) → total each (map (raw_of names) ts) ≡ magnitude ts
@@ -67,8 +67,7 @@ Balanced-raw names ts d r distinct has f x =
     let raw = map (raw_of names) ts in
     elim (cases_lt x (length names)) [
       | inl lt ↦
-          let get = slice_get-get_or names x [] lt in
-          omega (arith, ints, f.coefficients x _ get, signed-raw names x _ ts distinct has get)
+          let get = slice_get-get_or names x [] lt in omega (arith, ints, f.coefficients x _ get, signed-raw names x _ ts distinct has get)
       | inr ge ↦
           omega (arith, total-past not x (length names) raw (All-raw names ts has) ge, total-past (λ b. b) x (length names) raw (All-raw names ts has) ge, total-past not x (length names) r.terms f.named ge, total-past (λ b. b) x (length names) r.terms f.named ge)
     ]
@@ -87,8 +86,7 @@ IsFormOf-unique names ts d r s p q =
     let balanced : Balanced r.terms s.terms = λ x.
     elim (cases_lt x (length names)) [
       | inl lt ↦
-          let get = slice_get-get_or names x [] lt in
-          omega (arith, ints, p.coefficients x _ get, q.coefficients x _ get)
+          let get = slice_get-get_or names x [] lt in omega (arith, ints, p.coefficients x _ get, q.coefficients x _ get)
       | inr ge ↦
           omega (arith, total-past not x (length names) s.terms q.named ge, total-past (λ b. b) x (length names) s.terms q.named ge, total-past not x (length names) r.terms p.named ge, total-past (λ b. b) x (length names) r.terms p.named ge)
     ] in
@@ -225,5 +223,4 @@ pub terms_push : (names : List (List ℕ)) (ts : List Entry) (i : ℕ) (d : Entr
 terms_push names ts i d out name lt get e =
     let t = get_or ts i d in
     let same = get_or_from_slice_get names t.variable name [] get in
-    let last = ap (λ n. term_named n t) (sym same) in
-    rw (take_more ts i d lt, map-append, e, last) refl
+    let last = ap (λ n. term_named n t) (sym same) in rw (take_more ts i d lt, map-append, e, last) refl

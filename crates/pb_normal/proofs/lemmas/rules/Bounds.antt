@@ -18,9 +18,7 @@ SumIsContradiction-measured f g s d m = (λ lt. (m.0, m.1, omega (arith, m.2, m.
 -- the merged list with the measured degree is the sum
 pub IsSum-measured : (f g : Form) (s d : ℕ) (rs : List Entry) (c : ℕ) → SumMeasures f g s d → IsRising 0 rs → Adds f.terms g.terms rs c → IsSum f g record { terms = rs; degree = d } × (total each rs ≡ s)
 IsSum-measured f g s d rs c m rising adds =
-    let sum = IsSum-from f g rs c rising adds in
-    let same = IsSum-unique f g _ _ m.1 sum in
-    grind (arith, sum, same, m.2, m.3)
+    let sum = IsSum-from f g rs c rising adds in let same = IsSum-unique f g _ _ m.1 sum in grind (arith, sum, same, m.2, m.3)
 
 one_side : (n x : ℕ) (ts : List Entry) → IsRising n ts → (total (plain_of x) ts ≡ 0) ⊎ (total (negated_of x) ts ≡ 0)
 one_side n x [] h = inl refl

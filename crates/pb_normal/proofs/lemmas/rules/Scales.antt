@@ -2,9 +2,8 @@
 use Rattle.pb_normal.proofs.Common.{ℕ, ◌*◌, ◌+◌, ◌/◌, ◌<◌, ◌^◌, ◌∷◌, ◌≡◌, ◌≤◌, [], arith, Bool, cond, get_or, inl, inr, List, ltb, map, min, refl}
 use Rattle.pb_normal.proofs.Common.{mul-le-mul_left, nat_tests, div-add-mod', le-div, All, filter, Entry, each, Form, Holds, IsNormal, IsRising, IsWithin, size}
 use Rattle.pb_normal.proofs.Common.{total, true_at, multiplied, Passes, saturated, with_coefficient, ◌∙◌, Err, IfOk, Ok, Result, sym, div_ceil, divided}
-use Rattle.pb_normal.proofs.lemmas.rules.Unique.{same_entry, same_form}
+use Rattle.pb_normal.proofs.lemmas.{rules.Unique.same_entry, rules.Unique.same_form, terms.Merging.total-read, terms.Totals.IsRising-from}
 use Rattle.pb_normal.proofs.lemmas.terms.Maps.{IsRising-map, total-filter-le, total-map-le, counted-le, le-div_ceil, div_ceil-le}
-use Rattle.pb_normal.proofs.lemmas.terms.{Merging.total-read, Totals.IsRising-from}
 
 -- comparing a quotient and a product
 pub past_quotient : (m n k : ℕ) → 0 < k → n / k < m → n < m * k

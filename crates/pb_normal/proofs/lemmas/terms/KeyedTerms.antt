@@ -5,10 +5,8 @@ use Rattle.pb_normal.proofs.Common.{take, nat_cmp_total, ranked, All-cons, All-h
 use Rattle.pb_normal.proofs.Common.{insert_entry, is_at, values, All, AllByRecursion, keys_of, lookup, remove_entry, values_of, option_map, option_to_list}
 use Rattle.pb_normal.proofs.Common.{unwrap_or, nat_cmp, take_read, Entry, Adds, IsAtItsKey, IsKeyed, counted, each, IsRising, plain_of, total, eqb, not}
 use Rattle.pb_normal.proofs.Common.{nat_tests, filter, of_variable, ◌∙◌, ap, append_assoc, false, Greater, IfSome, lookup_tail, nat_cmp_is, is_eq, Cancels}
-use Rattle.pb_normal.proofs.Common.{TermCancels}
-use Rattle.pb_normal.proofs.lemmas.rules.{Sums.turned, Unique.IsRising-same}
+use Rattle.pb_normal.proofs.{Common.TermCancels, lemmas.rules.Sums.turned, lemmas.rules.Unique.IsRising-same, lemmas.terms.Maps.IsRising-filter}
 use Rattle.pb_normal.proofs.lemmas.terms.Totals.{total-sum, total-prefix, total-append, Adds-apart, size-Adds, IsRising-from, IsRising-positive}
-use Rattle.pb_normal.proofs.lemmas.terms.Maps.{IsRising-filter}
 use Rattle.std.{proofs.lemmas.Map.Keys.sorted_head, proofs.lemmas.Map.Keys.sorted_tail, specs.BTreeMap.IsOrdered, specs.List.Sorted.IsStrictlySortedBy}
 
 pub All-insert : (k : ℕ) (t : Entry) (es : List (ℕ × Entry)) → IsAtItsKey (k, t) → All IsAtItsKey es → All IsAtItsKey (insert_entry nat_cmp es k t)

@@ -1,6 +1,6 @@
 use Rattle.pb_normal.proofs.Common.{arith, inl, inr}
-use Rattle.pb_normal.proofs.lemmas.terms.Merging.{Merging-left, Merging-right, Merging-combined, Merging-end, Merging-end_rising, Merging-fits, total-read}
 use Rattle.pb_normal.proofs.lemmas.terms.{Merging.positive-read, Merging.no_entry, Totals.size-Adds}
+use Rattle.pb_normal.proofs.lemmas.terms.Merging.{Merging-left, Merging-right, Merging-combined, Merging-end, Merging-end_rising, Merging-fits, total-read}
 use Rattle.pb_normal.proofs.merge.cancelled_in_lists.Goals as goal
 
 pub merge-preserved-then-l-r : goal.merge-preserved-then-l-r

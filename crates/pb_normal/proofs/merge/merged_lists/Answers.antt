@@ -1,6 +1,6 @@
+use Rattle.pb_normal.proofs.{lemmas.terms.Totals.size-Adds, merge.merged_lists.Goals.in-Some+in_ok-push-3, merge.merged_lists.Goals.in_default}
 use Rattle.pb_normal.proofs.Common.{append-nil, arith}
 use Rattle.pb_normal.proofs.lemmas.terms.Merging.{Merging-left, Merging-right, Merging-combined, Merging-end, Merging-fits, total-read, positive-read, no_entry}
-use Rattle.pb_normal.proofs.{lemmas.terms.Totals.size-Adds, merge.merged_lists.Goals.in-Some+in_ok-push-3, merge.merged_lists.Goals.in_default}
 use Rattle.pb_normal.proofs.merge.merged_lists.Goals as goal
 
 pub merge-preserved-then-x-y : goal.merge-preserved-then-x-y

@@ -1,6 +1,5 @@
 use Rattle.pb_normal.proofs.Common.{◌==◌, append-nil, arith, eq-eqb, ne_eqb, not, refl, Entry, filter_more}
-use Rattle.pb_normal.proofs.lemmas.terms.Merging.{no_entry}
-use Rattle.pb_normal.proofs.rules.list_without.Goals.{then-t-variable+in_ok-push, else-t-variable}
+use Rattle.pb_normal.proofs.{lemmas.terms.Merging.no_entry, rules.list_without.Goals.then-t-variable+in_ok-push, rules.list_without.Goals.else-t-variable}
 use Rattle.pb_normal.proofs.rules.list_without.Goals as goal
 
 pub terms-preserved : goal.terms-preserved

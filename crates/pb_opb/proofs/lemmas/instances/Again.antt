@@ -6,8 +6,7 @@ use Rattle.pb_opb.proofs.Common.{subst, sym, one_spelling, events_of, ReadsBack,
 use Rattle.pb_opb.proofs.lemmas.instances.{Counted.IsCounted, Counted.body_of, OneValue.same_value}
 use Rattle.pb_opb.proofs.lemmas.instances.Reported.{spelled-events, order_variables, order_tail, order_objective, order_constraints, order_comments, in_lines}
 use Rattle.pb_opb.proofs.lemmas.instances.Spelled.{AreMain, AreInLines, spelled, header_text, header-spelled, header-bytes, item-bytes, body-bytes, constraints-body, objective-body}
-use Rattle.pb_opb.proofs.lemmas.machine.Bodies.{instance_each, finishes}
-use Rattle.pb_opb.specs.declared.instance.Comment.{Comment}
+use Rattle.pb_opb.{proofs.lemmas.machine.Bodies.instance_each, proofs.lemmas.machine.Bodies.finishes, specs.declared.instance.Comment.Comment}
 use Rattle.std.proofs.lemmas.List.{length-map}
 
 constraints_main : (ls : List Linear) → AreMain (constraint_events ls)

@@ -88,5 +88,4 @@ module _ (limit : ℕ) where
 
   pub body_of : (n : ℕ) (items : List (Item OpbEvent)) → IsCounted limit true n items → IsBody limit n items
   body_of n items h =
-      let p = parts items true n h in
-      record { spelled = p.spelled; count = p.count; objective = p.objective; last = p.last }
+      let p = parts items true n h in record { spelled = p.spelled; count = p.count; objective = p.objective; last = p.last }

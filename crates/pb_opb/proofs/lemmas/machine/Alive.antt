@@ -68,8 +68,7 @@ module _ (limit top : ℕ) where
     -- before a word or a count, if what comes after it can be read
     count_follows : (f : Field) → IsAlive opb (at_phase (Phase.Count f 0)) → IsAlive opb (at_phase (Phase.BeforeCount f))
     count_follows f counted =
-        let s = at_phase (Phase.BeforeCount f) in
-        before opb s (at_phase (Phase.Count f 0)) 48 (ap (act s 48) (zero_counts f)) refl counted
+        let s = at_phase (Phase.BeforeCount f) in before opb s (at_phase (Phase.Count f 0)) 48 (ap (act s 48) (zero_counts f)) refl counted
 
     word_begun : (f : Field) (k : ℕ) → IsAlive opb (at_phase (Phase.BeforeCount f)) → k < length (word_of f) → IsAlive opb (at_phase (Phase.Word f k))
     word_begun f k whole h = word_further f whole (length (word_of f) - suc k) k (omega (arith, h))
@@ -81,8 +80,7 @@ module _ (limit top : ℕ) where
     constraints_counted : (n : ℕ) → IsAlive opb (at_phase (Phase.Count Constraints n))
     constraints_counted n =
         let s = at_phase (Phase.Count Constraints n) in
-        let more = owed_read s true n in
-        final opb s (between s true n) 10 (OpbEvent.Header variables n []) refl more.0 more.1
+        let more = owed_read s true n in final opb s (between s true n) 10 (OpbEvent.Header variables n []) refl more.0 more.1
 
   module _ (variables remaining : ℕ) where
     abbrev in_phase : Phase → OpbState

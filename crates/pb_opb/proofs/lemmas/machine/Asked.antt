@@ -9,9 +9,9 @@ use Rattle.pb_opb.proofs.Common.{constraint_word, IsInstance, IsTail, Option, Ac
 use Rattle.pb_opb.proofs.lemmas.machine.Bodies.{InGap, gap_given, nothing_read, instance_each, instance_only}
 use Rattle.pb_opb.proofs.lemmas.machine.Stands.{line_grown, tail_grown, idle, Gives, gives_objective, gives_constraint, given_step}
 use Rattle.pb_opb.specs.meaning.{Asking.MinLead, Asking.Asks, Reading.AsksInInstance}
-use Rattle.pb_text.specs.{meaning.Asking.AsksOnly, meaning.Reading.Reads, declared.Place.Place, declared.Stop.Stop}
-use Rattle.pb_text.proofs.lemmas.source.Unkept.{stops_in}
 use Rattle.pb_sums.proofs.lemmas.machine.Asked.{sums_asked, first_asks_nothing}
+use Rattle.pb_text.proofs.lemmas.source.Unkept.{stops_in}
+use Rattle.pb_text.specs.{meaning.Asking.AsksOnly, meaning.Reading.Reads, declared.Place.Place, declared.Stop.Stop}
 use Rattle.pb_text.proofs.lemmas.machine.Asked as asked
 use Rattle.pb_opb.proofs.lemmas.machine.EntryPrefix as entry
 use Rattle.pb_opb.proofs.lemmas.machine.HeaderPrefix as header
@@ -93,8 +93,7 @@ module _ (limit top : ℕ) where
         → (f : SumEvent) × (new : SumState) × ReadsStatement sums s.sums t f new × (e ≡ statement_of f)
     sum_reads [] s e next at r = absurd r
     sum_reads (l ∷ []) s e next at (h, n) =
-        let (f, new, k, same) = ended s next e (sums.step s.sums l.byte) (sym (given_step s q g l.byte at) ∙ h) in
-        (f, new, (k, n), same)
+        let (f, new, k, same) = ended s next e (sums.step s.sums l.byte) (sym (given_step s q g l.byte at) ∙ h) in (f, new, (k, n), same)
     sum_reads (l ∷ k ∷ t) s e next at (mid, h, o, n, r) =
         let (inner, i, same) = went s mid (sums.step s.sums l.byte) (sym (given_step s q g l.byte at) ∙ h) in
         let (f, new, j, is) = sum_reads (k ∷ t) mid e next (ap (λ x. x.phase) same) r in
@@ -137,8 +136,7 @@ module _ (limit top : ℕ) where
       by_event f ((reads_grammar White Part.Sum s.limit (c ++ l ∷ rest) f inner).0 (reads_after sums c (l ∷ rest) (objectives s.limit) s.sums inner f w r)).0
     where
       by_event : (g : SumEvent) → Spells White s.limit Part.Sum g (c ++ l ∷ rest) → Asks top (statement_of g) (bytes (a ++ c)) l.byte
-      by_event (SumEvent.Sum xs) k =
-          (a, bytes c, lead, bytes-append a c, sums_asked White Part.Sum s.limit c s.sums l.byte w h)
+      by_event (SumEvent.Sum xs) k = (a, bytes c, lead, bytes-append a c, sums_asked White Part.Sum s.limit c s.sums l.byte w h)
       by_event (SumEvent.Linear d) k = never false k.0 refl
 
   in_constraint : (s : OpbState) (inner : SumState) (p rest : List Letter) (l : Letter) (f : SumEvent) → Walks sums (linears s.limit) p s.sums → ReadsStatement sums s.sums (l ∷ rest) f inner

@@ -176,5 +176,4 @@ module _ (limit top : ℕ) where
   to_limits t e after h = absurd h
 
   pub header_only : (t : List Letter) (e : OpbEvent) (after : OpbState) → ReadsStatement opb (begin limit top) t e after → IsHeader e after t
-  header_only t e after r =
-      to_limits t e after (reported opb Prefix Reported keeps t (begin limit top) [] e after r ((refl, refl), refl))
+  header_only t e after r = to_limits t e after (reported opb Prefix Reported keeps t (begin limit top) [] e after r ((refl, refl), refl))

@@ -5,10 +5,9 @@ use Rattle.pb_opb.proofs.Common.{Go, ReadsStatement, is_blank, ◌⋅◌, Blanks
 use Rattle.pb_opb.proofs.Common.{Constraints, Variables, Phase, spell, transition, word_of, act, begin, opb, OpbState, constraint_word, IsTail, SpellsHeader}
 use Rattle.pb_opb.proofs.Common.{variable_word, Part, ◌-◌, suc, reads_grammar, Linear, SumEvent, Term, White, last, sums, SumState, Spaces0, Spells}
 use Rattle.pb_opb.proofs.Common.{SpellsLinear, SpellsSum, IsInLine, is_white, OpbEvent, Comment, Constraint, Objective, Give, linears, objectives, min_word}
-use Rattle.pb_opb.proofs.Common.{SpellsComment, SpellsObjective, Whites0}
-use Rattle.pb_opb.proofs.lemmas.machine.Stands.{stands, idle, stays_many, Keeps, line_reads, gives_objective, gives_constraint, given_reads, stays}
+use Rattle.pb_opb.proofs.{Common.SpellsComment, Common.SpellsObjective, Common.Whites0, lemmas.instances.Counted.IsEntry}
 use Rattle.pb_opb.proofs.lemmas.machine.Objectives.{spaces_white, IsDark, sum-dark, linear_first, MinPrefix, objective_parts}
-use Rattle.pb_opb.proofs.lemmas.instances.Counted.{IsEntry}
+use Rattle.pb_opb.proofs.lemmas.machine.Stands.{stands, idle, stays_many, Keeps, line_reads, gives_objective, gives_constraint, given_reads, stays}
 use Rattle.pb_text.proofs.lemmas.numbers.DigitWalks.{TakesDigits, digits_lead}
 use Rattle.std.proofs.lemmas.{Bool.Decides.nat_tests, Grind.common_steps}
 

@@ -23,8 +23,7 @@ abbrev pub IsDark : Language
 IsDark t = (c : Letter) × (u : List Letter) × (t ≡ c ∷ u) × (is_white c.byte ≡ false)
 
 dark_then : (P Q : Language) → ((t : List Letter) → P t → IsDark t) → (t : List Letter) → (P ⋅ Q) t → IsDark t
-dark_then P Q f t (a, b, e, h, k) =
-    let g : IsDark a = f a h in (g.0, g.1 ++ b, e ∙ ap (λ x. x ++ b) g.2, g.3)
+dark_then P Q f t (a, b, e, h, k) = let g : IsDark a = f a h in (g.0, g.1 ++ b, e ∙ ap (λ x. x ++ b) g.2, g.3)
 
 number-dark : (limit : ℕ) (z : ℤ) (t : List Letter) → Number limit z t → IsDark t
 number-dark limit z t h = grind (arith, digit_dark)

@@ -46,8 +46,7 @@ inner_goes inner next b e =
     (ap (λ (x : SumState). x.spaces) g.1, ap (λ (x : SumState). x.limit) g.1, midway-not-done next.work.phase (continues-midway inner next b e))
 
 inner_ends : (inner next : SumState) (b : ℕ) (e : SumEvent) → sums.step inner b ≡ End e next → (next.spaces ≡ inner.spaces) × (next.limit ≡ inner.limit)
-inner_ends inner next b e h =
-    let g = ended-last inner next b e h in (ap (λ (x : SumState). x.spaces) g, ap (λ (x : SumState). x.limit) g)
+inner_ends inner next b e h = let g = ended-last inner next b e h in (ap (λ (x : SumState). x.spaces) g, ap (λ (x : SumState). x.limit) g)
 
 -- the state if the machine of sums continues
 pub give_order : (s : OpbState) → IsInOrder s → (b : ℕ) (p : Phase) (inner : SumState) → transition s.top s.phase b ≡ Give p → sums.step s.sums b ≡ Go inner → IsState sums inner → IsInOrder (giving s p inner)

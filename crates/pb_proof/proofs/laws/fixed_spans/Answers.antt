@@ -1,5 +1,4 @@
-use Rattle.pb_proof.proofs.{Common.begin, Common.proofs}
-use Rattle.pb_proof.proofs.lemmas.machine.Exact.{reads_proofs}
+use Rattle.pb_proof.proofs.{Common.begin, Common.proofs, lemmas.machine.Exact.reads_proofs}
 use Rattle.pb_text.proofs.lemmas.text.FixedSpans as spans
 use Rattle.pb_proof.proofs.laws.fixed_spans.Goals as goal
 

@@ -1,5 +1,4 @@
-use Rattle.pb_proof.proofs.{Common.prefix_free, Common.begin, Common.proofs}
-use Rattle.pb_proof.proofs.lemmas.machine.Exact.{reads_proofs, finishes}
+use Rattle.pb_proof.proofs.{Common.prefix_free, Common.begin, Common.proofs, lemmas.machine.Exact.reads_proofs, lemmas.machine.Exact.finishes}
 use Rattle.pb_proof.proofs.laws.prefix_free.Goals as goal
 
 pub returns : goal.returns

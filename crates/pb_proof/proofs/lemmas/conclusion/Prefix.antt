@@ -11,11 +11,10 @@ use Rattle.pb_proof.proofs.Common.{ConclusionState, conclusion_value, SpellsConc
 use Rattle.pb_proof.proofs.Common.{none_word, cond_both, ends_walk, Conclusion, append_assoc, is_in_number, SpellsJoined, digits-grown, Concluding}
 use Rattle.pb_proof.proofs.Common.{word_grown, as_unmarked, begin_bound, conclusion_next as next_action, conclusion_transition as transition}
 use Rattle.pb_proof.proofs.Common.{conclusion_giving as giving, ConclusionAction as Action}
-use Rattle.pb_proof.proofs.lemmas.{Solution.solution_of_one, Solution.solution_reads}
+use Rattle.pb_proof.proofs.lemmas.{Solution.solution_of_one, Solution.solution_reads, conclusion.Steps.continues, conclusion.Steps.at}
 use Rattle.pb_proof.proofs.lemmas.line.Ends.{blank_closing, semicolon_after_blanks, line_after_blanks, further_blank, Gapped, Closing, blank_more, gapped}
 use Rattle.pb_proof.proofs.lemmas.line.Ends.{positive, gapped_some, first_blank, line_closing, blanks_begin, blanks_go_on}
 use Rattle.pb_proof.specs.{meaning.Lines.Minus}
-use Rattle.pb_proof.proofs.lemmas.conclusion.Steps.{continues, at}
 
 -- What the machine has read in each of its states.
 

@@ -9,8 +9,7 @@ use Rattle.pb_proof.proofs.Common.{Showing, between, word_of, SpellsId, Go, conc
 use Rattle.pb_proof.proofs.Common.{conclusion_value, Infinite, after_id, nat_tests, is_digit, Language, unmarked, inf_word, Conclusion, append_assoc}
 use Rattle.pb_proof.proofs.Common.{Concluding, first_word, append-nil, walks_then, digit_byte, conclusion_next as next_action}
 use Rattle.pb_proof.proofs.Common.{conclusion_transition as transition, conclusion_giving as giving, ConclusionAction as Action}
-use Rattle.pb_proof.proofs.lemmas.{Solution.solution_of_one}
-use Rattle.pb_proof.proofs.lemmas.line.Ends.{TakesBlanks, closing_feeds, MayEnd, not_zero}
+use Rattle.pb_proof.proofs.lemmas.{Solution.solution_of_one, line.Ends.TakesBlanks, line.Ends.closing_feeds, line.Ends.MayEnd, line.Ends.not_zero}
 use Rattle.pb_proof.specs.{engine.line.ConclusionState.Holds}
 
 -- What a byte preserves, and how the machine walks through the parts of a conclusion.

@@ -12,15 +12,15 @@ use Rattle.pb_proof.proofs.Common.{unmarked, inf_word, none_word, AsksShown, Con
 use Rattle.pb_proof.proofs.Common.{solution_last, LiteralsShown, Concluding, reads_after, prefixes_of, conclusion_transition as transition}
 use Rattle.pb_proof.proofs.Common.{conclusion_giving as giving, ConclusionAction as Action}
 use Rattle.pb_proof.proofs.lemmas.{Solution.solution_of_one, Solution.solution_reads, line.Asks.solution_asked}
-use Rattle.pb_proof.proofs.lemmas.line.Ends.{TakesBlanks, reads_exactly, line_reads, nil_last, blanks1_lead, blanks0_lead, after_blanks}
-use Rattle.pb_proof.specs.{engine.line.ConclusionState.Holds, engine.line.Conclusion.is_done}
 use Rattle.pb_proof.proofs.lemmas.Carried.{Nests, reads_in, reads_out}
-use Rattle.std.proofs.Math.Pow.{pow_mono}
+use Rattle.pb_proof.proofs.lemmas.conclusion.Prefix.{Body, prefix, Reported, Known, keeps}
 use Rattle.pb_proof.proofs.lemmas.conclusion.Steps.{OnAction, on_transition, idle_order, continues, ends, give_phase, at, Carries, carries_then, Is}
 use Rattle.pb_proof.proofs.lemmas.conclusion.Steps.{leads_carry, word_left, word_leads, Follows, follows_blanks, after_blanks_of, may_end, id_steps}
 use Rattle.pb_proof.proofs.lemmas.conclusion.Steps.{id_follows, Opens, before_opens, spaced_opens, signed_step, infinity_left, infinity_leads, bound_carries}
 use Rattle.pb_proof.proofs.lemmas.conclusion.Steps.{id_step, first_id_step, signed_id_step, AtId, id_carries}
-use Rattle.pb_proof.proofs.lemmas.conclusion.Prefix.{Body, prefix, Reported, Known, keeps}
+use Rattle.pb_proof.proofs.lemmas.line.Ends.{TakesBlanks, reads_exactly, line_reads, nil_last, blanks1_lead, blanks0_lead, after_blanks}
+use Rattle.pb_proof.specs.{engine.line.ConclusionState.Holds, engine.line.Conclusion.is_done}
+use Rattle.std.proofs.Math.Pow.{pow_mono}
 
 -- The machine reads each conclusion.
 

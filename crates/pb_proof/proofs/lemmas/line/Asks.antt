@@ -28,8 +28,7 @@ digits_end n t (d, ds, h, e, v) =
 
 -- after digits, at a byte that is not a digit
 pub number_end : (P : Language) (n : ℕ) (t : List Letter) (b : ℕ) → (P ⋅ DigitsOf n) t → is_digit b ≡ false → EndsNumber (bytes t) b
-number_end P n t b (a, c, e, h, k) dark =
-    let (d, f, g) = digits_end n c k in (d, joined_end a c t (d ∷ []) e f, g, dark)
+number_end P n t b (a, c, e, h, k) dark = let (d, f, g) = digits_end n c k in (d, joined_end a c t (d ∷ []) e f, g, dark)
 
 name_ends : (negated : Bool) (bs : List ℕ) → EndsIn (literal_bytes negated bs) bs
 name_ends true bs = (126 ∷ [], refl)

@@ -5,10 +5,10 @@ use Rattle.pb_proof.proofs.Common.{SpellsRest, conclusion_automaton, conclusion_
 use Rattle.pb_proof.proofs.Common.{first_is_state, ReadsStatement, formula_first, solution_first, solution_last, line_automaton, pol_automaton, rup_automaton}
 use Rattle.pb_proof.proofs.lemmas.{Carried.Carries, Carried.reads_out, Delete.delete_of_one, Delete.delete_reads, Formula.formula_reads, Formula.formula_of_one}
 use Rattle.pb_proof.proofs.lemmas.{Carried.reads_in, Carried.state_in, Carried.begins_in, Rup.rup_is_state, Rup.rup_begins, Rup.rup_reads}
-use Rattle.pb_proof.proofs.lemmas.pol.Theorems.{pol_reads, of_one, pol_is_state, pol_first_in_order}
 use Rattle.pb_proof.proofs.lemmas.{Delete.delete_is_state, Solution.solution_of_one, Solution.solution_reads, Formula.formula_is_state}
 use Rattle.pb_proof.proofs.lemmas.{Solution.solution_is_state}
 use Rattle.pb_proof.proofs.lemmas.conclusion.Theorems.{conclusion_of_one, conclusion_reads, conclusion_is_state}
+use Rattle.pb_proof.proofs.lemmas.pol.Theorems.{pol_reads, of_one, pol_is_state, pol_first_in_order}
 use Rattle.pb_proof.specs.declared.machine.phase.LineKind.TheVariants.{Formula, Pol, Rup, Soli, Solx, Delete, Conclusion}
 use Rattle.pb_text.proofs.lemmas.machine.Living.{BeginsAtOnce}
 

@@ -4,15 +4,12 @@ use Rattle.pb_proof.proofs.Common.{◌≡◌, conclusion_first, proof_transition
 use Rattle.pb_proof.proofs.Common.{Go, Stage, begin, false, subst, arith, Walks, never, Letter, LineKind, proofs, IsTrue, MayAsk, Statement, pol_first, IsProof}
 use Rattle.pb_proof.proofs.Common.{rup_first, AsksAfter, FirstWord, Automaton, false≢true, line_first, SpellsRest, ProofState, LineMachine, stage_after}
 use Rattle.pb_proof.proofs.Common.{Opening, prefixes_of, reads_after, bytes-append, ReadsStatement, formula_first, delete_first, solution_first, line_automaton}
-use Rattle.pb_text.specs.meaning.Asking.{AsksOnly}
-use Rattle.pb_proof.proofs.lemmas.{Carried.Carries, Carried.walks_out, Carried.reads_out, line.Laws.line_only}
-use Rattle.pb_proof.proofs.lemmas.pol.Sound.{pol_asked}
-use Rattle.pb_proof.proofs.lemmas.conclusion.Theorems.{conclusion_asked}
+use Rattle.pb_proof.proofs.lemmas.{Carried.Carries, Carried.walks_out, Carried.reads_out, line.Laws.line_only, conclusion.Theorems.conclusion_asked}
 use Rattle.pb_proof.proofs.lemmas.line.Asks.{delete_asked, solution_asked, rup_asked}
 use Rattle.pb_proof.proofs.lemmas.line.Laws.{formula_carries, pol_carries, rup_carries, soli_carries, solx_carries, delete_carries, conclusion_carries}
-use Rattle.pb_proof.proofs.lemmas.machine.Complete.{line_nests, is_giving}
-use Rattle.pb_proof.proofs.lemmas.machine.Exact.{reads_proofs, comment_reads}
-use Rattle.pb_proof.specs.engine.machine.State.{asks}
+use Rattle.pb_proof.proofs.lemmas.machine.{Complete.line_nests, Complete.is_giving, Exact.reads_proofs, Exact.comment_reads}
+use Rattle.pb_proof.{proofs.lemmas.pol.Sound.pol_asked, specs.engine.machine.State.asks}
+use Rattle.pb_text.specs.meaning.Asking.{AsksOnly}
 use Rattle.pb_text.proofs.lemmas.machine.Asked as asked
 use Rattle.pb_proof.specs.engine.machine.State as state
 use Rattle.pb_proof.proofs.lemmas.machine.Sound as sound

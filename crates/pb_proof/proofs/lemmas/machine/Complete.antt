@@ -1,4 +1,5 @@
 -- The proof machine reads each statement from its stage.
+use Rattle.pb_proof.{proofs.lemmas.Carried.Nests, proofs.lemmas.Carried.reads_in}
 use Rattle.pb_proof.proofs.Common.{ℕ, and_parts, ends_walk, Statement, nat_tests, ◌&&◌, walks_more, line_first, SpellsRest, next_stage}
 use Rattle.pb_proof.proofs.Common.{ProofState, append-nil, same_first, walks_then, ◌++◌, stage_of, or-false, not-true, unmarked, ◌+◌, ◌-◌, ◌∙◌, ◌∷◌, ◌≡◌}
 use Rattle.pb_proof.proofs.Common.{refl, Some, sym, true, idle, ◌||◌, cond, Byte, Each, Feed, [], eqb-true, is_blank, Language, LineKind, Complete, sol_word}
@@ -8,9 +9,7 @@ use Rattle.pb_proof.proofs.Common.{length, Keyword, Closing, Formula, Opening, L
 use Rattle.pb_proof.proofs.Common.{Steps, meets, plain, ReadsStatement, SpellsStatement, proof_spell as spell, ProofPhase as Phase, get_or-append_seam}
 use Rattle.pb_proof.proofs.Common.{proof_transition as transition, ProofAction as Action}
 use Rattle.pb_proof.proofs.lemmas.Spaced.{Spaced, KeywordWords, One, chooses, keyword_each}
-use Rattle.pb_proof.proofs.lemmas.line.Ends.{Feeds, feed_reads, MayEnd, line_reads}
-use Rattle.pb_proof.proofs.lemmas.line.Laws.{line_begins, line_fresh, line_each}
-use Rattle.pb_proof.{proofs.lemmas.Carried.Nests, proofs.lemmas.Carried.reads_in}
+use Rattle.pb_proof.proofs.lemmas.line.{Ends.Feeds, Ends.feed_reads, Ends.MayEnd, Ends.line_reads, Laws.line_begins, Laws.line_fresh, Laws.line_each}
 use Rattle.pb_proof.proofs.lemmas.machine.Sound.{stage_keyword}
 
 -- The machine reads each statement from its stage.

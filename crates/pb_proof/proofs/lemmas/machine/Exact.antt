@@ -1,4 +1,5 @@
 -- What the proof machine accepts from a stage is the statements in order.
+use Rattle.pb_proof.{specs.contract.Formats.OneProof}
 use Rattle.pb_proof.proofs.Common.{ℕ, Statement, go_or_end, Conclusion, AreSpelled, ◌&&◌, ProofState, append-nil, white_each, in_comment, ◌++◌, stage_of}
 use Rattle.pb_proof.proofs.Common.{SkipsGap, is_white, IsStaged, All-cons, All-head, All-tail, ◌∙◌, ◌∷◌, ◌≡◌, refl, sym, true, Next, idle, ◌||◌, cond, Item}
 use Rattle.pb_proof.proofs.Common.{[], eqb-true, Complete, one_state, events_of, append_assoc, refuse_or_end, refuse_or_go, AcceptsItems, statements_of, ap}
@@ -6,10 +7,8 @@ use Rattle.pb_proof.proofs.Common.{End, Go, act, not, at, ◌↔◌, All, F, ari
 use Rattle.pb_proof.proofs.Common.{nat_eq, Refuse, Letter, proofs, IsTrue, Header, Output, IsProof, IsStep, length, Closing, Formula, Opening, or-true}
 use Rattle.pb_proof.proofs.Common.{IsBlank, Nothing, HasGaps, All-nil, Conclude, List, subst, never, Stage, Steps, enter, IsGap, GapAt, Proof, begin}
 use Rattle.pb_proof.proofs.Common.{ReadsStatement, SpellsStatement, ProofPhase as Phase, ProofAction as Action, proof_within as is_within}
-use Rattle.pb_proof.{specs.contract.Formats.OneProof}
+use Rattle.pb_proof.proofs.lemmas.machine.{Complete.spelled, Complete.statement_each, Sound.first, Sound.statement_only}
 use Rattle.pb_text.proofs.lemmas.text.Blanks.{blank_passes, in_comment-snoc, IsBlank-snoc, passes_at}
-use Rattle.pb_proof.proofs.lemmas.machine.Sound.{first, statement_only}
-use Rattle.pb_proof.proofs.lemmas.machine.Complete.{spelled, statement_each}
 
 -- What the machine accepts from a stage is the statements in order.
 
@@ -187,8 +186,7 @@ IsOf es = (v : Proof) × All IsStep v.steps × (es ≡ statements_of v)
 at_formula : (es : List Statement) → InOrder Formula es → IsOf (Header ∷ es)
 at_formula [] h = cc
 at_formula (F n ∷ es) h =
-    let (steps, c, k, e) = at_steps es h.1 in
-    (record { count = n; steps = steps; conclusion = c }, k, ap (λ x. Header ∷ F n ∷ x) e)
+    let (steps, c, k, e) = at_steps es h.1 in (record { count = n; steps = steps; conclusion = c }, k, ap (λ x. Header ∷ F n ∷ x) e)
 at_formula (_ ∷ es) h = cc
 
 at_opening : (es : List Statement) → InOrder Opening es → IsOf es

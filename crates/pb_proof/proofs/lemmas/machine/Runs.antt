@@ -1,6 +1,5 @@
 -- Runs of the machine, and what is taken in one call.
-use Rattle.pb_proof.proofs.Common.{◌==◌}
-use Rattle.pb_proof.proofs.Common.{ℕ, LineKind, words_of, runs_more, rup_first, IsInOrder, sum_first, next_action, line_first, text_after, length-drop}
+use Rattle.pb_proof.proofs.Common.{◌==◌, ℕ, LineKind, words_of, runs_more, rup_first, IsInOrder, sum_first, next_action, line_first, text_after, length-drop}
 use Rattle.pb_proof.proofs.Common.{take-length, pol_first, IsClosing, Statement, drop-cons, pointwise, LacksRest, take_more, ◌≤◌, ProofPhase as Phase}
 use Rattle.pb_proof.proofs.Common.{proof_over as over, ProofAction as Action, take-append-drop, Go, ◌≡◌, suc, sym, act, at, ◌-◌, [], ap, ap₂, idle, Some}
 use Rattle.pb_proof.proofs.Common.{Next, ◌+◌, ◌<◌, length, giving, proofs, rup_act, PolWord, IsState, Keyword, ◌∙◌, Holds, never, Blank, arith}
@@ -8,12 +7,9 @@ use Rattle.pb_proof.proofs.Common.{Option, Linear, IsRest, Inside, get_or, ◌�
 use Rattle.pb_proof.proofs.Common.{subst, Stage, LineMachine, append_assoc, prefix_parts, IsExpression, IsRupInOrder, bytes_decides}
 use Rattle.pb_proof.proofs.Common.{rup_automaton, length-append, line_automaton, length-take-le, rup_transition, first_is_state, TakesStatement, ProofState}
 use Rattle.pb_proof.proofs.Common.{ProofPhaseFits as PhaseFits, is_blank, SumEvent, SumState, rup_over, RupState, RupPhase, all_rest, sum_last, PolState}
-use Rattle.pb_proof.proofs.lemmas.{Carried.runs_in, Rup.rup_is_state, Rup.tail_order}
-use Rattle.pb_proof.proofs.lemmas.machine.Complete.{spelt}
-use Rattle.pb_proof.proofs.lemmas.line.Laws.{pol_carries, rup_carries}
+use Rattle.pb_proof.proofs.lemmas.{Carried.runs_in, Rup.rup_is_state, Rup.tail_order, line.Laws.pol_carries, line.Laws.rup_carries, machine.Complete.spelt}
 use Rattle.pb_proof.proofs.lemmas.machine.Complete.{step_on, step_last, meets_any}
-use Rattle.pb_proof.specs.engine.machine.{Whole.LeadsToPol, Whole.LeadsToRup, Whole.rup_read, Whole.with_rup}
-use Rattle.pb_proof.specs.engine.line.Carried.{carried}
+use Rattle.pb_proof.specs.engine.{line.Carried.carried, machine.Whole.LeadsToPol, machine.Whole.LeadsToRup, machine.Whole.rup_read, machine.Whole.with_rup}
 use Rattle.pb_sums.proofs.lemmas.machine.WholeTexts.{linear_ends, last_is_state, before_semicolon, linear_some}
 use Rattle.pb_sums.specs.engine.TermParts.{LeadsToLinear}
 use Rattle.pb_proof.proofs.lemmas.Rup as rup_states
@@ -62,8 +58,7 @@ within_rup o old h (b ∷ text) new (mid, continues, state, rest) =
     let s : RupState = record { phase = RupPhase.Inside; sums = old; linear = o } in
     let next : RupState = record { phase = RupPhase.Inside; sums = mid; linear = o } in
     let k = rup_states.give_order s h b mid refl continues state in
-    let (runs, order) = within_rup o mid k text new rest in
-    ((next, ap (rup_over s) continues, rup_states.rup_is_state next k, runs), order)
+    let (runs, order) = within_rup o mid k text new rest in ((next, ap (rup_over s) continues, rup_states.rup_is_state next k, runs), order)
 
 pub rup_runs_given : (s : RupState) → IsRupInOrder s → s.phase ≡ RupPhase.Inside → (text : List ℕ) (new : SumState) → Runs sums s.sums text new
     → Runs rup_automaton s text (record s { sums = new }) × IsRupInOrder (record s { sums = new })

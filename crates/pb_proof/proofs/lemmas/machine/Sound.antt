@@ -9,8 +9,7 @@ use Rattle.pb_proof.proofs.Common.{enter, meets, take-suc, ReadsStatement, Spell
 use Rattle.pb_proof.proofs.Common.{conclusion_word, proof_between as between, proof_transition as transition, ProofAction as Action}
 use Rattle.pb_proof.proofs.lemmas.Spaced.{Spaced, one_met, spaced_more, spaced_blank, KeywordWords, keyword_only, some_byte}
 use Rattle.pb_proof.proofs.lemmas.line.Ends.{Gapped, blank_more, gapped, Closing as Closed, semicolon_after_blanks, blank_closing, line_after_blanks}
-use Rattle.pb_proof.proofs.lemmas.line.Ends.{line_closing, feed_after_blanks}
-use Rattle.pb_proof.proofs.lemmas.line.Laws.{line_only, line_begins, line_fresh}
+use Rattle.pb_proof.proofs.lemmas.line.{Ends.line_closing, Ends.feed_after_blanks, Laws.line_only, Laws.line_begins, Laws.line_fresh}
 
 -- What the machine reads from a stage is a statement of that stage.
 
@@ -181,8 +180,7 @@ module _ (limit top : ℕ) (here : Stage) where
         let t : (Before r ⋅ SpellsRest limit top r e) (p ++ l ∷ []) =
         grown (Before r) (λ q. Walks line_automaton (line_first limit top r) q i) (SpellsRest limit top r e) p l
         (λ q g. line_only limit top r (q ++ l ∷ []) e last (ends_walk line_automaton q l (line_first limit top r) i last e g f n)) h in
-        let z = rest_statement r e (p ++ l ∷ []) t in
-        (z.0 ∙ at, z.1, same_idle s.limit s.top (next_stage r) (stage_after e) k.0 k.1 z.2)
+        let z = rest_statement r e (p ++ l ∷ []) t in (z.0 ∙ at, z.1, same_idle s.limit s.top (next_stage r) (stage_after e) k.0 k.1 z.2)
     given r at i h Refuse e = tt
 
     sound : (q : Phase) → prefix_in s q p → After (transition q l.byte)

@@ -9,9 +9,8 @@ use Rattle.pb_proof.proofs.Common.{Stage, Steps, rules, LineMachine, append_asso
 use Rattle.pb_proof.proofs.Common.{length-take-le, ProofState, ProofPhaseFits as PhaseFits, proof_between as between, proof_transition as transition}
 use Rattle.pb_proof.proofs.Common.{proof_within as is_within, Closing, Formula, Opening, HasGaps, is_blank}
 use Rattle.pb_proof.proofs.lemmas.{Carried.reads_in, line.Ends.fed, line.Ends.ended}
-use Rattle.pb_proof.proofs.lemmas.machine.Complete.{spelt}
-use Rattle.pb_proof.proofs.lemmas.line.Laws.{line_begins, line_fresh, line_first_state}
 use Rattle.pb_proof.proofs.lemmas.Spaced.{Spaced, chooses, KeywordWords, keyword_only, some_byte}
+use Rattle.pb_proof.proofs.lemmas.{line.Laws.line_begins, line.Laws.line_fresh, line.Laws.line_first_state, machine.Complete.spelt}
 use Rattle.pb_proof.proofs.lemmas.machine.Complete.{header_end, output_end, step_on, step_last, line_nests, is_giving, meets_any}
 use Rattle.pb_proof.proofs.lemmas.machine.Exact.{no_gap, finishes, ordered_each}
 use Rattle.pb_proof.specs.engine.machine.{State.asks, State.is_done}
@@ -259,9 +258,7 @@ module _ (s : ProofState) (h : IsInOrder s) (b : ℕ) where
   at_order p o f i e = record { limit = h.limit; top = h.top; some = h.some; fits = f; holds = grind (arith, p, o, e) }
 
   pub to_order : (p : Phase) → transition s.phase b ≡ Action.To p → IsInOrder (record s { phase = p })
-  to_order p e =
-      let k = known (Action.To p) e in
-      at_order p k.1.plain k.1.fits s.line (plain_holds s s.phase k.0 h.holds)
+  to_order p e = let k = known (Action.To p) e in at_order p k.1.plain k.1.fits s.line (plain_holds s s.phase k.0 h.holds)
 
   pub begin_order : (r : LineKind) → IsInOrder (giving s.limit s.top r (line_first s.limit s.top r))
   begin_order r = record {

@@ -84,8 +84,7 @@ built_words _ ts = refl
 
 pub words_report : WordsReport
 words_report t u e =
-    let same : t ∷ [] ≡ u ∷ [] = sym (built_words t []) ∙ ap (λ (ws : List PolWord). built ws []) e ∙ built_words u [] in
-    cc
+    let same : t ∷ [] ≡ u ∷ [] = sym (built_words t []) ∙ ap (λ (ws : List PolWord). built ws []) e ∙ built_words u [] in cc
 
 -- a word leads on if and only if it finds the expressions that it takes
 word_leaves : (d : ℕ) (w : PolWord) (ws : List PolWord) → Counts d (w ∷ ws) ↔ ((takes w ≤ d) × Counts (d + 1 - takes w) ws)

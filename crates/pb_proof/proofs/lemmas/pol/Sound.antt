@@ -1,4 +1,6 @@
 -- What the `pol` machine has read in each of its states, and where it may allocate.
+use Rattle.pb_proof.{proofs.lemmas.pol.Postfix.Counts, proofs.lemmas.pol.Postfix.counts_postfix, specs.engine.line.Pol.adds}
+use Rattle.pb_proof.proofs.{Common.On, lemmas.line.Asks.number_end, lemmas.line.Asks.literal_end, lemmas.Solution.first_grown, lemmas.Solution.more_grown}
 use Rattle.pb_proof.proofs.Common.{ℕ, next_large, transition, append-nil, false≢true, SpellsWord, digits-one, may_be_name, prefixes_of, LiteralOf, cond_both}
 use Rattle.pb_proof.proofs.Common.{and_parts, nat_tests, next_word, semicolon, pol_first, ◌++◌, is_letter, SpellsWords, as_unmarked, digits-grown}
 use Rattle.pb_proof.proofs.Common.{is_name_byte, is_name_kind, ends_nothing, name_further, List, Keeps, grown, plain, blank, Walks, bytes, wants, arith}
@@ -7,9 +9,7 @@ use Rattle.pb_proof.proofs.Common.{◌&&◌, Bool, cond, None, nat_le, Language,
 use Rattle.pb_proof.proofs.Common.{AsksWord, FirstOf, Blanks1, inside, IsTrue, Action, turned, ◌<◌, PolWord, Blanks0, changed, counted, kind_of, role_of}
 use Rattle.pb_proof.proofs.Common.{LineEnd, at_name, ◌-◌, is_letter_kind, pol_automaton, next as next_part, pol_act as act, pol_next as next, first_further}
 use Rattle.pb_proof.proofs.Common.{◌∙◌, ◌∷◌, ◌≡◌, ◌≤◌, pos, ◌⋅◌, Some, Next, Kind, feed, late, read, star, work, [], ap, inr, inl}
-use Rattle.pb_proof.proofs.{Common.On, lemmas.line.Asks.number_end, lemmas.line.Asks.literal_end, lemmas.Solution.first_grown, lemmas.Solution.more_grown}
 use Rattle.pb_proof.proofs.lemmas.line.Ends.{semicolon_after_blanks, blank_closing, line_after_blanks, line_closing}
-use Rattle.pb_proof.{proofs.lemmas.pol.Postfix.Counts, proofs.lemmas.pol.Postfix.counts_postfix, specs.engine.line.Pol.adds}
 use Rattle.pb_proof.proofs.lemmas.pol.Moves.{Says, kind_says, letter_kind, name_kind}
 use Rattle.pb_proof.specs.engine.line.Pol as pol
 use Rattle.pb_proof.proofs.lemmas.pol.Prefixes.{Settled, settle, Holds, released, whole, takes_number, IsRole, Before, prefix, Prefix, Whole, one}
@@ -42,9 +42,7 @@ module _ (limit top : ℕ) (ws : List PolWord) (d : ℕ) (name : List ℕ) (l : 
   semicolons (Some (c, h)) e k = search (rules, test, eqb-true, semicolon_after_blanks, settled)
 
   line : (vs : List PolWord) (e : ℕ) → e ≡ 1 → (Settled limit top vs e ⋅ LineEnd) (p ++ l ∷ []) → SpellsWords limit top vs (p ++ l ∷ [])
-  line vs e f (a, b, g, (m, o), k) =
-      let c : Counts 0 (vs ++ []) = m [] f in
-      (counts_postfix vs (rw append-nil at c), (a, b, g, o, k))
+  line vs e f (a, b, g, (m, o), k) = let c : Counts 0 (vs ++ []) = m [] f in (counts_postfix vs (rw append-nil at c), (a, b, g, o, k))
 
   feeds : (c : pol.Closing) → l.byte ≡ 10 → Closed limit top ws d name c p → OnAction (feed d c)
   feeds None e k = tt
@@ -121,8 +119,7 @@ module _ (limit top : ℕ) (ws : List PolWord) (d : ℕ) (name : List ℕ) (l : 
       (r, next_part (Before limit top (role_of d h k) ws d ⋅ Blanks1) (FirstOf false (l.byte ∷ [])) p l u (first_of k e j f)))
 
   nexts_word : (h : Held) → IsFree h → (k : Kind) → Says k l.byte → (Holds limit top h ws d ⋅ Blanks1) p → OnAction (next_word limit top d h k)
-  nexts_word h i (Kind.Digit k) e t =
-      let u = freed h i t in grind (arith, test, nat_le, leb-true, next_part, digits-one, as_digit)
+  nexts_word h i (Kind.Digit k) e t = let u = freed h i t in grind (arith, test, nat_le, leb-true, next_part, digits-one, as_digit)
   nexts_word h i Kind.Minus e t = λ g f. next_part (Settled limit top ws d ⋅ Blanks1) (Byte 45) p l (freed h i t) (one l 45 e f)
   nexts_word h i Kind.Tilde e t = λ g f. next_part (Settled limit top ws d ⋅ Blanks1) (Byte 126) p l (freed h i t) (one l 126 e f)
   nexts_word h i Kind.Plus e t = test (nat_le 2 d) (Action.Turn Change.Sum Phase.After) (λ j g f.

@@ -7,16 +7,11 @@ use Rattle.pb_proof.proofs.Common.{subst, refuse_or_end, IsPolInOrder, pol_autom
 use Rattle.pb_proof.proofs.Common.{length, Refuse, admits, Admits, Letter, IsTrue, Pushes, Action, Change, kind_of, IsState, changed, counted, runs_on, IsOfOne}
 use Rattle.pb_proof.proofs.Common.{append-nil, text_after, min-le_left, transition, SpellsWords, word_units, value_from, held_number, IsExpression, bytes-plain}
 use Rattle.pb_proof.proofs.Common.{drop, List, refl, true, Work, over, Push, Kind, work, take, ◌&&◌, ◌++◌, Bool, cond, Some, Walks, Runs, close, blank, plain}
-use Rattle.pb_proof.proofs.lemmas.{Carried.went}
-use Rattle.pb_proof.proofs.lemmas.pol.Sound.{keeps}
-use Rattle.pb_proof.proofs.lemmas.pol.Prefixes.{Prefix, Whole}
-use Rattle.pb_proof.proofs.lemmas.pol.Moves.{bound_of_id, potential, transition-sane, units_append, free_number}
-use Rattle.pb_proof.proofs.lemmas.pol.Walks.{alive, reads_each, unsigned_walk, negated_walk}
+use Rattle.pb_proof.proofs.lemmas.{Carried.went, line.Ends.reads_exactly, line.Ends.digits_text, line.Ends.text_run, line.Ends.not_zero}
+use Rattle.pb_proof.proofs.lemmas.pol.Moves.{bound_of_id, potential, transition-sane, units_append, free_number, stops, state, continues, free_name, IsNext}
+use Rattle.pb_proof.proofs.lemmas.pol.{Prefixes.Prefix, Prefixes.Whole, Sound.keeps, Walks.alive, Walks.reads_each, Walks.unsigned_walk, Walks.negated_walk}
+use Rattle.pb_proof.{proofs.lemmas.pol.Walks.name_walk, specs.declared.line.pol.phase.Action.TheVariants.End as EndLine}
 use Rattle.pb_proof.specs.engine.line.{Pol.step, PolWhole.IsWord, PolFast.held_operator, PolFast.operator, PolFast.held_before}
-use Rattle.pb_proof.proofs.lemmas.line.Ends.{reads_exactly, digits_text, text_run, not_zero}
-use Rattle.pb_proof.proofs.lemmas.pol.Moves.{stops, state, continues, free_name, IsNext}
-use Rattle.pb_proof.proofs.lemmas.pol.Walks.{name_walk}
-use Rattle.pb_proof.specs.declared.line.pol.phase.Action.TheVariants.{End as EndLine}
 
 -- Where the automaton continues, and where it ends.
 pub next_state : (s next : PolState) (b : ℕ) → pol_automaton.step s b ≡ Go next → (v : Work) × (next ≡ pol_with s v) × IsNext s.work v

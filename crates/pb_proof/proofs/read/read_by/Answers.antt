@@ -1,5 +1,4 @@
-use Rattle.pb_proof.proofs.{Common.AcceptsItems, Common.MayAsk, Common.largest, Common.top_of, Common.arith}
-use Rattle.pb_proof.proofs.lemmas.Proofs.{is_read, stops_in}
+use Rattle.pb_proof.proofs.{Common.AcceptsItems, Common.MayAsk, Common.largest, Common.top_of, Common.arith, lemmas.Proofs.is_read, lemmas.Proofs.stops_in}
 use Rattle.pb_proof.proofs.read.read_by.Goals as goal
 
 pub returns-in-Ok-clause-reads : goal.returns-in-Ok-clause-reads

@@ -1,5 +1,4 @@
-use Rattle.pb_proof.proofs.{Common.refl, Common.part_broke, Common.part_then}
-use Rattle.pb_proof.proofs.lemmas.Texts.{proof_parts}
+use Rattle.pb_proof.proofs.{Common.refl, Common.part_broke, Common.part_then, lemmas.Texts.proof_parts}
 use Rattle.pb_proof.proofs.write.write_proof.Goals as goal
 
 pub returns-in_err-write_head : goal.returns-in_err-write_head

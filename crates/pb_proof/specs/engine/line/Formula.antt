@@ -1,6 +1,6 @@
 -- The machine for the rest of a line after `f`: a count or none, through the line feed.
-use Rattle.pb_proof.specs.declared.line.{byte_kind.NumberByte.NumberByte, formula.phase.FormulaAction.FormulaAction}
 use Rattle.pb_proof.specs.{declared.line.formula.phase.FormulaPhase.FormulaPhase, engine.line.ByteKind.number_byte}
+use Rattle.pb_proof.specs.declared.line.{byte_kind.NumberByte.NumberByte, formula.phase.FormulaAction.FormulaAction}
 use Rattle.pb_text.specs.contract.Automaton.{Automaton, Next, Go, End, Refuse}
 use Rattle.std.specs.Prelude.{◌≡◌, ℕ, ◌+◌, ◌*◌, ◌^◌, ◌≤◌, ◌<◌, Bool, true, false, cond, nat_le, Option, Some, None}
 

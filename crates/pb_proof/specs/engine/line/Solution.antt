@@ -1,6 +1,6 @@
 -- The machine for literals after a word, or joined to what comes before them, through the line feed.
-use Rattle.pb_proof.specs.declared.line.{byte_kind.NameByte.NameByte, solution.phase.SolutionAction.SolutionAction, solution.phase.SolutionPhase.SolutionPhase}
 use Rattle.pb_proof.specs.{engine.line.ByteKind.name_byte, meaning.Lines.LineEnd, meaning.Lines.Listed}
+use Rattle.pb_proof.specs.declared.line.{byte_kind.NameByte.NameByte, solution.phase.SolutionAction.SolutionAction, solution.phase.SolutionPhase.SolutionPhase}
 use Rattle.pb_sums.specs.{declared.Literal.Literal, meaning.Sums.SpellsLiteral}
 use Rattle.pb_text.specs.contract.Automaton.{Automaton, Next, Go, End, Refuse}
 use Rattle.pb_text.specs.meaning.Languages.{Language, ◌⋅◌, Blanks0}

@@ -1,6 +1,5 @@
 use Rattle.pb_sums.proofs.Common.{ℕ, ◌++◌, ◌∷◌, [], arith, drop, length, length-drop, length-take, List, subst, sym, take, take-append-drop, Each, prefix_parts}
-use Rattle.std.proofs.Math.Seq.{take-length}
-use Rattle.std.specs.Prelude.{◌-◌, ◌≢◌}
+use Rattle.std.{proofs.Math.Seq.take-length, specs.Prelude.◌-◌, specs.Prelude.◌≢◌}
 use Rattle.pb_sums.proofs.capacity.capacity_for.Goals as goal
 
 -- two texts with no `;`

@@ -1,8 +1,7 @@
 -- What is stored grows by at most one unit per byte. Offered to other crates.
 use Rattle.pb_sums.proofs.Common.{ℕ, ◌++◌, ◌+◌, ◌-◌, ◌<◌, ◌^◌, ◌∙◌, ◌∷◌, ◌≡◌, ◌≤◌, [], ap, arith, get_or, length, length-append, List, min, sym, take}
 use Rattle.pb_sums.proofs.Common.{take_more, end_or_go, one_state, refuse_or_go, Go, Term, Action, Kind, Phase, Part, Spaces, act, flushed, transition, Work}
-use Rattle.pb_sums.proofs.Common.{all_units, in_hand, ready, units}
-use Rattle.pb_sums.proofs.lemmas.machine.Flags.{IsSane, transition-sane}
+use Rattle.pb_sums.proofs.{Common.all_units, Common.in_hand, Common.ready, Common.units, lemmas.machine.Flags.IsSane, lemmas.machine.Flags.transition-sane}
 
 pub units-append : (xs : List Term) (x : Term) → units (xs ++ x ∷ []) ≡ units xs + (1 + length x.literal.name)
 units-append [] x = omega arith

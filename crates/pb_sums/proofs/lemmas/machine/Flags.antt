@@ -88,5 +88,4 @@ module _ (want : Part) (limit : ℕ) where
   ended s w w' v c e =
       let f : (kind s c ≡ Semicolon) × (w' ≡ finished) =
       end-sane w.phase (kind s c) (flushed w.phase w.terms w.name) w.terms w.name (transition want limit w.phase (kind s c)) v w' (transition-sane w.phase (kind s c)) e in
-      let m : c ≡ unmarked 59 = subst (λ k. Means s k c) f.0 (kind-means s c) in
-      (ap (λ x. x.numeral) m, f.1)
+      let m : c ≡ unmarked 59 = subst (λ k. Means s k c) f.0 (kind-means s c) in (ap (λ x. x.numeral) m, f.1)

@@ -71,8 +71,7 @@ module _ (spaces : Spaces) (want : Part) (limit : ℕ) where
   next-letter w l mid (Go v) i h m =
       let g : (is_in_number v.phase ≡ (own w l.byte).numeral) × (is_midway v.phase ≡ true) = gone want limit spaces w v (own w l.byte) i in
       let k : mid ≡ state v = sym (one_state (state v) mid h) in
-      let j : l ≡ own w l.byte = same-letter w l (m ∙ (ap (λ x. is_in_number x.work.phase) k ∙ g.0)) in
-      (v, k, ap (λ x. on w x) j ∙ i)
+      let j : l ≡ own w l.byte = same-letter w l (m ∙ (ap (λ x. is_in_number x.work.phase) k ∙ g.0)) in (v, k, ap (λ x. on w x) j ∙ i)
   next-letter w l mid (End f v) i h m = end_or_go f (state v) mid h
   next-letter w l mid Refuse i h m = refuse_or_go mid h
 

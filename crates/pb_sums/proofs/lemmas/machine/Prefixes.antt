@@ -14,8 +14,7 @@ module _ (spaces : Spaces) (limit : ℕ) where
   further-append : (ys : List Term) (x : Term) (p : List Letter) → (SpellsFurther spaces limit ys ⋅ Spaces1 spaces limit ⋅ SpellsTerm spaces limit x) p → SpellsFurther spaces limit (ys ++ x ∷ []) p
   further-append [] x p h =
       let S : Language = Spaces1 spaces limit in
-      let T : Language = SpellsTerm spaces limit x in
-      none_yet (S ⋅ T) Empty p refl (nil_first (S ⋅ T) p (regroup Empty S T p h))
+      let T : Language = SpellsTerm spaces limit x in none_yet (S ⋅ T) Empty p refl (nil_first (S ⋅ T) p (regroup Empty S T p h))
   further-append (z ∷ zs) x p h =
       let S : Language = Spaces1 spaces limit in
       let A : Language = S ⋅ SpellsTerm spaces limit z in
@@ -29,9 +28,7 @@ module _ (spaces : Spaces) (limit : ℕ) where
   Before (x ∷ xs) = SpellsSum spaces limit (x ∷ xs) ⋅ Spaces1 spaces limit
 
   pub sum-append : (xs : List Term) (x : Term) (p : List Letter) → (Before xs ⋅ SpellsTerm spaces limit x) p → SpellsSum spaces limit (xs ++ x ∷ []) p
-  sum-append [] x p h =
-      let T : Language = SpellsTerm spaces limit x in
-      none_yet T Empty p refl (nil_first T p h)
+  sum-append [] x p h = let T : Language = SpellsTerm spaces limit x in none_yet T Empty p refl (nil_first T p h)
   sum-append (y ∷ ys) x p h =
       let A : Language = SpellsTerm spaces limit y in
       let F : Language = SpellsFurther spaces limit ys in

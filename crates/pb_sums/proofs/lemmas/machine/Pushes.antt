@@ -1,7 +1,7 @@
 -- A push does what the transition says.
+use Rattle.pb_sums.proofs.{Common.sums, Common.SumState, lemmas.machine.States.admits}
 use Rattle.pb_sums.proofs.Common.{ℕ, ◌||◌, ◌∙◌, ◌≡◌, [], ap, Bool, List, sym, true, IsTrue, arith, end_or_refuse, go_or_refuse, Admits, Go, Refuse, Term}
 use Rattle.pb_sums.proofs.Common.{Action, Stop, To, Kind, Phase, Part, Spaces, act, adds, flushed, is_more, is_numeric, kind, letter_at, transition, asks, over}
-use Rattle.pb_sums.proofs.{Common.sums, Common.SumState, lemmas.machine.States.admits}
 
 abbrev pub IsTaken : Action → Type 0
 IsTaken Stop = ⊥

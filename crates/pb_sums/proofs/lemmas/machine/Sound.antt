@@ -188,8 +188,7 @@ module _ (spaces : Spaces) (want : Part) (limit : ℕ) where
   sound Phase.Between xs name Plus c p m h = number-sound None xs xs name Plus c p m tt (before-of xs p h.0 h.1)
   sound Phase.Between xs name Minus c p m h = number-sound None xs xs name Minus c p m tt (before-of xs p h.0 h.1)
   sound Phase.Between xs name (Digit d) c p m h = number-sound None xs xs name (Digit d) c p m tt (before-of xs p h.0 h.1)
-  sound Phase.Between xs name k c p m h =
-      after-sound xs xs name k c p m (head-of xs p h.0 (between-sum xs p h.1)) (between-sum xs p h.1)
+  sound Phase.Between xs name k c p m h = after-sound xs xs name k c p m (head-of xs p h.0 (between-sum xs p h.1)) (between-sum xs p h.1)
   sound Phase.Greater xs name Equals c p m h = (
     h.0,
     s0-none (Head spaces limit xs ⋅ SpellsRelation spaces limit AtLeast) (p ++ c ∷ [])

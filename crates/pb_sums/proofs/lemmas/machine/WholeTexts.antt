@@ -1,7 +1,6 @@
 -- A linear text that is read at once. Offered to other crates.
 use Rattle.pb_sums.proofs.Common.{ℕ, ◌<◌, ◌≡◌, [], ap, arith, List, refl, suc, sym, take, zero, false≢true, End, IsState, Linear, Part, Spaces, last, sums}
-use Rattle.pb_sums.proofs.Common.{SumState, LeadsToLinear, standing, SumEvent, Phase}
-use Rattle.pb_sums.proofs.lemmas.machine.States.{is_state}
+use Rattle.pb_sums.proofs.{Common.SumState, Common.LeadsToLinear, Common.standing, Common.SumEvent, Common.Phase, lemmas.machine.States.is_state}
 
 -- the state before the `;`
 abbrev pub before_semicolon : Spaces → Part → ℕ → Linear → SumState

@@ -1,5 +1,4 @@
-use Rattle.pb_sums.proofs.Common.{arith, largest}
-use Rattle.pb_sums.proofs.lemmas.values.Elements.{one_passes, one_fails}
+use Rattle.pb_sums.proofs.{Common.arith, Common.largest, lemmas.values.Elements.one_passes, lemmas.values.Elements.one_fails}
 use Rattle.pb_sums.proofs.validity.sum_is_value.Goals as goal
 
 pub returns-then-not-term_is_value : goal.returns-then-not-term_is_value

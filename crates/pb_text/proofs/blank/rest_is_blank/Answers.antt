@@ -1,8 +1,8 @@
 use Rattle.pb_text.proofs.Common.{ℕ, ◌&&◌, ◌++◌, ◌||◌, ◌∙◌, ◌∷◌, ◌≡◌, [], ap, arith, Bool, length-append, List, nat_eq, not, refl, rules, sym, Place}
 use Rattle.pb_text.proofs.Common.{◌+◌, ◌<◌, false, in_comment, length, Nothing, passes, is_white, place_next, byte_limit, Byte}
-use Rattle.pb_text.specs.meaning.Blank.{IsStray}
 use Rattle.pb_text.proofs.lemmas.{machine.Running.past_more, source.Drawn.lost_byte, source.Drawn.given_byte, source.Drawn.seen_byte, source.Drawn.seen_end, source.Drawn.seen_rest}
 use Rattle.pb_text.proofs.lemmas.text.Blanks.{IsBlank-snoc, in_comment-snoc, next_within}
+use Rattle.pb_text.specs.meaning.Blank.{IsStray}
 use Rattle.pb_text.proofs.blank.rest_is_blank.Goals as goal
 
 pub loop-byte-init : goal.loop-byte-init

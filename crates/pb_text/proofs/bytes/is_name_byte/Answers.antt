@@ -1,5 +1,4 @@
-use Rattle.pb_text.proofs.Common.{◌∙◌, sym}
-use Rattle.pb_text.proofs.lemmas.text.NameBytes.{in_table, name_ascii}
+use Rattle.pb_text.proofs.{Common.◌∙◌, Common.sym, lemmas.text.NameBytes.in_table, lemmas.text.NameBytes.name_ascii}
 use Rattle.pb_text.proofs.bytes.is_name_byte.Goals as goal
 
 pub returns-clause-byte : goal.returns-clause-byte

@@ -10,8 +10,7 @@ use Rattle.pb_text.proofs.Common.{input_fed, is_complete, NoneStopped, spans_ans
 use Rattle.pb_text.proofs.lemmas.machine.Residual.{Takes, IsResidual, Refuses, residual, refuses}
 use Rattle.pb_text.proofs.lemmas.text.{Booleans.of_both, Languages.bytes-append, Lists.length-bytes, Lists.Advances}
 use Rattle.pb_text.proofs.lemmas.text.Short.{end_limit, place_after-offset, AreShort-append, since_short, Overruns-append, Overruns-split, since_fits}
-use Rattle.pb_text.proofs.lemmas.text.Short.{begun_bytes, open-ended}
-use Rattle.pb_text.specs.declared.feeder.Fed.{Fed}
+use Rattle.pb_text.{proofs.lemmas.text.Short.begun_bytes, proofs.lemmas.text.Short.open-ended, specs.declared.feeder.Fed.Fed}
 use Rattle.std.{proofs.lemmas.List.Elements.filter-append, specs.Cmp.Derive.both_true}
 
 pub EndBy-append : {E : Type 0} (n m : ℕ) (a b : List (Spanned E)) → EndBy n a → n ≤ m → EndBy m b → EndBy m (a ++ b)
@@ -183,14 +182,12 @@ module _ {E : Type 0} {format old new : List (Item E) → Type 0} {put : List (I
   step ended = record {
     into = λ later r.
         let back = takes.into later r in
-        let past = follows.into back.0 back.2 in
-        (past.0, past.1, joined later back.0 past.0 back.1 past.2);
+        let past = follows.into back.0 back.2 in (past.0, past.1, joined later back.0 past.0 back.1 past.2);
     onto = λ items f prefix.
         let e : bytes_of items ≡ bytes letters ++ (l.byte ∷ prefix.0) = prefix.1 ∙ (ap (λ (x : List ℕ). x ++ prefix.0) bytes_snoc ∙ append_assoc (bytes letters) (l.byte ∷ []) prefix.0) in
         let o = follows.onto items f (l.byte ∷ prefix.0, e) in
         let begins : bytes_of o.0 ≡ l.byte ∷ prefix.0 = append_cancel_left (bytes letters) (bytes_of o.0) (l.byte ∷ prefix.0) (sym (ap bytes o.2.letters_are ∙ bytes-append letters (letters_of o.0)) ∙ e) in
-        let t = takes.onto o.0 o.1 (prefix.0, begins) in
-        (t.0, t.2, joined t.0 o.0 items t.1 o.2);
+        let t = takes.onto o.0 o.1 (prefix.0, begins) in (t.0, t.2, joined t.0 o.0 items t.1 o.2);
     alone = λ n h items f e.
         let le : n ≤ length letters = omega (arith, length-append letters (l ∷ [])) in
         let short : n ≤ length (bytes letters) = omega (arith, length-bytes letters) in

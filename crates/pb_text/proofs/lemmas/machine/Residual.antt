@@ -55,8 +55,7 @@ module _ {S E : Type 0} (m : Automaton S E) where
       → After (m.step s b) b (record { gap = gap; text = text; event = x } ∷ rest) more
   moved_first s at after b [] [] x rest more g r a e = absurd r
   moved_first s at after b [] (l ∷ []) x rest more same (h, n) a e =
-      let byte : l.byte ≡ b = head l.byte b _ more e in
-      rw (rw (same, byte) at h) (rest, rw (← byte, ← n) refl, a, tail l.byte b _ more e)
+      let byte : l.byte ≡ b = head l.byte b _ more e in rw (rw (same, byte) at h) (rest, rw (← byte, ← n) refl, a, tail l.byte b _ more e)
   moved_first s at after b [] (l ∷ k ∷ text) x rest more same (mid, h, o, n, r) a e =
       let byte : l.byte ≡ b = head l.byte b _ more e in
       rw (rw (same, byte) at h)

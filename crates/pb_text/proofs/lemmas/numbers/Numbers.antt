@@ -9,8 +9,7 @@ value-append : (ds : List ℕ) (d : ℕ) → value (ds ++ d ∷ []) ≡ 10 * val
 value-append [] d = omega arith
 value-append (e ∷ ds) d =
     let l : length (ds ++ d ∷ []) ≡ suc (length ds) = omega (arith, length-append ds (d ∷ [])) in
-    let p : 10 ^ suc (length ds) ≡ 10 * 10 ^ length ds = pow-succ' 10 (length ds) in
-    rw (l, p) (omega (arith, value-append ds d))
+    let p : 10 ^ suc (length ds) ≡ 10 * 10 ^ length ds = pow-succ' 10 (length ds) in rw (l, p) (omega (arith, value-append ds d))
 
 pub digits-grown : (n d : ℕ) (c : Letter) → c ≡ digit d → d < 10 → (q : List Letter) → Digits n q → Digits (10 * n + d) (q ++ c ∷ [])
 digits-grown n d c e k q (x, ds, h, f, v) = (

@@ -1,6 +1,6 @@
 -- Tests of bytes: blanks and white space byte by byte, and the bytes of digits and names. Offered to other crates.
-use Rattle.pb_text.proofs.Common.{ℕ, ◌+◌, ◌-◌, ◌<◌, ◌≡◌, ◌≤◌, arith, eqb-true, false, IsTrue, refl, true, nat_tests, is_blank, is_digit, is_letter}
 use Rattle.pb_text.proofs.{Common.is_name_byte, Common.is_white, lemmas.text.Booleans.by_or}
+use Rattle.pb_text.proofs.Common.{ℕ, ◌+◌, ◌-◌, ◌<◌, ◌≡◌, ◌≤◌, arith, eqb-true, false, IsTrue, refl, true, nat_tests, is_blank, is_digit, is_letter}
 
 -- one of three bytes
 pub blank_each : (P : ℕ → Type 0) → P 32 → P 9 → P 13 → (b : ℕ) → is_blank b ≡ true → P b

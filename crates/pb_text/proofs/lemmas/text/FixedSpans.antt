@@ -1,7 +1,7 @@
 -- In all texts that begin with the same prefix, the spans that end within it are the same. Offered to other crates.
+use Rattle.pb_text.proofs.{Common.spans_since, lemmas.feeder.Reported.not_ended}
 use Rattle.pb_text.proofs.Common.{Next, Go, End, Refuse, ℕ, ◌++◌, ◌+◌, ◌∙◌, ◌∷◌, ◌≡◌, [], ap, arith, cond, false, length, length-append, List, nat_le, None}
 use Rattle.pb_text.proofs.Common.{Option, sym, AcceptsItems, Automaton, opened, Place, Spanned, ended_within, HasFixedSpans, bytes_of, Item, place_after}
-use Rattle.pb_text.proofs.{Common.spans_since, lemmas.feeder.Reported.not_ended}
 use Rattle.pb_text.proofs.lemmas.machine.Residual.{After, letter, moved, has_text}
 use Rattle.pb_text.proofs.lemmas.text.Lists.{span, put_spans, last_advances}
 

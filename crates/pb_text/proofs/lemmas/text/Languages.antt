@@ -17,8 +17,7 @@ pub regroup : (P Q R : Language) (p : List Letter) → (P ⋅ Q ⋅ R) p → (P 
 regroup P Q R p (ab, c, e, (a, b, f, h, i), k) = grind (arith, append_assoc)
 
 pub regroup⁻¹ : (P Q R : Language) (p : List Letter) → (P ⋅ (Q ⋅ R)) p → (P ⋅ Q ⋅ R) p
-regroup⁻¹ P Q R p (a, bc, e, h, (b, c, f, i, k)) =
-    (a ++ b, c, e ∙ (ap (λ x. a ++ x) f ∙ sym (append_assoc a b c)), (a, b, refl, h, i), k)
+regroup⁻¹ P Q R p (a, bc, e, h, (b, c, f, i, k)) = (a ++ b, c, e ∙ (ap (λ x. a ++ x) f ∙ sym (append_assoc a b c)), (a, b, refl, h, i), k)
 
 pub inside : (P P' Q : Language) (p : List Letter) → ((q : List Letter) → P q → P' q) → (P ⋅ Q) p → (P' ⋅ Q) p
 inside P P' Q p f (a, b, e, h, k) = (a, b, e, f a h, k)

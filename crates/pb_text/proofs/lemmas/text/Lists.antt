@@ -1,8 +1,7 @@
 -- Lists, letters and spans. Offered to other crates.
 use Rattle.pb_text.proofs.Common.{ℕ, ◌++◌, ◌+◌, ◌<◌, ◌∙◌, ◌∷◌, ◌≡◌, [], ap, append-nil, append_assoc, Bool, drop, false, get_or, length, List, None, arith}
 use Rattle.pb_text.proofs.Common.{Option, sym, take, drop_more, length-map, take_more, opened, Place, Spanned, bytes, Item, Letter, letters_of, place_after}
-use Rattle.pb_text.proofs.Common.{place_or, spans_since}
-use Rattle.pb_text.proofs.lemmas.machine.Residual.{Put, PutLast}
+use Rattle.pb_text.proofs.{Common.place_or, Common.spans_since, lemmas.machine.Residual.Put, lemmas.machine.Residual.PutLast}
 
 pub length-bytes : (ls : List Letter) → length (bytes ls) ≡ length ls
 length-bytes ls = length-map ls (λ (l : Letter). l.byte)

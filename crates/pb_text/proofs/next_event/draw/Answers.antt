@@ -8,8 +8,7 @@ returns-in-Ok-Some-clause-draws g c = draws_poured (rw (c.in-Ok-Some.is, c.in-Ok
 
 pub returns-in-Ok-None-clause-draws : goal.returns-in-Ok-None-clause-draws
 returns-in-Ok-None-clause-draws g c =
-    let p = rw (c.in-Ok-None.is, c.in-Ok-None.field-0-is) at c.pour.ensures in
-    draws_join (draws_poured p.pours) c.take_next.ensures.draws
+    let p = rw (c.in-Ok-None.is, c.in-Ok-None.field-0-is) at c.pour.ensures in draws_join (draws_poured p.pours) c.take_next.ensures.draws
 
 pub returns-in-Err-clause-draws : goal.returns-in-Err-clause-draws
 returns-in-Err-clause-draws g c =

@@ -1,6 +1,6 @@
 use Rattle.pb_text.proofs.Common.{◌∙◌, arith, Err, None, Ok, refl, Some, sym}
-use Rattle.std.proofs.Common.{rules}
 use Rattle.pb_text.proofs.lemmas.source.{Drawn.draws_join, Drawn.draws_none, Drawn.pulls_nothing, Drawn.pulls_event, Drawn.pulls_stop, PullsInARow.row}
+use Rattle.std.proofs.Common.{rules}
 use Rattle.pb_text.proofs.next_event.pull.Goals as goal
 
 pub returns-then-is_done-clause-pulls : goal.returns-then-is_done-clause-pulls

@@ -1,5 +1,5 @@
-use Rattle.pb_text.proofs.Common.{ℕ, ◌++◌, ◌∷◌, ◌≡◌, ◌≤◌, [], arith, drop, length-drop, length-take, List, subst, suc, take, zero, Each, take-append-drop}
 use Rattle.pb_text.proofs.{Common.take-take, lemmas.text.Spans.prefix_parts}
+use Rattle.pb_text.proofs.Common.{ℕ, ◌++◌, ◌∷◌, ◌≡◌, ◌≤◌, [], arith, drop, length-drop, length-take, List, subst, suc, take, zero, Each, take-append-drop}
 use Rattle.pb_text.proofs.place.has_line_feed.Goals as goal
 
 -- two texts without a line feed

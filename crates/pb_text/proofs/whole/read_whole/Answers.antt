@@ -1,6 +1,5 @@
 use Rattle.pb_text.proofs.Common.{◌∙◌, [], ap, append-nil, arith, refl, sym, Place}
-use Rattle.pb_text.proofs.lemmas.source.Drawn.{lost_nothing, seen_after}
-use Rattle.pb_text.proofs.lemmas.source.Wholes.{so_far, whole_done, whole_stopped, whole_unkept}
+use Rattle.pb_text.proofs.lemmas.source.{Drawn.lost_nothing, Drawn.seen_after, Wholes.so_far, Wholes.whole_done, Wholes.whole_stopped, Wholes.whole_unkept}
 use Rattle.pb_text.proofs.lemmas.text.Short.{end_limit}
 use Rattle.pb_text.proofs.whole.read_whole.Goals as goal
 

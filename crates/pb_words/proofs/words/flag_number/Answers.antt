@@ -1,5 +1,4 @@
-use Rattle.pb_words.proofs.Common.{◌∙◌, found_of, first_value-rows}
-use Rattle.pb_words.proofs.lemmas.Entries.{absent, given, outside}
+use Rattle.pb_words.proofs.{Common.◌∙◌, Common.found_of, Common.first_value-rows, lemmas.Entries.absent, lemmas.Entries.given, lemmas.Entries.outside}
 use Rattle.pb_words.proofs.words.flag_number.Goals as goal
 
 pub returns-in_default-clause-ok : goal.returns-in_default-clause-ok

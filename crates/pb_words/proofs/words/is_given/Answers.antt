@@ -1,5 +1,4 @@
-use Rattle.pb_words.proofs.Common.{◌∙◌, found_of, first_value-rows}
-use Rattle.pb_words.proofs.lemmas.Entries.{switched, not_switched}
+use Rattle.pb_words.proofs.{Common.◌∙◌, Common.found_of, Common.first_value-rows, lemmas.Entries.switched, lemmas.Entries.not_switched}
 use Rattle.pb_words.proofs.words.is_given.Goals as goal
 
 pub returns-in-Some : goal.returns-in-Some

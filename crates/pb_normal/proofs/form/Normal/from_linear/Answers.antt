@@ -12,9 +12,7 @@ pub overflow_add-up : goal.overflow_add-up
 overflow_add-up c = grind (arith, before_degree, c.largest.ensures.room, shift-side-le, c.as_slice-terms.ensures, c.shift_of.ensures)
 
 pub overflow_add-down : goal.overflow_add-down
-overflow_add-down c =
-    let k = before_degree c in
-    omega (arith, k.small, c.largest.ensures.room, k.parts, size-Collected _ _ _ _ _ _ _ _ k)
+overflow_add-down c = let k = before_degree c in omega (arith, k.small, c.largest.ensures.room, k.parts, size-Collected _ _ _ _ _ _ _ _ k)
 
 with_degree : (c : goal.After-saturating_sub-degree) → Collected c.side_terms.new.names c.args.side c.args.linear.now c.in_ok-collected_terms.collected_terms c.split-up.result.0 c.split-up.result.1 c.in_ok-collected_terms.gone c.largest.result
 with_degree c =

@@ -1,5 +1,4 @@
-use Rattle.pb_opb.proofs.Common.{the_view, refl, take}
-use Rattle.pb_opb.proofs.lemmas.machine.Taken.{kept_or_none, runs_given}
+use Rattle.pb_opb.proofs.{Common.the_view, Common.refl, Common.take, lemmas.machine.Taken.kept_or_none, lemmas.machine.Taken.runs_given}
 use Rattle.pb_opb.proofs.machine.OpbMachineMachine.take_run.Goals as goal
 use Rattle.pb_opb.proofs.machine.OpbMachineMachine.take_run.Goals.{in-Constraint, in-Tail, in_default}
 

@@ -1,5 +1,4 @@
-use Rattle.pb_proof.proofs.lemmas.machine.Exact.{one_proof}
-use Rattle.pb_proof.proofs.lemmas.Proofs.{reads_back_of}
+use Rattle.pb_proof.proofs.lemmas.{Proofs.reads_back_of, machine.Exact.one_proof}
 use Rattle.pb_proof.proofs.laws.values.written_proof_reads_back.Goals as goal
 
 pub returns : goal.returns

@@ -1,5 +1,4 @@
-use Rattle.pb_proof.{proofs.Common.refl, proofs.Common.take, specs.contracts.machine.ProofMachine.the_view}
-use Rattle.pb_proof.proofs.lemmas.machine.Runs.{runs_given}
+use Rattle.pb_proof.{proofs.Common.refl, proofs.Common.take, specs.contracts.machine.ProofMachine.the_view, proofs.lemmas.machine.Runs.runs_given}
 use Rattle.pb_proof.proofs.machine.ProofMachine.give_prefix.Goals.{in-Some, in-None}
 use Rattle.pb_proof.proofs.machine.ProofMachine.give_prefix.Goals as goal
 

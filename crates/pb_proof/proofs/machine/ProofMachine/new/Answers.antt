@@ -1,5 +1,4 @@
-use Rattle.pb_proof.proofs.Common.{AcceptsItems, largest, top_of, begin, proofs, IsProof}
-use Rattle.pb_proof.proofs.lemmas.machine.{Asks.asks_only}
+use Rattle.pb_proof.proofs.{Common.AcceptsItems, Common.largest, Common.top_of, Common.begin, Common.proofs, Common.IsProof, lemmas.machine.Asks.asks_only}
 use Rattle.pb_proof.proofs.lemmas.machine.Exact.{reads_proofs}
 use Rattle.pb_text.proofs.lemmas.text.Formats as formats
 use Rattle.pb_proof.proofs.machine.ProofMachine.new.Goals as goal

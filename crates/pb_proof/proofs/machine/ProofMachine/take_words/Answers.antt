@@ -1,7 +1,6 @@
-use Rattle.pb_proof.proofs.{Common.subst, Common.take, Common.ProofState, Common.IsRest}
-use Rattle.pb_proof.proofs.lemmas.machine.Runs.{words_to, words_begin}
-use Rattle.pb_proof.specs.contracts.machine.ProofMachine.{the_view}
+use Rattle.pb_proof.proofs.{Common.subst, Common.take, Common.ProofState, Common.IsRest, lemmas.machine.Runs.words_to, lemmas.machine.Runs.words_begin}
 use Rattle.pb_proof.proofs.machine.ProofMachine.take_words.Goals.{in-To, in-Begin}
+use Rattle.pb_proof.specs.contracts.machine.ProofMachine.{the_view}
 use Rattle.pb_proof.proofs.machine.ProofMachine.take_words.Goals as goal
 
 pub invariant_of-self-in-Begin : goal.invariant_of-self-in-Begin

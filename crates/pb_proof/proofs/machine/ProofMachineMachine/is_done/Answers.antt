@@ -1,5 +1,4 @@
-use Rattle.pb_proof.proofs.{Common.subst, Common.IsState, Common.proofs, Common.ProofState}
-use Rattle.pb_proof.proofs.lemmas.machine.States.{is_state}
+use Rattle.pb_proof.proofs.{Common.subst, Common.IsState, Common.proofs, Common.ProofState, lemmas.machine.States.is_state}
 use Rattle.pb_proof.proofs.machine.ProofMachineMachine.is_done.Goals as goal
 
 pub returns-clause-state : goal.returns-clause-state

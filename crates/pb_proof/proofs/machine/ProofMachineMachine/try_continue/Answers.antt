@@ -1,5 +1,4 @@
-use Rattle.pb_proof.proofs.{Common.sym}
-use Rattle.pb_proof.proofs.lemmas.machine.States.{to_order, begin_order}
+use Rattle.pb_proof.proofs.{Common.sym, lemmas.machine.States.to_order, lemmas.machine.States.begin_order}
 use Rattle.pb_proof.specs.contracts.machine.ProofMachine.{the_view}
 use Rattle.pb_proof.proofs.machine.ProofMachineMachine.try_continue.Goals as goal
 

@@ -1,5 +1,4 @@
-use Rattle.pb_proof.proofs.{Common.append-nil, Common.arith}
-use Rattle.pb_proof.proofs.lemmas.Texts.{listed_split}
+use Rattle.pb_proof.proofs.{Common.append-nil, Common.arith, lemmas.Texts.listed_split}
 use Rattle.pb_proof.proofs.write.list.write_batch.Goals as goal
 
 pub returns-then-left-gt0 : goal.returns-then-left-gt0

@@ -1,6 +1,6 @@
 use Rattle.pb_proof.proofs.{Common.ℕ, Common.[], Common.ap}
-use Rattle.pb_proof.proofs.lemmas.Texts.{listed_none, listed-append}
 use Rattle.pb_proof.proofs.Common.{◌++◌, ◌∙◌, ◌≡◌, append_assoc, List, refl, subst, sym, part_broke, part_then, part_wrote, writes_nothing, Wrote, listed_bytes}
+use Rattle.pb_proof.proofs.lemmas.Texts.{listed_none, listed-append}
 use Rattle.pb_proof.proofs.write.list.write_further.Goals as goal
 
 pub loop-rest-init : goal.loop-rest-init

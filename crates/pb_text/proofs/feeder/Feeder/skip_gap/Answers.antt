@@ -1,5 +1,4 @@
-use Rattle.pb_text.proofs.Common.{[], append-nil, arith}
-use Rattle.pb_text.proofs.lemmas.feeder.Steps.{passes, with_byte}
+use Rattle.pb_text.proofs.{Common.[], Common.append-nil, Common.arith, lemmas.feeder.Steps.passes, lemmas.feeder.Steps.with_byte}
 use Rattle.pb_text.proofs.feeder.Feeder.skip_gap.Goals as goal
 
 pub loop-used-preserved : goal.loop-used-preserved

@@ -1,5 +1,4 @@
-use Rattle.pb_text.proofs.Common.{◌∙◌, append-nil}
-use Rattle.pb_text.proofs.lemmas.feeder.Steps.{running, room, stands_go}
+use Rattle.pb_text.proofs.{Common.◌∙◌, Common.append-nil, lemmas.feeder.Steps.running, lemmas.feeder.Steps.room, lemmas.feeder.Steps.stands_go}
 use Rattle.pb_text.proofs.feeder.Feeder.try_continue.Goals as goal
 
 pub returns-clause-stands : goal.returns-clause-stands

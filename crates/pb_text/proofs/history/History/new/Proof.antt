@@ -3,8 +3,7 @@ use Rattle.pb_text.proofs.Common.{◌∷◌, [], refl, History}
 use base.Logic.{SProp}
 use contract.{Monad.Fun, Running.tables, Running.tables_of}
 use denote.{Shadow.pure_i, Steps.nothing}
-use denote.Triple.{Entry.on_entry, Spec.Meets, Spec.triple_of, Table.entered}
-use denote.Triple.Walked.{says, ends_at, walked, walk_Meets}
+use denote.Triple.{Entry.on_entry, Spec.Meets, Spec.triple_of, Table.entered, Walked.says, Walked.ends_at, Walked.walked, Walked.walk_Meets}
 use mir.Val.{Val, vstruct, vcons, vnil}
 use prog.{Memory.Memory, Routine.Routine, Wp.WpFn, Wp.Tables}
 use seplogic.Ra.Ura.{Ura}

@@ -1,5 +1,5 @@
-use Rattle.pb_words.proofs.Common.{◌≡◌, ◌∙◌, ap, codes, app_of_fields, app_of, new_app, Command, Command-F, checker_command, instance_rule, value_rule}
 use Rattle.pb_words.proofs.{Common.with_shared, lemmas.Added.added_app, lemmas.Added.added_local, lemmas.Added.if_added}
+use Rattle.pb_words.proofs.Common.{◌≡◌, ◌∙◌, ap, codes, app_of_fields, app_of, new_app, Command, Command-F, checker_command, instance_rule, value_rule}
 use Rattle.pb_words.proofs.words.options.checker.Goals as goal
 
 pub with_shared-requires : goal.with_shared-requires

@@ -1,5 +1,5 @@
-use Rattle.pb_proof.proofs.Common.{◌∙◌, ap, rules, subst, sym, unchanged, delete_at, IsDeleteInOrder, keeps}
 use Rattle.pb_proof.{proofs.lemmas.Delete.wants, specs.engine.line.Delete.act}
+use Rattle.pb_proof.proofs.Common.{◌∙◌, ap, rules, subst, sym, unchanged, delete_at, IsDeleteInOrder, keeps}
 use Rattle.pb_proof.proofs.line.delete.DeleteMachine.take.Goals as goal
 
 pub returns-then-is_err : goal.returns-then-is_err

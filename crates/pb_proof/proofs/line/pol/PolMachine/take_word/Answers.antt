@@ -1,6 +1,5 @@
 use Rattle.pb_proof.proofs.Common.{◌+◌, refl, subst, sym, take, when_ok, Runs, pol_automaton, PolState}
-use Rattle.pb_proof.proofs.lemmas.pol.{Theorems.same_state, Theorems.free_of, Theorems.gap_of, Theorems.word_blank}
-use Rattle.pb_proof.proofs.lemmas.pol.Moves.{state}
+use Rattle.pb_proof.proofs.lemmas.pol.{Theorems.same_state, Theorems.free_of, Theorems.gap_of, Theorems.word_blank, Moves.state}
 use Rattle.pb_proof.proofs.line.pol.PolMachine.take_word.Goals as goal
 
 pub returns-clause-runs : goal.returns-clause-runs

@@ -1,5 +1,4 @@
-use Rattle.pb_proof.proofs.{Common.arith}
-use Rattle.pb_proof.proofs.lemmas.machine.Runs.{pol_leads}
+use Rattle.pb_proof.proofs.{Common.arith, lemmas.machine.Runs.pol_leads}
 use Rattle.pb_proof.proofs.line.pol.whole.pol_at.Goals as goal
 
 pub returns-clause-runs : goal.returns-clause-runs

@@ -1,5 +1,4 @@
-use Rattle.pb_proof.proofs.{Common.◌∙◌, Common.arith, Common.sym}
-use Rattle.pb_proof.proofs.lemmas.machine.Runs.{rup_runs_begun}
+use Rattle.pb_proof.proofs.{Common.◌∙◌, Common.arith, Common.sym, lemmas.machine.Runs.rup_runs_begun}
 use Rattle.pb_proof.specs.contracts.line.rup.RupMachine.{the_view}
 use Rattle.pb_proof.proofs.line.rup.RupMachine.begin_prefix.Goals as goal
 

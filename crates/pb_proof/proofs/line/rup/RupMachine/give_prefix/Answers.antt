@@ -1,5 +1,4 @@
-use Rattle.pb_proof.{proofs.Common.refl, proofs.Common.take, specs.contracts.line.rup.RupMachine.the_view}
-use Rattle.pb_proof.proofs.lemmas.machine.Runs.{rup_runs_given}
+use Rattle.pb_proof.{proofs.Common.refl, proofs.Common.take, specs.contracts.line.rup.RupMachine.the_view, proofs.lemmas.machine.Runs.rup_runs_given}
 use Rattle.pb_proof.proofs.line.rup.RupMachine.give_prefix.Goals.{in-Inside, in-Gap, in_default}
 use Rattle.pb_proof.proofs.line.rup.RupMachine.give_prefix.Goals as goal
 

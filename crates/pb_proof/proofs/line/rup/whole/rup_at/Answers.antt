@@ -1,5 +1,4 @@
-use Rattle.pb_proof.proofs.{Common.arith}
-use Rattle.pb_proof.proofs.lemmas.machine.Runs.{rup_leads}
+use Rattle.pb_proof.proofs.{Common.arith, lemmas.machine.Runs.rup_leads}
 use Rattle.pb_proof.proofs.line.rup.whole.rup_at.Goals as goal
 
 pub returns-clause-runs : goal.returns-clause-runs
