@@ -1,5 +1,4 @@
-use Rattle.pb_propagate.proofs.Common.{◌≡◌, arith, nat_tests, ◌%◌}
-use Rattle.pb_propagate.specs.engine.clauses.Truths.{flip}
+use Rattle.pb_propagate.{proofs.Common.◌≡◌, proofs.Common.arith, proofs.Common.nat_tests, proofs.Common.◌%◌, specs.engine.clauses.Truths.flip}
 use Rattle.std.{proofs.lemmas.Nat.and_mask, specs.Int.Bits.bit_and, specs.Int.Bits.xor_add_and}
 use Rattle.pb_propagate.proofs.clause.opposite.Goals as goal
 

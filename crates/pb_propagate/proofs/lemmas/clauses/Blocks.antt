@@ -1,12 +1,11 @@
 -- What blocks of words store, what their writes change, and how blocks come and are used again.
-use Rattle.pb_propagate.proofs.Common.{ℕ, ◌*◌, ◌+◌, ◌/◌, ◌<◌, ◌≡◌, ◌≤◌, ◌⊎◌, ◌%◌, [], arith, cases_lt, drop, ext_get_or, get_or, get_or-drop}
-use Rattle.pb_propagate.proofs.Common.{get_or-take, get_or_past, get_or_read, length, length-drop, length-take, List, nat_tests, refl, set-get_or}
-use Rattle.pb_propagate.proofs.Common.{subst, sym, take, true, AreBlocks, begun, Contents, contents, HasBlock, idle, IsRenewed, list_at, number_at}
-use Rattle.pb_propagate.proofs.Common.{passed_by, Search, search_at, searched, stored_clause, stored_search, stored_watch, Watch, watch_at, watch_of}
-use Rattle.pb_propagate.proofs.Common.{◌++◌, ◌-◌, ◌^◌, ◌∷◌, cases_eq, get_or-set_other, get_or-set_same, length-append, length-set, set, IsBare}
-use Rattle.pb_propagate.proofs.{Common.nowhere, Common.rewatched, Common.rewritten, lemmas.store.Gets.push-default}
-use Rattle.std.proofs.lemmas.Grind.{get_or-set_at}
-use Rattle.std.proofs.lemmas.List.FromFn.{fill_by_all, get_or-map-range_with_len, length-map-range_with_len}
+use Rattle.pb_propagate.proofs.Common.{ℕ, ◌*◌, ◌+◌, ◌/◌, ◌<◌, ◌≡◌, ◌≤◌, ◌⊎◌, ◌%◌, [], arith, cases_lt, drop, ext_get_or, get_or, get_or-drop, get_or-take}
+use Rattle.pb_propagate.proofs.Common.{get_or_past, get_or_read, length, length-drop, length-take, List, nat_tests, refl, set-get_or, subst, sym, take, true}
+use Rattle.pb_propagate.proofs.Common.{AreBlocks, begun, Contents, contents, HasBlock, idle, IsRenewed, list_at, number_at, passed_by, Search, search_at}
+use Rattle.pb_propagate.proofs.Common.{searched, stored_clause, stored_search, stored_watch, Watch, watch_at, watch_of, ◌++◌, ◌-◌, ◌^◌, ◌∷◌, cases_eq}
+use Rattle.pb_propagate.proofs.Common.{get_or-set_other, get_or-set_same, length-append, length-set, set, IsBare, nowhere, rewatched, rewritten}
+use Rattle.pb_propagate.proofs.lemmas.store.Gets.{push-default}
+use Rattle.std.proofs.lemmas.{Grind.get_or-set_at, List.FromFn.fill_by_all, List.FromFn.get_or-map-range_with_len, List.FromFn.length-map-range_with_len}
 
 -- what a block stores for a slot: its clause, its search and its watches
 pub record IsBlock (words : List ℕ) (start run s : ℕ) (xs : List ℕ) (x : Search) (ws : List Watch) : Type 0 where

@@ -1,12 +1,11 @@
 -- How many visits there are: the occurrences, in clauses, of the literals on a list, and of their negations.
-use Rattle.pb_propagate.proofs.Common.{AreStored, Bool, Contains, Group, List, Long, NumberedLiteral, Short, Sits, Watch, [], ap, arith, both_ways}
-use Rattle.pb_propagate.proofs.Common.{code_in, cond, count_by, count_by-le-length, eq-eqb, eqb-true, fallen, false, falsified_code, get_or}
-use Rattle.pb_propagate.proofs.Common.{get_or-le-sum_by, get_or-map, get_or-set_other, get_or_past, inl, inr, length, list_at, map, map-append}
-use Rattle.pb_propagate.proofs.Common.{nat_tests, negation, or_cases, or_left, or_right, refl, rules, same, set, slice_get-get_or, suc, sum, sum-map}
-use Rattle.pb_propagate.proofs.Common.{sum_by, sum_by-cons, sum_by-le-sum_by, sum_by-set, sym, true, watch_at, ℕ, ◌++◌, ◌+◌, ◌/◌, ◌<◌, ◌==◌, ◌||◌}
-use Rattle.pb_propagate.proofs.Common.{◌∙◌, ◌∷◌, ◌≡◌, ◌≤◌}
-use Rattle.pb_propagate.proofs.lemmas.clauses.{Literals.code-injective, Literals.groups-apart, Literals.same-slot, Visited.slot-within}
-use Rattle.pb_propagate.proofs.lemmas.engine.Literals.{same-refl}
+use Rattle.pb_propagate.proofs.Common.{AreStored, Bool, Contains, Group, List, Long, NumberedLiteral, Short, Sits, Watch, [], ap, arith, both_ways, code_in}
+use Rattle.pb_propagate.proofs.Common.{cond, count_by, count_by-le-length, eq-eqb, eqb-true, fallen, false, falsified_code, get_or, get_or-le-sum_by}
+use Rattle.pb_propagate.proofs.Common.{get_or-map, get_or-set_other, get_or_past, inl, inr, length, list_at, map, map-append, nat_tests, negation, or_cases}
+use Rattle.pb_propagate.proofs.Common.{or_left, or_right, refl, rules, same, set, slice_get-get_or, suc, sum, sum-map, sum_by, sum_by-cons, sum_by-le-sum_by}
+use Rattle.pb_propagate.proofs.Common.{sum_by-set, sym, true, watch_at, ℕ, ◌++◌, ◌+◌, ◌/◌, ◌<◌, ◌==◌, ◌||◌, ◌∙◌, ◌∷◌, ◌≡◌, ◌≤◌}
+use Rattle.pb_propagate.proofs.lemmas.clauses.Literals.{code-injective, groups-apart, same-slot}
+use Rattle.pb_propagate.proofs.lemmas.{clauses.Visited.slot-within, engine.Literals.same-refl}
 use Rattle.pb_propagate.specs.engine.{clauses.Walked.has as stands, clauses.Walked.killed, engine.Lists.has}
 
 -- numbers with different values, each of which stands a weight: there are no more of them than the sum of the weights

@@ -1,25 +1,23 @@
 -- How far the literals of a list are walked: in longer lists, after visits, and by the heads.
-use Rattle.pb_propagate.proofs.Common.{ℕ, ◌++◌, ◌-◌, ◌/◌, ◌<◌, ◌∙◌, ◌≡◌, ◌≤◌, [], ap, arith, Bool, drop, get_or, length, rules, List, map, refl, sym}
-use Rattle.pb_propagate.proofs.Common.{take, take_all, true, Contains, Option, cases_lt, get_or_append_left, get_or_from_slice_get, length-append}
-use Rattle.pb_propagate.proofs.Common.{length-map, length-take, length-take-le, slice_get_within, take-append-drop, take-append-le, get_or-map}
-use Rattle.pb_propagate.proofs.Common.{slice_get-get_or, Contains-append_cases, NumberedLiteral, Group, Long, Short, Clauses, Watch, Heads, Walked}
-use Rattle.pb_propagate.proofs.Common.{list_at, negation, watch_at, AreWalked, IsSameWatch, KeepsWalked, literal_at, Extends, IsWithin, AreMarks}
-use Rattle.pb_propagate.proofs.Common.{IsMark, IsWalkedTo, KeepsMarks, falsified_code, heads_at, reached_codes, append_assoc, AreWithin, IsAhead, Run}
-use Rattle.pb_propagate.proofs.Common.{list_of, values_of, ◌*◌, ◌+◌, ◌∷◌, false, sum, sum_by, map-append, take_more, Contains-append_left}
-use Rattle.pb_propagate.proofs.Common.{Contains-append_right, Search, watch_lists, AreReady, Grows, IsRunning, passed_of, clause_shape, clauses_of}
-use Rattle.pb_propagate.proofs.Common.{code_in, false_at, flip, AreSingle, more, none, IsSettled, same, Contains-permutation, get_or_default, HasTrue}
+use Rattle.pb_propagate.proofs.Common.{ℕ, ◌++◌, ◌-◌, ◌/◌, ◌<◌, ◌∙◌, ◌≡◌, ◌≤◌, [], ap, arith, Bool, drop, get_or, length, rules, List, map, refl, sym, take}
+use Rattle.pb_propagate.proofs.Common.{take_all, true, Contains, Option, cases_lt, get_or_append_left, get_or_from_slice_get, length-append, length-map}
+use Rattle.pb_propagate.proofs.Common.{length-take, length-take-le, slice_get_within, take-append-drop, take-append-le, get_or-map, slice_get-get_or}
+use Rattle.pb_propagate.proofs.Common.{Contains-append_cases, NumberedLiteral, Group, Long, Short, Clauses, Watch, Heads, Walked, list_at, negation, watch_at}
+use Rattle.pb_propagate.proofs.Common.{AreWalked, IsSameWatch, KeepsWalked, literal_at, Extends, IsWithin, AreMarks, IsMark, IsWalkedTo, KeepsMarks}
+use Rattle.pb_propagate.proofs.Common.{falsified_code, heads_at, reached_codes, append_assoc, AreWithin, IsAhead, Run, list_of, values_of, ◌*◌, ◌+◌, ◌∷◌, false}
+use Rattle.pb_propagate.proofs.Common.{sum, sum_by, map-append, take_more, Contains-append_left, Contains-append_right, Search, watch_lists, AreReady, Grows}
+use Rattle.pb_propagate.proofs.Common.{IsRunning, passed_of, clause_shape, clauses_of, code_in, false_at, flip, AreSingle, more, none, IsSettled, same}
+use Rattle.pb_propagate.proofs.Common.{Contains-permutation, get_or_default, HasTrue}
 use Rattle.pb_propagate.proofs.lemmas.clauses.Counts.{killed-more, occurs, list-short, passed-most, stands-fresh}
 use Rattle.pb_propagate.proofs.lemmas.clauses.Literals.{Agree, true-listed, false-listed, code-back, flip-half, false-code, code-injective, code-of}
 use Rattle.pb_propagate.proofs.lemmas.clauses.{Shapes.served-settled, Visited.ready-round, Visited.passed-at, Walks.running-grow, Walks.walked-grow}
-use Rattle.pb_propagate.proofs.lemmas.engine.Advances.{extends-within, extends-none}
-use Rattle.pb_propagate.proofs.lemmas.engine.Literals.{has-get, negation-negation, same-true, says-inside}
-use Rattle.pb_propagate.{proofs.lemmas.store.Gets.get-take_less, proofs.lemmas.store.Gets.last-is, specs.declared.heads.Ahead.Ahead}
-use Rattle.pb_propagate.specs.engine.clauses.Runs.{AreRound}
+use Rattle.pb_propagate.proofs.lemmas.engine.{Advances.extends-within, Advances.extends-none, Literals.has-get, Literals.negation-negation, Literals.same-true}
+use Rattle.pb_propagate.proofs.lemmas.{engine.Literals.says-inside, store.Gets.get-take_less, store.Gets.last-is}
+use Rattle.pb_propagate.specs.{declared.heads.Ahead.Ahead, engine.clauses.Runs.AreRound}
 use Rattle.pb_propagate.specs.engine.clauses.Walked.{has as stands, falsified_code, heads_at, reached_codes, reached, head, advanced}
 use Rattle.pb_propagate.specs.engine.engine.{Lists.has, Progress.HasWalked}
-use Rattle.std.proofs.Math.ListN.{replicate}
-use Rattle.std.proofs.lemmas.List.{get_or-replicate, length-replicate, take-take, get_or-append_right, Folds.Any-from_list_any}
-use Rattle.std.proofs.lemmas.List.Sorted.{IsPermutation-append_comm, IsPermutation-append_right}
+use Rattle.std.proofs.{Math.ListN.replicate, lemmas.List.get_or-replicate, lemmas.List.length-replicate}
+use Rattle.std.proofs.lemmas.List.{take-take, get_or-append_right, Folds.Any-from_list_any, Sorted.IsPermutation-append_comm, Sorted.IsPermutation-append_right}
 
 -- heads with the same numbers
 pub heads-is : (h : Heads) (n : ℕ) → h.short ≡ n → h.long ≡ n → h ≡ heads_at n

@@ -1,13 +1,12 @@
 -- Literals on a list, tested, counted and as values. Offered to other crates.
-use Rattle.pb_propagate.proofs.Common.{ℕ, ◌+◌, ◌<◌, ◌∷◌, ◌≡◌, ◌≤◌, [], arith, get_or, get_or-set_other, length, List, refl, set, suc, true, sum}
-use Rattle.pb_propagate.proofs.Common.{sum_by, or_left, or_right, get_or_past, set_past, sum_by-cons, sum_by-set, sum_by_push, NumberedLiteral}
-use Rattle.pb_propagate.proofs.Common.{negation, AreSingle, more, none, place, spent, begin, Derives, put, Shape, Weighted, ◌++◌, ◌||◌, ◌∙◌, ◌⊎◌, ap}
-use Rattle.pb_propagate.proofs.Common.{Bool, eq-eqb, false, not, zero, Contains, not-not, or-false, eqb-true, list_any-append, sum_by-le-sum_by, beq}
-use Rattle.pb_propagate.proofs.Common.{Term, IsWithin, open_sum, IsSettled, Puts, get_or_append_left, get_or_push, length-append, drop}
-use Rattle.pb_propagate.proofs.Common.{get_or-set_same, None, sym, Option, Some, ne_eqb, drop_all, drop_more, holds, vacancy}
+use Rattle.pb_propagate.proofs.Common.{ℕ, ◌+◌, ◌<◌, ◌∷◌, ◌≡◌, ◌≤◌, [], arith, get_or, get_or-set_other, length, List, refl, set, suc, true, sum, sum_by}
+use Rattle.pb_propagate.proofs.Common.{or_left, or_right, get_or_past, set_past, sum_by-cons, sum_by-set, sum_by_push, NumberedLiteral, negation, AreSingle}
+use Rattle.pb_propagate.proofs.Common.{more, none, place, spent, begin, Derives, put, Shape, Weighted, ◌++◌, ◌||◌, ◌∙◌, ◌⊎◌, ap, Bool, eq-eqb, false, not, zero}
+use Rattle.pb_propagate.proofs.Common.{Contains, not-not, or-false, eqb-true, list_any-append, sum_by-le-sum_by, beq, Term, IsWithin, open_sum, IsSettled, Puts}
+use Rattle.pb_propagate.proofs.Common.{get_or_append_left, get_or_push, length-append, drop, get_or-set_same, None, sym, Option, Some, ne_eqb, drop_all}
+use Rattle.pb_propagate.proofs.Common.{drop_more, holds, vacancy}
 use Rattle.pb_propagate.specs.engine.engine.Lists.{has, same, open_part, says}
-use Rattle.std.proofs.lemmas.{Grind.get_or-set_at, List.Folds.list_any_at, List.Sums.sum_by-remove}
-use Rattle.std.specs.List.{remove}
+use Rattle.std.{proofs.lemmas.Grind.get_or-set_at, proofs.lemmas.List.Folds.list_any_at, proofs.lemmas.List.Sums.sum_by-remove, specs.List.remove}
 
 pub beq-not : (a b : Bool) → beq (not a) b ≡ not (beq a b)
 beq-not a b = grind arith

@@ -1,18 +1,16 @@
 -- The steps of a visit to a form, and a propagation between two visits, from its beginning to its end.
-use Rattle.pb_propagate.proofs.Common.{rules, stored_bound, stored_degree, stored_terms, stored_total, ℕ, ◌+◌, ◌-◌, ◌<◌, ◌^◌, ◌∙◌, ◌∷◌, ◌≡◌, ◌≤◌, []}
-use Rattle.pb_propagate.proofs.Common.{ap, arith, false, get_or, length, length-append, length-set, List, min, set, subst, sym, All, Contains}
-use Rattle.pb_propagate.proofs.Common.{slice_get, Some, sum, get_or-map, get_or_default, get_or_read, length-map, Contains-get_or, sum_by-set}
-use Rattle.pb_propagate.proofs.Common.{slice_get-get_or, NumberedLiteral, negation, Rests, Store, StoredForm, Term, added, Adopted, Grown, IsAbsent}
-use Rattle.pb_propagate.proofs.Common.{IsCalm, IsCounted, IsDone, kept, pushed, rest_open, spared, shapes_of, stored_shape, coefficient_at, AreInside}
-use Rattle.pb_propagate.proofs.Common.{by_reason, has, HaveReasons, KeepsReasons, open_sum, Shape, Advances, Database, database, IsTidyAt, Progress}
-use Rattle.pb_propagate.proofs.Common.{StaysTidy, VisitsEach, get_or-set_other, IsUndone, size, ◌*◌, ◌++◌, drop, take, sum_by, drop_all, drop_more}
-use Rattle.pb_propagate.proofs.Common.{length-take, All-push, Heads, fallen, AreFalling, AreSingle, spent, Extends, IsSettled, Costs, queued, Spends}
-use Rattle.pb_propagate.proofs.Common.{Clauses, AreWithin, clauses_of, IsAhead, passed_of, seen, reached}
+use Rattle.pb_propagate.proofs.Common.{rules, stored_bound, stored_degree, stored_terms, stored_total, ℕ, ◌+◌, ◌-◌, ◌<◌, ◌^◌, ◌∙◌, ◌∷◌, ◌≡◌, ◌≤◌, [], ap, arith}
+use Rattle.pb_propagate.proofs.Common.{false, get_or, length, length-append, length-set, List, min, set, subst, sym, All, Contains, slice_get, Some, sum}
+use Rattle.pb_propagate.proofs.Common.{get_or-map, get_or_default, get_or_read, length-map, Contains-get_or, sum_by-set, slice_get-get_or, NumberedLiteral}
+use Rattle.pb_propagate.proofs.Common.{negation, Rests, Store, StoredForm, Term, added, Adopted, Grown, IsAbsent, IsCalm, IsCounted, IsDone, kept, pushed}
+use Rattle.pb_propagate.proofs.Common.{rest_open, spared, shapes_of, stored_shape, coefficient_at, AreInside, by_reason, has, HaveReasons, KeepsReasons}
+use Rattle.pb_propagate.proofs.Common.{open_sum, Shape, Advances, Database, database, IsTidyAt, Progress, StaysTidy, VisitsEach, get_or-set_other, IsUndone}
+use Rattle.pb_propagate.proofs.Common.{size, ◌*◌, ◌++◌, drop, take, sum_by, drop_all, drop_more, length-take, All-push, Heads, fallen, AreFalling, AreSingle}
+use Rattle.pb_propagate.proofs.Common.{spent, Extends, IsSettled, Costs, queued, Spends, Clauses, AreWithin, clauses_of, IsAhead, passed_of, seen, reached}
 use Rattle.pb_propagate.proofs.lemmas.clauses.Heads.{IsWatching, cost, cost-broken, cost-most}
-use Rattle.pb_propagate.proofs.lemmas.engine.Advances.{advances-then, advances-as, advances-visit, advances-counted, size_at, costs-none}
-use Rattle.pb_propagate.proofs.lemmas.engine.Advances.{extends-none, extends-then, spent-extends, reached-extends}
-use Rattle.pb_propagate.proofs.lemmas.engine.Literals.{has-push_new, one_itself, spent-le, sum-bounded}
-use Rattle.pb_propagate.proofs.lemmas.engine.Reasoned.{reasons-keep}
+use Rattle.pb_propagate.proofs.lemmas.engine.Advances.{advances-then, advances-as, advances-visit, advances-counted, size_at, costs-none, extends-none}
+use Rattle.pb_propagate.proofs.lemmas.engine.Advances.{extends-then, spent-extends, reached-extends}
+use Rattle.pb_propagate.proofs.lemmas.engine.{Literals.has-push_new, Literals.one_itself, Literals.spent-le, Literals.sum-bounded, Reasoned.reasons-keep}
 use Rattle.pb_propagate.proofs.lemmas.engine.Runs.{Tidy-pass, absent-from, grown-still, grown-absent, grown-new, calm-settled, absent-cons}
 use Rattle.pb_propagate.proofs.lemmas.store.Stored.{stored-sum, stored-idle, stored-falling}
 use Rattle.pb_propagate.specs.declared.{heads.Ahead.Ahead, store.stored_form.StoredForm.TheVariants.Vacant}

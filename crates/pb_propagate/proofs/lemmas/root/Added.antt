@@ -1,19 +1,17 @@
 -- A form comes to the root, or goes, and the root stays.
-use Rattle.pb_propagate.proofs.Common.{All-push, stored_form, ℕ, ◌/◌, ◌<◌, ◌∙◌, ◌∷◌, ◌≡◌, [], ap, arith, Bool, get_or, get_or-set_other, length}
-use Rattle.pb_propagate.proofs.Common.{length-append, List, set, subst, sym, true, both_ways, Option, slice_get, Some, cases_eq, get_or_append_left}
-use Rattle.pb_propagate.proofs.Common.{get_or_push, length-map, get_or_from_slice_get, slice_get-get_or, slice_get_within, NumberedLiteral, Clauses}
-use Rattle.pb_propagate.proofs.Common.{Watch, Waiting, Rests, Run, Store, StoredForm, list_at, watch_at, AreStored, all_of, clauses_of, joined}
-use Rattle.pb_propagate.proofs.Common.{one_term, slot_shape, Walked, beside, Grown, IsCalm, IsCounted, IsTidy, shapes_of, stored_shape, HaveReasons}
-use Rattle.pb_propagate.proofs.Common.{open_sum, Shape, HasForm, HasGained, RunIsWidened, IsRooted, AreFree, AreSet, IsFreePair, None, Pair, map}
-use Rattle.pb_propagate.proofs.Common.{slice_get-map, length-set, IsAbsent, ◌*◌, ◌+◌, ◌⊎◌, get_or-set_same, get_or_past, Form, forms_of, HasWidened}
-use Rattle.pb_propagate.proofs.Common.{form_at, map-set, Assignment, AreReady, HasCleared, IsNeedless, pushed, get_or_default}
-use Rattle.pb_propagate.proofs.lemmas.clauses.{Heads.KeepsFallen, Heads.walks-kept, Literals.false-listed}
-use Rattle.pb_propagate.proofs.lemmas.clauses.Shapes.{IsVacant, joined-at, joined-length, joined-cleared}
-use Rattle.pb_propagate.proofs.lemmas.engine.{Literals.get_or-push_default, Reasoned.moved-same, Reasoned.reasons-moved}
-use Rattle.pb_propagate.proofs.lemmas.engine.Runs.{Tidy-rest, grown-all, grown-new, grown-still}
-use Rattle.pb_propagate.proofs.lemmas.{root.Ready.IsTidyRoot, store.Changes.forms-filled, store.Changes.forms-length}
-use Rattle.pb_propagate.{proofs.lemmas.store.Gets.get-set_other, proofs.lemmas.store.Gets.get-push_other, specs.declared.engine.root.Root.Root}
-use Rattle.pb_propagate.specs.engine.engine.Root.{WasRootOf, HasRemoved, IsRootOf}
+use Rattle.pb_propagate.proofs.Common.{All-push, stored_form, ℕ, ◌/◌, ◌<◌, ◌∙◌, ◌∷◌, ◌≡◌, [], ap, arith, Bool, get_or, get_or-set_other, length, length-append}
+use Rattle.pb_propagate.proofs.Common.{List, set, subst, sym, true, both_ways, Option, slice_get, Some, cases_eq, get_or_append_left, get_or_push, length-map}
+use Rattle.pb_propagate.proofs.Common.{get_or_from_slice_get, slice_get-get_or, slice_get_within, NumberedLiteral, Clauses, Watch, Waiting, Rests, Run, Store}
+use Rattle.pb_propagate.proofs.Common.{StoredForm, list_at, watch_at, AreStored, all_of, clauses_of, joined, one_term, slot_shape, Walked, beside, Grown}
+use Rattle.pb_propagate.proofs.Common.{IsCalm, IsCounted, IsTidy, shapes_of, stored_shape, HaveReasons, open_sum, Shape, HasForm, HasGained, RunIsWidened}
+use Rattle.pb_propagate.proofs.Common.{IsRooted, AreFree, AreSet, IsFreePair, None, Pair, map, slice_get-map, length-set, IsAbsent, ◌*◌, ◌+◌, ◌⊎◌}
+use Rattle.pb_propagate.proofs.Common.{get_or-set_same, get_or_past, Form, forms_of, HasWidened, form_at, map-set, Assignment, AreReady, HasCleared, IsNeedless}
+use Rattle.pb_propagate.proofs.{Common.pushed, Common.get_or_default, lemmas.clauses.Heads.KeepsFallen, lemmas.clauses.Heads.walks-kept}
+use Rattle.pb_propagate.proofs.lemmas.clauses.{Literals.false-listed, Shapes.IsVacant, Shapes.joined-at, Shapes.joined-length, Shapes.joined-cleared}
+use Rattle.pb_propagate.proofs.lemmas.engine.{Literals.get_or-push_default, Reasoned.moved-same, Reasoned.reasons-moved, Runs.Tidy-rest, Runs.grown-all}
+use Rattle.pb_propagate.proofs.lemmas.{engine.Runs.grown-new, engine.Runs.grown-still, root.Ready.IsTidyRoot}
+use Rattle.pb_propagate.proofs.lemmas.store.{Changes.forms-filled, Changes.forms-length, Gets.get-set_other, Gets.get-push_other}
+use Rattle.pb_propagate.specs.{declared.engine.root.Root.Root, engine.engine.Root.WasRootOf, engine.engine.Root.HasRemoved, engine.engine.Root.IsRootOf}
 use Rattle.std.proofs.lemmas.{Grind.get_or-set_at, Option.unwrap_or-slice_get}
 
 -- the same element in both

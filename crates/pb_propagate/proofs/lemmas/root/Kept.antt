@@ -1,17 +1,15 @@
 -- A conflict of the root is kept.
-use Rattle.pb_propagate.proofs.Common.{ℕ, ◌+◌, ◌<◌, ◌∙◌, ◌≡◌, ◌≤◌, [], ap, arith, Bool, false, get_or, length, List, map, set, subst, sym, take, true}
-use Rattle.pb_propagate.proofs.Common.{Option, Some, sum_by, both_ways, get_or_from_slice_get, take_more, slice_get-get_or, slice_get_within}
-use Rattle.pb_propagate.proofs.Common.{NumberedLiteral, Form, negation, Assignment, Clauses, Store, all_of, AreJoined, clause_shape, clauses_of}
-use Rattle.pb_propagate.proofs.Common.{one_term, forms_of, IsSound, shapes_of, broken, Conflicts, has, HaveReasons, KeepsReasons, open_part, open_sum}
-use Rattle.pb_propagate.proofs.Common.{opposed, Shape, AreSlots, HasGained, HasCleared, IsAnswered, IsConflict, IsFree, IsKeptConflict, IsMet}
-use Rattle.pb_propagate.proofs.Common.{IsNeedless, HasMet, IsAsked, list_of, HasForm, get_or-le-sum_by, get_or-map, length-map, cases_eq, slice_get}
-use Rattle.pb_propagate.proofs.Common.{IsSettled, rules, Contains}
+use Rattle.pb_propagate.proofs.Common.{ℕ, ◌+◌, ◌<◌, ◌∙◌, ◌≡◌, ◌≤◌, [], ap, arith, Bool, false, get_or, length, List, map, set, subst, sym, take, true, Option}
+use Rattle.pb_propagate.proofs.Common.{Some, sum_by, both_ways, get_or_from_slice_get, take_more, slice_get-get_or, slice_get_within, NumberedLiteral, Form}
+use Rattle.pb_propagate.proofs.Common.{negation, Assignment, Clauses, Store, all_of, AreJoined, clause_shape, clauses_of, one_term, forms_of, IsSound}
+use Rattle.pb_propagate.proofs.Common.{shapes_of, broken, Conflicts, has, HaveReasons, KeepsReasons, open_part, open_sum, opposed, Shape, AreSlots, HasGained}
+use Rattle.pb_propagate.proofs.Common.{HasCleared, IsAnswered, IsConflict, IsFree, IsKeptConflict, IsMet, IsNeedless, HasMet, IsAsked, list_of, HasForm}
+use Rattle.pb_propagate.proofs.Common.{get_or-le-sum_by, get_or-map, length-map, cases_eq, slice_get, IsSettled, rules, Contains}
 use Rattle.pb_propagate.proofs.lemmas.clauses.Literals.{Agree, false-listed}
 use Rattle.pb_propagate.proofs.lemmas.engine.Literals.{open_part-open, has-get, has-push_cases, opposite, says-inside}
-use Rattle.pb_propagate.proofs.lemmas.engine.Reasoned.{reasons-derive, reasons-keep, recorded}
-use Rattle.pb_propagate.proofs.lemmas.root.Added.{gained-at, gained-reasons, vacated-all, lost-reasons}
-use Rattle.pb_propagate.proofs.lemmas.root.{Questions.found-after, Questions.root-few, Retracted.live-slot, Retracted.reasons-fresh}
-use Rattle.pb_propagate.proofs.lemmas.store.Gets.{get-set_same, get-set_other}
+use Rattle.pb_propagate.proofs.lemmas.{engine.Reasoned.reasons-derive, engine.Reasoned.reasons-keep, engine.Reasoned.recorded, root.Added.gained-at}
+use Rattle.pb_propagate.proofs.lemmas.root.{Added.gained-reasons, Added.vacated-all, Added.lost-reasons, Questions.found-after, Questions.root-few}
+use Rattle.pb_propagate.proofs.lemmas.{root.Retracted.live-slot, root.Retracted.reasons-fresh, store.Gets.get-set_same, store.Gets.get-set_other}
 use Rattle.pb_propagate.specs.declared.engine.{conflict.Conflict.Conflict, root.Root.Root}
 
 -- a conflict falsifies a constraint, since no two literals of the list are opposite

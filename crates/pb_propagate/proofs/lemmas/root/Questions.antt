@@ -1,25 +1,23 @@
 -- Questions that continue from the root, about a constraint or about a clause by its literals.
-use Rattle.pb_normal.proofs.lemmas.terms.Maps.{IsNormal-negation}
-use Rattle.pb_propagate.proofs.Common.{ℕ, ◌++◌, ◌+◌, ◌-◌, ◌<◌, ◌^◌, ◌∙◌, ◌∷◌, ◌≡◌, ◌≤◌, [], ap, arith, false, get_or, inl, inr, length, length-append}
-use Rattle.pb_propagate.proofs.Common.{List, map, min, rules, refl, suc, true, zero, All, Contains, both_ways, get_or-map, length-map}
-use Rattle.pb_propagate.proofs.Common.{Contains-append_left, Contains-push, Contains-push_cases, IsPermutation-refl, sum_by-cons, Entry}
-use Rattle.pb_propagate.proofs.Common.{NumberedLiteral, each, Form, IsNormal, total, negation, negation_of, opposite, Term, AreJoined, joined, added}
-use Rattle.pb_propagate.proofs.Common.{Adopted, AreFound, kept, AreDenied, denial_of, IsDisjunction, IsHit, IsOne, as_term, entry_of, IsStoredAs}
-use Rattle.pb_propagate.proofs.Common.{broken, Conflicts, Derives, has, IsSettled, IsWithin, open_sum, opposed, put, Shape, AreSettled, none, ◌*◌}
-use Rattle.pb_propagate.proofs.Common.{Global, take, Vec, sum, sum_by, ext_get_or, get_or-take, get_or_append_left, get_or_default, get_or_past}
-use Rattle.pb_propagate.proofs.Common.{get_or_push, length-take, map-append, take_all, sum_by-append, Long, Short, Clauses, Heads, heads_at, Rests}
-use Rattle.pb_propagate.proofs.Common.{Run, Occurrence, Store, StoredForm, clauses_of, code_in, fallen, AreSingle, beside, IsTidy, IsUndone, place}
-use Rattle.pb_propagate.proofs.Common.{spent, AreLonger, entries_of, IsSound, shapes_of, spots_of, stored_shape, Extends, size, RunSpends}
-use Rattle.pb_propagate.proofs.Common.{UpdateCosts, list_of, values_of, Assignment, Bool, HaveReasons, IsAnswered, RunGains, RunRefutes}
+use Rattle.pb_propagate.proofs.Common.{ℕ, ◌++◌, ◌+◌, ◌-◌, ◌<◌, ◌^◌, ◌∙◌, ◌∷◌, ◌≡◌, ◌≤◌, [], ap, arith, false, get_or, inl, inr, length, length-append, List}
+use Rattle.pb_propagate.proofs.Common.{map, min, rules, refl, suc, true, zero, All, Contains, both_ways, get_or-map, length-map, Contains-append_left}
+use Rattle.pb_propagate.proofs.Common.{Contains-push, Contains-push_cases, IsPermutation-refl, sum_by-cons, Entry, NumberedLiteral, each, Form, IsNormal, total}
+use Rattle.pb_propagate.proofs.Common.{negation, negation_of, opposite, Term, AreJoined, joined, added, Adopted, AreFound, kept, AreDenied, denial_of}
+use Rattle.pb_propagate.proofs.Common.{IsDisjunction, IsHit, IsOne, as_term, entry_of, IsStoredAs, broken, Conflicts, Derives, has, IsSettled, IsWithin}
+use Rattle.pb_propagate.proofs.Common.{open_sum, opposed, put, Shape, AreSettled, none, ◌*◌, Global, take, Vec, sum, sum_by, ext_get_or, get_or-take}
+use Rattle.pb_propagate.proofs.Common.{get_or_append_left, get_or_default, get_or_past, get_or_push, length-take, map-append, take_all, sum_by-append, Long}
+use Rattle.pb_propagate.proofs.Common.{Short, Clauses, Heads, heads_at, Rests, Run, Occurrence, Store, StoredForm, clauses_of, code_in, fallen, AreSingle}
+use Rattle.pb_propagate.proofs.Common.{beside, IsTidy, IsUndone, place, spent, AreLonger, entries_of, IsSound, shapes_of, spots_of, stored_shape, Extends, size}
+use Rattle.pb_propagate.proofs.Common.{RunSpends, UpdateCosts, list_of, values_of, Assignment, Bool, HaveReasons, IsAnswered, RunGains, RunRefutes}
 use Rattle.pb_propagate.proofs.Common.{RunVisitsEach, all_of, sum_by-le-sum_by}
 use Rattle.pb_propagate.proofs.lemmas.clauses.{Counts.IsOneSided, Counts.killed-both, Shapes.conflicts-joined, Shapes.joined-push}
 use Rattle.pb_propagate.proofs.lemmas.engine.Advances.{killed-longer, extends-then}
-use Rattle.pb_propagate.proofs.lemmas.engine.Literals.{one_itself, settled-of_terms, derivation-then, negation-negation, open_part-falsified}
-use Rattle.pb_propagate.proofs.lemmas.engine.Literals.{open_part-open, open_sum-lower, has-none, has-push_old, has-push_new, only-itself, opposite as one_sided}
+use Rattle.pb_propagate.proofs.lemmas.engine.Literals.{one_itself, settled-of_terms, derivation-then, negation-negation, open_part-falsified, open_part-open}
+use Rattle.pb_propagate.proofs.lemmas.engine.Literals.{open_sum-lower, has-none, has-push_old, has-push_new, only-itself, opposite as one_sided}
 use Rattle.pb_propagate.proofs.lemmas.engine.{Literals.derivation-single, Reasoned.reasons-derive, Rests.joined-terms}
-use Rattle.pb_propagate.proofs.lemmas.root.Rooted.{derives-within, owned, root-short, both-le}
-use Rattle.pb_propagate.{proofs.lemmas.store.Stored.entries-size, specs.declared.engine.root.Root.Root}
-use Rattle.pb_propagate.specs.engine.engine.Root.{HasUpdated, IsStanding, terms_of_all}
+use Rattle.pb_propagate.proofs.lemmas.{root.Rooted.derives-within, root.Rooted.owned, root.Rooted.root-short, root.Rooted.both-le, store.Stored.entries-size}
+use Rattle.pb_propagate.specs.{declared.engine.root.Root.Root, engine.engine.Root.HasUpdated, engine.engine.Root.IsStanding, engine.engine.Root.terms_of_all}
+use Rattle.pb_normal.proofs.lemmas.terms.Maps.{IsNormal-negation}
 
 abbrev literal_of : Entry → NumberedLiteral
 literal_of e = (as_term e).literal

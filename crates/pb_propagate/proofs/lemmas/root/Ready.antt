@@ -1,31 +1,24 @@
 -- The state to which questions return. What the parts of a question need, what they cost, and what they leave.
-use Rattle.pb_propagate.proofs.Common.{IsTidy, beside, rules, ℕ, ◌+◌, ◌<◌, ◌∙◌, ◌≡◌, ◌≤◌, [], ap, arith, get_or, get_or-set_other, length, List, set}
-use Rattle.pb_propagate.proofs.Common.{sym, slice_get, slice_get_within, Some, ext_get_or, get_or_default, get_or_read, length-map, Clauses, Waiting}
-use Rattle.pb_propagate.proofs.Common.{Rests, Run, Store, all_of, Walked, IsWalkedTo, heads_at, IsAbsent, IsCounted, IsUndone, shapes_of}
-use Rattle.pb_propagate.proofs.Common.{stored_shape, HaveReasons, KeepsReasons, Shape, size, from_given, HasForm, IsRooted, open_sum, GoesBack, refl}
-use Rattle.pb_propagate.proofs.Common.{none, Heads, AreJoined, clauses_of, IsRunning, Advances, database, Database, HasUpdated, list_of, progress}
-use Rattle.pb_propagate.proofs.Common.{shapes_in, values_of, AreOpen, Progress, RunIsOpen, IsReadyRun, Propagates, RunGains, RunPuts, RunVisits}
-use Rattle.pb_propagate.proofs.Common.{RunVisitsEach, RunReasons, ArePlaced, Form, IsAtRest, IsKeptConflict, Live, numbered, Option, sum, sum_by}
-use Rattle.pb_propagate.proofs.Common.{take-append_seam, NumberedLiteral, Assignment, Long, Short, AreWithin, Grows, passed_of, fallen}
-use Rattle.pb_propagate.proofs.Common.{falsified_code, reached, AreSingle, RunRefutes, Extends, Costs, RunSpends}
-use Rattle.pb_propagate.proofs.lemmas.clauses.Counts.{passed-most}
-use Rattle.pb_propagate.proofs.lemmas.clauses.Heads.{walks-none, mark-more, visits-back, walks-kept, heads-is}
+use Rattle.pb_propagate.proofs.Common.{IsTidy, beside, rules, ℕ, ◌+◌, ◌<◌, ◌∙◌, ◌≡◌, ◌≤◌, [], ap, arith, get_or, get_or-set_other, length, List, set, sym}
+use Rattle.pb_propagate.proofs.Common.{slice_get, slice_get_within, Some, ext_get_or, get_or_default, get_or_read, length-map, Clauses, Waiting, Rests, Run}
+use Rattle.pb_propagate.proofs.Common.{Store, all_of, Walked, IsWalkedTo, heads_at, IsAbsent, IsCounted, IsUndone, shapes_of, stored_shape, HaveReasons}
+use Rattle.pb_propagate.proofs.Common.{KeepsReasons, Shape, size, from_given, HasForm, IsRooted, GoesBack, refl, none, Heads, AreJoined, clauses_of}
+use Rattle.pb_propagate.proofs.Common.{IsRunning, Advances, database, Database, HasUpdated, list_of, progress, shapes_in, values_of, AreOpen, Progress}
+use Rattle.pb_propagate.proofs.Common.{RunIsOpen, IsReadyRun, Propagates, RunGains, RunPuts, RunVisits, RunVisitsEach, RunReasons, ArePlaced, Form, IsAtRest}
+use Rattle.pb_propagate.proofs.Common.{IsKeptConflict, Live, numbered, Option, sum, sum_by, take-append_seam, NumberedLiteral, Assignment, Long, Short}
+use Rattle.pb_propagate.proofs.Common.{AreWithin, Grows, passed_of, fallen, falsified_code, reached, AreSingle, RunRefutes, Extends, Costs, RunSpends}
+use Rattle.pb_propagate.proofs.lemmas.clauses.{Counts.passed-most, Heads.walks-none, Heads.mark-more, Heads.visits-back, Heads.walks-kept, Heads.heads-is}
 use Rattle.pb_propagate.proofs.lemmas.clauses.Walks.{kept-then, running-grow, grows-listed}
-use Rattle.pb_propagate.proofs.lemmas.engine.Advances.{advances-refl, advances-then, advances-as, extends-then, extends-within, spent-extends}
-use Rattle.pb_propagate.proofs.lemmas.engine.{Advances.killed-longer, Bridge.AreKept, Literals.derivation-single}
-use Rattle.pb_propagate.proofs.lemmas.engine.Propagated.{open-now, IsVisiting}
-use Rattle.pb_propagate.proofs.lemmas.engine.{Reasoned.reasons-keep, Reasoned.keeps-then, Reasoned.reasons-derive, Rests.slots-kept}
-use Rattle.pb_propagate.proofs.lemmas.{engine.Runs.Tidy-rest, engine.Runs.absent-from, store.Placed.placed-kept}
-use Rattle.pb_propagate.specs.{declared.engine.conflict.Conflict.Conflict, declared.engine.root.Root.Root, engine.engine.Progress.RunIsCalm}
-use Rattle.pb_propagate.specs.engine.engine.{Propagation.IsSaved, Root.IsLeft, Root.IsRootOf, Root.IsStanding}
+use Rattle.pb_propagate.proofs.lemmas.engine.Advances.{advances-refl, advances-then, advances-as, extends-then, extends-within, spent-extends, killed-longer}
+use Rattle.pb_propagate.proofs.lemmas.engine.{Bridge.AreKept, Literals.derivation-single, Propagated.open-now, Propagated.IsVisiting, Reasoned.reasons-keep}
+use Rattle.pb_propagate.proofs.lemmas.engine.{Reasoned.keeps-then, Reasoned.reasons-derive, Rests.slots-kept, Runs.Tidy-rest, Runs.absent-from}
+use Rattle.pb_propagate.{proofs.lemmas.store.Placed.placed-kept, specs.declared.engine.conflict.Conflict.Conflict, specs.declared.engine.root.Root.Root}
+use Rattle.pb_propagate.specs.engine.engine.{Progress.RunIsCalm, Propagation.IsSaved, Root.IsLeft, Root.IsRootOf, Root.IsStanding}
 use Rattle.std.proofs.lemmas.Grind.{get_or-set_at}
 
 -- the forms of a root, and its open sums, with one form left out
 abbrev pub IsTidyRoot : Store → Run → Rests → Waiting → ℕ → Type 0
 IsTidyRoot store run rests waiting busy = IsTidy (beside rests waiting.list.items) (shapes_of store.stored.items) run.opens.items run.candidates.items run.assignment.list.items [] [] 0 busy
-
-abbrev pub AreRootSums : Store → Run → ℕ → Type 0
-AreRootSums store run busy = (s : ℕ) (d : Shape) → s < length store.stored.items → (s ≡ busy → ⊥) → get_or run.opens.items s 0 ≡ open_sum run.assignment.list.items (get_or (shapes_of store.stored.items) s d).terms
 
 -- one form more
 pub keep-next : (rests rests' : Rests) (forms : List Shape) (opens cands trail : List ℕ) (i form o c : ℕ) → i < length trail → form ≡ get_or trail i form → form < length opens → form < length cands → o ≡ get_or opens form o → c ≡ get_or cands form c → length rests.opens.items ≡ length opens → length rests.starts.items ≡ length cands →

@@ -1,21 +1,20 @@
 -- The store after a form was added, removed or emptied, and slots that forms take and leave.
-use Rattle.pb_normal.specs.declared.entry.Entry.{Entry as Given}
-use Rattle.pb_propagate.proofs.Common.{slice_get_past, stored_form, stored_terms, ℕ, ◌⊎◌, ◌++◌, ◌+◌, ◌<◌, ◌∙◌, ◌∷◌, ◌≡◌, [], All, All-permutation}
-use Rattle.pb_propagate.proofs.Common.{All-set, ap, arith, get_or, get_or-set_other, get_or-set_same, Global, inl, inr, IsPermutation}
-use Rattle.pb_propagate.proofs.Common.{IsPermutation-sym, length, length-append, length-set, List, map, None, NumberedLiteral, place, refl, set}
-use Rattle.pb_propagate.proofs.Common.{set-get_or, set_past, slice_get, slice_get-get_or, slice_get_within, sym, take, Vec, Option, cases_eq}
-use Rattle.pb_propagate.proofs.Common.{cases_lt, false, get_or-take, get_or_append_left, get_or_default, get_or_from_slice_get, get_or_past}
-use Rattle.pb_propagate.proofs.Common.{get_or_push, length-map, length-take, length-take-le, map-append, map-set, take_all, Form, Occurrence}
-use Rattle.pb_propagate.proofs.Common.{entry_of, entry_weight, NameForms, weight_in, weight_on, weighted, Weighted, Spots, spots_in, StoredForm, Term}
-use Rattle.pb_propagate.proofs.Common.{entries_of, forms_of, lists_of, shapes_of, spots_of, stored_shape, cut, degree_at, IsLinked, IsStored, term_at}
-use Rattle.pb_propagate.proofs.Common.{terms_at, AreInside, Shape, Some, map-set_same, IsNormal, Clauses, Store, AreReady, IsRefitted, clauses_of}
-use Rattle.pb_propagate.proofs.Common.{codes_of_terms, group_by, IsClause, joined, HasFilled, IsEmpty, IsSound, IsUnlisted, AreSlots, IsAtRest}
+use Rattle.pb_propagate.proofs.Common.{slice_get_past, stored_form, stored_terms, ℕ, ◌⊎◌, ◌++◌, ◌+◌, ◌<◌, ◌∙◌, ◌∷◌, ◌≡◌, [], All, All-permutation, All-set, ap}
+use Rattle.pb_propagate.proofs.Common.{arith, get_or, get_or-set_other, get_or-set_same, Global, inl, inr, IsPermutation, IsPermutation-sym, length}
+use Rattle.pb_propagate.proofs.Common.{length-append, length-set, List, map, None, NumberedLiteral, place, refl, set, set-get_or, set_past, slice_get}
+use Rattle.pb_propagate.proofs.Common.{slice_get-get_or, slice_get_within, sym, take, Vec, Option, cases_eq, cases_lt, false, get_or-take, get_or_append_left}
+use Rattle.pb_propagate.proofs.Common.{get_or_default, get_or_from_slice_get, get_or_past, get_or_push, length-map, length-take, length-take-le, map-append}
+use Rattle.pb_propagate.proofs.Common.{map-set, take_all, Form, Occurrence, entry_of, entry_weight, NameForms, weight_in, weight_on, weighted, Weighted, Spots}
+use Rattle.pb_propagate.proofs.Common.{spots_in, StoredForm, Term, entries_of, forms_of, lists_of, shapes_of, spots_of, stored_shape, cut, degree_at, IsLinked}
+use Rattle.pb_propagate.proofs.Common.{IsStored, term_at, terms_at, AreInside, Shape, Some, map-set_same, IsNormal, Clauses, Store, AreReady, IsRefitted}
+use Rattle.pb_propagate.proofs.Common.{clauses_of, codes_of_terms, group_by, IsClause, joined, HasFilled, IsEmpty, IsSound, IsUnlisted, AreSlots, IsAtRest}
 use Rattle.pb_propagate.proofs.lemmas.clauses.Shapes.{joined-length, IsVacant, slots-vacant, joined-widen, AreJoined-widen, joined-set, AreJoined-set}
-use Rattle.pb_propagate.proofs.lemmas.clauses.Shapes.{joined-clause, AreJoined-clause, joined-cleared, AreJoined-cleared, clause-kept}
-use Rattle.pb_propagate.proofs.lemmas.{clauses.Shapes.rising-different, engine.Rests.slots-set, engine.Rests.slots-more, engine.Rests.slots-length}
-use Rattle.pb_propagate.proofs.lemmas.{engine.Runs.entry_weight-other, store.Gets.push-default, store.Links.cut-length, store.Placed.agree-sum}
+use Rattle.pb_propagate.proofs.lemmas.clauses.Shapes.{joined-clause, AreJoined-clause, joined-cleared, AreJoined-cleared, clause-kept, rising-different}
+use Rattle.pb_propagate.proofs.lemmas.engine.{Rests.slots-set, Rests.slots-more, Rests.slots-length, Runs.entry_weight-other}
+use Rattle.pb_propagate.proofs.lemmas.store.{Gets.push-default, Links.cut-length, Placed.agree-sum}
 use Rattle.pb_propagate.proofs.lemmas.store.Stored.{named-term, entries-length, entry-weighted, map-agree}
 use Rattle.pb_propagate.specs.declared.store.{spots.Spots.TheVariants.Empty, stored_form.StoredForm.TheVariants.Vacant}
+use Rattle.pb_normal.specs.declared.entry.Entry.{Entry as Given}
 use Rattle.std.proofs.{Math.ListN.get_or-map as get_or-map_all, lemmas.Grind.get_or-set_at, lemmas.List.get_or-map, lemmas.List.Sums.sum_by-le}
 
 pub kept-inside : (ts : List Term) (es : List Given) (n : ℕ) → IsPermutation (map entry_of ts) es → All (λ e. e.variable < n) es → AreInside n ts

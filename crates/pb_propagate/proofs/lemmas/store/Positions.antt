@@ -1,14 +1,12 @@
 -- Lists of numbers: the position of each in a list that has it once, and lists of free slots.
-use Rattle.pb_propagate.proofs.Common.{ℕ, ◌++◌, ◌+◌, ◌-◌, ◌<◌, ◌∙◌, ◌∷◌, ◌≡◌, ◌≤◌, [], ap, arith, Bool, get_or, if◌then◌else◌, inl, inr, length}
-use Rattle.pb_propagate.proofs.Common.{length-append, List, set, suc, sym, slice_get, Some, swap_remove, cases_Bool, cases_eq, get_or_from_slice_get}
-use Rattle.pb_propagate.proofs.Common.{slice_get-get_or, slice_get_within, IsAbsent, IsWithout, Contains, get_or-set_other, get_or_append_left}
-use Rattle.pb_propagate.proofs.Common.{length-set, subst, get_or-set_same, get_or_past}
-use Rattle.pb_propagate.proofs.lemmas.store.Gets.{get-set_at, get-set_other, get-push_less, get-push_other, get-push_same, swap-other, swap-past}
-use Rattle.pb_propagate.proofs.lemmas.store.{Gets.swap-here, Gets.swap-length, Options.some-one}
-use Rattle.pb_propagate.specs.declared.free.Free.{Free}
+use Rattle.pb_propagate.proofs.Common.{ℕ, ◌++◌, ◌+◌, ◌-◌, ◌<◌, ◌∙◌, ◌∷◌, ◌≡◌, ◌≤◌, [], ap, arith, Bool, get_or, if◌then◌else◌, inl, inr, length, length-append}
+use Rattle.pb_propagate.proofs.Common.{List, set, suc, sym, slice_get, Some, swap_remove, cases_Bool, cases_eq, get_or_from_slice_get, slice_get-get_or}
+use Rattle.pb_propagate.proofs.Common.{slice_get_within, IsAbsent, IsWithout, Contains, get_or-set_other, get_or_append_left, length-set, subst}
+use Rattle.pb_propagate.proofs.{Common.get_or-set_same, Common.get_or_past, lemmas.store.Gets.get-set_at}
+use Rattle.pb_propagate.proofs.lemmas.store.Gets.{get-set_other, get-push_less, get-push_other, get-push_same, swap-other, swap-past, swap-here, swap-length}
+use Rattle.pb_propagate.{proofs.lemmas.store.Options.some-one, specs.declared.free.Free.Free}
 use Rattle.pb_propagate.specs.engine.engine.Free.{ended, HasPut, IsChain, linked, nobody}
-use Rattle.std.proofs.lemmas.List.{get_or-replicate, length-replicate}
-use Rattle.std.specs.Prelude.{replicate}
+use Rattle.std.{proofs.lemmas.List.get_or-replicate, proofs.lemmas.List.length-replicate, specs.Prelude.replicate}
 
 abbrev pub ArePositioned : List ℕ → List ℕ → Type 0
 ArePositioned list positions = (i s : ℕ) → slice_get list i ≡ Some s → slice_get positions s ≡ Some i

@@ -2,6 +2,7 @@ use Rattle.pb_propagate.proofs.Common.{◌<◌, ap, arith, length, rules, sym}
 use Rattle.pb_propagate.proofs.clauses.visiting.search_clause.Goals.{After-advance-stop}
 use Rattle.pb_propagate.proofs.lemmas.clauses.Visited.{entry-slot, other-watched, round-next, running-small, clause_of, start_of, IsSought}
 use Rattle.pb_propagate.proofs.lemmas.clauses.Visited.{sought-left, stopped, visited-falsified, visited-forces, visited-leaves}
+use Rattle.pb_propagate.proofs.rules.Clauses.{visiting}
 use Rattle.pb_propagate.proofs.clauses.visiting.search_clause.Goals as goal
 
 pub read-clause-requires : goal.read-clause-requires
@@ -51,3 +52,12 @@ returns-in_err-shift c =
     let at = rw c.read-clause.ensures.literals at c.next-next.ensures in
     rw (c.shift.ensures.kept, c.seek-2.ensures)
     (search (rules, sought-left s c.next-next.result (omega (arith, c.if-stop-literals.false, ap length c.read-clause.ensures.literals, at.passed))))
+
+pub advance-stop-requires-clause-within : goal.advance-stop-requires-clause-within
+advance-stop-requires-clause-within c = grind (arith, visiting)
+
+pub advance-stop-requires-clause-inside : goal.advance-stop-requires-clause-inside
+advance-stop-requires-clause-inside c = grind (arith, visiting)
+
+pub shift-requires-clause-inside : goal.shift-requires-clause-inside
+shift-requires-clause-inside c = grind (arith, visiting)

@@ -1,6 +1,6 @@
-use Rattle.pb_propagate.proofs.Common.{◌-◌, ◌<◌, ◌^◌, ◌∙◌, ◌≡◌, ap, arith, None, rules, slice_get_within, ArePlaced, forms_of, Standing, numbered}
-use Rattle.pb_propagate.proofs.{engine.Engine.insert.Goals.After-empty_slot, engine.Engine.insert.Goals.In_ok-slot, lemmas.root.Added.gained-both}
-use Rattle.pb_propagate.proofs.lemmas.{root.Kept.gained-kept, store.Changes.forms-length}
+use Rattle.pb_propagate.proofs.Common.{◌-◌, ◌<◌, ◌^◌, ◌∙◌, ◌≡◌, ap, arith, None, rules, slice_get_within, ArePlaced, forms_of, Standing, numbered, length-set}
+use Rattle.pb_propagate.proofs.engine.Engine.insert.Goals.{After-empty_slot, In_ok-slot}
+use Rattle.pb_propagate.proofs.lemmas.{root.Added.gained-both, root.Kept.gained-kept, store.Changes.forms-length}
 use Rattle.pb_propagate.proofs.lemmas.store.Placed.{numbered-same, numbered-filled, numbered-grown, placed-agree, placed-filled}
 use Rattle.pb_propagate.proofs.engine.Engine.insert.Goals as goal
 
@@ -47,3 +47,9 @@ add-requires-clause-gained c =
     let r = c.self.invariant (ap (λ (v : Standing). v.spent) c.self.view_is ∙ c.requires.ready) in
     let kept = c.note.ensures in
     rw (kept.0, kept.1, kept.2, kept.3) (e.store, e.clauses, r.2, gained-both e.store c.empty_slot.new.store c.add_form.new.store e.clauses c.empty_slot.new.clauses c.add_form.new.clauses c.in_ok-slot.slot c.empty_slot.ensures.variables c.in_ok-slot.ensures.widened c.in_ok-add_form.ensures.gained, c.in_ok-add_form.ensures.free)
+
+pub note-requires-clause-slot : goal.note-requires-clause-slot
+note-requires-clause-slot c = grind (arith, slice_get_within, forms-length, length-set, c.in_ok-slot.ensures.slot, c.in_ok-add_form.ensures.forms)
+
+pub add-requires-clause-slot : goal.add-requires-clause-slot
+add-requires-clause-slot c = grind (arith, slice_get_within, forms-length, length-set, c.in_ok-slot.ensures.slot, c.in_ok-add_form.ensures.forms)

@@ -1,6 +1,6 @@
 use Rattle.pb_propagate.proofs.Common.{◌<◌, ap, arith, length, forms_of, Standing}
-use Rattle.pb_propagate.proofs.lemmas.{root.Added.lost-rooted, root.Kept.lost-kept, store.Changes.forms-length}
-use Rattle.pb_propagate.proofs.lemmas.store.Placed.{numbered-length, placed-left, taken-by}
+use Rattle.pb_propagate.proofs.lemmas.{root.Added.lost-rooted, root.Kept.lost-kept, store.Changes.forms-length, store.Placed.numbered-length}
+use Rattle.pb_propagate.proofs.{lemmas.store.Placed.placed-left, lemmas.store.Placed.taken-by, rules.Engine.engine}
 use Rattle.pb_propagate.proofs.engine.Engine.remove.Goals as goal
 
 pub invariant_of-self : goal.invariant_of-self
@@ -15,3 +15,15 @@ invariant_of-self c = λ ready.
       lost-rooted e.store c.remove_form.new.store e.clauses c.remove_form.new.clauses c.index-slot.result.now c.remove.new.self room (omega (arith, room, r.0.known)) c.remove_form.ensures.rest.ready c.remove_form.ensures.vacated c.remove.ensures,
       lost-kept e.store c.remove_form.new.store e.clauses c.remove_form.new.clauses c.index-slot.result.now c.remove-2.new.self c.remove_form.ensures.vacated c.remove-2.ensures.spare c.remove-2.ensures.unbroken c.remove-2.ensures.kept,
     )
+
+pub index-slot-requires : goal.index-slot-requires
+index-slot-requires c = grind (arith, numbered-length)
+
+pub index_mut-requires : goal.index_mut-requires
+index_mut-requires c = grind (arith, numbered-length)
+
+pub returns-then-slot-len-clause-forms : goal.returns-then-slot-len-clause-forms
+returns-then-slot-len-clause-forms c = grind (arith, engine)
+
+pub returns-clause-forms : goal.returns-clause-forms
+returns-clause-forms c = grind (arith, engine)

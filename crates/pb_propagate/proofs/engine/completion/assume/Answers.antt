@@ -1,7 +1,6 @@
 use Rattle.pb_propagate.proofs.Common.{rules, ◌+◌, false, begin, arith, list_of}
-use Rattle.pb_propagate.proofs.engine.completion.assume.Goals.{In_ok-try_put}
-use Rattle.pb_propagate.proofs.lemmas.engine.Bridge.{Assumed, assumed-next, none-assumed}
-use Rattle.pb_propagate.proofs.lemmas.root.Ready.{puts-none, puts-then}
+use Rattle.pb_propagate.proofs.{engine.completion.assume.Goals.In_ok-try_put, lemmas.engine.Bridge.Assumed}
+use Rattle.pb_propagate.proofs.lemmas.{engine.Bridge.assumed-next, engine.Bridge.none-assumed, root.Ready.puts-none, root.Ready.puts-then}
 use Rattle.pb_propagate.proofs.engine.completion.assume.Goals as goal
 
 pub given-init : goal.given-init

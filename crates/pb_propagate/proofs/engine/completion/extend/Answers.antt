@@ -1,6 +1,5 @@
 use Rattle.pb_propagate.proofs.{Common.arith, Common.length, Common.list_of, Common.◌≡◌, lemmas.engine.Reasoned.reasons-derive}
-use Rattle.pb_propagate.proofs.lemmas.root.{Kept.kept-conflicts, Ready.undone-left}
-use Rattle.pb_propagate.proofs.lemmas.root.Rooted.{clash-refuted, ended-made, root-clash, map-none}
+use Rattle.pb_propagate.proofs.lemmas.root.{Kept.kept-conflicts, Ready.undone-left, Rooted.clash-refuted, Rooted.ended-made, Rooted.root-clash, Rooted.map-none}
 use Rattle.std.proofs.lemmas.Option.{IfSome_then}
 use Rattle.pb_propagate.proofs.engine.completion.extend.Goals as goal
 

@@ -1,7 +1,6 @@
 use Rattle.pb_propagate.proofs.Common.{length, ◌<◌, negation, get_or, get_or_default, rules, ◌∙◌, ap, arith, false, Entry, Term, as_term, begin}
-use Rattle.pb_propagate.proofs.lemmas.engine.Advances.{costs-then, costs-as, on-err}
-use Rattle.pb_propagate.proofs.lemmas.root.Questions.{adopted-keeps, denied-next, hit-conflicts}
-use Rattle.pb_propagate.proofs.lemmas.root.Ready.{puts-as, puts-none, puts-then}
+use Rattle.pb_propagate.proofs.lemmas.{engine.Advances.costs-then, engine.Advances.costs-as, engine.Advances.on-err, root.Questions.adopted-keeps}
+use Rattle.pb_propagate.proofs.lemmas.root.{Questions.denied-next, Questions.hit-conflicts, Ready.puts-as, Ready.puts-none, Ready.puts-then}
 use Rattle.pb_propagate.proofs.engine.denial.deny_all.Goals as goal
 
 abbrev bare : Entry

@@ -1,16 +1,15 @@
-use Rattle.pb_propagate.proofs.Common.{map, length_permutation, entry_of, ℕ, ◌+◌, ◌∙◌, ◌∷◌, ◌≡◌, [], ap, arith, Global, length, length-append}
-use Rattle.pb_propagate.proofs.Common.{length-set, rules, sym, Vec, sum, sum_by, take-append_seam, length-map, sum_by_push, Assignment, all_of}
-use Rattle.pb_propagate.proofs.Common.{clauses_of, none, shapes_of, stored_shape, Derives, Shape, list_of, posed, ◌*◌, ◌≤◌, Contains-append_left}
-use Rattle.pb_propagate.proofs.Common.{IsTidy, beside, get_or_append_left, values_of, ◌<◌}
-use Rattle.pb_propagate.proofs.engine.question.pose.Goals.{After-propagate, In_ok-enter}
-use Rattle.pb_propagate.proofs.lemmas.{clauses.Heads.visits-back, clauses.Heads.walks-kept, engine.Literals.derivation-single}
-use Rattle.pb_propagate.proofs.lemmas.engine.{Reasoned.reasons-derive, Rests.joined-entered, Rests.prefix-of, Runs.grown-length}
-use Rattle.pb_propagate.proofs.lemmas.root.{Added.slot-counted, Added.slot-tidy, Kept.met-asked}
-use Rattle.pb_propagate.proofs.lemmas.root.Questions.{entered-shapes, undone-same, updated-most, all-entered, both-answered, entered-tidy, posed-most}
-use Rattle.pb_propagate.proofs.lemmas.root.{Questions.spends-refutes, Ready.rooted-again, Ready.heads-now, Rooted.derives-within}
-use Rattle.pb_propagate.proofs.lemmas.store.{Placed.numbered-entered, Stored.stored-sum}
-use Rattle.pb_propagate.specs.engine.engine.Root.{terms_of_all, HasSameForms}
-use Rattle.std.proofs.lemmas.List.{length_push}
+use Rattle.pb_propagate.proofs.Common.{map, length_permutation, entry_of, ℕ, ◌+◌, ◌∙◌, ◌∷◌, ◌≡◌, [], ap, arith, Global, length, length-append, length-set}
+use Rattle.pb_propagate.proofs.Common.{rules, sym, Vec, sum, sum_by, take-append_seam, length-map, sum_by_push, Assignment, all_of, clauses_of, none, shapes_of}
+use Rattle.pb_propagate.proofs.Common.{stored_shape, Derives, Shape, list_of, posed, ◌*◌, ◌≤◌, Contains-append_left, IsTidy, beside, get_or_append_left}
+use Rattle.pb_propagate.proofs.{Common.values_of, Common.◌<◌, engine.question.pose.Goals.After-propagate, engine.question.pose.Goals.In_ok-enter}
+use Rattle.pb_propagate.proofs.lemmas.clauses.Heads.{visits-back, walks-kept}
+use Rattle.pb_propagate.proofs.lemmas.engine.{Literals.derivation-single, Reasoned.reasons-derive, Rests.joined-entered, Rests.prefix-of, Runs.grown-length}
+use Rattle.pb_propagate.proofs.lemmas.root.{Added.slot-counted, Added.slot-tidy, Kept.met-asked, Questions.entered-shapes}
+use Rattle.pb_propagate.proofs.lemmas.root.Questions.{undone-same, updated-most, all-entered, both-answered, entered-tidy, posed-most, spends-refutes}
+use Rattle.pb_propagate.proofs.lemmas.{root.Ready.rooted-again, root.Ready.heads-now, root.Rooted.derives-within, store.Placed.numbered-entered}
+use Rattle.pb_propagate.proofs.lemmas.store.Placed.{numbered-same}
+use Rattle.pb_propagate.{proofs.lemmas.store.Stored.stored-sum, specs.engine.engine.Root.terms_of_all, specs.engine.engine.Root.HasSameForms}
+use Rattle.std.proofs.lemmas.{Grind.common_steps, List.length_push}
 use Rattle.pb_propagate.proofs.engine.question.pose.Goals as goal
 
 pub returns-then-branch-clause-most : goal.returns-then-branch-clause-most
@@ -137,3 +136,23 @@ propagate-requires-clause-ready c =
     let single = derivation-single _ [] (list_of run) none (reasons-derive r.reasoned) in
     let joined = joined-entered keep _ h.kept _ h.keeps c.requires.standing.joined in
     grind (arith, c.as_slice.ensures.value, c.new-none.ensures.items, begun, c.open_form.ensures, e, r.values, low (record { terms = []; degree = 0 }), length-set, opens, more, h.candidates, length_push, r.start_sizes, r.next, counted, single, tidy, length-map, c.update.ensures.literals, joined, u.running, u.walked, r.walks.now)
+
+pub returns-in_err-update-clause-most : goal.returns-in_err-update-clause-most
+returns-in_err-update-clause-most c = omega (arith, updated-most c.requires.standing c.requires.visits c.update.ensures.costs)
+
+pub returns-in_err-enter-clause-most : goal.returns-in_err-enter-clause-most
+returns-in_err-enter-clause-most c = omega (arith, updated-most c.requires.standing c.requires.visits c.update.ensures.costs, c.enter.ensures.rest.3)
+
+pub returns-in_err-enter-clause-forms : goal.returns-in_err-enter-clause-forms
+returns-in_err-enter-clause-forms c =
+    let same : HasSameForms c.args.store.now c.enter.new.store = λ places p. numbered-same _ _ places (λ n s h. c.in_err-enter.ensures.unchanged s) in
+    search (rules, same)
+
+pub open_form-requires-clause-form : goal.open_form-requires-clause-form
+open_form-requires-clause-form c = grind (arith, common_steps)
+
+pub open_form-requires-clause-opens : goal.open_form-requires-clause-opens
+open_form-requires-clause-opens c = grind (arith, common_steps)
+
+pub leave-requires-clause-some : goal.leave-requires-clause-some
+leave-requires-clause-some c = grind (arith, common_steps)

@@ -1,7 +1,7 @@
 use Rattle.pb_propagate.proofs.Common.{◌+◌, ◌≡◌, ap, arith, length, List, refl, Entry, denial_of, posed, ◌*◌, ◌≤◌, list_of, sym}
 use Rattle.pb_propagate.proofs.{engine.question.pose_clause.Goals.After-refute, lemmas.engine.Reasoned.reasons-derive, lemmas.root.Kept.met-asked}
-use Rattle.pb_propagate.proofs.lemmas.root.{Questions.denial-stored, Questions.both-answered, Questions.posed-most, Ready.undone-left}
-use Rattle.pb_propagate.specs.engine.engine.Root.{terms_of_all}
+use Rattle.pb_propagate.proofs.lemmas.root.Questions.{denial-stored, both-answered, posed-most, updated-most}
+use Rattle.pb_propagate.{proofs.lemmas.root.Ready.undone-left, proofs.rules.Engine.question, specs.engine.engine.Root.terms_of_all}
 use Rattle.pb_propagate.proofs.engine.question.pose_clause.Goals as goal
 
 pub returns-then-branch-clause-asked : goal.returns-then-branch-clause-asked
@@ -39,3 +39,12 @@ returns-clause-left c =
     let count : c.len-count.result ≡ length (list_of c.update.new.self.run) = omega (arith, c.len-count.ensures, c.update.new.self.run.assignment.list.ok.0) in
     undone-left c.requires.standing c.in_ok-update.ensures.rooted c.in_ok-found.ensures.left (rw count at c.back.ensures) c.refute.ensures.literals
     c.in_ok-update.ensures.kept
+
+pub returns-then-branch-clause-most : goal.returns-then-branch-clause-most
+returns-then-branch-clause-most c = omega (arith, updated-most c.requires.standing c.requires.visits c.update.ensures.costs)
+
+pub returns-in_err-update-clause-most : goal.returns-in_err-update-clause-most
+returns-in_err-update-clause-most c = omega (arith, updated-most c.requires.standing c.requires.visits c.update.ensures.costs)
+
+pub refute-requires-clause-ready : goal.refute-requires-clause-ready
+refute-requires-clause-ready c = grind (arith, question)

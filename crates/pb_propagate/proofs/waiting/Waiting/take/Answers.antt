@@ -1,7 +1,6 @@
 use Rattle.pb_propagate.proofs.Common.{◌-◌, ◌<◌, ◌≡◌, arith, length, slice_get, slice_get_within, Some}
-use Rattle.pb_propagate.proofs.lemmas.store.Gets.{swap-length}
-use Rattle.pb_propagate.proofs.lemmas.store.Positions.{position-inside, position-got, taken-is, moved-last, positioned-last}
-use Rattle.pb_propagate.proofs.waiting.Waiting.take.Goals.{After-index-position}
+use Rattle.pb_propagate.proofs.lemmas.store.{Gets.swap-length, Positions.position-inside, Positions.position-got, Positions.taken-is, Positions.moved-last}
+use Rattle.pb_propagate.proofs.{lemmas.store.Positions.positioned-last, waiting.Waiting.take.Goals.After-index-position}
 use Rattle.pb_propagate.proofs.waiting.Waiting.take.Goals as goal
 
 pub index-position-requires : goal.index-position-requires

@@ -1,4 +1,4 @@
-use Rattle.pb_propagate.proofs.Common.{ap, arith, Contents, get_or_read, set}
+use Rattle.pb_propagate.proofs.Common.{ap, arith, Contents, get_or_read, set, get_or-set_same, leb-true}
 use Rattle.pb_propagate.proofs.clauses.blocks.Blocks.fit.Goals.{In_ok-append}
 use Rattle.pb_propagate.proofs.lemmas.clauses.Blocks.{Store, slot-stored, fitted, roomed}
 use Rattle.pb_propagate.proofs.clauses.blocks.Blocks.fit.Goals as goal
@@ -25,3 +25,18 @@ returns-clause-searches c = ap (λ (v : Contents). v.searches) (new (goal.at.ret
 
 pub returns-clause-watches : goal.returns-clause-watches
 returns-clause-watches c = ap (λ (v : Contents). v.watches) (new (goal.at.returns-clause-watches c).In_ok-append).is
+
+pub index-requires : goal.index-requires
+index-requires c = grind (arith, slot-stored)
+
+pub index_mut-requires : goal.index_mut-requires
+index_mut-requires c = grind (arith, slot-stored)
+
+pub index_mut-requires-2 : goal.index_mut-requires-2
+index_mut-requires-2 c = grind (arith, slot-stored)
+
+pub returns-then-held-gt0-clause-fits : goal.returns-then-held-gt0-clause-fits
+returns-then-held-gt0-clause-fits c = grind (arith, get_or_read, leb-true, slot-stored)
+
+pub returns-clause-fits : goal.returns-clause-fits
+returns-clause-fits c = grind (arith, get_or-set_same, leb-true, slot-stored)

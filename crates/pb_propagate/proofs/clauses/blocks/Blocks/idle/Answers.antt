@@ -1,5 +1,4 @@
-use Rattle.pb_propagate.proofs.Common.{arith}
-use Rattle.pb_propagate.proofs.lemmas.clauses.Blocks.{live-slot, live-at, idle-written}
+use Rattle.pb_propagate.proofs.{Common.arith, lemmas.clauses.Blocks.live-slot, lemmas.clauses.Blocks.live-at, lemmas.clauses.Blocks.idle-written}
 use Rattle.pb_propagate.proofs.clauses.blocks.Blocks.idle.Goals as goal
 
 pub index-requires : goal.index-requires

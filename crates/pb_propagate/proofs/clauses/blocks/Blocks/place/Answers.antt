@@ -1,5 +1,4 @@
-use Rattle.pb_propagate.proofs.Common.{arith}
-use Rattle.pb_propagate.proofs.lemmas.clauses.Blocks.{live-slot, live-at, place-written}
+use Rattle.pb_propagate.proofs.{Common.arith, lemmas.clauses.Blocks.live-slot, lemmas.clauses.Blocks.live-at, lemmas.clauses.Blocks.place-written}
 use Rattle.pb_propagate.proofs.clauses.blocks.Blocks.place.Goals as goal
 
 pub index-requires : goal.index-requires

@@ -1,5 +1,4 @@
-use Rattle.pb_propagate.proofs.Common.{arith, rules}
-use Rattle.pb_propagate.proofs.lemmas.clauses.Blocks.{own-slot, own-at, seek-written}
+use Rattle.pb_propagate.proofs.{Common.arith, Common.rules, lemmas.clauses.Blocks.own-slot, lemmas.clauses.Blocks.own-at, lemmas.clauses.Blocks.seek-written}
 use Rattle.pb_propagate.proofs.clauses.blocks.Blocks.seek.Goals as goal
 
 pub index-requires : goal.index-requires

@@ -1,5 +1,4 @@
-use Rattle.pb_propagate.proofs.Common.{arith, cases_lt, nat_tests}
-use Rattle.pb_propagate.proofs.lemmas.clauses.Visited.{round-next, turned-round}
+use Rattle.pb_propagate.proofs.{Common.arith, Common.cases_lt, Common.nat_tests, lemmas.clauses.Visited.round-next, lemmas.clauses.Visited.turned-round}
 use Rattle.std.proofs.lemmas.Grind.{get_or_default_zero}
 use Rattle.pb_propagate.proofs.clauses.search.Search.advance.Goals as goal
 
