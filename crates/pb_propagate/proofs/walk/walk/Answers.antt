@@ -1,10 +1,11 @@
-use Rattle.pb_propagate.proofs.Common.{rules, ◌++◌, ◌+◌, ◌<◌, ◌∙◌, ◌∷◌, [], ap, arith, length, Leaves, Stays, list_at, watch_lists, IsUnit, all_of}
-use Rattle.pb_propagate.proofs.Common.{clauses_of, database, progress, RunReasons, shapes_in, list_of, values_of}
-use Rattle.pb_propagate.proofs.lemmas.clauses.Shapes.{broken-conflicts, conflicts-joined}
+use Rattle.pb_propagate.proofs.Common.{rules, ◌++◌, ◌+◌, ◌<◌, ◌∙◌, ◌∷◌, [], ap, arith, length, Leaves, Stays, list_at, watch_lists, IsUnit, all_of, clauses_of}
+use Rattle.pb_propagate.proofs.Common.{database, progress, RunReasons, shapes_in, list_of, values_of}
+use Rattle.pb_propagate.proofs.lemmas.clauses.{Literals.false-listed, Literals.true-listed, Shapes.broken-conflicts, Shapes.conflicts-joined}
 use Rattle.pb_propagate.proofs.lemmas.clauses.Walks.{IsWalking, kept-then, walking-start, walking-next, walking-pass, walking-forces, walked-end}
 use Rattle.pb_propagate.proofs.lemmas.engine.Advances.{on-err, WalkIsDone, walk-ends, walk-then, walk-costs}
 use Rattle.pb_propagate.proofs.lemmas.{engine.Reasoned.run-reasons-none, engine.Reasoned.unit-reasons, root.Ready.open-later}
 use Rattle.pb_propagate.proofs.walk.walk.Goals.{After-visit_clause, In_ok-put-in-Forces}
+use Rattle.std.proofs.lemmas.Grind.{common_steps}
 use Rattle.pb_propagate.proofs.walk.walk.Goals as goal
 
 -- the watch that is visited is one of the list
@@ -93,3 +94,12 @@ pub returns-in-Falsified-clause-walks : goal.returns-in-Falsified-clause-walks
 returns-in-Falsified-clause-walks c =
     let i = c.watches.invariant in
     search (rules, i, c.in-Falsified.is, c.in_ok-visit_clause.ensures.watch, kept-then, ends, c.visit_clause.ensures.counted, i.walking.found)
+
+pub put-requires-clause-inside : goal.put-requires-clause-inside
+put-requires-clause-inside c = grind (arith, common_steps)
+
+pub put-requires-clause-absent : goal.put-requires-clause-absent
+put-requires-clause-absent c = grind (arith, false-listed, true-listed)
+
+pub put-requires-clause-not_falsified : goal.put-requires-clause-not_falsified
+put-requires-clause-not_falsified c = grind (arith, false-listed, true-listed)

@@ -6,12 +6,8 @@ pub returns-then-opened-bound : goal.returns-then-opened-bound
 returns-then-opened-bound c = record { absent = λ s gone. gone; above = λ gone. c.if-opened-bound.true; older = λ i s here. inr (i, here); positions = refl }
 
 pub returns-then-contains : goal.returns-then-contains
-returns-then-contains c = record {
-  absent = λ s gone. gone;
-  above = λ gone. absurd (c.contains.ensures.yes c.if-contains.true gone);
-  older = λ i s here. inr (i, here);
-  positions = refl;
-}
+returns-then-contains c =
+    record { absent = λ s g. g; above = λ g. absurd (c.contains.ensures.yes c.if-contains.true g); older = λ i s h. inr (i, h); positions = refl }
 
 pub returns : goal.returns
 returns c =
