@@ -6,7 +6,8 @@ use Rattle.pb_propagate.proofs.lemmas.engine.{Literals.sum-bounded, Propagated.I
 use Rattle.pb_propagate.proofs.lemmas.engine.Propagated.{visiting-next, visiting-reasons, forced-read, visiting-settled, shape-at, term-inside, IsForced}
 use Rattle.pb_propagate.proofs.lemmas.engine.Reasoned.{run-reasons-none, keeps-then, reasons-within}
 use Rattle.pb_propagate.proofs.lemmas.{engine.Runs.counted-conflict, root.Ready.visiting-visits, store.Stored.stored-small, store.Stored.stored-low}
-use Rattle.pb_propagate.proofs.run.visit_form.Goals.{After-index-candidate, In_ok-found}
+use Rattle.pb_propagate.proofs.{rules.Engine.run, run.visit_form.Goals.After-index-candidate, run.visit_form.Goals.In_ok-found}
+use Rattle.std.proofs.lemmas.Grind.{common_steps}
 use Rattle.pb_propagate.proofs.run.visit_form.Goals as goal
 
 pub terms-init : goal.terms-init
@@ -106,3 +107,9 @@ returns-then-not-demands c =
     let tidy = settled (goal.at.returns-then-not-demands c).After-index-candidate (λ d less. grind (arith, get_or_default, visit.item c.visit_term-term.result, rw c.degree-degree.ensures at (c.is_below-demands.ensures.above c.if-not-demands.true))) in
     let reasons = c.terms.invariant.reasons in
     search (rules, tidy, sum-bounded, v.candidates, v.tidy.bounded, v, visit, advances-then, advances-visit, reasons.kept, reasons.added)
+
+pub returns-in_err-found-clause-bounded : goal.returns-in_err-found-clause-bounded
+returns-in_err-found-clause-bounded c = grind (arith, run)
+
+pub terms-smaller : goal.terms-smaller
+terms-smaller c = grind (arith, common_steps)

@@ -1,6 +1,6 @@
 use Rattle.pb_propagate.proofs.Common.{rules, ◌+◌, false, begin, arith, list_of}
-use Rattle.pb_propagate.proofs.{engine.completion.assume.Goals.In_ok-try_put, lemmas.engine.Bridge.Assumed}
-use Rattle.pb_propagate.proofs.lemmas.{engine.Bridge.assumed-next, engine.Bridge.none-assumed, root.Ready.puts-none, root.Ready.puts-then}
+use Rattle.pb_propagate.proofs.{engine.completion.assume.Goals.In_ok-try_put, lemmas.engine.Bridge.Assumed, lemmas.engine.Bridge.assumed-next}
+use Rattle.pb_propagate.proofs.{lemmas.engine.Bridge.none-assumed, lemmas.root.Ready.puts-none, lemmas.root.Ready.puts-then, rules.Engine.completion}
 use Rattle.pb_propagate.proofs.engine.completion.assume.Goals as goal
 
 pub given-init : goal.given-init
@@ -25,3 +25,6 @@ returns-then-branch-clause-clash c = λ found.
 
 pub returns-then-branch-clause-puts : goal.returns-then-branch-clause-puts
 returns-then-branch-clause-puts c = puts-then c.given.invariant.puts c.in_ok-try_put.ensures.puts
+
+pub returns-then-contains-clause-clash : goal.returns-then-contains-clause-clash
+returns-then-contains-clause-clash c = grind (arith, completion)

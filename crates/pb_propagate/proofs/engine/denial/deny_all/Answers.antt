@@ -1,6 +1,7 @@
 use Rattle.pb_propagate.proofs.Common.{length, ◌<◌, negation, get_or, get_or_default, rules, ◌∙◌, ap, arith, false, Entry, Term, as_term, begin}
 use Rattle.pb_propagate.proofs.lemmas.{engine.Advances.costs-then, engine.Advances.costs-as, engine.Advances.on-err, root.Questions.adopted-keeps}
 use Rattle.pb_propagate.proofs.lemmas.root.{Questions.denied-next, Questions.hit-conflicts, Ready.puts-as, Ready.puts-none, Ready.puts-then}
+use Rattle.pb_propagate.proofs.rules.Engine.{denial}
 use Rattle.pb_propagate.proofs.engine.denial.deny_all.Goals as goal
 
 abbrev bare : Entry
@@ -37,3 +38,6 @@ returns-then-branch-clause-conflict c = λ found.
 
 pub returns-then-branch-clause-puts : goal.returns-then-branch-clause-puts
 returns-then-branch-clause-puts c = puts-as _ (omega (arith, c.literals-test.true, c.len-i-end.ensures.length)) (puts-then c.literals.invariant.puts c.in_ok-deny.ensures.puts)
+
+pub returns-then-branch-clause-derived : goal.returns-then-branch-clause-derived
+returns-then-branch-clause-derived c = grind (arith, denial)
