@@ -2,9 +2,6 @@ use Rattle.pb_propagate.proofs.Common.{◌≤◌, arith, cases_eq, Grown, inl, i
 use Rattle.pb_propagate.proofs.lemmas.{engine.Runs.grown-absent, engine.Runs.grown-new, store.Positions.push-older}
 use Rattle.pb_propagate.proofs.store.refresh.wait_below.Goals as goal
 
-pub returns-then-opened-bound : goal.returns-then-opened-bound
-returns-then-opened-bound c = record { absent = λ s gone. gone; above = λ gone. c.if-opened-bound.true; older = λ i s here. inr (i, here); positions = refl }
-
 pub returns-then-contains : goal.returns-then-contains
 returns-then-contains c =
     record { absent = λ s g. g; above = λ g. absurd (c.contains.ensures.yes c.if-contains.true g); older = λ i s h. inr (i, h); positions = refl }
@@ -17,7 +14,7 @@ returns c =
       absent = λ s. grown-absent c.args.form _ _ 0 s grown;
       above = λ gone. grown-new c.args.form _ _ 0 c.args.form (omega arith) refl grown gone;
       older = λ i s here. elim (cases_eq s c.args.form) [
-        | inl is ↦ inl (is, c.if-opened-bound.false)
+        | inl is ↦ inl (is, omega arith)
         | inr other ↦ inr (i, push-older _ c.args.form i s other (rw list at here))
       ];
       positions = c.put.ensures.positions;
