@@ -1,4 +1,4 @@
-use Rattle.pb_replay.proofs.lemmas.meaning.{Loads.problems-proper, Loads.solutions-accounted, Soundness.first-sound, Soundness.statements-sound}
+use Rattle.pb_replay.proofs.lemmas.meaning.Soundness.{problems-proper, solutions-accounted, first-sound, statements-sound}
 use Rattle.pb_replay.proofs.laws.statements_are_sound.Goals as goal
 
 pub returns : goal.returns

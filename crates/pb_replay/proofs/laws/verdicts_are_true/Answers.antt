@@ -1,4 +1,4 @@
-use Rattle.pb_replay.proofs.lemmas.{conclusions.Concluded.verdicts-there, meaning.Loads.meanings-agree, meaning.Loads.verdicts-mean}
+use Rattle.pb_replay.proofs.lemmas.{conclusions.Concluded.verdicts-there, meaning.Soundness.meanings-agree, meaning.Soundness.verdicts-mean}
 use Rattle.pb_replay.proofs.laws.verdicts_are_true.Goals as goal
 
 pub returns : goal.returns

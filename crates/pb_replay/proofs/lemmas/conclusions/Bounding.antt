@@ -6,7 +6,7 @@ use Rattle.pb_replay.proofs.Common.{Running, Both, HasObjective, IsBelow, IsName
 use Rattle.pb_replay.proofs.Common.{ShownAs, ShownReaches, Upper, upper_of, Answer, gives, contradiction, IsShownBy, lower_bound, named, none_left, sum}
 use Rattle.pb_replay.proofs.Common.{upper_bound, Problem, IsLive, Logged, numbered, State}
 use Rattle.pb_replay.proofs.lemmas.meaning.Relating.{Passes, left-pass, lower-pass, upper-pass}
-use Rattle.pb_replay.proofs.lemmas.rules.{Statements.same-state, Steps.below, Steps.form-of, Steps.same_problem}
+use Rattle.pb_replay.proofs.lemmas.rules.Steps.{same-state, below, form-of, same_problem}
 
 -- what has one result also has the other, if what follows does
 module _ {A : Type 0} (s : Result Unit Fault) (r : Result A Fault) (same : (e : Fault) → s ≡ Err e → r ≡ Err e) where

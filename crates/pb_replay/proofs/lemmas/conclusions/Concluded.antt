@@ -6,12 +6,11 @@ use Rattle.pb_replay.proofs.Common.{contradicted, contradiction, IsShownBy, obje
 use Rattle.pb_replay.proofs.Common.{HasNone, IsAtLeast, IsAtMost, IsProblem, IsSolution, IsSound, known, Means, Problem, numbered, State, value, ◌++◌, ◌∷◌}
 use Rattle.pb_replay.proofs.Common.{refl, subst, IsSome, with_names, Stage, Closing, Complete, Statement, Conclude, End, Output, stage_of, HasConclusion}
 use Rattle.pb_replay.proofs.Common.{VerdictsAreThere, WholeProofsConclude, verdict_at, Verdict, Accepts, mentioned}
-use Rattle.pb_replay.proofs.lemmas.meaning.{Accepting.needed, Accepting.ok-same, Propagated.IsRup-holds, Ruled.contradiction-to, Ruled.rules-outcomes}
-use Rattle.pb_replay.proofs.lemmas.names.Assigned.{value-over, value-agree, side-holds, objective-named}
-use Rattle.pb_replay.proofs.lemmas.{rules.Live.IsLive-live, solutions.Completions.Completed-taken}
-use Rattle.pb_replay.specs.contract.Rules.{HasContradiction, some, named, IsNamed, IsLower, infinite, finite, IsUpper, unbounded, by_shown}
-use Rattle.pb_replay.specs.contract.Rules.{by_logged, IsJustified, no_claim, unsat, sat_shown, sat_logged, bounds, Rule, header, formula, pol, rup, soli, solx}
-use Rattle.pb_replay.specs.contract.Rules.{delete, output, conclude, end}
+use Rattle.pb_replay.proofs.lemmas.meaning.{Accepting.needed, Accepting.ok-same, Assigned.value-over, Assigned.value-agree, Assigned.side-holds}
+use Rattle.pb_replay.proofs.lemmas.meaning.{Assigned.objective-named, Propagated.IsRup-holds, Ruled.contradiction-to, Ruled.rules-outcomes}
+use Rattle.pb_replay.{proofs.lemmas.rules.Completions.Completed-taken, proofs.lemmas.rules.Live.IsLive-live, specs.contract.Rules.HasContradiction}
+use Rattle.pb_replay.specs.contract.Rules.{some, named, IsNamed, IsLower, infinite, finite, IsUpper, unbounded, by_shown, by_logged, IsJustified, no_claim}
+use Rattle.pb_replay.specs.contract.Rules.{unsat, sat_shown, sat_logged, bounds, Rule, header, formula, pol, rup, soli, solx, delete, output, conclude, end}
 
 contradiction-fails : (a : ℕ → Bool) (f : Form) → IsContradiction f → Holds a f → ⊥
 contradiction-fails a f c h = omega (arith, total-le-each (true_at a) f.terms)
@@ -49,8 +48,7 @@ shown-holds a live id g holds in_live (propagated r) = IsRup-holds (Live live) a
 -- the objective's names have numbers
 pub objective-numbers : (v : Problem) (s : State) (o : List Term) → IsProblem v → IsSound v s → v.objective ≡ Some o → HasNames s.names (names_of o)
 objective-numbers v s o p sound e =
-    let (more, is) = sound.names in
-    rw is (HasNames-append v.names more (names_of o) (objective-named v o p e))
+    let (more, is) = sound.names in rw is (HasNames-append v.names more (names_of o) (objective-named v o p e))
 
 lower-means : (limit : ℕ) (v : Problem) (s : State) (o : List Term) (b : Bound) (id : Option ℤ) → IsProblem v → IsSound v s → v.objective ≡ Some o → IsLower limit s o b id → IsAtLeast (IsSolution v) (value v) b
 lower-means limit v s o _ _ p sound e (infinite id none is) = none_left-means v s id sound none is

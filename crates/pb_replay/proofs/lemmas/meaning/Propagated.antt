@@ -38,8 +38,7 @@ put-true forms a list l holds h m = grind (arith, l.negated, total-fits, true-op
 pub derivation-true : (forms : Form → Type 0) (a : ℕ → Bool) (given list : List NumberedLiteral) → HoldAll a forms → AreTrue a given → Derivation forms given list → AreTrue a list
 derivation-true forms a given _ holds h begin = h
 derivation-true forms a given _ holds h (put {list} l d m) =
-    let before = derivation-true forms a given list holds h d in
-    AreTrue-put a list l before (put-true forms a list l holds before m)
+    let before = derivation-true forms a given list holds h d in AreTrue-put a list l before (put-true forms a list l holds before m)
 
 -- so there is no conflict
 pub conflict-false : (forms : Form → Type 0) (a : ℕ → Bool) (list : List NumberedLiteral) → HoldAll a forms → AreTrue a list → HasConflict forms list → ⊥

@@ -10,10 +10,9 @@ use Rattle.pb_replay.proofs.Common.{OpeningsAreSingle, OpensMore, OutcomesAreSin
 use Rattle.pb_replay.proofs.Common.{Order, Overflow, after, Answer, each_below, found, gives, need, some, Concludes, lower_bound, named, none_left}
 use Rattle.pb_replay.proofs.Common.{objective_with, upper_bound, FitsAll, names_in, Problem, added, AreValues, Completed, Deleted, Excludes, FormOfExpression}
 use Rattle.pb_replay.proofs.Common.{HasValue, IsLive, limited, Logged, logged_of, normal_form, numbered, place, Shown, Solution, State, Does, mentioned}
-use Rattle.pb_replay.proofs.Common.{NotBound, Outcome, ◌+◌, get_or, length-append, refl, get_or-append_seam, cases_lt, or_left, or_right}
-use Rattle.pb_replay.proofs.Common.{get_or_append_left, slice_get-get_or, distinct, prefix, number_in-get, AreDistinct, number_in, with_name, only, only-self}
-use Rattle.pb_replay.proofs.Common.{derivation-keeps, UnvaluedAreOld, UnvaluedMayWant, literal_names}
-use Rattle.pb_replay.proofs.lemmas.meaning.Accepting.{ok-same}
+use Rattle.pb_replay.proofs.Common.{NotBound, Outcome, ◌+◌, get_or, length-append, refl, get_or-append_seam, cases_lt, or_left, or_right, get_or_append_left}
+use Rattle.pb_replay.proofs.Common.{slice_get-get_or, distinct, prefix, number_in-get, AreDistinct, number_in, with_name, only, only-self, derivation-keeps}
+use Rattle.pb_replay.proofs.{Common.UnvaluedAreOld, Common.UnvaluedMayWant, Common.literal_names, lemmas.meaning.Accepting.ok-same}
 use Rattle.pb_replay.specs.declared.fault.Fault.TheVariants.{FormulaCount, NotContradiction, SolutionLogged}
 
 Excludes-unique : (given : List NumberedLiteral) (r s : Form) → Excludes given r → Excludes given s → r ≡ s
@@ -262,8 +261,7 @@ appeared old [] k le lt = absurd (omega (arith, le, lt))
 appeared old (n ∷ ns) k le lt =
     elim (cases_lt k (length (with_name old n))) [
       | inl inside ↦
-          let one = one_more old n k le inside in
-          let more = prefix (with_name old n) ns in
+          let one = one_more old n k le inside in let more = prefix (with_name old n) ns in
           let here : get_or (with_names (with_name old n) ns) k [] ≡ n =
           ap (λ (xs : List (List ℕ)). get_or xs k []) more.1
           ∙ get_or_append_left (with_name old n) more.0 [] k inside
@@ -272,8 +270,7 @@ appeared old (n ∷ ns) k le lt =
           ∙ get_or-append_seam old n [] [] in
           record { name = n; among = first refl; at = here }
       | inr past ↦
-          let rest = appeared (with_name old n) ns k past lt in
-          record { name = rest.name; among = later rest.among; at = rest.at }
+          let rest = appeared (with_name old n) ns k past lt in record { name = rest.name; among = later rest.among; at = rest.at }
     ]
 
 same_only : (v w : ℕ) (n : Bool) → v ≡ w → only v n w n ≡ true
@@ -291,8 +288,7 @@ given_on names (l ∷ ls) q k (later a) is =
 -- each new number is that of a given literal
 pub new_given : (old : List (List ℕ)) (ls : List Literal) (k : ℕ) → AreDistinct old → length old ≤ k → k < length (with_names old (literal_names ls)) → (m : Bool) × (on (numbered (with_names old (literal_names ls)) ls) k m ≡ true)
 new_given old ls k d le lt =
-    let names = with_names old (literal_names ls) in
-    let a = appeared old (literal_names ls) k le lt in
+    let names = with_names old (literal_names ls) in let a = appeared old (literal_names ls) k le lt in
     let number = number_in-get names k a.name (distinct old (literal_names ls) d) (slice_get-get_or names k [] lt ∙ ap (λ n. let o : Option (List ℕ) = Some n in o) a.at) in
     given_on names ls a.name k a.among number
 

@@ -55,10 +55,8 @@ inside live id f h = grind (arith, none-some, get_or_past)
 
 -- an id that names nothing ends the deletion
 pub stops : (live : List (Option Form)) (ids : List ℤ) (i : ℕ) (id : ℤ) → id ≡ get_or ids i (pos 0) → i < length ids → ((f : Form) → IsLive live id f → ⊥) → Deleted live (drop i ids) (Err (NoSuchId id))
-stops live ids i id e lt none =
-    rw (drop-cons ids i (pos 0) lt, ← e) (inr (none, refl))
+stops live ids i id e lt none = rw (drop-cons ids i (pos 0) lt, ← e) (inr (none, refl))
 
 pub goes-on : (live : List (Option Form)) (ids : List ℤ) (i : ℕ) (id : ℤ) (f : Form) (r : Result (List (Option Form)) Fault) → id ≡ get_or ids i (pos 0) → i < length ids → IsLive live id f → Deleted (set live (place (length live) id) None) (drop (i + 1) ids) r → Deleted live (drop i ids) r
 goes-on live ids i id f r e lt here rest =
-    let next : drop i ids ≡ id ∷ drop (i + 1) ids = rw e (drop_more ids i (pos 0) lt) in
-    rw next (inl (f, here, rest))
+    let next : drop i ids ≡ id ∷ drop (i + 1) ids = rw e (drop_more ids i (pos 0) lt) in rw next (inl (f, here, rest))

@@ -153,8 +153,7 @@ pub stands_first : (limit top : ℕ) (names : List (List ℕ)) (live : List (Opt
 stands_first limit top names live ws postfix named = grind (arith, postfix.1, leaves-one, postfix.0)
 
 rest_is : (ws : List PolWord) (i : ℕ) (w : PolWord) → i < length ws → w ≡ get_or ws i w → drop i ws ≡ w ∷ drop (i + 1) ws
-rest_is ws i w lt e =
-    drop_more ws i w lt ∙ ap (λ (x : PolWord). x ∷ drop (i + 1) ws) (sym e)
+rest_is ws i w lt e = drop_more ws i w lt ∙ ap (λ (x : PolWord). x ∷ drop (i + 1) ws) (sym e)
 
 named_apart : (names : List (List ℕ)) (w : PolWord) (ws : List PolWord) → HasNames names (word_names (w ∷ ws)) → HasNames names (word_names (w ∷ [])) × HasNames names (word_names ws)
 named_apart names (Axiom l) ws h = ((h.0, tt), h.1)

@@ -1,4 +1,4 @@
-use Rattle.pb_replay.proofs.{Common.arith, lemmas.rules.Statements.came}
+use Rattle.pb_replay.proofs.{Common.arith, lemmas.rules.Steps.came}
 use Rattle.pb_replay.proofs.step.apply.Goals as goal
 
 pub returns-clause-comes : goal.returns-clause-comes

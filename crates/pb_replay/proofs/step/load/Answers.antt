@@ -1,5 +1,5 @@
 use Rattle.pb_replay.proofs.Common.{◌∙◌, arith, length, refl, rules, Steps, IsCount}
-use Rattle.pb_replay.proofs.lemmas.rules.{Live.linked-loaded, Statements.loaded-goes}
+use Rattle.pb_replay.proofs.lemmas.rules.{Live.linked-loaded, Steps.loaded-goes}
 use Rattle.pb_replay.proofs.step.load.Goals as goal
 
 pub returns-clause-preserves : goal.returns-clause-preserves

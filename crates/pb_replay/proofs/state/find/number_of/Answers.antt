@@ -1,4 +1,4 @@
-use Rattle.pb_replay.proofs.lemmas.names.Assigned.{position-none}
+use Rattle.pb_replay.proofs.lemmas.meaning.Assigned.{position-none}
 use Rattle.pb_replay.proofs.state.find.number_of.Goals as goal
 
 pub unreachable-requires : goal.unreachable-requires

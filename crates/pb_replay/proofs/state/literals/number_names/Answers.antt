@@ -1,4 +1,4 @@
-use Rattle.pb_replay.proofs.{Common.refl, Common.take, Common.literal_names, lemmas.names.Assigned.next-names, lemmas.rules.Words.prefix_in}
+use Rattle.pb_replay.proofs.{Common.refl, Common.take, Common.literal_names, lemmas.meaning.Assigned.next-names, lemmas.rules.Words.prefix_in}
 use Rattle.pb_replay.proofs.state.literals.number_names.Goals as goal
 
 pub loop-literal-preserved : goal.loop-literal-preserved

@@ -1,4 +1,4 @@
-use Rattle.pb_replay.proofs.lemmas.names.Assigned.{next-numbers, one-named}
+use Rattle.pb_replay.proofs.lemmas.meaning.Assigned.{next-numbers, one-named}
 use Rattle.pb_replay.proofs.state.literals.numbered_literals.Goals as goal
 
 pub number_of-variable-requires : goal.number_of-variable-requires

@@ -3,11 +3,8 @@ use Rattle.pb_replay.proofs.state.live.engine_of.Goals as goal
 
 pub loop-form-preserved : goal.loop-form-preserved
 loop-form-preserved c =
-    let i = c.loop-form.invariant in
-    let k = c.loop-form.form-index in
-    let forms = c.args.forms.now in
-    let reported = c.in_ok-insert.ensures in
-    let some : Form → Option Form = λ f. Some f in
+    let i = c.loop-form.invariant in let k = c.loop-form.form-index in let forms = c.args.forms.now in
+    let reported = c.in_ok-insert.ensures in let some : Form → Option Form = λ f. Some f in
     record {
       forms = reported.forms ∙ ap (λ (xs : List (Option Form)). xs ++ (Some c.in_ok-shared.shared ∷ [])) i.forms
           ∙ ap (λ (g : Form). map some (take k forms) ++ (Some g ∷ [])) (c.in_ok-shared.ensures ∙ c.form-item.is)

@@ -1,5 +1,5 @@
 use Rattle.pb_replay.proofs.Common.{◌∙◌, ap, Err, refl, rules, sym, take, take-length}
-use Rattle.pb_replay.proofs.lemmas.rules.{Statements.same-state, Steps.opened_ok, Steps.opened_err}
+use Rattle.pb_replay.proofs.lemmas.rules.Steps.{same-state, opened_ok, opened_err}
 use Rattle.pb_replay.proofs.state.load.load_instance.Goals as goal
 
 pub returns-clause-ok : goal.returns-clause-ok

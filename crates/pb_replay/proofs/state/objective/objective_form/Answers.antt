@@ -1,6 +1,6 @@
 use Rattle.pb_replay.proofs.Common.{ap, refl, sym, take, option_map, to_z-of_z, names_of, Linear, arith}
-use Rattle.pb_replay.proofs.lemmas.rules.Statements.{fits_of, prefix_after}
-use Rattle.pb_replay.proofs.lemmas.solutions.Objective.{unchanged, objective-made, objective-within}
+use Rattle.pb_replay.proofs.lemmas.meaning.Assigned.{unchanged, objective-made, objective-within}
+use Rattle.pb_replay.proofs.lemmas.rules.Steps.{fits_of, prefix_after}
 use Rattle.pb_replay.proofs.state.objective.objective_form.Goals as goal
 
 pub returns-in_err-form-clause-kept : goal.returns-in_err-form-clause-kept

@@ -1,5 +1,5 @@
 use Rattle.pb_replay.proofs.Common.{ap, arith, length, option_map, to_z-of_z, Linear}
-use Rattle.pb_replay.proofs.lemmas.solutions.Objective.{objective-has, objective-inside, objective-small, objective-value}
+use Rattle.pb_replay.proofs.lemmas.meaning.Assigned.{objective-has, objective-inside, objective-small, objective-value}
 use Rattle.pb_replay.proofs.state.solution.objective_value.Goals as goal
 
 pub value_of-requires : goal.value_of-requires

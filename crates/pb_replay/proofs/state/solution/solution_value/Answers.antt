@@ -1,5 +1,5 @@
 use Rattle.pb_replay.proofs.Common.{◌∙◌, FitsSigned, inr, fits_signed_from_abs, to_z-of_z, err_from_is_err_and, w128, problem_of}
-use Rattle.pb_replay.proofs.lemmas.solutions.Completions.{judged-ok, judged-err}
+use Rattle.pb_replay.proofs.lemmas.rules.Completions.{judged-ok, judged-err}
 use Rattle.pb_replay.proofs.state.solution.solution_value.Goals as goal
 
 pub returns-clause-value : goal.returns-clause-value

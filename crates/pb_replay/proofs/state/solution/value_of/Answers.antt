@@ -1,6 +1,6 @@
-use Rattle.pb_replay.proofs.Common.{ℤ, ◌+ℤ◌, ◌+◌, ◌<◌, ◌∙◌, ap, arith, FitsSigned, length, sym, take, to_z, fits_signed_from_abs, to_z-of_z, w128}
-use Rattle.pb_replay.proofs.Common.{number_in, assignment, true_sum, Term, by_name}
-use Rattle.pb_replay.proofs.lemmas.solutions.Objective.{has-one, inside-one, next-fits, next-small, sum-more, magnitude-prefix, magnitude-more}
+use Rattle.pb_replay.proofs.Common.{ℤ, ◌+ℤ◌, ◌+◌, ◌<◌, ◌∙◌, ap, arith, FitsSigned, length, sym, take, to_z, fits_signed_from_abs, to_z-of_z, w128, number_in}
+use Rattle.pb_replay.proofs.Common.{assignment, true_sum, Term, by_name}
+use Rattle.pb_replay.proofs.lemmas.meaning.Assigned.{has-one, inside-one, next-fits, next-small, sum-more, magnitude-prefix, magnitude-more}
 use Rattle.pb_replay.proofs.state.solution.value_of.Goals as goal
 
 pub part_of-sum-requires : goal.part_of-sum-requires

@@ -1,5 +1,4 @@
-use Rattle.pb_replay.proofs.Common.{inr, refl}
-use Rattle.pb_replay.proofs.lemmas.rules.Statements.{is_so, not_so}
+use Rattle.pb_replay.proofs.{Common.inr, Common.refl, lemmas.rules.Steps.is_so, lemmas.rules.Steps.not_so}
 use Rattle.pb_replay.proofs.step.bounds.goal_shown.Goals as goal
 
 pub returns-then-branch-clause-shown : goal.returns-then-branch-clause-shown

@@ -1,12 +1,11 @@
 use Rattle.pb_replay.proofs.Common.{◌≡◌, false, FitsSigned, rules, true, to_z-of_z, err_from_is_err_and, w128, IsBelow, arith}
 use Rattle.pb_replay.proofs.lemmas.conclusions.Bounding.{lower-late, lower-missing, lower-found}
-use Rattle.pb_replay.proofs.lemmas.rules.Statements.{is_so, not_so}
+use Rattle.pb_replay.proofs.lemmas.rules.Steps.{is_so, not_so}
 use Rattle.pb_replay.proofs.step.bounds.shows_finite.Goals as goal
 
 pub returns-then-not-is_below_best-clause-lower : goal.returns-then-not-is_below_best-clause-lower
 returns-then-not-is_below_best-clause-lower c =
-    let fits : FitsSigned w128 c.args.bound = search rules in
-    let late : c.is_below_best.result ≡ false = search rules in
+    let fits : FitsSigned w128 c.args.bound = search rules in let late : c.is_below_best.result ≡ false = search rules in
     lower-late c.args.running.now c.args.bound c.args.id (not_so c.is_below_best.result (IsBelow c.args.running.now.best c.args.bound) late (rw (to_z-of_z w128 c.args.bound fits) at c.is_below_best.ensures))
 
 pub returns-clause-lower : goal.returns-clause-lower

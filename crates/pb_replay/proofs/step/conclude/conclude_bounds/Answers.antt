@@ -1,5 +1,5 @@
 use Rattle.pb_replay.proofs.Common.{refl, Some, err_from_is_err_and, Closing, Verdict}
-use Rattle.pb_replay.proofs.lemmas.{conclusions.Bounding.bounds-ok, conclusions.Bounding.bounds-err, solutions.Completions.some-objective}
+use Rattle.pb_replay.proofs.lemmas.{conclusions.Bounding.bounds-ok, conclusions.Bounding.bounds-err, rules.Completions.some-objective}
 use Rattle.pb_replay.proofs.step.conclude.conclude_bounds.Goals as goal
 
 pub returns-clause-goes : goal.returns-clause-goes

@@ -1,5 +1,5 @@
 use Rattle.pb_replay.proofs.Common.{refl, Some, err_from_is_err_and, Closing, Verdict}
-use Rattle.pb_replay.proofs.lemmas.solutions.Completions.{sat-ok, sat-err}
+use Rattle.pb_replay.proofs.lemmas.rules.Completions.{sat-ok, sat-err}
 use Rattle.pb_replay.proofs.step.conclude.conclude_sat.Goals as goal
 
 pub returns-clause-goes : goal.returns-clause-goes

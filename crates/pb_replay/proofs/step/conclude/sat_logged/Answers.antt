@@ -1,5 +1,4 @@
-use Rattle.pb_replay.proofs.Common.{◌≡◌, inl, is_some, refl, rules, true}
-use Rattle.pb_replay.proofs.lemmas.solutions.Completions.{logged-some}
+use Rattle.pb_replay.proofs.{Common.◌≡◌, Common.inl, Common.is_some, Common.refl, Common.rules, Common.true, lemmas.rules.Completions.logged-some}
 use Rattle.pb_replay.proofs.step.conclude.sat_logged.Goals as goal
 
 pub returns-clause-goes : goal.returns-clause-goes

@@ -1,5 +1,4 @@
-use Rattle.pb_replay.proofs.Common.{refl, rules}
-use Rattle.pb_replay.proofs.lemmas.rules.Statements.{delete-goes, delete-linked}
+use Rattle.pb_replay.proofs.{Common.refl, Common.rules, lemmas.rules.Steps.delete-goes, lemmas.rules.Steps.delete-linked}
 use Rattle.pb_replay.proofs.step.delete.delete.Goals as goal
 
 pub returns-clause-goes : goal.returns-clause-goes

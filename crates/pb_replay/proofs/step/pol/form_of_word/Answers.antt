@@ -15,5 +15,4 @@ returns-in-Weaken-clause-ok c =
     weaken_made _ _ _ _ _ _ _ _ _ _ _ c.in-Weaken.is c.pop-form-in-Weaken.ensures c.as_str-in-Weaken.ensures c.number_of.ensures c.weakening_of.ensures.ok
 
 pub returns-in-Saturate-clause-ok : goal.returns-in-Saturate-clause-ok
-returns-in-Saturate-clause-ok c =
-    saturate_made _ _ _ _ _ _ _ _ c.in-Saturate.is c.pop-form-in-Saturate.ensures c.saturation_of.ensures.ok
+returns-in-Saturate-clause-ok c = saturate_made _ _ _ _ _ _ _ _ c.in-Saturate.is c.pop-form-in-Saturate.ensures c.saturation_of.ensures.ok

@@ -1,5 +1,4 @@
-use Rattle.pb_replay.proofs.Common.{arith, refl, take, word_names}
-use Rattle.pb_replay.proofs.lemmas.rules.Words.{next_names, prefix_in}
+use Rattle.pb_replay.proofs.{Common.arith, Common.refl, Common.take, Common.word_names, lemmas.rules.Words.next_names, lemmas.rules.Words.prefix_in}
 use Rattle.pb_replay.proofs.step.pol.number_words.Goals as goal
 
 pub loop-word-preserved : goal.loop-word-preserved

@@ -1,4 +1,4 @@
-use Rattle.pb_replay.proofs.{Common.arith, lemmas.names.Assigned.words_named, lemmas.rules.Statements.pol-inside, lemmas.rules.Statements.pol-goes}
+use Rattle.pb_replay.proofs.{Common.arith, lemmas.meaning.Assigned.words_named, lemmas.rules.Steps.pol-inside, lemmas.rules.Steps.pol-goes}
 use Rattle.pb_replay.proofs.step.pol.pol.Goals as goal
 
 pub shared_form-requires-clause-named : goal.shared_form-requires-clause-named

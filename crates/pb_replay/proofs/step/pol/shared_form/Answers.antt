@@ -1,4 +1,4 @@
-use Rattle.pb_replay.proofs.lemmas.rules.Statements.{repeated-form}
+use Rattle.pb_replay.proofs.lemmas.rules.Steps.{repeated-form}
 use Rattle.pb_replay.proofs.step.pol.shared_form.Goals as goal
 
 pub returns-in-Some-clause-ok : goal.returns-in-Some-clause-ok

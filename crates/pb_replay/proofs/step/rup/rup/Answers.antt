@@ -1,5 +1,5 @@
 use Rattle.pb_replay.proofs.Common.{◌∙◌, refl, rules}
-use Rattle.pb_replay.proofs.lemmas.rules.Statements.{visits-judged, visits-memory, visits-none, keeps_then, rup_judged, rup_unmade, unmade, unmade-fits}
+use Rattle.pb_replay.proofs.lemmas.rules.Steps.{visits-judged, visits-memory, visits-none, keeps_then, rup_judged, rup_unmade, unmade, unmade-fits}
 use Rattle.pb_replay.proofs.step.rup.rup.Goals as goal
 
 pub returns-in_err-form-clause-goes : goal.returns-in_err-form-clause-goes
@@ -25,8 +25,7 @@ returns-clause-kept c = keeps_then _ _ _ (keeps_then _ _ _ c.take_form.ensures.p
 
 pub returns-clause-goes : goal.returns-clause-goes
 returns-clause-goes c =
-    let named = c.in_ok-form.ensures.named in
-    let reported = c.in_ok-implied.ensures in
+    let named = c.in_ok-form.ensures.named in let reported = c.in_ok-implied.ensures in
     rup_judged c.args.running.now c.take_form.new.running c.args.linear.now c.in_ok-form.form named c.in_ok-form.ensures.fits c.in_ok-form.ensures.form
     c.is_implied.new.running c.judge.new.running c.judge.result reported.same (c.is_implied.ensures.kept.limits ∙ c.take_form.ensures.preserves.kept.limits) c.judge.ensures.best
     c.in_ok-implied.implied (rw named.forms at reported.implied) (rw named.forms at reported.not_implied) c.judge.ensures.added c.judge.ensures.refused
@@ -39,7 +38,6 @@ returns-in_err-implied-clause-visits_made c =
 
 pub returns-clause-visits_made : goal.returns-clause-visits_made
 returns-clause-visits_made c =
-    let named = c.in_ok-form.ensures.named in
-    let reported = c.in_ok-implied.ensures in
+    let named = c.in_ok-form.ensures.named in let reported = c.in_ok-implied.ensures in
     visits-judged c.args.linear.now c.take_form.new.running.engine.forms c.args.running.now.engine.forms c.args.running.now.names c.take_form.new.running.names c.in_ok-form.form c.is_implied.new.running.visits c.judge.new.running.visits named.forms named.names
     c.in_ok-form.ensures.form c.is_implied.ensures.few c.is_implied.ensures.unasked c.judge.ensures.preserves.visits c.is_implied.new.running c.judge.new.running c.judge.result c.in_ok-implied.implied reported.conflict reported.completion c.judge.ensures.added c.judge.ensures.refused

@@ -1,5 +1,5 @@
 use Rattle.pb_replay.proofs.Common.{◌∙◌, arith, refl, rules, take, names_of}
-use Rattle.pb_replay.proofs.lemmas.rules.{Live.grown, Live.linked-wider, Statements.fits_of, Statements.prefix_after}
+use Rattle.pb_replay.proofs.lemmas.rules.{Live.grown, Live.linked-wider, Steps.fits_of, Steps.prefix_after}
 use Rattle.pb_replay.proofs.step.rup.take_form.Goals as goal
 
 pub returns-in_err-form-clause-preserves : goal.returns-in_err-form-clause-preserves

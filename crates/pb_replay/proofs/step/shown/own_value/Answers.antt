@@ -1,5 +1,5 @@
 use Rattle.pb_replay.proofs.Common.{err_from_is_err_and, Live, problem_of}
-use Rattle.pb_replay.proofs.lemmas.solutions.Completions.{own-conflict, own-value, completed-value}
+use Rattle.pb_replay.proofs.lemmas.rules.Completions.{own-conflict, own-value, completed-value}
 use Rattle.pb_replay.proofs.step.shown.own_value.Goals as goal
 
 pub returns : goal.returns

@@ -1,5 +1,5 @@
 use Rattle.pb_replay.proofs.Common.{Err, inl, inr, refl, subst, Contains, both_ways, problem_of, Completed}
-use Rattle.pb_replay.proofs.lemmas.{rules.Steps.own-length, solutions.Completions.shown-none}
+use Rattle.pb_replay.proofs.lemmas.rules.{Completions.shown-none, Steps.own-length}
 use Rattle.pb_replay.proofs.step.shown.shown_value.Goals as goal
 
 pub returns-else-eq-clause-err : goal.returns-else-eq-clause-err

@@ -1,4 +1,4 @@
-use Rattle.pb_replay.proofs.lemmas.solutions.Completions.{negations-apart, count-inside}
+use Rattle.pb_replay.proofs.lemmas.rules.Completions.{negations-apart, count-inside}
 use Rattle.pb_replay.proofs.step.solution.clause_of.Goals as goal
 
 pub from_literals-requires-clause-apart : goal.from_literals-requires-clause-apart

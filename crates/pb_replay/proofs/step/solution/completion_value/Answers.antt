@@ -1,5 +1,5 @@
 use Rattle.pb_replay.proofs.Common.{length, Live, problem_of, arith}
-use Rattle.pb_replay.proofs.lemmas.solutions.Completions.{completed-value, conflicting-value}
+use Rattle.pb_replay.proofs.lemmas.rules.Completions.{completed-value, conflicting-value}
 use Rattle.pb_replay.proofs.step.solution.completion_value.Goals as goal
 
 pub returns-clause-value : goal.returns-clause-value

@@ -1,6 +1,5 @@
 use Rattle.pb_replay.proofs.Common.{inl, inr, length, fits_signed_from_abs, to_z-of_z, err_from_is_err_and, w128, Live, problem_of}
-use Rattle.pb_replay.proofs.lemmas.rules.Steps.{logs-from}
-use Rattle.pb_replay.proofs.lemmas.solutions.Completions.{apart, solx-ok, solx-err}
+use Rattle.pb_replay.proofs.lemmas.rules.{Completions.apart, Completions.solx-ok, Completions.solx-err, Steps.logs-from}
 use Rattle.pb_replay.proofs.step.solution.exclude.Goals as goal
 
 pub clause_of-requires : goal.clause_of-requires

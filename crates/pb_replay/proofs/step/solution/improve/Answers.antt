@@ -1,6 +1,5 @@
 use Rattle.pb_replay.proofs.Common.{ℤ, inl, inr, subst, fits_signed_from_abs, to_z-of_z, err_from_is_err_and, w128, Demands}
-use Rattle.pb_replay.proofs.lemmas.rules.Steps.{demands-from}
-use Rattle.pb_replay.proofs.lemmas.solutions.Completions.{some-objective, soli-ok, soli-err}
+use Rattle.pb_replay.proofs.lemmas.rules.{Completions.some-objective, Completions.soli-ok, Completions.soli-err, Steps.demands-from}
 use Rattle.pb_replay.proofs.step.solution.improve.Goals as goal
 
 pub returns-clause-goes : goal.returns-clause-goes

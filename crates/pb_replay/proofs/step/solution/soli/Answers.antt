@@ -1,4 +1,4 @@
-use Rattle.pb_replay.proofs.{Common.rules, Common.IsSome, Common.arith, lemmas.rules.Steps.goes-from, lemmas.solutions.Completions.some-objective}
+use Rattle.pb_replay.proofs.{Common.rules, Common.IsSome, Common.arith, lemmas.rules.Completions.some-objective, lemmas.rules.Steps.goes-from}
 use Rattle.pb_replay.proofs.step.solution.soli.Goals as goal
 
 pub returns-clause-goes : goal.returns-clause-goes

@@ -1,4 +1,4 @@
-use Rattle.pb_replay.proofs.{Common.literal_names, lemmas.names.Assigned.names_named}
+use Rattle.pb_replay.proofs.{Common.literal_names, lemmas.meaning.Assigned.names_named}
 use Rattle.pb_replay.proofs.step.solution.take_literals.Goals as goal
 
 pub numbered_literals-requires : goal.numbered_literals-requires

@@ -3,14 +3,13 @@ use Rattle.pb_replay.proofs.Common.{ℕ, ◌<◌, ◌∙◌, ◌≡◌, arith, B
 use Rattle.pb_replay.proofs.Common.{cond-true, not-true, not_from_false, get_or_default, NumberedLiteral, Form, Holds, total, true_at, assignment, on, only}
 use Rattle.pb_replay.proofs.Common.{only-true, total-within, HoldAll, IsCompletion, MeetsConflict, IsSolution, Problem, AreValues, Completed, Excludes}
 use Rattle.pb_replay.proofs.Common.{HasValue, Logged, logged_of, negations, no_form, value, ℤ, ◌⊎◌, ap, Err, None, rules, Some, Contains, IsSome, Option}
-use Rattle.pb_replay.proofs.Common.{Result, Gives, value_says, begin, broken, Derivation, HasConflict, MayPropagate, opposed, put, ok_or_err}
-use Rattle.pb_replay.proofs.Common.{ReturnsValue, Fault, Conflict, Memory, AllHold, AreTotal, Judged, Answer, Shown}
-use Rattle.pb_replay.proofs.Common.{Solution, ◌++◌, ◌∷◌, [], All, cond, subst, option_map, or_cases, All-head, All-tail, Contains-get_or, Soli, Solx, only-self}
-use Rattle.pb_replay.proofs.Common.{rising-positive, total-has, Live, Linear, Literal, Term, GoesAt, IsInside, Logs, problem_of, Running, Demands, numbered}
-use Rattle.pb_replay.proofs.Common.{is_some, map, Verdict, get_or-map, length-map, Sat, Closing, Conclude, IsBest, state_of, NoSolution, State}
-use Rattle.pb_replay.proofs.lemmas.meaning.Accepting.{needed, eached, ok-same}
-use Rattle.pb_replay.proofs.lemmas.meaning.Propagated.{AreTrue, on-negations, derivation-true, true_at-not}
-use Rattle.pb_replay.proofs.lemmas.{meaning.Relating.single-completed, rules.Live.Live-loaded}
+use Rattle.pb_replay.proofs.Common.{Result, Gives, value_says, begin, broken, Derivation, HasConflict, MayPropagate, opposed, put, ok_or_err, ReturnsValue}
+use Rattle.pb_replay.proofs.Common.{Fault, Conflict, Memory, AllHold, AreTotal, Judged, Answer, Shown, Solution, ◌++◌, ◌∷◌, [], All, cond, subst, option_map}
+use Rattle.pb_replay.proofs.Common.{or_cases, All-head, All-tail, Contains-get_or, Soli, Solx, only-self, rising-positive, total-has, Live, Linear, Literal}
+use Rattle.pb_replay.proofs.Common.{Term, GoesAt, IsInside, Logs, problem_of, Running, Demands, numbered, is_some, map, Verdict, get_or-map, length-map, Sat}
+use Rattle.pb_replay.proofs.{Common.Closing, Common.Conclude, Common.IsBest, Common.state_of, Common.NoSolution, Common.State, lemmas.meaning.Accepting.needed}
+use Rattle.pb_replay.proofs.lemmas.meaning.{Accepting.eached, Accepting.ok-same, Propagated.AreTrue, Propagated.on-negations, Propagated.derivation-true}
+use Rattle.pb_replay.proofs.lemmas.{meaning.Propagated.true_at-not, meaning.Relating.single-completed, rules.Live.Live-loaded}
 
 -- what an accepted completion has
 pub record IsTaken (v : Problem) (forms : Form → Type 0) (names : ℕ) (given : List NumberedLiteral) (g : Logged) : Type 0 where
@@ -26,11 +25,7 @@ solution-of v a h f (k, lt, is) = rw (get_or_default v.loaded k no_form f lt ∙
 
 pub Completed-taken : (v : Problem) (forms : Form → Type 0) (names : ℕ) (given : List NumberedLiteral) (g : Logged) → Completed v forms names given (Ok g) → IsTaken v forms names given g
 Completed-taken v forms names given g h =
-    let free = needed h in
-    let list = free.1 in
-    let full = eached list.2 in
-    let values = full.1 in
-    let holds = eached values.2 in
+    let free = needed h in let list = free.1 in let full = eached list.2 in let values = full.1 in let holds = eached values.2 in
     let is : g ≡ logged_of v values.0 = ok-same holds.1 in
     let taken : IsTaken v forms names given (logged_of v values.0) = record {
       list = list.0;
@@ -177,8 +172,7 @@ module _ (old : Running) (given : List NumberedLiteral) (written : List Literal)
 
   pub soli-ok : (z : ℤ) (o : List Term) (result : Result Unit Fault) (new : Running) → (problem_of old).objective ≡ Some o → (g : Logged) × Completed (problem_of old) (Live old.engine.forms) (length old.names) given (Ok g) × (g.value ≡ z) → Demands old z result new → GoesAt old (Soli written) result new
   soli-ok z o (Ok u) new has (g, done, value) h = λ logged best.
-      let k = h logged g o best value has in
-      (logged ++ g ∷ [], k.0, inl (o, has, inl (g, over (Ok g) done, k.1)))
+      let k = h logged g o best value has in (logged ++ g ∷ [], k.0, inl (o, has, inl (g, over (Ok g) done, k.1)))
   soli-ok z o (Err e) new has (g, done, value) (inl memory) = inl memory
   soli-ok z o (Err e) new has (g, done, value) (inr h) = inr (λ logged best. inl (o, has, inl (g, over (Ok g) done, h logged g o value has)))
 
@@ -202,8 +196,7 @@ counts-true b h = grind arith
 
 pub count-inside : (given : List NumberedLiteral) (r : Form) (n : ℕ) → Excludes given r → All (λ l. l.variable < n) given → IsInside n r
 count-inside given r n h below k d lt =
-    let t = get_or r.terms k d in
-    let there = Contains-get_or r.terms k d lt in
+    let t = get_or r.terms k d in let there = Contains-get_or r.terms k d lt in
     let some : 0 < total (only t.variable t.negated) r.terms = omega (arith, total-has (only t.variable t.negated) r.terms t there (only-self t.variable t.negated), rising-positive 0 r.terms t h.ordered there) in
     let here = counts-true (on (negations given) t.variable t.negated) (omega (arith, some, h.coefficients t.variable t.negated)) in
     on-below given n t.variable (not t.negated) below (sym (on-negations given t.variable t.negated) ∙ here)

@@ -1,3 +1,0 @@
--- Lemmas of the short proofs that are examples.
-pub mod Pairs
-pub mod Worked

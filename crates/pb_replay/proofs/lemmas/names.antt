@@ -1,2 +1,0 @@
--- Lemmas of names and their numbers.
-pub mod Assigned

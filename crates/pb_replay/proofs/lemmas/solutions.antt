@@ -1,3 +1,0 @@
--- Lemmas of solutions and completions.
-pub mod Completions
-pub mod Objective
