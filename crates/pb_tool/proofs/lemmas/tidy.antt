@@ -2,5 +2,4 @@
 pub mod InstanceLines
 pub mod NormalFile
 pub mod ProofLines
-pub mod StoredForms
 pub mod TidiedAgain

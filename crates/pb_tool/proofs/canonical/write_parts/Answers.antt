@@ -6,5 +6,4 @@ returns-in_err-write_text g c =
     part_broke g.W.Sink.contents g.W.Sink.faults _ _ _ _ _ _ refl c.from_residual.ensures.0 c.in_err-write_text.ensures
 
 pub returns : goal.returns
-returns g c =
-    part_then g.W.Sink.contents g.W.Sink.faults _ _ _ _ _ _ _ refl c.in_ok-write_text.ensures c.write_bytes.ensures
+returns g c = part_then g.W.Sink.contents g.W.Sink.faults _ _ _ _ _ _ _ refl c.in_ok-write_text.ensures c.write_bytes.ensures

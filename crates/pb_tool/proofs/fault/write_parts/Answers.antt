@@ -10,8 +10,7 @@ module _ {S : Type 0} (contents : S → Option (List ℕ)) (faults : S → ℕ) 
       → Wrote contents faults a (flat_map (λ part. part.now) (take i parts)) b → Broke contents faults b (get_or parts i none).now c
       → Writes contents faults a (flat_map (λ part. part.now) parts) r c
   broke_at a b c parts i none r lt e h k =
-      let text = flat_map (λ (part : Bor (List ℕ)). part.now) in
-      let rest = text (drop (suc i) parts) in
+      let text = flat_map (λ (part : Bor (List ℕ)). part.now) in let rest = text (drop (suc i) parts) in
       let whole : text parts ≡ text (take i parts) ++ ((get_or parts i none).now ++ rest) =
       ap text (sym (take-append-drop i parts)) ∙ (flat_map-append (λ (part : Bor (List ℕ)). part.now) (take i parts) (drop i parts) ∙ ap (λ (ps : List (Bor (List ℕ))). text (take i parts) ++ text ps) (drop-cons parts i none lt)) in
       part_then contents faults a b c (text (take i parts)) ((get_or parts i none).now ++ rest) (text parts) r whole h

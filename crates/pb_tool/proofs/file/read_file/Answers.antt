@@ -7,8 +7,7 @@ returns-in_err-read-clause-refused g c = passed_on _ _ _ c.from_residual.ensures
 
 pub returns-in_err-read-clause-refused_given : goal.returns-in_err-read-clause-refused_given
 returns-in_err-read-clause-refused_given g c =
-    let (given, seen, e, stops) = c.in_err-read.ensures.given in
-    passed_on _ _ _ c.from_residual.ensures.1 (given, seen, e, InText stops)
+    let (given, seen, e, stops) = c.in_err-read.ensures.given in passed_on _ _ _ c.from_residual.ensures.1 (given, seen, e, InText stops)
 
 pub returns-in_err-rest_is_blank-clause-refused : goal.returns-in_err-rest_is_blank-clause-refused
 returns-in_err-rest_is_blank-clause-refused g c =

@@ -1,23 +1,23 @@
 -- The state of a checker after a feed and a step. Offered to other crates.
-use Rattle.pb_text.specs.contract.Automaton.{AcceptsItems as AcceptsBytes}
-use Rattle.pb_text.specs.contract.Standing.{Counts, Halts, Waits, IsOpen as IsOpenText}
-use Rattle.pb_text.specs.declared.Fed.{Fed}
-use Rattle.pb_tool.proofs.Common.{ℕ, ◌++◌, ◌+◌, ◌-◌, ◌<◌, ◌∙◌, ◌∷◌, ◌≡◌, ◌⊎◌, [], add-zero, All, ap, append-nil, append_assoc, Bool, drop, Err, false, arith}
-use Rattle.pb_tool.proofs.Common.{inl, inr, length, length-append, List, None, Ok, Option, refl, Result, Some, subst, sym, take}
-use Rattle.pb_tool.proofs.Common.{take-append-drop, true, IsSome, not, All-head, All-tail, ReadsProofs, ReadStatements, IsStatementValue}
-use Rattle.pb_tool.proofs.Common.{Proof, Stage, Statement, Conclude, End, F, Output, begin, proofs, ProofState, IsProof, WholeProofsConclude}
-use Rattle.pb_tool.proofs.Common.{Replaying, StandsFor, StepsAs, verdict_at, verdict_in, Fault, NotTotal, Verdict, IsNamePrefix, IsSound, Problem}
-use Rattle.pb_tool.proofs.Common.{State, Accepts, MayWantAt, Outcome, spans_events, all_rest, prefix_parts, FeedsOnce, halt_of, is_complete, place_of}
-use Rattle.pb_tool.proofs.Common.{StandsAt, Limits, Place, Spanned, Stop, Why, end_of, largest, top_of, Explains, IsSpelled, Reads, bytes, Item}
-use Rattle.pb_tool.proofs.Common.{events_at, events_of, accepted_by, AsksAsText, Checking, ChecksSoFar, CountsSoFar, IsAccepting, IsAt, IsSomewhere}
-use Rattle.pb_tool.proofs.Common.{ProofFeeder, StepsFrom, TextsAreRead, Checks, EndsAfter, IsReplayed, KeepsNames, KeepsNamesOf, LeadsTo, Rejects}
-use Rattle.pb_tool.proofs.Common.{StepsTo, AllocatesAt, AnyCutting, bytes_to, ChecksAt, ChecksOnce, CountsAt, CountsOnce, fault_of, FeedsInTurn}
-use Rattle.pb_tool.proofs.Common.{is_whole, joined, MayGoOn, place_in, CheckFault, Begins}
-use Rattle.pb_text.proofs.lemmas.text.Formats as formats
 use Rattle.pb_proof.specs.declared.Statement.TheVariants.{Header}
 use Rattle.pb_replay.specs.declared.fault.Fault.TheVariants.{Memory}
-use Rattle.pb_tool.proofs.lemmas.check.OneRead.{no_prefix}
+use Rattle.pb_text.specs.contract.{Automaton.AcceptsItems as AcceptsBytes, Standing.Counts, Standing.Halts, Standing.Waits, Standing.IsOpen as IsOpenText}
+use Rattle.pb_text.specs.declared.Fed.{Fed}
+use Rattle.std.proofs.lemmas.Bool.Decides.{nat_tests}
+use Rattle.pb_tool.proofs.Common.{ℕ, ◌++◌, ◌+◌, ◌-◌, ◌<◌, ◌∙◌, ◌∷◌, ◌≡◌, ◌⊎◌, [], add-zero, All, ap, append-nil, append_assoc, Bool, drop, Err, false, arith}
+use Rattle.pb_tool.proofs.Common.{inl, inr, length, length-append, List, None, Ok, Option, refl, Result, Some, subst, sym, take, take-append-drop, true, IsSome}
+use Rattle.pb_tool.proofs.Common.{not, All-head, All-tail, ReadsProofs, ReadStatements, IsStatementValue, Proof, Stage, Statement, Conclude, End, F, Output}
+use Rattle.pb_tool.proofs.Common.{begin, proofs, ProofState, IsProof, WholeProofsConclude, Replaying, StandsFor, StepsAs, verdict_at, verdict_in, Fault}
+use Rattle.pb_tool.proofs.Common.{NotTotal, Verdict, IsNamePrefix, IsSound, Problem, State, Accepts, MayWantAt, Outcome, spans_events, all_rest, prefix_parts}
+use Rattle.pb_tool.proofs.Common.{FeedsOnce, halt_of, is_complete, place_of, StandsAt, Limits, Place, Spanned, Stop, Why, end_of, largest, top_of, Explains}
+use Rattle.pb_tool.proofs.Common.{IsSpelled, Reads, bytes, Item, events_at, events_of, accepted_by, AsksAsText, Checking, ChecksSoFar, CountsSoFar, IsAccepting}
+use Rattle.pb_tool.proofs.Common.{IsAt, IsSomewhere, ProofFeeder, StepsFrom, TextsAreRead, Checks, EndsAfter, IsReplayed, KeepsNames, KeepsNamesOf, LeadsTo}
+use Rattle.pb_tool.proofs.Common.{Rejects, StepsTo, AllocatesAt, AnyCutting, bytes_to, ChecksAt, ChecksOnce, CountsAt, CountsOnce, fault_of, FeedsInTurn}
+use Rattle.pb_tool.proofs.Common.{is_whole, joined, MayGoOn, place_in, CheckFault, Begins, ◌≤◌, length-map, PrefixFree, same_prefix, bytes-append, length-bytes}
+use Rattle.pb_tool.proofs.Common.{place_after-offset, HoldsFew, Answers as AnswersText, open_bytes, bytes_of, Letter, letters_of, plain, spans_since}
+use Rattle.pb_tool.{proofs.Common.EndsStatement, proofs.Common.HoldsOpen, proofs.lemmas.check.OneRead.no_prefix, specs.contract.Checks.IsRefusedAt}
 use Rattle.pb_tool.specs.declared.commands.check.checker.CheckFault.TheVariants.{Text, Step}
+use Rattle.pb_text.proofs.lemmas.text.Formats as formats
 
 abbrev pub failed : CheckFault → Result Unit CheckFault
 failed x = Err x
@@ -121,8 +121,7 @@ module _ (whole : WholeProofsConclude) (limits : Limits) (longest : ℕ) (v : Pr
   -- the replay was in a state, and is in one
   pub there : (input used : List ℕ) (spans : List (Spanned Statement)) (place : Place) (now : Result State Fault) → Reads (IsProof (largest limits) (top_of limits)) longest input used spans place true None → LeadsTo limits v first (events_at spans) now → (t : State) × (now ≡ Ok t) × (verdict_at t.next t.concluded ≡ None → ⊥)
   there input used spans place now r leads =
-      let s = r.answer.0 in
-      let (pf, spells) = s.spelled in
+      let s = r.answer.0 in let (pf, spells) = s.spelled in
       let same = spelled_events (IsProof (largest limits) (top_of limits)) longest used spans s ∙ spells.1 in
       by first pf (subst (λ (x : List Statement). LeadsTo limits v first x now) same leads)
     where
@@ -165,8 +164,12 @@ module _ (read : TextsAreRead) (limits : Limits) (longest : ℕ) (v : Problem) (
   pub reported : (used : List ℕ) × IsReported used (is_complete f)
   reported = text_read read limits longest input now.spans f None now.stands now.running
 
+  abbrev as_read : (all used : List ℕ) (place : Place) (done : Bool) (stop : Option Stop) → Reads (IsProof (largest limits) (top_of limits)) longest all used now.spans place done stop
+      → IsReplayed limits longest v first all place done stop now.now
+  as_read all used place done stop reads = record { used = used; spans = now.spans; reads = reads; accepted = now.accepted }
+
   pub replayed : IsReplayed limits longest v first input (place_of f) (is_complete f) None now.now
-  replayed = record { used = reported.0; spans = now.spans; reads = reported.1; accepted = now.accepted }
+  replayed = as_read input reported.0 (place_of f) (is_complete f) None reported.1
 
   whole_text : is_complete f ≡ true → IsReplayed limits longest v first input (place_of f) true None now.now
   whole_text done = subst (λ (b : Bool). IsReplayed limits longest v first input (place_of f) b None now.now) done replayed
@@ -189,7 +192,7 @@ module _ (read : TextsAreRead) (limits : Limits) (longest : ℕ) (v : Problem) (
     CountedReplay done x = (all : IsReplayed limits longest v first input (place_of f) done None x) × (length all.spans ≡ k)
 
     counted_replay : CountedReplay (is_complete f) now.now
-    counted_replay = (record { used = reported.0; spans = now.spans; reads = reported.1; accepted = now.accepted }, many)
+    counted_replay = (as_read input reported.0 (place_of f) (is_complete f) None reported.1, many)
 
     pub verdict_after : WholeProofsConclude → is_complete f ≡ true → (w : Verdict) → Some w ≡ verdict_in r → EndsAfter limits longest v first input k (place_of f) (Ok w)
     verdict_after whole done w is =
@@ -200,18 +203,10 @@ module _ (read : TextsAreRead) (limits : Limits) (longest : ℕ) (v : Problem) (
 
     pub cut_after : is_complete f ≡ false → EndsAfter limits longest v first input k (place_of f) (Err (Text (record { place = place_of f; why = Why.Ended })))
     cut_after done =
-        let reads = subst (λ (b : Bool). IsReported reported.0 b) done reported.1 in (
-          (
-            now.now,
-            record {
-              used = reported.0;
-              spans = now.spans;
-              reads = record { left = reads.left; input_is = reads.input_is; place_is = reads.place_is; answer = (reads.answer.0, refl, reads.answer.1) };
-              accepted = now.accepted;
-            },
-          ),
-          many,
-        )
+        let reads = subst (λ (b : Bool). IsReported reported.0 b) done reported.1 in
+        let cut : Reads (IsProof (largest limits) (top_of limits)) longest input reported.0 now.spans (place_of f) false (Some (record { place = place_of f; why = Why.Ended })) =
+        record { left = reads.left; input_is = reads.input_is; place_is = reads.place_is; answer = (reads.answer.0, refl, reads.answer.1) } in
+        ((now.now, as_read input reported.0 (place_of f) false _ cut), many)
 
     -- ---- more bytes, and the statement that ended in them
     module _ (more : List ℕ) (n : ProofFeeder) where
@@ -233,18 +228,9 @@ module _ (read : TextsAreRead) (limits : Limits) (longest : ℕ) (v : Problem) (
 
       pub halted_on : (s : Stop) → StandsOn now.spans → halt_of n ≡ Some s → CountsSoFar limits longest v first (input ++ more) (k + 0) n r (Some (Text s))
       halted_on s stands halts =
-          let (used, reads) = text_read read limits longest (input ++ more) now.spans n (Some s) stands halts in (
-            (
-              now.now,
-              record {
-                used = used;
-                spans = now.spans;
-                reads = stopped (largest limits) (top_of limits) longest (input ++ more) used now.spans (place_of n) (is_complete n) s reads;
-                accepted = now.accepted;
-              },
-            ),
-            none_more,
-          )
+          let (used, reads) = text_read read limits longest (input ++ more) now.spans n (Some s) stands halts in
+          let cut = stopped (largest limits) (top_of limits) longest (input ++ more) used now.spans (place_of n) (is_complete n) s reads in
+          ((now.now, as_read (input ++ more) used (place_of n) false (Some s) cut), none_more)
 
       module _ (m : Spanned Statement) (stands : StandsOn (now.spans ++ m ∷ [])) (running : halt_of n ≡ None) where
         one_more : length (now.spans ++ m ∷ []) ≡ k + 1
@@ -276,9 +262,8 @@ module _ (read : TextsAreRead) (limits : Limits) (longest : ℕ) (v : Problem) (
         kept_by t why prefix old (Err e) at = tt
 
         refused_by : m.past ≡ place_of n → (rest : List ℕ) (t : Replaying) (why : Fault) → Rejects r.limits r.problem now.now m.event why → IsNamePrefix r.names t.names → ((n : ℕ) → why ≡ NotTotal n → n < length r.names) → CountsSoFar limits longest v first ((input ++ more) ++ rest) (k + 0) n t (Some (Step m.first why))
-        refused_by past rest t why refuses prefix old = (
-          (
-            record {
+        refused_by past rest t why refuses prefix old =
+            let refused : IsRefusedAt limits longest v first ((input ++ more) ++ rest) (place_of n) m.first why = record {
               used = said.0;
               left = said.1.left ++ rest;
               spans = now.spans;
@@ -291,11 +276,8 @@ module _ (read : TextsAreRead) (limits : Limits) (longest : ℕ) (v : Problem) (
               past_is = past;
               accepted = now.accepted;
               refused = subst (λ (x : Problem). Rejects limits x now.now m.event why) now.problem (subst (λ (x : Limits). Rejects x r.problem now.now m.event why) now.limits_are refuses);
-            },
-            kept_by t why prefix old now.now now.at,
-          ),
-          none_more,
-        )
+            } in
+            ((refused, kept_by t why prefix old now.now now.at), none_more)
 
         pub refused_on : m.past ≡ place_of n → (rest : List ℕ) (t : Replaying) (x : CheckFault) → Answers r m (Err x) t → IsNamePrefix r.names t.names → ReportsOld r x → CountsSoFar limits longest v first ((input ++ more) ++ rest) (k + 0) n t (Some x)
         refused_on past rest t x steps prefix old =
@@ -354,8 +336,7 @@ module _ (read : TextsAreRead) (limits : Limits) (longest : ℕ) (v : Problem) (
 pub asks_here : (f : ProofFeeder) (r : Replaying) (e : Option CheckFault) → e ≡ None → IsSomewhere f r e → (limits : Limits) (longest : ℕ) (v : Problem) (first : Result State Fault) (input : List ℕ) → ChecksSoFar limits longest v first input f r e → AsksAsText limits
 asks_here f r e none (limits, longest, v, first, input, asks, h) limits' longest' v' first' input' h' =
     let one = running_at limits longest v first input f r e none h in
-    let two = running_at limits' longest' v' first' input' f r e none h' in
-    subst AsksAsText (sym one.limits_are ∙ two.limits_are) asks
+    let two = running_at limits' longest' v' first' input' f r e none h' in subst AsksAsText (sym one.limits_are ∙ two.limits_are) asks
 
 -- ---- input after a fault
 module _ (limit top longest : ℕ) (used left piece : List ℕ) where
@@ -368,26 +349,16 @@ module _ (limit top longest : ℕ) (used left piece : List ℕ) where
   explained Why.Memory c (b, more, e, viable, room) = (b, more ++ piece, ap (λ (x : List ℕ). x ++ piece) e, viable, room)
 
 later : (limits : Limits) (longest : ℕ) (v : Problem) (first : Result State Fault) (input piece : List ℕ) (n : ℕ) (f : ProofFeeder) (r : Replaying) (e : CheckFault) → MayGoOn (Some e) → CountsSoFar limits longest v first input n f r (Some e) → CountsSoFar limits longest v first (input ++ piece) n f r (Some e)
-later limits longest v first input piece n f r (Text s) counts ((now, h), so_many) = (
-  (
-    now,
-    record {
-      used = h.used;
-      spans = h.spans;
-      reads = record {
-        left = h.reads.left ++ piece;
-        input_is = ap (λ (x : List ℕ). x ++ piece) h.reads.input_is ∙ append_assoc h.used h.reads.left piece;
-        place_is = h.reads.place_is;
-        answer = (h.reads.answer.0, h.reads.answer.1, explained (largest limits) (top_of limits) longest h.used h.reads.left piece s.why counts h.reads.answer.2);
-      };
-      accepted = h.accepted;
-    },
-  ),
-  so_many,
-)
-later limits longest v first input piece n f r (Step begins e) counts ((h, kept), so_many) = (
-  (
-    record {
+later limits longest v first input piece n f r (Text s) counts ((now, h), so_many) =
+    let reads : Reads (IsProof (largest limits) (top_of limits)) longest (input ++ piece) h.used h.spans (place_of f) false (Some s) = record {
+      left = h.reads.left ++ piece;
+      input_is = ap (λ (x : List ℕ). x ++ piece) h.reads.input_is ∙ append_assoc h.used h.reads.left piece;
+      place_is = h.reads.place_is;
+      answer = (h.reads.answer.0, h.reads.answer.1, explained (largest limits) (top_of limits) longest h.used h.reads.left piece s.why counts h.reads.answer.2);
+    } in
+    ((now, record { used = h.used; spans = h.spans; reads = reads; accepted = h.accepted }), so_many)
+later limits longest v first input piece n f r (Step begins e) counts ((h, kept), so_many) =
+    let refused : IsRefusedAt limits longest v first (input ++ piece) (place_of f) begins e = record {
       used = h.used;
       left = h.left ++ piece;
       spans = h.spans;
@@ -400,11 +371,8 @@ later limits longest v first input piece n f r (Step begins e) counts ((h, kept)
       past_is = h.past_is;
       accepted = h.accepted;
       refused = h.refused;
-    },
-    kept,
-  ),
-  so_many,
-)
+    } in
+    ((refused, kept), so_many)
 
 -- a checker that has a fault stays as it is
 pub stays_counted : (c : Checking) (piece : List ℕ) (e : CheckFault) → c.fault ≡ Some e → CountsOnce c piece 0 c
@@ -480,3 +448,62 @@ begun_counts longest r c b none first at =
       at = subst (λ (x : Replaying). IsAt x first) (sym b.replay) at;
       accepted = leads_none r.limits r.problem first;
     }) 0 refl
+
+-- ---- after whole statements none is unfinished
+length_plain : (gap : List ℕ) → length (plain gap) ≡ length gap
+length_plain gap = length-map gap (λ (b : ℕ). let l : Letter = record { byte = b; numeral = false } in l)
+
+module _ {E : Type 0} where
+  letters_joined : (a b : List (Item E)) → letters_of (a ++ b) ≡ letters_of a ++ letters_of b
+  letters_joined [] b = refl
+  letters_joined (i ∷ a) b = simp (letters_joined a b, append_assoc)
+
+  bytes_joined : (a b : List (Item E)) → bytes_of (a ++ b) ≡ bytes_of a ++ bytes_of b
+  bytes_joined a b = ap bytes (letters_joined a b) ∙ bytes-append (letters_of a) (letters_of b)
+
+  -- the length of a text with one more statement
+  length_item : (before : List ℕ) (i : Item E) → length (before ++ (i.gap ++ bytes i.text)) ≡ length before + (length i.gap + length i.text)
+  length_item before i = omega (arith, length-append before (i.gap ++ bytes i.text), length-append i.gap (bytes i.text), length-bytes i.text)
+
+  -- statements that begin after the first n bytes have none of these
+  past_all : (n : ℕ) (before : List ℕ) (items : List (Item E)) → n ≤ length before → open_bytes n (spans_since None before items) ≡ 0
+  past_all n before [] h = refl
+  past_all n before (i ∷ items) h =
+      grind (arith, nat_tests, place_after-offset, length-append, length_item before i, past_all n (before ++ (i.gap ++ bytes i.text)) items)
+
+  none_open : (n : ℕ) (before : List ℕ) (begun rest : List (Item E)) → n ≡ length before + length (letters_of begun) → open_bytes n (spans_since None before (begun ++ rest)) ≡ 0
+  none_open n before [] rest h = let all : n ≡ length before + 0 = h in past_all n before rest (omega (arith, all))
+  none_open n before (i ∷ begun) rest h =
+      let joined : length (letters_of (i ∷ begun)) ≡ length (plain i.gap) + length (i.text ++ letters_of begun) = length-append (plain i.gap) (i.text ++ letters_of begun) in
+      let all : length (letters_of (i ∷ begun)) ≡ length i.gap + (length i.text + length (letters_of begun)) = omega (arith, joined, length-append i.text (letters_of begun), length_plain i.gap) in
+      grind (arith, nat_tests, place_after-offset, length_item before i, none_open n (before ++ (i.gap ++ bytes i.text)) begun rest)
+
+-- ---- all of the input was read
+module _ (apart : PrefixFree) (limit top longest : ℕ) (used left : List ℕ) (spans : List (Spanned Statement)) (place : Place) (begun rest : List (Item Statement)) (whole : IsProof limit top (begun ++ rest)) (is : used ++ left ≡ bytes_of begun) where
+  nothing_left : (done : Bool) → AnswersText (IsProof limit top) longest used left spans place done None → left ≡ []
+  nothing_left false (under, none) = none
+  nothing_left true (s, none) =
+      no_prefix left (bytes_of rest) (apart limit top s.items (begun ++ rest) (left ++ bytes_of rest) s.spelled whole
+      (bytes_joined begun rest ∙ (ap (λ (x : List ℕ). x ++ bytes_of rest) (sym is) ∙ (append_assoc used left (bytes_of rest) ∙ ap (λ (x : List ℕ). x ++ (left ++ bytes_of rest)) (sym s.used_are)))))
+
+module _ (exact : ReadsProofs) (limits : Limits) (longest : ℕ) (v : Problem) (first : Result State Fault) (input : List ℕ) (f : ProofFeeder) (r : Replaying) (e : Option CheckFault) (none : e ≡ None) (h : ChecksSoFar limits longest v first input f r e) (held : ℕ)
+    (few : (longest : ℕ) (start : ProofState) (input : List ℕ) (spans : List (Spanned Statement)) → StandsAt longest start input spans f → HoldsFew start input f held) where
+  pub open_at : HoldsOpen limits input (place_of f) held
+  open_at =
+      let now = running_at limits longest v first input f r e none h in
+      let (used, n, prefix, place, opens, bound) = few longest (begin (largest limits) (top_of limits)) input now.spans now.stands in
+      (used, n, prefix, place, λ items k at. opens items ((exact (largest limits) (top_of limits) items).1 k) at, bound)
+
+  pub none_at : PrefixFree → TextsAreRead → EndsStatement limits input → held ≡ 0
+  none_at apart read (begun, rest, whole, is) =
+      let now = running_at limits longest v first input f r e none h in
+      let (taken, reported) = reported read limits longest v first input f r e none h in
+      let left = nothing_left apart (largest limits) (top_of limits) longest taken reported.left now.spans (place_of f) begun rest whole (sym reported.input_is ∙ is) (is_complete f) reported.answer in
+      let (used, n, prefix, place, opens, bound) = open_at in
+      let as_long : length used ≡ length taken = sym (place_after-offset used) ∙ (ap (λ (x : Place). x.offset) (sym place ∙ reported.place_is) ∙ place_after-offset taken) in
+      let all_taken : length input ≡ length taken = omega (arith, ap length reported.input_is, length-append taken reported.left, ap length left) in
+      let same : used ≡ input = same_prefix used input prefix.0 [] (sym prefix.1 ∙ sym (append-nil input)) (as_long ∙ sym all_taken) in
+      let long : length used ≡ length (letters_of begun) = ap length (same ∙ is) ∙ length-bytes (letters_of begun) in
+      let text : bytes_of (begun ++ rest) ≡ used ++ bytes_of rest = bytes_joined begun rest ∙ ap (λ (x : List ℕ). x ++ bytes_of rest) (sym (same ∙ is)) in
+      let closed : n ≡ 0 = sym (opens (begun ++ rest) whole (bytes_of rest, text)) ∙ none_open (length used) [] begun rest (omega (arith, long)) in
+      omega (arith, bound, closed)

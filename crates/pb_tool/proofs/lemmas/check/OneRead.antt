@@ -125,8 +125,7 @@ module _ {E : Type 0} (format : List (Item E) → Type 0) (longest : ℕ) where
   spelling_reached used spans s =
       let begins : bytes_of s.items ≡ used ++ [] = s.used_are ∙ sym (append-nil used) in
       let all = all_within (length used) None [] s.items (omega (arith, ap (λ (x : List ℕ). length x) s.used_are)) ∙ sym s.spans_are in
-      let short = subst (λ (x : List (Spanned E)). AreShort longest (length used) x) s.spans_are s.short in
-      search rules
+      let short = subst (λ (x : List (Spanned E)). AreShort longest (length used) x) s.spans_are s.short in search rules
 
   pub way_reached : (used : List ℕ) (spans : List (Spanned E)) → IsUnderWay format longest used spans → Reached used spans
   way_reached used spans u =
@@ -140,8 +139,7 @@ module _ {E : Type 0} (format : List (Item E) → Type 0) (longest : ℕ) where
 
     not_bad : (b : ℕ) (more : List ℕ) → left ≡ b ∷ more → IsBad format longest used b → (x : ℕ) (m : List ℕ) → used' ≡ used ++ x ∷ m → ⊥
     not_bad b more e bad x m p =
-        let same : x ≡ b = let k = next x m p in cc in
-        bad.refused (r.items, r.is, (m ++ r.more, grind (arith, r.begins, append_assoc)))
+        let same : x ≡ b = let k = next x m p in cc in bad.refused (r.items, r.is, (m ++ r.more, grind (arith, r.begins, append_assoc)))
 
     not_full : IsFull format longest used → (x : ℕ) (m : List ℕ) → used' ≡ used ++ x ∷ m → ⊥
     not_full (inl e) x m p = grind (arith, r.within, length-append)

@@ -84,8 +84,7 @@ module _ (before mid : Option (List ℕ)) (k : Keeps before mid) {V : Type 0} wh
       -- nothing, if the source failed at its first byte
       pub tidies_nothing : ReadsNothing format longest → (old : W) → TidiesAs (IsRead format longest IsValue) (ReadsValue format longest May Keep IsValue) text contents faults before old (Err (Text File first_fault)) mid old
       tidies_nothing reads old =
-          let t = took_nothing before mid k in
-          (in_text ([], t.0, t.1, Reading [] (reads t.0) tt), refl)
+          let t = took_nothing before mid k in (in_text ([], t.0, t.1, Reading [] (reads t.0) tt), refl)
 
 -- ---- which format it is
 
@@ -164,8 +163,7 @@ both_then move join before since mid given rest now h k = (join before mid rest 
 -- the used bytes are the given ones, if all that was left after them was seen
 pub given_used : (given left used seen : List ℕ) → Took (Some (given ++ left)) used seen (Some left) → given ≡ used
 given_used given left used seen t =
-    let rest : left ≡ seen = let e = t.1 in cc in
-    append_cancel_right given used left (t.0 ∙ ap (λ (x : List ℕ). used ++ x) (sym rest))
+    let rest : left ≡ seen = let e = t.1 in cc in append_cancel_right given used left (t.0 ∙ ap (λ (x : List ℕ). used ++ x) (sym rest))
 
 -- the same used bytes, with another rest
 pub used_of : (Holds : List ℕ → Type 0) (given left more : List ℕ) → (used : List ℕ) × (seen : List ℕ) × Took (Some (given ++ left)) used seen (Some left) × Holds used
@@ -176,8 +174,7 @@ used_of Holds given left more (used, seen, took, h) = (given, more, (refl, refl)
 pub file_then_blank : {V : Type 0} (IsReadOf : List ℕ → Spanned V → Type 0) (read : Spanned V) (before mid after : Option (List ℕ)) (used seen : List ℕ) → Took before used seen mid → IsReadOf used read → read.past ≡ place_after used
     → ReadsBlank read.past mid (Ok tt) after → IsFile IsReadOf before after read.event
 file_then_blank IsReadOf read before mid after used seen took is past (rest, more, blank, bound) =
-    let all = took_join before mid after used rest seen [] took more in
-    let within = rest_within used rest read.past past bound in
+    let all = took_join before mid after used rest seen [] took more in let within = rest_within used rest read.past past bound in
     search rules
 
 -- the same for what the calls have given

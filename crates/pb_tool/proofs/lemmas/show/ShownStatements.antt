@@ -33,8 +33,7 @@ took_none (Some bytes) = (bytes, (refl, refl))
 
 pub first_pull : {M E : Type 0} {g : Ghosts M E} (longest : ℕ) (start : M) (before : Option (List ℕ)) (f : Feeder M E g) → StandsAt longest start [] [] f → halt_of f ≡ None → (place_of f).offset ≡ 0 → HasPulled longest start before [] f before
 first_pull longest start before f stands running offset =
-    let t = took_none before in
-    record { used = []; seen = t.0; took = t.1; offset_is = offset; stands = stands; running = running }
+    let t = took_none before in record { used = []; seen = t.0; took = t.1; offset_is = offset; stands = stands; running = running }
 
 module _ {E : Type 0} (format : List (Item E) → Type 0) (longest : ℕ) where
   -- what was taken is no longer than an input may be
@@ -46,10 +45,8 @@ module _ {E : Type 0} (format : List (Item E) → Type 0) (longest : ℕ) where
   -- a text of the format, and then a blank rest
   pub spelling : (before mid after : Option (List ℕ)) (spans : List (Spanned E)) (place : Place) → TookAll format longest before mid spans place true None → ReadsBlank place mid (Ok tt) after → IsSpelling format longest before after spans
   spelling before mid after spans place t (rest, more, blank, bound) =
-      let took = took_join before mid after t.used rest t.seen [] t.took more in
-      let spelled = t.reads.answer.0 in
-      let within = rest_within t.used rest place t.reads.place_is bound in
-      search rules
+      let took = took_join before mid after t.used rest t.seen [] t.took more in let spelled = t.reads.answer.0 in
+      let within = rest_within t.used rest place t.reads.place_is bound in search rules
 
   -- a text of the format, and then a rest that is not blank
   pub stray : (May : List ℕ → ℕ → Type 0) (before mid after : Option (List ℕ)) (spans : List (Spanned E)) (place : Place) (s : Stop) → TookAll format longest before mid spans place true None → ReadsBlank place mid (Err s) after → IsRefusedAfter format longest May before after spans s

@@ -54,8 +54,7 @@ lines_end (f ∷ first) e rest h = one_prefix f first e rest (lines_end first e 
 after_ends : (n : ℕ) (comments : List comment.Comment) (e : OpbEvent) (events : List OpbEvent) → EndsWith 59 (event_bytes e) → AllEnd events → EndsWith 59 (lines (e ∷ in_order n comments events))
 after_ends n comments e [] h k = h
 after_ends n comments e (f ∷ events) h k =
-    let later = in_order (n + 1) (drop (due n comments) comments) events in
-    let prefix = comment_events (take (due n comments) comments) in
+    let later = in_order (n + 1) (drop (due n comments) comments) events in let prefix = comment_events (take (due n comments) comments) in
     let following : EndsWith 59 (lines (f ∷ later)) = after_ends (n + 1) (drop (due n comments) comments) f events k.0 k.1 in
     one_prefix e prefix f later (lines_end prefix f later following)
 
@@ -141,8 +140,7 @@ module _ (limit : ℕ) where
         mains = r.mains;
       }
   follows-entry may n text (Objective t) rest ih h =
-      let r : Follows false (suc n) (events_of rest) = ih false (suc n) h.2 in
-      let only = r.only_constraints refl in
+      let r : Follows false (suc n) (events_of rest) = ih false (suc n) h.2 in let only = r.only_constraints refl in
       let first : OpbEvent = Objective t in
       record {
         some = λ i. ((r.some i).0, (first, mains_in (events_of rest), refl));
@@ -151,8 +149,7 @@ module _ (limit : ℕ) where
         mains = rw (only.0, only.1) refl;
       }
   follows-entry may n text (Constraint l) rest ih h =
-      let r : Follows false n (events_of rest) = ih false n h.1 in
-      let only = r.only_constraints refl in
+      let r : Follows false n (events_of rest) = ih false n h.1 in let only = r.only_constraints refl in
       let first : OpbEvent = Constraint l in
       let all : mains_in (first ∷ events_of rest) ≡ constraint_events (constraints_in (first ∷ events_of rest)) = ap (λ (xs : List OpbEvent). first ∷ xs) only.1 in
       record {
@@ -207,8 +204,7 @@ module _ (limit top : ℕ) where
   text_added n zero tail [] h = sym (tidied_bare (value_of n tail []) refl)
   text_added n (suc m) tail (i ∷ rest) h =
       let events : List OpbEvent = i.event ∷ events_of rest in
-      let r : Follows true (suc m) events = follows limit true (suc m) (i ∷ rest) h in
-      let v : Instance = value_of n tail events in
+      let r : Follows true (suc m) events = follows limit true (suc m) (i ∷ rest) h in let v : Instance = value_of n tail events in
       let body : body_events v ≡ events = ap (in_order 0 (comments_in 0 events)) (sym r.mains) ∙ r.in_place 0 in
       let (l, ls, some) = (r.some (omega arith)).0 in
       let full : is_bare v.objective v.constraints ≡ false = ap (is_bare v.objective) some ∙ bare_not v.objective l ls in
@@ -246,8 +242,7 @@ module _ {E T V : Type 0} (accepted format : List (Item E) → Type 0) (same : (
     pub refused_as : (before after : Option (List ℕ)) (s : Stop) → IsRefused (ReadsWhole accepted longest with empty may_ask keeps) before after s → IsRefused (ReadsValue format longest MayAsk MayKeep IsValue) before after s
     refused_as before after s (InText (used, seen, took, w)) = InText (used, seen, took, stops_in accepted format only each longest may_ask MayAsk to (MayHold with empty keeps) MayKeep may_keep used seen s w)
     refused_as before after s (InRest m mid (used, seen, took, w) blank) =
-        let (v, is, has) = read_as used m w in
-        InRest (valued v m) mid (used, seen, took, is) blank
+        let (v, is, has) = read_as used m w in InRest (valued v m) mid (used, seen, took, is) blank
 
 -- if they are gathered as text, and the text is what is written for the value
 module _ {E T V : Type 0} (accepted format : List (Item E) → Type 0) (same : (items : List (Item E)) → accepted items ↔ format items) (longest : ℕ) (with : T → E → T) (empty : T) (text_of : T → List ℕ)

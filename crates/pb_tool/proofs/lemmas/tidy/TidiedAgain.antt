@@ -66,15 +66,12 @@ module _ {E : Type 0} (format : List (Item E) → Type 0) (text : List ℕ) (own
 
   not_ended : (used rest : List ℕ) (spans : List (Spanned E)) → IsUnderWay format (2 ^ 40) used spans → used ++ [] ≡ text ++ rest → ⊥
   not_ended used rest spans u k =
-      let (x, m, p) = shorter used [] rest spans u k in
-      let next = after_prefix used [] text rest k (x ∷ m) p in
-      cc
+      let (x, m, p) = shorter used [] rest spans u k in let next = after_prefix used [] text rest k (x ∷ m) p in cc
 
   full : (used left rest : List ℕ) (spans : List (Spanned E)) → IsUnderWay format (2 ^ 40) used spans → IsFull format (2 ^ 40) used → used ++ left ≡ text ++ rest → byte_limit ≤ length used
   full used left rest spans u (inl e) k = omega (arith, e)
   full used left rest spans u (inr over) k =
-      let (x, m, p) = shorter used left rest spans u k in
-      overrun (2 ^ 40) (length used) (spans_of own) (over own spells (x ∷ m, bytes ∙ p))
+      let (x, m, p) = shorter used left rest spans u k in overrun (2 ^ 40) (length used) (spans_of own) (over own spells (x ∷ m, bytes ∙ p))
 
   explained : (used left rest : List ℕ) (spans : List (Spanned E)) (why : Why) → IsUnderWay format (2 ^ 40) used spans → Explains format (2 ^ 40) used left why → used ++ left ≡ text ++ rest
       → IsOutside (length (used ++ left)) why
@@ -95,8 +92,7 @@ module _ {E : Type 0} (format : List (Item E) → Type 0) (text : List ℕ) (own
   in_rest : (used seen rest : List ℕ) (items : List (Item E)) (past : Place) (mid after : Option (List ℕ)) (s : Stop) → format items → bytes_of items ≡ used → past ≡ place_after used
       → used ++ seen ≡ text ++ rest → IsFeed rest → mid ≡ Some seen → ReadsBlank past mid (Err s) after → IsOutside (length (used ++ seen)) s.why
   in_rest used seen rest items past mid after s h e at k feed is (more, left, took, blank, place, stray) =
-      let same : used ≡ text = same_used used seen rest items h e k in
-      let following : seen ≡ rest = same_rest used seen text rest k same in
+      let same : used ≡ text = same_used used seen rest items h e k in let following : seen ≡ rest = same_rest used seen text rest k same in
       let now : Took (Some seen) more left after = subst (λ (z : Option (List ℕ)). Took z more left after) is took in
       let offset : past.offset ≡ length used = ap (λ (p : Place). p.offset) at ∙ place_after-offset used in
       subst (λ (t : List ℕ). IsOutside (length (used ++ t)) s.why) (sym now.0) (strays used more left rest past s.why feed (sym following ∙ now.0) offset stray)

@@ -11,15 +11,13 @@ shifted k h = let one : 1 * 2 ^ k ≡ 2 ^ k = omega arith in ap (λ (n : ℕ). n
 
 with_few_bits : (k top : ℕ) → 31 ≤ k → k ≤ 62 → top ≡ 1 * 2 ^ k % 2 ^ 64 - 1 → AreLimits k top
 with_few_bits k top least most is =
-    let lower : 2 ^ 31 ≤ 2 ^ k = pow_mono least in
-    let upper : 2 ^ k ≤ 2 ^ 62 = pow_mono most in
+    let lower : 2 ^ 31 ≤ 2 ^ k = pow_mono least in let upper : 2 ^ k ≤ 2 ^ 62 = pow_mono most in
     let greatest : top ≡ 2 ^ k - 1 = is ∙ ap (λ (n : ℕ). n - 1) (shifted k most) in
     (least, omega arith, omega (arith, greatest, lower), omega (arith, greatest, upper), omega (arith, greatest, lower))
 
 with_many_bits : (k top : ℕ) → 63 ≤ k → k ≤ 127 → top ≡ 2 ^ 63 - 1 → AreLimits k top
 with_many_bits k top least most is =
-    let upper : 2 ^ 63 ≤ 2 ^ k = pow_mono least in
-    (omega arith, most, omega (arith, is), omega (arith, is), omega (arith, is, upper))
+    let upper : 2 ^ 63 ≤ 2 ^ k = pow_mono least in (omega arith, most, omega (arith, is), omega (arith, is), omega (arith, is, upper))
 
 are_limits : (c : goal.In-None) → AreLimits c.args.bits c.if-bits-lt63.top
 are_limits c = grind (arith, c.if-bits-lt63.branch, with_few_bits, c.requires.least, with_many_bits, c.requires.most)

@@ -1,12 +1,11 @@
 use Rattle.pb_tool.proofs.Common.{[], append-nil, Err, Ok, refl, rules, sym, first_state, Write}
-use Rattle.pb_tool.proofs.lemmas.check.Headline.{all_answered, all_replayed}
-use Rattle.pb_tool.proofs.lemmas.check.TwoSources.{all_broke, all_written, instance_read, no_replay, opening_unseen, proof_refused, replay_unseen}
+use Rattle.pb_tool.proofs.lemmas.check.TwoSources.{all_answered, all_replayed, all_broke, all_written, instance_read, no_replay, opening_unseen, proof_refused}
+use Rattle.pb_tool.proofs.lemmas.check.TwoSources.{replay_unseen}
 use Rattle.pb_tool.proofs.commands.check.check_watched.Goals as goal
 
 pub returns-in-Err : goal.returns-in-Err
 returns-in-Err g c =
-    let r = c.in-Err.ensures in
-    let (one, left, e, h) = r.given in
+    let r = c.in-Err.ensures in let (one, left, e, h) = r.given in
     let all =
     all_answered c.verified_is_true.ensures g.I.Source g.P.Source g.W.Sink g.V.Watch.got c.args.limits _ _ c.unwrap_or-longest.ensures c.args.instance.now
     c.args.proof.now c.args.out.now c.args.watch.now c.replay_of_instance.new.input c.args.proof.now c.args.out.now c.args.watch.now (Err c.in-Err.fault)
@@ -20,8 +19,7 @@ returns-in-Err g c =
 
 pub returns-in-Err-check_proof : goal.returns-in-Err-check_proof
 returns-in-Err-check_proof g c =
-    let r = c.in-Ok.ensures in
-    let comes = c.in-Err-check_proof.ensures.comes in
+    let r = c.in-Ok.ensures in let comes = c.in-Err-check_proof.ensures.comes in
     let refused = (comes (first_state c.in-Ok.replay.problem) r.opened.first).0.replayed in
     let all =
     all_replayed c.verified_is_true.ensures g.I.Source g.P.Source g.W.Sink g.V.Watch.got c.args.limits _ _ c.unwrap_or-longest.ensures c.args.instance.now

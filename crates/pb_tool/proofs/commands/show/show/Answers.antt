@@ -12,8 +12,7 @@ returns-in-Ok-Instance-clause-shows g c =
 
 pub returns-in-Err-clause-shows : goal.returns-in-Err-clause-shows
 returns-in-Err-clause-shows g c =
-    let t = rw c.in-Err.is at c.format_of.ensures in
-    let u = c.unread_file.ensures in
+    let t = rw c.in-Err.is at c.format_of.ensures in let u = c.unread_file.ensures in
     shows_unread c.args.limits _ _ c.unwrap_or-longest.ensures g.W.Sink.contents g.W.Sink.faults _ _ t.left c.args.out.now (some_of c.args.longest _ c.unwrap_or-longest.ensures c.requires) u.instance u.proof _ u.fault
 
 pub returns-in-Ok-Proof-clause-given : goal.returns-in-Ok-Proof-clause-given
@@ -26,6 +25,5 @@ returns-in-Ok-Instance-clause-given g c =
 
 pub returns-in-Err-clause-given : goal.returns-in-Err-clause-given
 returns-in-Err-clause-given g c =
-    let t = rw c.in-Err.is at c.format_of.ensures in
-    let u = c.unread_file.ensures in
+    let t = rw c.in-Err.is at c.format_of.ensures in let u = c.unread_file.ensures in
     given_unshown c.args.limits _ _ c.unwrap_or-longest.ensures g.W.Sink.contents g.W.Sink.faults _ _ t.history c.args.out.now (some_of c.args.longest _ c.unwrap_or-longest.ensures c.requires) u.proof _ u.fault

@@ -6,8 +6,7 @@ returns-in-Err-clause-tidies g c = rw c.text_fault.ensures (c.in-Err.ensures.ref
 
 pub returns-in-Err-clause-given : goal.returns-in-Err-clause-given
 returns-in-Err-clause-given g c =
-    let (given, seen, e, refused) = c.in-Err.ensures.refused_given in
-    rw c.text_fault.ensures (given, seen, e, (refused, refl))
+    let (given, seen, e, refused) = c.in-Err.ensures.refused_given in rw c.text_fault.ensures (given, seen, e, (refused, refl))
 
 pub returns-in-Ok-write_text-clause-tidies : goal.returns-in-Ok-write_text-clause-tidies
 returns-in-Ok-write_text-clause-tidies g c = (c.in-Ok.text, c.in-Ok.ensures.file, c.in-Ok-write_text.ensures)

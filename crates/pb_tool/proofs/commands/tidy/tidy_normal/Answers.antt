@@ -1,5 +1,4 @@
-use Rattle.pb_tool.proofs.Common.{◌++◌, ◌∙◌, refl, Some, opb, AcceptsItems, MayAsk}
-use Rattle.pb_tool.proofs.lemmas.file.GivenBytes.{given_by}
+use Rattle.pb_tool.proofs.{Common.◌++◌, Common.◌∙◌, Common.refl, Common.Some, Common.opb, Common.AcceptsItems, Common.MayAsk, lemmas.file.GivenBytes.given_by}
 use Rattle.pb_tool.proofs.lemmas.tidy.NormalFile.{reported_faults, reported_file, reported_on, unnoted}
 use Rattle.pb_tool.proofs.commands.tidy.tidy_normal.Goals as goal
 

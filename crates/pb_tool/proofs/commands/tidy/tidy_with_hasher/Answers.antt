@@ -13,8 +13,7 @@ returns-in-Ok-Instance-clause-tidies g c =
 
 pub returns-in-Err-clause-tidies : goal.returns-in-Err-clause-tidies
 returns-in-Err-clause-tidies g c =
-    let t = rw c.in-Err.is at c.format_of.ensures in
-    let u = c.unread_file.ensures in
+    let t = rw c.in-Err.is at c.format_of.ensures in let u = c.unread_file.ensures in
     rw c.if-normal.false (tidies_unread c.args.limits _ _ c.unwrap_or-longest.ensures g.W.Sink.contents g.W.Sink.faults _ _ t.left c.args.out.now (some_of c.args.longest _ c.unwrap_or-longest.ensures c.requires) u.instance u.proof _ u.fault)
 
 pub returns-then-normal-clause-tidies : goal.returns-then-normal-clause-tidies
@@ -32,8 +31,7 @@ returns-in-Ok-Instance-clause-given g c =
 
 pub returns-in-Err-clause-given : goal.returns-in-Err-clause-given
 returns-in-Err-clause-given g c =
-    let t = rw c.in-Err.is at c.format_of.ensures in
-    let u = c.unread_file.ensures in
+    let t = rw c.in-Err.is at c.format_of.ensures in let u = c.unread_file.ensures in
     rw c.if-normal.false (given_unread c.args.limits _ _ c.unwrap_or-longest.ensures g.W.Sink.contents g.W.Sink.faults _ _ t.history c.args.out.now (some_of c.args.longest _ c.unwrap_or-longest.ensures c.requires) u.proof _ u.fault)
 
 pub returns-then-normal-clause-given : goal.returns-then-normal-clause-given

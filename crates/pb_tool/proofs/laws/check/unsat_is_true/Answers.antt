@@ -1,4 +1,4 @@
-use Rattle.pb_tool.proofs.lemmas.check.Headline as headline
+use Rattle.pb_tool.proofs.lemmas.check.TwoSources as headline
 use Rattle.pb_tool.proofs.laws.check.unsat_is_true.Goals as goal
 
 pub returns : goal.returns

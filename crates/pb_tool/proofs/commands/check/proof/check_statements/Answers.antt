@@ -6,8 +6,7 @@ loop-verdict-init g c = grind (arith, c.requires.running, run_begins, g.V.Watch.
 
 pub loop-verdict-preserved : goal.loop-verdict-preserved
 loop-verdict-preserved g c =
-    let i = c.loop-verdict.invariant in
-    let t = rw (c.in-Ok-None.is, c.in-Ok-None.field-0-is) at c.pull.ensures in
+    let i = c.loop-verdict.invariant in let t = rw (c.in-Ok-None.is, c.in-Ok-None.field-0-is) at c.pull.ensures in
     record {
       running = t.fault;
       faults = t.faults ∙ i.faults;

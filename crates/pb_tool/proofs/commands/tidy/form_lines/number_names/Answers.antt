@@ -1,4 +1,4 @@
-use Rattle.pb_tool.proofs.{Common.arith, lemmas.tidy.StoredForms.named_at}
+use Rattle.pb_tool.proofs.{Common.arith, lemmas.tidy.NormalFile.named_at}
 use Rattle.pb_tool.proofs.commands.tidy.form_lines.number_names.Goals as goal
 
 pub loop-term-preserved : goal.loop-term-preserved

@@ -9,9 +9,7 @@ abbrev faults : Page → ℕ
 faults p = p.failures
 
 pub returns-in_err-write_line_if : goal.returns-in_err-write_line_if
-returns-in_err-write_line_if c =
-    part_broke contents faults _ _ _ _ _ _ refl c.from_residual.ensures.0 c.in_err-write_line_if.ensures
+returns-in_err-write_line_if c = part_broke contents faults _ _ _ _ _ _ refl c.from_residual.ensures.0 c.in_err-write_line_if.ensures
 
 pub returns : goal.returns
-returns c =
-    part_then contents faults _ _ _ _ _ _ _ refl c.in_ok-write_line_if.ensures c.write_line.ensures
+returns c = part_then contents faults _ _ _ _ _ _ _ refl c.in_ok-write_line_if.ensures c.write_line.ensures

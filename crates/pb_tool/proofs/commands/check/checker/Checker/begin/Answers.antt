@@ -1,5 +1,4 @@
-use Rattle.pb_tool.proofs.Common.{[], refl, arith}
-use Rattle.pb_tool.proofs.lemmas.check.CheckerSteps.{leads_none, somewhere}
+use Rattle.pb_tool.proofs.{Common.[], Common.refl, Common.arith, lemmas.check.CheckerSteps.leads_none, lemmas.check.CheckerSteps.somewhere}
 use Rattle.pb_tool.proofs.commands.check.checker.Checker.begin.Goals as goal
 
 pub invariant_of-result : goal.invariant_of-result

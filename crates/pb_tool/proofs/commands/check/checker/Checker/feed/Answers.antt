@@ -8,8 +8,7 @@ returns-in-Some-clause-checks c = checked.stays c.args.self.now c.args.piece.now
 
 pub returns-then-not-went-clause-checks : goal.returns-then-not-went-clause-checks
 returns-then-not-went-clause-checks c =
-    let t = rw c.in-Ok.is at c.advance.ensures in
-    let piece = c.args.piece.now in
+    let t = rw c.in-Ok.is at c.advance.ensures in let piece = c.args.piece.now in
     let i = c.loop-went.used in (
       λ limits longest v first input owed h.
           subst (λ (x : List ℕ). ChecksAt limits longest v first x c.advance.new.self)
@@ -20,19 +19,15 @@ returns-then-not-went-clause-checks c =
 
 pub returns-then-not-went-clause-names : goal.returns-then-not-went-clause-names
 returns-then-not-went-clause-names c =
-    let t = rw c.in-Ok.is at c.advance.ensures in
-    checked.prefix_on _ _ _ c.loop-went.invariant.names t.names
+    let t = rw c.in-Ok.is at c.advance.ensures in checked.prefix_on _ _ _ c.loop-went.invariant.names t.names
 
 pub returns-in-Err-clause-names : goal.returns-in-Err-clause-names
 returns-in-Err-clause-names c =
-    let t = rw c.in-Err.is at c.advance.ensures in
-    checked.prefix_on _ _ _ c.loop-went.invariant.names t.names
+    let t = rw c.in-Err.is at c.advance.ensures in checked.prefix_on _ _ _ c.loop-went.invariant.names t.names
 
 pub loop-went-preserved : goal.loop-went-preserved
 loop-went-preserved c =
-    let t = rw c.in-Ok.is at c.advance.ensures in
-    let piece = c.args.piece.now in
-    let i = c.loop-went.used in
+    let t = rw c.in-Ok.is at c.advance.ensures in let piece = c.args.piece.now in let i = c.loop-went.used in
     record {
       running = t.fault;
       bound = omega (arith, t.used.1, length-drop i piece, ap (λ (x : List ℕ). length x) (all_rest piece i), c.loop-went.invariant.bound);

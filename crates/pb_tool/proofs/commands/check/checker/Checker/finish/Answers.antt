@@ -11,16 +11,10 @@ unreachable-requires c =
 
 pub invariant_of-self : goal.invariant_of-self
 invariant_of-self c =
-    let (limits, longest, v, first, input, asks, h) = c.self.invariant in (
-      limits,
-      longest,
-      v,
-      first,
-      input,
-      asks,
-      rw c.place.ensures.place (checked.cut_after c.texts_are_read.ensures limits longest v first input c.self.inside.feeder c.self.inside.replay c.self.inside.fault c.in_default.is h _ refl
-          (sym c.is_done.ensures.done ∙ c.if-is_done.false)).0,
-    )
+    let (limits, longest, v, first, input, asks, h) = c.self.invariant in
+    let cut = checked.cut_after c.texts_are_read.ensures limits longest v first input c.self.inside.feeder c.self.inside.replay c.self.inside.fault
+    c.in_default.is h _ refl (sym c.is_done.ensures.done ∙ c.if-is_done.false) in
+    (limits, longest, v, first, input, asks, rw c.place.ensures.place cut.0)
 
 pub returns-in-Some-verdict-clause-counts : goal.returns-in-Some-verdict-clause-counts
 returns-in-Some-verdict-clause-counts c limits longest v first input n none given =
@@ -31,8 +25,7 @@ returns-in-Some-verdict-clause-counts c limits longest v first input n none give
 
 pub returns-in-Some-verdict-clause-ends : goal.returns-in-Some-verdict-clause-ends
 returns-in-Some-verdict-clause-ends c limits longest v first input none given =
-    let (t, all, shown, many) = returns-in-Some-verdict-clause-counts c limits longest v first input _ none (given, refl) in
-    (t, all, shown)
+    let (t, all, shown, many) = returns-in-Some-verdict-clause-counts c limits longest v first input _ none (given, refl) in (t, all, shown)
 
 pub returns-else-is_done-clause-counts : goal.returns-else-is_done-clause-counts
 returns-else-is_done-clause-counts c limits longest v first input n none given =

@@ -1,4 +1,4 @@
-use Rattle.pb_tool.proofs.lemmas.check.Held.{none_at, open_at}
+use Rattle.pb_tool.proofs.lemmas.check.CheckerSteps.{none_at, open_at}
 use Rattle.pb_tool.proofs.commands.check.checker.Checker.held.Goals as goal
 
 pub returns-clause-few : goal.returns-clause-few

@@ -1,5 +1,4 @@
-use Rattle.pb_tool.proofs.Common.{◌∙◌, ap, sym, Checking, fault_of, arith}
-use Rattle.pb_tool.proofs.lemmas.check.CheckerSteps.{stays_counted}
+use Rattle.pb_tool.proofs.{Common.◌∙◌, Common.ap, Common.sym, Common.Checking, Common.fault_of, Common.arith, lemmas.check.CheckerSteps.stays_counted}
 use Rattle.pb_tool.proofs.commands.check.checker.Checker.step.Goals as goal
 
 pub returns-in-Some-clause-counts : goal.returns-in-Some-clause-counts

@@ -1,4 +1,4 @@
-use Rattle.pb_tool.proofs.{Common.arith, lemmas.tidy.StoredForms.lines_named}
+use Rattle.pb_tool.proofs.{Common.arith, lemmas.tidy.NormalFile.lines_named}
 use Rattle.pb_tool.proofs.commands.tidy.normal_text.Forms.number.Goals as goal
 
 pub returns-in-Ok-clause-made : goal.returns-in-Ok-clause-made

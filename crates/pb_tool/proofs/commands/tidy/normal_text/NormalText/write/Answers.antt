@@ -1,5 +1,4 @@
-use Rattle.pb_tool.proofs.Common.{ℕ, List, subst, Broke, Wrote}
-use Rattle.pb_tool.proofs.lemmas.tidy.NormalFile.{kept_form}
+use Rattle.pb_tool.proofs.{Common.ℕ, Common.List, Common.subst, Common.Broke, Common.Wrote, lemmas.tidy.NormalFile.kept_form}
 use Rattle.pb_tool.proofs.commands.tidy.normal_text.NormalText.write.Goals as goal
 
 pub returns-in-Ok : goal.returns-in-Ok

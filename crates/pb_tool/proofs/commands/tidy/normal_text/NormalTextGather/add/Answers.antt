@@ -1,5 +1,5 @@
 use Rattle.pb_tool.proofs.Common.{constraints_in, names_on}
-use Rattle.pb_tool.proofs.lemmas.tidy.StoredForms.{noted_comment, noted_constraint, noted_header, noted_objective}
+use Rattle.pb_tool.proofs.lemmas.tidy.NormalFile.{noted_comment, noted_constraint, noted_header, noted_objective}
 use Rattle.pb_tool.proofs.commands.tidy.normal_text.NormalTextGather.add.Goals as goal
 
 pub invariant_of-self : goal.invariant_of-self

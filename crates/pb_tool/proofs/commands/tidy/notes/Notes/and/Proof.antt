@@ -1,31 +1,21 @@
 -- `and` makes the empty struct, with the statements that its clause names.
-use Rattle.pb_tool.proofs.Common.{◌++◌, ◌∷◌, [], List, refl, Notes}
 use base.Logic.{SProp, ent}
-use contract.Monad.{Fun}
-use contract.Running.{tables, tables_of}
-use denote.Builtin.{RefOf}
-use denote.Exit.{yes}
-use denote.RattleType.{owns}
-use denote.Shadow.{pure_i}
-use denote.Signature.{plain, types_at}
-use denote.Steps.{nothing}
+use contract.{Monad.Fun, Running.tables, Running.tables_of}
+use denote.{Builtin.RefOf, Exit.yes, RattleType.owns, Shadow.pure_i, Signature.plain, Signature.types_at, Steps.nothing}
 use denote.Triple.{Clauses.Clauses, Clauses.closing, Entry.alive, Spec.Meets, Spec.triple_of, Table.entered}
 use denote.Triple.Walked.{says, Stays, stay_dropped, walk_of, ends_at, walk_Meets, Goes-dropped}
 use mir.Val.{Val, vptr, vstruct, vcons, vnil}
-use prog.Memory.{Memory}
-use prog.Routine.{Routine}
-use prog.Wp.{Calls, Loops, WpFn, Tables}
+use prog.{Memory.Memory, Routine.Routine, Wp.Calls, Wp.Loops, Wp.WpFn, Wp.Tables}
 use seplogic.Ra.Ura.{Ura}
 use sound.WpLaws.{WpFn-mono}
 use types.ByLocal.{alloc_all, pass_all, free_all, look_at, get, sets}
 use types.Kit.{‵, raw, ◌⊛◌, prop, ◌$◌, ◌∵◌, !, qed, move, keep, drop, split, fsplit, fjoin, feq_l, regoal, suffices, done}
-use types.Logic.{Logic}
-use types.Part.{agg}
-use types.Run.{enter, returns, and_then, no_more}
+use types.{Logic.Logic, Part.agg, Run.enter, Run.returns, Run.and_then, Run.no_more}
+use Rattle.pb_tool.proofs.Common.{◌++◌, ◌∷◌, [], List, refl, Notes}
+use Rattle.pb_tool.specs.contracts.commands.tidy.notes.Notes.and.Key.{name as #self}
 use Rattle.pb_opb.specs.contracts.event.OpbEvent as E
 use Rattle.pb_tool.specs.contracts.commands.tidy.notes.Notes as T
 use Rattle.pb_tool.specs.contracts.commands.tidy.notes.Notes.and as F
-use Rattle.pb_tool.specs.contracts.commands.tidy.notes.Notes.and.Key.{name as #self}
 use Rattle.pb_tool.proofs.commands.tidy.notes.Notes.and.Statement as stated
 use Rattle.pb_tool.proofs.commands.tidy.notes.Notes.and.Code as code
 
@@ -50,14 +40,11 @@ module _ {M : Type 1} {𝓤 : Ura M} (𝓛 : Logic 𝓤) (at_mem : Memory → SP
 
     walks : ent 𝓤 ((walk_of 𝓛 F.ended stayed held).pre z) (WpFn 𝓤 H C Λ code.function ((walk_of 𝓛 F.ended stayed held).args z) Post)
     walks =
-        let a = z.0.3 in
-        let vss = z.0.4 in
-        let made : Notes = record { marker = record {}; events = a.0.now.events ++ a.1.0.now ∷ [] } in
+        let a = z.0.3 in let vss = z.0.4 in let made : Notes = record { marker = record {}; events = a.0.now.events ++ a.1.0.now ∷ [] } in
         qed 𝓛 ((raw toks ⊛ ‵ (owns (types_at F.ended.signature.params z.0.0) a vss)) ∷ raw ((held z.0.0 a).requires z.1) ∷ []) ∵
         keep ! (0 ∷ []) $ split ! $ move ! (1 ∷ []) $
         fsplit ! $ fsplit ! $ feq_l ! (λ is₀. drop ! $ fsplit ! $ fsplit ! $ feq_l ! (λ is₁. drop ! $ drop ! $
-        let p = vptr a.0.ref_ptr.0 a.0.ref_ptr.1 in
-        let q = vptr a.1.0.ref_ptr.0 a.1.0.ref_ptr.1 in
+        let p = vptr a.0.ref_ptr.0 a.0.ref_ptr.1 in let q = vptr a.1.0.ref_ptr.0 a.1.0.ref_ptr.1 in
         regoal ! (λ (us : List Val). prop (WpFn 𝓤 H C Λ code.function (us ++ (vss.1.0 ++ [])) Post)) is₀ refl $
         regoal ! (λ (us : List Val). prop (WpFn 𝓤 H C Λ code.function ((p ∷ []) ++ (us ++ [])) Post)) is₁ refl $
         enter ! C Λ code.function (p ∷ q ∷ []) Post $ alloc_all ! (λ l. pass_all ! refl ((tt, tt), ((tt, tt), tt)) $

@@ -1,26 +1,17 @@
 -- `new` makes a value of no statements, at the empty list.
-use Rattle.pb_tool.proofs.Common.{Notes}
 use base.Logic.{SProp}
-use contract.Monad.{Fun}
-use contract.Running.{tables, tables_of}
-use denote.Shadow.{pure_i}
-use denote.Steps.{nothing}
-use denote.Triple.{Entry.on_entry, Spec.Meets, Spec.triple_of, Table.entered}
-use denote.Triple.Walked.{says, ends_at, walked, walk_Meets}
+use contract.{Monad.Fun, Running.tables, Running.tables_of}
+use denote.{Shadow.pure_i, Steps.nothing}
+use denote.Triple.{Entry.on_entry, Spec.Meets, Spec.triple_of, Table.entered, Walked.says, Walked.ends_at, Walked.walked, Walked.walk_Meets}
 use mathlib.Core.{List.[], List.◌∷◌, Path.refl}
 use mir.Val.{Val, vstruct, vcons, vnil}
-use prog.Memory.{Memory}
-use prog.Routine.{Routine}
-use prog.Wp.{WpFn, Tables}
+use prog.{Memory.Memory, Routine.Routine, Wp.WpFn, Wp.Tables}
 use seplogic.Ra.Ura.{Ura}
 use sound.WpLaws.{WpFn-mono}
-use types.ByLocal.{alloc_all, pass_all, free_all, look_at, get, sets}
-use types.Kit.{raw, ◌$◌, ◌∵◌, !, qed, keep, join, suffices, done}
-use types.Logic.{Logic}
-use types.Part.{agg}
-use types.Run.{no_more, and_then, returns, enter}
+use types.{ByLocal.alloc_all, ByLocal.pass_all, ByLocal.free_all, ByLocal.look_at, ByLocal.get, ByLocal.sets, Kit.raw, Kit.◌$◌, Kit.◌∵◌, Kit.!, Kit.qed}
+use types.{Kit.keep, Kit.join, Kit.suffices, Kit.done, Logic.Logic, Part.agg, Run.no_more, Run.and_then, Run.returns, Run.enter}
+use Rattle.pb_tool.{proofs.Common.Notes, specs.contracts.commands.tidy.notes.Notes.new.Key.name as #it}
 use Rattle.pb_tool.specs.contracts.commands.tidy.notes.Notes as T
-use Rattle.pb_tool.specs.contracts.commands.tidy.notes.Notes.new.Key.{name as #it}
 use Rattle.pb_tool.specs.contracts.commands.tidy.notes.Notes.new as it
 use Rattle.pb_tool.proofs.commands.tidy.notes.Notes.new.Statement as stated
 use Rattle.pb_tool.proofs.commands.tidy.notes.Notes.new.Code as code

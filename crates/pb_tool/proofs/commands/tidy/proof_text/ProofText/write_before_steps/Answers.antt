@@ -6,5 +6,4 @@ returns-in_err-write_line g c =
     part_broke g.W.Sink.contents g.W.Sink.faults _ _ _ _ _ _ refl c.from_residual.ensures.0 c.in_err-write_line.ensures
 
 pub returns : goal.returns
-returns g c =
-    part_then g.W.Sink.contents g.W.Sink.faults _ _ _ _ _ _ _ refl c.in_ok-write_line.ensures c.write_line-2.ensures
+returns g c = part_then g.W.Sink.contents g.W.Sink.faults _ _ _ _ _ _ _ refl c.in_ok-write_line.ensures c.write_line-2.ensures
