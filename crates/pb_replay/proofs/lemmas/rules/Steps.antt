@@ -15,7 +15,7 @@ use Rattle.pb_replay.proofs.Common.{Logs, Demands, HasObjective, objective_with,
 use Rattle.pb_replay.proofs.lemmas.meaning.{Accepting.ok-same, Assigned.length-prefix, Relating.unvalued-old, Ruled.deletes-to}
 use Rattle.pb_replay.proofs.lemmas.meaning.Soundness.{problems-proper, loaded-inside, meanings-agree, Deletes-live, first-sound, statements-sound}
 use Rattle.pb_replay.proofs.lemmas.rules.{Live.inside-more, Words.tree-inside}
-use Rattle.pb_replay.specs.contract.{Faults.fault_of, Visits.RupVisits, Visits.IsFew, Visits.CoversConflict, Visits.CoversCompletion}
+use Rattle.pb_replay.specs.contract.{Faults.fault_of, ReplayModel.Preserves, Visits.RupVisits, Visits.IsFew, Visits.CoversConflict, Visits.CoversCompletion}
 
 -- states are equal if their fields are
 pub same-state : {l m : List (Option Form)} {ns ms : List (List ℕ)} {logged : List Logged} {x y : Stage} {c d : Option Verdict} → l ≡ m → ns ≡ ms → x ≡ y → c ≡ d
@@ -137,6 +137,9 @@ keeps_then a b c h k = record {
   objective = k.objective ∙ h.objective;
   names = prefix_then a.names b.names c.names h.names k.names;
 }
+
+pub preserves_then : {A B : Type 0} (a b c : Running) (r : Result A Fault) (s : Result B Fault) → Preserves a r b → Preserves b s c → Preserves a s c
+preserves_then a b c r s h k = record { linked = k.linked; kept = keeps_then a b c h.kept k.kept; visits = k.visits ∙ h.visits }
 
 pub not_so : (b : Bool) (P : Type 0) → b ≡ false → IsTrue b ↔ P → P → ⊥
 not_so b P e h p = grind arith

@@ -1,5 +1,5 @@
 use Rattle.pb_replay.proofs.Common.{inl, inr, length, fits_signed_from_abs, to_z-of_z, err_from_is_err_and, w128, Live, problem_of}
-use Rattle.pb_replay.proofs.lemmas.rules.{Completions.apart, Completions.solx-ok, Completions.solx-err, Steps.logs-from}
+use Rattle.pb_replay.proofs.lemmas.rules.{Completions.apart, Completions.solx-ok, Completions.solx-err, Steps.logs-from, Steps.preserves_then}
 use Rattle.pb_replay.proofs.step.solution.exclude.Goals as goal
 
 pub clause_of-requires : goal.clause_of-requires
@@ -20,3 +20,6 @@ returns-in_err-value-clause-goes c =
       | inl memory ↦ inl memory
       | inr bad ↦ solx-err c.args.running.now c.args.given.now written e _ c.completion_value.new.running bad
     ])
+
+pub returns-clause-preserves : goal.returns-clause-preserves
+returns-clause-preserves c = preserves_then _ _ _ _ _ c.completion_value.ensures.preserves c.log.ensures.preserves

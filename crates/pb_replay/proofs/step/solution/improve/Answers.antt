@@ -1,5 +1,6 @@
 use Rattle.pb_replay.proofs.Common.{ℤ, inl, inr, subst, fits_signed_from_abs, to_z-of_z, err_from_is_err_and, w128, Demands}
-use Rattle.pb_replay.proofs.lemmas.rules.{Completions.some-objective, Completions.soli-ok, Completions.soli-err, Steps.demands-from}
+use Rattle.pb_replay.proofs.lemmas.rules.Completions.{some-objective, soli-ok, soli-err}
+use Rattle.pb_replay.proofs.lemmas.rules.Steps.{demands-from, proper_kept, preserves_then}
 use Rattle.pb_replay.proofs.step.solution.improve.Goals as goal
 
 pub returns-clause-goes : goal.returns-clause-goes
@@ -17,3 +18,9 @@ returns-in_err-value-clause-goes c =
       | inl memory ↦ inl memory
       | inr bad ↦ soli-err c.args.running.now c.args.given.now written e o.0 _ c.completion_value.new.running o.1 bad
     ])
+
+pub demand_less-requires-clause-proper : goal.demand_less-requires-clause-proper
+demand_less-requires-clause-proper c = proper_kept c.args.running.now c.completion_value.new.running c.requires.proper c.completion_value.ensures.preserves.kept
+
+pub returns-clause-preserves : goal.returns-clause-preserves
+returns-clause-preserves c = preserves_then _ _ _ _ _ c.completion_value.ensures.preserves c.demand_less.ensures.preserves

@@ -1,4 +1,5 @@
-use Rattle.pb_replay.proofs.{Common.rules, Common.IsSome, Common.arith, lemmas.rules.Completions.some-objective, lemmas.rules.Steps.goes-from}
+use Rattle.pb_replay.proofs.Common.{rules, IsSome, arith}
+use Rattle.pb_replay.proofs.lemmas.rules.{Completions.some-objective, Steps.goes-from, Steps.proper_kept, Steps.preserves_then}
 use Rattle.pb_replay.proofs.step.solution.soli.Goals as goal
 
 pub returns-clause-goes : goal.returns-clause-goes
@@ -9,3 +10,9 @@ returns-in_err-numbers-clause-memory c memory = let o : IsSome c.args.running.no
 
 pub returns-clause-memory : goal.returns-clause-memory
 returns-clause-memory c memory = let o : IsSome c.args.running.now.objective = search rules in some-objective c.args.running.now o
+
+pub improve-requires-clause-proper : goal.improve-requires-clause-proper
+improve-requires-clause-proper c = proper_kept c.args.running.now c.take_literals.new.running c.requires.proper c.take_literals.ensures.preserves.kept
+
+pub returns-clause-preserves : goal.returns-clause-preserves
+returns-clause-preserves c = preserves_then _ _ _ _ _ c.take_literals.ensures.preserves c.improve.ensures.preserves
