@@ -201,6 +201,10 @@ module _ (read : TextsAreRead) (f : ProofFeeder) (r : Replaying) (e : Option Che
         let p = pulled limits longest v first input h (Ok (Some m)) pulls in
         (limits, longest, v, first, (input ++ p.taken) ++ [], asks, (checked.refused_on read limits longest v first input f r e none h _ refl p.taken n m p.stands running past [] t x steps names reports).0)
 
+-- the feeder had not stopped
+pub was_running : (f : ProofFeeder) (r : Replaying) (e : Option CheckFault) → e ≡ None → IsSomewhere f r e → halt_of f ≡ None
+was_running f r e none (limits, longest, v, first, input, asks, h) = (running_at limits longest v first input f r e none h).running
+
 -- ---- what a step says that needs no text
 
 -- what it knows of the bytes that may allocate
@@ -224,7 +228,16 @@ module _ (f : ProofFeeder) (r : Replaying) (e : Option CheckFault) (none : e ≡
 
 -- nothing was pulled yet
 pub run_begins : (longest : ℕ) (began : Replaying) {V : Type 0} (got : V → Call → V → Type 0) (c : Checking) → Begins longest began c → c.replay.fault ≡ None → (left : Option (List ℕ)) (given : List ℕ) (old : V) → HasRun longest began got left given old c left given old
-run_begins longest began {V} got c b unspent left given old = grind (arith, b.replay, first_pull, began.limits, b.stands, b.running, b.start, append-nil, shown_first)
+run_begins longest began {V} got c b unspent left given old = record {
+  spans = [];
+  unspent = unspent;
+  limited = ap (λ (x : Replaying). x.limits) b.replay;
+  problem = ap (λ (x : Replaying). x.problem) b.replay;
+  pulled = first_pull longest (begin (largest began.limits) (top_of began.limits)) left c.feeder b.stands b.running b.start;
+  led = λ first at. (first, subst (λ (x : Replaying). StandsFor x first) (sym b.replay) at, refl);
+  given = ([], sym (append-nil given), b.start, b.stands, b.running);
+  shown = subst (λ (x : Replaying). HasShown got old began [] old x) (sym b.replay) (shown_first got old began);
+}
 
 abbrev start_of : Replaying → ProofState
 start_of began = begin (largest began.limits) (top_of began.limits)

@@ -3,7 +3,9 @@ use Rattle.pb_tool.proofs.lemmas.file.GivenBytes.{shows_instance, shows_proof, s
 use Rattle.pb_tool.proofs.commands.show.show.Goals as goal
 
 pub returns-in-Ok-Proof-clause-shows : goal.returns-in-Ok-Proof-clause-shows
-returns-in-Ok-Proof-clause-shows g c = grind (arith, c.in-Ok-Proof.is, c.format_of.ensures, shows_proof, c.unwrap_or-longest.ensures, g.W.Sink.contents, g.W.Sink.faults, c.show_proof.ensures.shows)
+returns-in-Ok-Proof-clause-shows g c =
+    let t = rw (c.in-Ok-Proof.is, c.in-Ok-Proof.field-0-is) at c.format_of.ensures in
+    shows_proof c.args.limits _ _ c.unwrap_or-longest.ensures g.W.Sink.contents g.W.Sink.faults _ _ t.left _ _ _ _ t.format c.show_proof.ensures.shows
 
 pub returns-in-Ok-Instance-clause-shows : goal.returns-in-Ok-Instance-clause-shows
 returns-in-Ok-Instance-clause-shows g c =
@@ -16,7 +18,9 @@ returns-in-Err-clause-shows g c =
     shows_unread c.args.limits _ _ c.unwrap_or-longest.ensures g.W.Sink.contents g.W.Sink.faults _ _ t.left c.args.out.now (some_of c.args.longest _ c.unwrap_or-longest.ensures c.requires) u.instance u.proof _ u.fault
 
 pub returns-in-Ok-Proof-clause-given : goal.returns-in-Ok-Proof-clause-given
-returns-in-Ok-Proof-clause-given g c = grind (arith, c.in-Ok-Proof.is, c.format_of.ensures, given_shown_proof, c.unwrap_or-longest.ensures, g.W.Sink.contents, g.W.Sink.faults, c.show_proof.ensures.given)
+returns-in-Ok-Proof-clause-given g c =
+    let t = rw (c.in-Ok-Proof.is, c.in-Ok-Proof.field-0-is) at c.format_of.ensures in
+    given_shown_proof c.args.limits _ _ c.unwrap_or-longest.ensures g.W.Sink.contents g.W.Sink.faults _ _ t.history _ _ _ _ c.show_proof.ensures.given
 
 pub returns-in-Ok-Instance-clause-given : goal.returns-in-Ok-Instance-clause-given
 returns-in-Ok-Instance-clause-given g c =

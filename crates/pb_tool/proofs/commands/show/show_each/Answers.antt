@@ -76,4 +76,6 @@ returns-clause-given g c =
     ends wrote
 
 pub returns-in-Err-clause-seen : goal.returns-in-Err-clause-seen
-returns-in-Err-clause-seen g c = grind (arith, c.loop-read.invariant.shown, c.in-Err.is, c.pull.ensures, c.text_fault.ensures)
+returns-in-Err-clause-seen g c =
+    let (spans, pulled, wrote) = c.loop-read.invariant.shown in let t = rw c.in-Err.is at c.pull.ensures in
+    rw c.text_fault.ensures (t.shown pulled.running)

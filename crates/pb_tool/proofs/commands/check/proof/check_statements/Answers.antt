@@ -1,8 +1,12 @@
-use Rattle.pb_tool.proofs.{Common.◌∙◌, Common.arith, lemmas.check.CheckerRuns.run_begins, lemmas.show.ShownStatements.fewer}
+use Rattle.pb_tool.proofs.{Common.◌∙◌, Common.arith, Common.refl, lemmas.check.CheckerRuns.run_begins, lemmas.show.ShownStatements.fewer}
 use Rattle.pb_tool.proofs.commands.check.proof.check_statements.Goals as goal
 
 pub loop-verdict-init : goal.loop-verdict-init
-loop-verdict-init g c = grind (arith, c.requires.running, run_begins, g.V.Watch.got, c.requires.unspent, g.S.Source.left, g.S.Source.history)
+loop-verdict-init g c = record {
+  running = c.requires.running;
+  faults = refl;
+  runs = λ longest began begins. run_begins longest began g.V.Watch.got c.args.checker.now begins c.requires.unspent (g.S.Source.left c.args.input.now) (g.S.Source.history c.args.input.now) c.args.watch.now;
+}
 
 pub loop-verdict-preserved : goal.loop-verdict-preserved
 loop-verdict-preserved g c =
@@ -14,7 +18,8 @@ loop-verdict-preserved g c =
     }
 
 pub loop-verdict-smaller : goal.loop-verdict-smaller
-loop-verdict-smaller g c = grind (arith, c.in-Ok-None.is, c.pull.ensures, fewer)
+loop-verdict-smaller g c =
+    let t = rw (c.in-Ok-None.is, c.in-Ok-None.field-0-is) at c.pull.ensures in fewer _ _ (t.within refl) (t.onward refl)
 
 pub returns-in-Ok-Some-clause-runs : goal.returns-in-Ok-Some-clause-runs
 returns-in-Ok-Some-clause-runs g c longest began begins =

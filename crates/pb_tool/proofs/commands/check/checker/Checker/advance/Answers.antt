@@ -56,7 +56,9 @@ returns-in-Err-step_watched-clause-counts c limits longest v first input k h =
     checked.refused c.texts_are_read.ensures limits longest v first input c.self.inside.feeder c.self.inside.replay c.self.inside.fault (rw (← c.self.view_is) at c.requires) here k many c.args.piece.now c.feed.new.self c.in-Ok.fed c.in-Some.read c.in-Some.is t.feeds t.stop (c.feed.ensures.past c.in-Ok.fed c.in-Some.read c.in-Ok.is c.in-Some.is).past c.step_watched.new.replay c.in-Err-step_watched.fault u.steps u.names u.unvalued
 
 pub returns-in-Err-clause-unread : goal.returns-in-Err-clause-unread
-returns-in-Err-clause-unread c = grind (arith, c.in-Err.is, c.feed.ensures, c.texts_are_read.ensures, c.self.view_is, c.requires)
+returns-in-Err-clause-unread c =
+    let (limits, longest, v, first, input, asks, h) = c.self.invariant in let t = rw c.in-Err.is at c.feed.ensures in
+    t.unread (checked.running_text c.texts_are_read.ensures limits longest v first input c.self.inside.feeder c.self.inside.replay c.self.inside.fault (rw (← c.self.view_is) at c.requires) h)
 
 pub returns-in-Err-clause-memory : goal.returns-in-Err-clause-memory
 returns-in-Err-clause-memory c limits longest v first input no_fault h =

@@ -59,7 +59,8 @@ returns-in-Err-clause-runs g c longest began before since unshown run =
 -- ---- how far it came, and what the source has shown
 
 pub returns-in-Ok-clause-onward : goal.returns-in-Ok-clause-onward
-returns-in-Ok-clause-onward g c is = grind (arith, c.in-Ok-Some.is, c.pull.ensures, c.self.view_is)
+returns-in-Ok-clause-onward g c is =
+    let t = rw (c.in-Ok-Some.is, c.in-Ok-Some.field-0-is) at c.pull.ensures in rw (← c.self.view_is) (t.past c.in-Ok-Some.read refl).onward
 
 pub returns-in-Ok-clause-within : goal.returns-in-Ok-clause-within
 returns-in-Ok-clause-within g c is =
@@ -71,18 +72,26 @@ returns-in-Err-step_watched-clause-seen g c =
     runs.unseen_on c.self.inside.feeder c.self.inside.replay c.self.inside.fault (rw (← c.self.view_is) at c.requires) c.in-Ok-Some.read c.step_watched.new.replay c.in-Err-step_watched.rejected c.in-Err-step_watched.ensures.steps c.self.invariant (g.S.Source.shown c.pull.new.source) (g.S.Source.ended c.pull.new.source)
 
 pub returns-in-Err-clause-seen : goal.returns-in-Err-clause-seen
-returns-in-Err-clause-seen g c = grind (arith, c.in-Err.is, c.pull.ensures, c.self.view_is, c.requires)
+returns-in-Err-clause-seen g c =
+    let t = rw c.in-Err.is at c.pull.ensures in
+    t.shown (runs.was_running c.self.inside.feeder c.self.inside.replay c.self.inside.fault (rw (← c.self.view_is) at c.requires) c.self.invariant)
 
 -- ---- how often the source has failed
 
 pub returns-in-Ok-clause-faults : goal.returns-in-Ok-clause-faults
-returns-in-Ok-clause-faults g c = grind (arith, c.in-Ok-Some.is, c.pull.ensures, c.self.view_is, c.requires)
+returns-in-Ok-clause-faults g c =
+    let t = rw (c.in-Ok-Some.is, c.in-Ok-Some.field-0-is) at c.pull.ensures in
+    rw (runs.was_running c.self.inside.feeder c.self.inside.replay c.self.inside.fault (rw (← c.self.view_is) at c.requires) c.self.invariant) at t.faults
 
 pub returns-in-Some-clause-faults : goal.returns-in-Some-clause-faults
-returns-in-Some-clause-faults g c = grind (arith, c.in-Ok-None.is, c.pull.ensures, c.self.view_is, c.requires)
+returns-in-Some-clause-faults g c =
+    let t = rw (c.in-Ok-None.is, c.in-Ok-None.field-0-is) at c.pull.ensures in
+    rw (runs.was_running c.self.inside.feeder c.self.inside.replay c.self.inside.fault (rw (← c.self.view_is) at c.requires) c.self.invariant) at t.faults
 
 pub returns-in-Err-step_watched-clause-faults : goal.returns-in-Err-step_watched-clause-faults
 returns-in-Err-step_watched-clause-faults g c = grind (arith, c.in-Ok-Some.is, c.pull.ensures, c.self.view_is, c.requires, c.in-Err-step_watched.ensures.steps)
 
 pub returns-in-Err-clause-faults : goal.returns-in-Err-clause-faults
-returns-in-Err-clause-faults g c = grind (arith, c.in-Err.is, c.pull.ensures, c.self.view_is, c.requires)
+returns-in-Err-clause-faults g c =
+    let t = rw c.in-Err.is at c.pull.ensures in
+    rw (runs.was_running c.self.inside.feeder c.self.inside.replay c.self.inside.fault (rw (← c.self.view_is) at c.requires) c.self.invariant) at t.faults
