@@ -1,13 +1,13 @@
 -- Lemmas that the goals of functions need, by the file or the function.
+use Rattle.pb_propagate.proofs.lemmas.{root.Retracted.same-reasons, root.Retracted.some-sized, store.Gets.push-default}
+use Rattle.pb_propagate.proofs.lemmas.clauses.{Listed.watch-set, Literals.false-listed, Literals.true-listed, Stores.empty-dead, Stores.rest-fit}
 use Rattle.pb_propagate.proofs.lemmas.clauses.Blocks.{slot-at, slot-stored, stores}
 use Rattle.pb_propagate.proofs.lemmas.clauses.Listed.{list-small, put-linked, entries-here, lists-length, removed-watch, watch-here, watch-kept, watch-read}
-use Rattle.pb_propagate.proofs.lemmas.clauses.{Listed.watch-set, Literals.false-listed, Literals.true-listed, Stores.empty-dead, Stores.rest-fit}
 use Rattle.pb_propagate.proofs.lemmas.clauses.Visited.{entry-round, passed-at, round-inside, running-inside}
 use Rattle.pb_propagate.proofs.lemmas.root.{Added.watches-apart, Added.watches-mine, Retracted.other-then, Retracted.released-same, Retracted.released-then}
-use Rattle.pb_propagate.proofs.lemmas.{root.Retracted.same-reasons, root.Retracted.some-sized, store.Gets.push-default}
 use Rattle.std.proofs.{Common.get_or-set_other, Common.get_or-set_same, Common.length-set, lemmas.Bool.cases_lt, lemmas.Bool.leb-true}
-use Rattle.std.proofs.lemmas.List.{append-nil, append_assoc, get_or_default, get_or_past, get_or_read, length-drop, length-map, length-take, map-append}
 use Rattle.std.proofs.lemmas.{List.replicate_more, List.FromFn.length-map-range_with_len, Option.slice_get_read}
+use Rattle.std.proofs.lemmas.List.{append-nil, append_assoc, get_or_default, get_or_past, get_or_read, length-drop, length-map, length-take, map-append}
 
 pub ruleset begin_all = (cases_lt, get_or_past, stores)
 

@@ -1,12 +1,12 @@
 -- Lemmas that the goals of functions need, by the file or the function.
+use Rattle.pb_propagate.proofs.lemmas.{root.Rooted.clash-joined, store.Changes.forms-length, store.Links.entries-length, store.Placed.at-inside}
 use Rattle.pb_propagate.proofs.lemmas.clauses.Heads.{heads-is, listed-small}
-use Rattle.pb_propagate.proofs.lemmas.engine.Advances.{advances-then, advances-visit, costs-then, on-err}
 use Rattle.pb_propagate.proofs.lemmas.engine.{Bridge.opposed-clash, Literals.has-none, Literals.sum-bounded, Propagated.shape-at, Reasoned.reasons-derive}
 use Rattle.pb_propagate.proofs.lemmas.engine.{Reasoned.run-reasons-rooted, Rests.half, Rests.slots-terms, Runs.place-inside, Runs.Counted-put}
+use Rattle.pb_propagate.proofs.lemmas.engine.Advances.{advances-then, advances-visit, costs-then, on-err}
 use Rattle.pb_propagate.proofs.lemmas.root.{Kept.conflict-few, Kept.listed-inside, Questions.adopted-denied, Questions.denied-derives, Questions.denied-next}
 use Rattle.pb_propagate.proofs.lemmas.root.{Questions.root-few, Questions.updated-most, Ready.puts-as, Ready.updated-ready}
 use Rattle.pb_propagate.proofs.lemmas.root.Retracted.{due-some, needless-terms, replaced-released, shortened-same, some-sized, terms-inside}
-use Rattle.pb_propagate.proofs.lemmas.{root.Rooted.clash-joined, store.Changes.forms-length, store.Links.entries-length, store.Placed.at-inside}
 use Rattle.pb_propagate.proofs.lemmas.store.{Placed.numbered-left, Placed.numbered-length, Placed.numbered-none, Placed.taken-by, Stored.stored-small}
 use Rattle.std.proofs.Common.{get_or-set_same, length-append}
 use Rattle.std.proofs.lemmas.{Bool.both_ways, List.length-map, List.length-take-le, Option.slice_get-get_or}

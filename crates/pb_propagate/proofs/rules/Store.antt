@@ -1,8 +1,8 @@
 -- Lemmas that the goals of functions need, by the file or the function.
+use Rattle.pb_propagate.proofs.lemmas.{engine.Runs.place-inside, root.Added.no-watch, root.Added.pair-free}
 use Rattle.pb_propagate.proofs.lemmas.clauses.{Literals.marked-start, Literals.marked-wider, Shapes.slots-vacant}
 use Rattle.pb_propagate.proofs.lemmas.engine.{Completing.completions-exist, Literals.open_part-falsified}
 use Rattle.pb_propagate.proofs.lemmas.engine.Literals.{open_part-open, Agree-cleared, Agree-push, Agree-widen, says-none, vacancy-none, vacancy-push}
-use Rattle.pb_propagate.proofs.lemmas.{engine.Runs.place-inside, root.Added.no-watch, root.Added.pair-free}
 use Rattle.pb_propagate.proofs.lemmas.root.Retracted.{needless-terms, other-then, released-same, released-then, same-reasons, some-sized, terms-inside}
 use Rattle.pb_propagate.proofs.lemmas.store.{Changes.forms-filled, Changes.forms-more, Changes.slots-bare, Gets.get-map, Gets.get-set_same}
 use Rattle.pb_propagate.proofs.lemmas.store.{Links.entries-length, Links.taken-last, Positions.chain-push, Positions.free-put, Positions.moved-last}

@@ -1,7 +1,6 @@
 -- Forms on two variables, short proofs over them that are accepted, and conclusions that are rejected
 use Rattle.pb_normal.specs.declared.Side.TheVariants.{AtLeast as least, AtMost as most}
 use Rattle.pb_propagate.proofs.lemmas.engine.Literals.{literal}
-use Rattle.std.proofs.lemmas.List.Elements.{All-from_recursion}
 use Rattle.pb_replay.proofs.Common.{ℕ, ◌<◌, ◌∙◌, ◌∷◌, ◌≡◌, [], ap, arith, Bool, cond, false, inl, List, None, not, refl, Some, subst, suc, sym, zero, Contains}
 use Rattle.pb_replay.proofs.Common.{Ok, Option, Entry, NumberedLiteral, Form, Holds, total, assignment, on, only, begin, Live, MayPropagate, Term, name_x}
 use Rattle.pb_replay.proofs.Common.{name_y, Problem, AreValues, Completed, Excludes, HasValue, logged_of, negations, same_Some, slice_get, ◌++◌, ◌≤ℤ◌, ◌≤◌, All}
@@ -12,6 +11,7 @@ use Rattle.pb_replay.proofs.Common.{SolutionLogged, objective_with, propagated, 
 use Rattle.pb_replay.proofs.Common.{true, Linear, ints, drop, take}
 use Rattle.pb_replay.proofs.lemmas.meaning.Propagated.{AreTrue, on-negations, conflict-none}
 use Rattle.pb_replay.specs.contract.Example.{both_on, opposed}
+use Rattle.std.proofs.lemmas.List.Elements.{All-from_recursion}
 use Rattle.pb_proof.specs.declared.Conclusion.TheVariants as conclusion
 use Rattle.pb_replay.specs.declared.verdict.Verdict.TheVariants as verdict
 

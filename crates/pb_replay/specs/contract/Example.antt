@@ -1,8 +1,7 @@
 -- Short proofs that are accepted, and some that are rejected
 use Rattle.pb_opb.specs.declared.Instance.{Instance}
-use Rattle.pb_proof.specs.declared.Bound.TheVariants.{Finite}
+use Rattle.pb_proof.specs.declared.{PolWord.TheVariants.Id, PolWord.TheVariants.Add, Statement.Statement, Bound.TheVariants.Finite}
 use Rattle.pb_proof.specs.declared.Conclusion.TheVariants.{Unsat, Sat, Bounds}
-use Rattle.pb_proof.specs.declared.{PolWord.TheVariants.Id, PolWord.TheVariants.Add, Statement.Statement}
 use Rattle.pb_proof.specs.declared.Statement.TheVariants.{Header, F, Pol, Rup, Soli, Solx, Output, Conclude, End}
 use Rattle.pb_replay.specs.{declared.fault.Fault.Fault, declared.verdict.Verdict.Verdict, meaning.Problem.Problem, meaning.Problem.Opened}
 use Rattle.pb_replay.specs.meaning.{Replay.State, Replay.first_state, Statements.Outcome, Statements.Accepts}

@@ -7,8 +7,8 @@ use Rattle.pb_proof.specs.meaning.Proofs.{statements_of}
 use Rattle.pb_propagate.specs.meaning.Propagation.{Derivation, MeetsConflict, IsCompletion}
 use Rattle.pb_replay.specs.{contract.ReplayModel.verdict_at, declared.fault.Fault.Fault, declared.fault.Fault.TheVariants.NotTotal}
 use Rattle.pb_replay.specs.{declared.verdict.Verdict.Verdict, meaning.Answer.Answer}
-use Rattle.pb_replay.specs.meaning.Meaning.{Means, MeansWritten, AccountedWritten, IsProblem, IsSound}
 use Rattle.pb_replay.specs.meaning.{Problem.Problem, Problem.Opened, Problem.Solves, Replay.State, Replay.first_state}
+use Rattle.pb_replay.specs.meaning.Meaning.{Means, MeansWritten, AccountedWritten, IsProblem, IsSound}
 use Rattle.pb_replay.specs.meaning.Statements.{Outcome, Accepts, MayWantAt}
 use Rattle.std.specs.Prelude.{◌≡◌, ℕ, ◌≤◌, Bool, List, All, Contains, Some, Result, Ok, Err, ◌<◌, length, Option, IsSome}
 

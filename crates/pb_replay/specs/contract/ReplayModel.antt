@@ -3,8 +3,8 @@ use Rattle.pb_normal.specs.meaning.{Form.Form, Names.with_names, Written.magnitu
 use Rattle.pb_opb.specs.declared.Instance.{Instance}
 use Rattle.pb_proof.specs.declared.{Stage.Stage, Stage.TheVariants.Complete, Statement.Statement}
 use Rattle.pb_propagate.specs.{engine.engine.Live.Standing, meaning.Propagation.Live}
-use Rattle.pb_replay.specs.declared.{fault.Fault.Fault, fault.Fault.TheVariants.Memory, fault.Fault.TheVariants.NotTotal, state.Running.Running}
 use Rattle.pb_replay.specs.{declared.verdict.Verdict.Verdict, meaning.Answer.Answer}
+use Rattle.pb_replay.specs.declared.{fault.Fault.Fault, fault.Fault.TheVariants.Memory, fault.Fault.TheVariants.NotTotal, state.Running.Running}
 use Rattle.pb_replay.specs.meaning.{Meaning.IsNamePrefix, Meaning.IsProblem, Meaning.IsSound, Problem.Problem, Problem.Opened, Problem.objective_of}
 use Rattle.pb_replay.specs.meaning.Replay.{State, Logged, added, first_state}
 use Rattle.pb_replay.specs.meaning.Statements.{Does, Outcome, PassesFirst, mentioned}

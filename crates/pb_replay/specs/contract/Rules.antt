@@ -1,7 +1,7 @@
 -- The rules of a proof, one constructor each: what a statement needs, and the state that it gives. They say the same as `Outcome` of
 -- an accepted statement, which also says in which order the tests come and what fails. The law `rules_are_the_outcomes` is that.
-use Rattle.pb_normal.specs.declared.Side.{Side, TheVariants.AtLeast as least, TheVariants.AtMost as most}
 use Rattle.pb_normal.specs.{declared.numbered.NumberedLiteral.NumberedLiteral, meaning.Constraints.Fits}
+use Rattle.pb_normal.specs.declared.Side.{Side, TheVariants.AtLeast as least, TheVariants.AtMost as most}
 use Rattle.pb_normal.specs.meaning.{Form.Form, Form.Holds, Form.IsWithin, Names.number_in, Names.with_names}
 use Rattle.pb_normal.specs.meaning.Rules.{IsSum, IsContradiction, multiplied, divided, saturated, weakened, axiom_on, assignment}
 use Rattle.pb_normal.specs.meaning.Written.{IsSideOf}

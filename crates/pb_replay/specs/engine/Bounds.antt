@@ -1,13 +1,13 @@
 -- The bounds of a conclusion, as the code tests them
-use Rattle.pb_normal.specs.declared.Side.{Side, TheVariants.AtLeast as least, TheVariants.AtMost as most}
 use Rattle.pb_normal.specs.{declared.numbered.NumberedLiteral.NumberedLiteral, meaning.Form.Form}
+use Rattle.pb_normal.specs.declared.Side.{Side, TheVariants.AtLeast as least, TheVariants.AtMost as most}
 use Rattle.pb_normal.specs.meaning.Rules.{negation_of, IsContradiction, SumIsContradiction}
 use Rattle.pb_proof.specs.declared.Bound.{Bound, TheVariants.Finite, TheVariants.Infinite}
 use Rattle.pb_replay.specs.contract.ReplayModel.{IsBest, Returns, problem_of, state_of}
 use Rattle.pb_replay.specs.declared.fault.Fault.{Fault, TheVariants.Memory, TheVariants.NoObjective, TheVariants.NoSolution, TheVariants.NotBound}
 use Rattle.pb_replay.specs.declared.state.Running.{Running}
-use Rattle.pb_replay.specs.meaning.Answer.{Answer, gives, need, found}
 use Rattle.pb_replay.specs.meaning.{Conclusions.IsShownBy, Conclusions.lower_bound, Conclusions.objective_with, Problem.Problem}
+use Rattle.pb_replay.specs.meaning.Answer.{Answer, gives, need, found}
 use Rattle.pb_replay.specs.meaning.Replay.{Logged, IsLive, Shown, normal_form, added}
 use Rattle.pb_sums.specs.declared.Term.{Term}
 use Rattle.pb_text.specs.meaning.Limits.{largest, top_of}

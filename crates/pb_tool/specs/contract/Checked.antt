@@ -1,8 +1,8 @@
 -- What a check of two sources ensures, in one record: its fields are the facts that `check` names.
 use Rattle.pb_replay.specs.declared.verdict.Verdict.{Verdict, TheVariants.Unsat}
 use Rattle.pb_text.specs.{declared.Limits.Limits, declared.sink.Sink.Ghosts as Sink, declared.source.Source.Ghosts as Source, meaning.Pulling.OfGiven}
-use Rattle.pb_tool.specs.contract.{Given.ChecksGiven, Runs.faults_of_instance, Runs.faults_of_proof, Seen.SawInstance, Seen.SawProof}
 use Rattle.pb_tool.specs.{declared.fault.ToolFault.ToolFault, meaning.Headline.TrueOf, meaning.Headline.UnsatOf}
+use Rattle.pb_tool.specs.contract.{Given.ChecksGiven, Runs.faults_of_instance, Runs.faults_of_proof, Seen.SawInstance, Seen.SawProof}
 use Rattle.pb_tool.specs.meaning.Verified.{called, CheckCall, ChecksFiles}
 use Rattle.std.specs.Prelude.{◌≡◌, ℕ, IfOk, List, Option, Result, Ok}
 

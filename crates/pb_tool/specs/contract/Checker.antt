@@ -1,6 +1,5 @@
 -- How a checker relates to the text that it was fed.
-use Rattle.pb_proof.specs.declared.Statement.{Statement}
-use Rattle.pb_proof.specs.engine.machine.State.{ProofState, begin, proofs}
+use Rattle.pb_proof.specs.{declared.Statement.Statement, engine.machine.State.ProofState, engine.machine.State.begin, engine.machine.State.proofs}
 use Rattle.pb_proof.specs.meaning.Proofs.{IsProof}
 use Rattle.pb_replay.specs.{contract.ReplayModel.Replaying, contract.ReplayModel.StandsFor, declared.fault.Fault.Fault, meaning.Problem.Problem}
 use Rattle.pb_replay.specs.meaning.Replay.{State}

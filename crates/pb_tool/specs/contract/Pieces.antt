@@ -4,8 +4,7 @@ use Rattle.pb_replay.specs.declared.{fault.Fault.Fault, fault.Fault.TheVariants.
 use Rattle.pb_replay.specs.meaning.{Problem.Problem, Replay.State}
 use Rattle.pb_text.specs.contract.{Feeding.place_of, Feeding.state_of, Feeding.is_complete, Standing.Counts}
 use Rattle.pb_text.specs.declared.{Limits.Limits, Place.Place, place.Why.TheVariants.Read, place.Why.TheVariants.Memory}
-use Rattle.pb_text.specs.meaning.{Limits.largest, Limits.top_of, Reading.HasOpen, Reading.IsPrefix}
-use Rattle.pb_text.specs.meaning.Spelling.{Item, bytes_of, place_after}
+use Rattle.pb_text.specs.meaning.{Limits.largest, Limits.top_of, Reading.HasOpen, Reading.IsPrefix, Spelling.Item, Spelling.bytes_of, Spelling.place_after}
 use Rattle.pb_tool.specs.contract.{Checker.Checking, Checker.ChecksSoFar, Checker.CountsSoFar, Checks.Checks, Checks.EndsAfter}
 use Rattle.pb_tool.specs.declared.commands.check.checker.{CheckFault.CheckFault, CheckFault.TheVariants.Text, CheckFault.TheVariants.Step, Went.Went}
 use Rattle.pb_tool.specs.meaning.Files.{AsksInProofText}

@@ -1,7 +1,6 @@
 -- The text of an instance, built as its statements come.
 use Rattle.pb_opb.specs.{contract.Canonical.event_bytes, declared.Instance.Instance, declared.OpbEvent.OpbEvent}
-use Rattle.pb_opb.specs.declared.OpbEvent.TheVariants.{Header, Objective}
-use Rattle.pb_opb.specs.meaning.Values.{IsValueOf}
+use Rattle.pb_opb.specs.{declared.OpbEvent.TheVariants.Header, declared.OpbEvent.TheVariants.Objective, meaning.Values.IsValueOf}
 use Rattle.pb_tool.specs.{contract.Show.line_of, contract.Tidy.tidied, declared.commands.tidy.instance_text.InstanceText.InstanceText}
 use Rattle.std.specs.Prelude.{◌≡◌, ℕ, Bool, true, false, List, [], ◌++◌, Option, Some, None}
 

@@ -5,5 +5,4 @@ use Rattle.pb_propagate.proofs.clause.opposite.Goals as goal
 pub returns : goal.returns
 unfolding flip
 returns c =
-    let last : bit_and c.args.code 1 ≡ c.args.code % 2 = and_mask c.args.code 1 in
-    grind (arith, nat_tests, last, xor_add_and c.args.code 1)
+    let last : bit_and c.args.code 1 ≡ c.args.code % 2 = and_mask c.args.code 1 in grind (arith, nat_tests, last, xor_add_and c.args.code 1)

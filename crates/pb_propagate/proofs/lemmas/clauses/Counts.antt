@@ -4,8 +4,8 @@ use Rattle.pb_propagate.proofs.Common.{cond, count_by, count_by-le-length, eq-eq
 use Rattle.pb_propagate.proofs.Common.{get_or-map, get_or-set_other, get_or_past, inl, inr, length, list_at, map, map-append, nat_tests, negation, or_cases}
 use Rattle.pb_propagate.proofs.Common.{or_left, or_right, refl, rules, same, set, slice_get-get_or, suc, sum, sum-map, sum_by, sum_by-cons, sum_by-le-sum_by}
 use Rattle.pb_propagate.proofs.Common.{sum_by-set, sym, true, watch_at, ℕ, ◌++◌, ◌+◌, ◌/◌, ◌<◌, ◌==◌, ◌||◌, ◌∙◌, ◌∷◌, ◌≡◌, ◌≤◌}
-use Rattle.pb_propagate.proofs.lemmas.clauses.Literals.{code-injective, groups-apart, same-slot}
 use Rattle.pb_propagate.proofs.lemmas.{clauses.Visited.slot-within, engine.Literals.same-refl}
+use Rattle.pb_propagate.proofs.lemmas.clauses.Literals.{code-injective, groups-apart, same-slot}
 use Rattle.pb_propagate.specs.engine.{clauses.Walked.has as stands, clauses.Walked.killed, engine.Lists.has}
 
 -- numbers with different values, each of which stands a weight: there are no more of them than the sum of the weights

@@ -8,11 +8,11 @@ use Rattle.pb_propagate.proofs.Common.{falsified_code, heads_at, reached_codes, 
 use Rattle.pb_propagate.proofs.Common.{sum, sum_by, map-append, take_more, Contains-append_left, Contains-append_right, Search, watch_lists, AreReady, Grows}
 use Rattle.pb_propagate.proofs.Common.{IsRunning, passed_of, clause_shape, clauses_of, code_in, false_at, flip, AreSingle, more, none, IsSettled, same}
 use Rattle.pb_propagate.proofs.Common.{Contains-permutation, get_or_default, HasTrue}
+use Rattle.pb_propagate.proofs.lemmas.{engine.Literals.says-inside, store.Gets.get-take_less, store.Gets.last-is}
+use Rattle.pb_propagate.proofs.lemmas.clauses.{Shapes.served-settled, Visited.ready-round, Visited.passed-at, Walks.running-grow, Walks.walked-grow}
 use Rattle.pb_propagate.proofs.lemmas.clauses.Counts.{killed-more, occurs, list-short, passed-most, stands-fresh}
 use Rattle.pb_propagate.proofs.lemmas.clauses.Literals.{Agree, true-listed, false-listed, code-back, flip-half, false-code, code-injective, code-of}
-use Rattle.pb_propagate.proofs.lemmas.clauses.{Shapes.served-settled, Visited.ready-round, Visited.passed-at, Walks.running-grow, Walks.walked-grow}
 use Rattle.pb_propagate.proofs.lemmas.engine.{Advances.extends-within, Advances.extends-none, Literals.has-get, Literals.negation-negation, Literals.same-true}
-use Rattle.pb_propagate.proofs.lemmas.{engine.Literals.says-inside, store.Gets.get-take_less, store.Gets.last-is}
 use Rattle.pb_propagate.specs.{declared.heads.Ahead.Ahead, engine.clauses.Runs.AreRound}
 use Rattle.pb_propagate.specs.engine.clauses.Walked.{has as stands, falsified_code, heads_at, reached_codes, reached, head, advanced}
 use Rattle.pb_propagate.specs.engine.engine.{Lists.has, Progress.HasWalked}

@@ -1,8 +1,8 @@
 -- Literals and their codes, their truth, and the marks of those that are falsified.
+use Rattle.pb_propagate.proofs.{Common.is_failed, lemmas.engine.Literals.negation-negation, lemmas.store.Gets.push-default}
 use Rattle.pb_propagate.proofs.Common.{ℕ, ◌*◌, ◌+◌, ◌/◌, ◌∙◌, ◌≡◌, ◌⊎◌, ap, arith, Bool, cond, List, not, refl, sym, ◌%◌, ◌==◌, Option, nat_tests}
 use Rattle.pb_propagate.proofs.Common.{NumberedLiteral, negation, Group, Long, Short, code_in, literal_at, offset, falsified_code, has, ◌++◌, ◌<◌}
 use Rattle.pb_propagate.proofs.Common.{◌∷◌, [], true, false, length, length-append, length-set, set, None, get_or-set_other, get_or_past, AreMarked}
-use Rattle.pb_propagate.proofs.{Common.is_failed, lemmas.engine.Literals.negation-negation, lemmas.store.Gets.push-default}
 use Rattle.pb_propagate.specs.engine.{clauses.Truths.true_at, clauses.Truths.false_at, clauses.Truths.flip, engine.Lists.says}
 use Rattle.std.proofs.lemmas.Grind.{get_or-set_at}
 

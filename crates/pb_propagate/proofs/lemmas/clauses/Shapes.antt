@@ -1,4 +1,6 @@
 -- Clauses as constraints, and the constraints of all slots when one is added or removed.
+use Rattle.pb_propagate.{proofs.lemmas.store.Gets.push-default, specs.engine.engine.Rest.no_slots, specs.engine.engine.Rest.add_slot}
+use Rattle.pb_propagate.proofs.{Common.inr, lemmas.clauses.Literals.Agree}
 use Rattle.pb_propagate.proofs.Common.{get_or_default, ℕ, ◌+◌, ◌<◌, ◌∙◌, ◌∷◌, ◌≡◌, ◌≤◌, ◌⊎◌, [], ap, arith, Bool, cond, false, get_or, length, List, map, refl}
 use Rattle.pb_propagate.proofs.Common.{set, suc, sym, true, zero, ◌==◌, Contains, count_by, Option, slice_get, Some, both_ways, cases_Bool, get_or-le-sum_by}
 use Rattle.pb_propagate.proofs.Common.{get_or-map, get_or-set_other, length-map, length-set, nat_tests, sum_by-set, sum_by-cons, slice_get-get_or}
@@ -7,10 +9,8 @@ use Rattle.pb_propagate.proofs.Common.{slot_shape, false_at, true_at, begin, bro
 use Rattle.pb_propagate.proofs.Common.{Puts, Shape, Contains-get_or, same_Some, ◌*◌, ◌++◌, get_or-set_same, length-append, None, subst, All, cases_eq}
 use Rattle.pb_propagate.proofs.Common.{get_or_append_left, slice_get_within, Entry, Form, IsNormal, IsRising, Group, AreDifferent, code, codes_of_terms}
 use Rattle.pb_propagate.proofs.Common.{IsClause, IsLight, offset, entry_of, IsStoredAs, AreSlots, IsSlot, cases_lt, ext_get_or, get_or_past, get_or_push, inl}
-use Rattle.pb_propagate.proofs.{Common.inr, lemmas.clauses.Literals.Agree}
 use Rattle.pb_propagate.proofs.lemmas.clauses.{Literals.true-listed, Literals.false-listed, Literals.half-of, Literals.parity-of, Stores.slot-room}
 use Rattle.pb_propagate.proofs.lemmas.engine.Literals.{open_part-falsified, open_part-open, one_itself, settled-of_terms}
-use Rattle.pb_propagate.{proofs.lemmas.store.Gets.push-default, specs.engine.engine.Rest.no_slots, specs.engine.engine.Rest.add_slot}
 use Rattle.std.proofs.lemmas.{Grind.get_or-set_at, List.Elements.All-map, List.Sums.sum_by-le}
 
 -- the open sum of a clause counts its literals that are not falsified

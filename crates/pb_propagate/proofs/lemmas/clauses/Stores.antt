@@ -4,8 +4,8 @@ use Rattle.pb_propagate.proofs.Common.{Global, length, length-set, List, map, re
 use Rattle.pb_propagate.proofs.Common.{both_ways, cases_Bool, cases_eq, get_or_past, map-append, Contains-get_or, Clauses, Listed, Watch, Pair}
 use Rattle.pb_propagate.proofs.Common.{Search, begun, Contents, AreBlocked, AreFewer, AreLinked, AreMore, entries_at, list_at, IsRenewed, IsSameWatch}
 use Rattle.pb_propagate.proofs.Common.{watch_at, watch_lists, AreReady, AreStored, IsPair, IsRunning, search_at, length-map}
-use Rattle.pb_propagate.proofs.lemmas.clauses.Listed.{lists-length, watch-entries, listed-live, blocked-set, blocked-more}
 use Rattle.pb_propagate.proofs.lemmas.{clauses.Literals.flip-half, clauses.Visited.passed-at, clauses.Visited.round-inside, store.Gets.push-default}
+use Rattle.pb_propagate.proofs.lemmas.clauses.Listed.{lists-length, watch-entries, listed-live, blocked-set, blocked-more}
 use Rattle.pb_propagate.specs.engine.clauses.Truths.{flip}
 use Rattle.std.proofs.lemmas.Grind.{get_or-set_at}
 

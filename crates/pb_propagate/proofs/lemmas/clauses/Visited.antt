@@ -7,8 +7,8 @@ use Rattle.pb_propagate.proofs.Common.{AreWithin, map-set, set, sum, rules, â—Œâ
 use Rattle.pb_propagate.proofs.Common.{get_or-set_other, get_or-set_same, length-map, length-set, min, refl, Vec, Contains-get_or, slice_get, Some, Listed}
 use Rattle.pb_propagate.proofs.Common.{Falsified, Forces, Leaves, Stays, rewatched, searched, AreLinked, AreMore, Remains, Sits, AreBlocked, HasVisited}
 use Rattle.pb_propagate.proofs.Common.{IsBroken, IsUnit, false_at, true_at}
-use Rattle.pb_propagate.proofs.lemmas.clauses.Listed.{sits-within, lists-length, blocked-more}
 use Rattle.pb_propagate.proofs.lemmas.clauses.{Literals.flip-half, Literals.flip-apart, Literals.flip-flip, Walks.served-true}
+use Rattle.pb_propagate.proofs.lemmas.clauses.Listed.{sits-within, lists-length, blocked-more}
 use Rattle.pb_propagate.specs.engine.clauses.{Runs.IsPassed, Runs.ArePassed, Runs.AreRound, Truths.flip}
 use Rattle.std.proofs.{Math.ListN.get_or-map, lemmas.Grind.get_or-set_at}
 

@@ -1,9 +1,9 @@
 -- The walk over the watches of a falsified literal.
+use Rattle.pb_propagate.proofs.{Common.Database, Common.passed_of, Common.sum, lemmas.clauses.Literals.Agree, lemmas.clauses.Literals.true-listed}
 use Rattle.pb_propagate.proofs.Common.{ℕ, ◌++◌, ◌+◌, ◌-◌, ◌/◌, ◌<◌, ◌^◌, ◌∙◌, ◌∷◌, ◌≡◌, ◌≤◌, [], ap, arith, Bool, length, rules, length-append, List, refl}
 use Rattle.pb_propagate.proofs.Common.{subst, sym, true, Option, Contains-push_cases, slice_get, slice_get_within, Some, NumberedLiteral, Clauses, Watch}
 use Rattle.pb_propagate.proofs.Common.{Forces, AreLinked, list_at, watch_at, watch_lists, AreServed, AreWalked, Grows, HasTrue, HasVisited, index_after}
 use Rattle.pb_propagate.proofs.Common.{IsRunning, KeepsWalked, literal_at, false_at, true_at, has, IsWithin, Progress, VisitsEach, both_ways, false, Advances}
-use Rattle.pb_propagate.proofs.{Common.Database, Common.passed_of, Common.sum, lemmas.clauses.Literals.Agree, lemmas.clauses.Literals.true-listed}
 use Rattle.pb_propagate.proofs.lemmas.{clauses.Literals.false-listed, engine.Advances.WalkIsAt, engine.Advances.size_at, engine.Advances.walk-next}
 use Rattle.pb_propagate.proofs.lemmas.engine.{Advances.walk-pass, Advances.walk-start, Advances.walk-then, Literals.has-push_old, Literals.has-push_new}
 use Rattle.pb_propagate.specs.{declared.clauses.visiting.Forced.Forced, declared.clauses.visiting.Visit.Visit, engine.clauses.Runs.IsServedTo}

@@ -51,8 +51,7 @@ pub costs-none : {d : Database} (old new : Progress) → new.list ≡ old.list �
 costs-none {d} old new list candidates visits = search (rules, list, candidates, visits, extends-none old.list)
 
 pub costs-then : {d : Database} {m n k l : ℕ} {a b c : Progress} → Costs d m n a b → Costs d k l b c → Costs d (m + k) (n + l) a c
-costs-then {d} {m} {n} {k} {l} {a} {b} {c} p q =
-    search (rules, extends-then a.list b.list c.list p.extends q.extends, p.single, q.single)
+costs-then {d} {m} {n} {k} {l} {a} {b} {c} p q = search (rules, extends-then a.list b.list c.list p.extends q.extends, p.single, q.single)
 
 pub costs-as : {d : Database} {m n : ℕ} {a b : Progress} (k l : ℕ) → n + k ≤ l + m → Costs d m n a b → Costs d k l a b
 costs-as k l h p = record { extends = p.extends; single = p.single; paid = omega (arith, p.paid, h) }

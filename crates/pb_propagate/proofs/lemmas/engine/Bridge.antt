@@ -1,10 +1,10 @@
 -- The engine's lists and forms are those of the definitions.
+use Rattle.pb_propagate.proofs.{Common.IsRefuted, Common.IsCompletion, Common.MeetsConflict, lemmas.engine.Choices.total-has}
 use Rattle.pb_propagate.proofs.Common.{ℕ, ◌++◌, ◌+◌, ◌<◌, ◌∙◌, ◌∷◌, ◌≡◌, ◌⊎◌, [], ap, arith, Bool, false, inl, inr, length, length-append, List, map, refl, suc}
 use Rattle.pb_propagate.proofs.Common.{sym, true, Contains, sum_by, both_ways, cases_Bool, get_or-map, length-map, Contains-permutation, IsPermutation-sym}
 use Rattle.pb_propagate.proofs.Common.{sum_by-IsPermutation, sum_by-cons, Entry, NumberedLiteral, counted, Form, IsRising, total, negation, on, only, Term}
 use Rattle.pb_propagate.proofs.Common.{entry_of, IsStoredAs, Conflicts, Derives, IsSettled, open_sum, Puts, Shape, Derivation, HasConflict, MayPropagate}
 use Rattle.pb_propagate.proofs.Common.{opened, get_or, cases_eq, eq-eqb, ne_eqb, take, Option, take_more, Adopted, IsWithin, Gives, HasClash, IsFrom, IsEnded}
-use Rattle.pb_propagate.proofs.{Common.IsRefuted, Common.IsCompletion, Common.MeetsConflict, lemmas.engine.Choices.total-has}
 use Rattle.pb_propagate.proofs.lemmas.engine.{Choices.total-sum, Choices.rising-positive, Choices.only-true, Choices.only-self, Completing.closed-none}
 use Rattle.pb_propagate.proofs.lemmas.engine.Literals.{literal, one_itself, has-push, has-get, has-push_old, has-push_new, has-push_cases, push-within}
 use Rattle.pb_propagate.proofs.lemmas.engine.Literals.{literal_ext, has-none as on-none, Agree, opposite}

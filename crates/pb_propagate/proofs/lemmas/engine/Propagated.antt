@@ -8,9 +8,9 @@ use Rattle.pb_propagate.proofs.Common.{open_sum, Shape, Advances, Database, data
 use Rattle.pb_propagate.proofs.Common.{size, ◌*◌, ◌++◌, drop, take, sum_by, drop_all, drop_more, length-take, All-push, Heads, fallen, AreFalling, AreSingle}
 use Rattle.pb_propagate.proofs.Common.{spent, Extends, IsSettled, Costs, queued, Spends, Clauses, AreWithin, clauses_of, IsAhead, passed_of, seen, reached}
 use Rattle.pb_propagate.proofs.lemmas.clauses.Heads.{IsWatching, cost, cost-broken, cost-most}
+use Rattle.pb_propagate.proofs.lemmas.engine.{Literals.has-push_new, Literals.one_itself, Literals.spent-le, Literals.sum-bounded, Reasoned.reasons-keep}
 use Rattle.pb_propagate.proofs.lemmas.engine.Advances.{advances-then, advances-as, advances-visit, advances-counted, size_at, costs-none, extends-none}
 use Rattle.pb_propagate.proofs.lemmas.engine.Advances.{extends-then, spent-extends, reached-extends}
-use Rattle.pb_propagate.proofs.lemmas.engine.{Literals.has-push_new, Literals.one_itself, Literals.spent-le, Literals.sum-bounded, Reasoned.reasons-keep}
 use Rattle.pb_propagate.proofs.lemmas.engine.Runs.{Tidy-pass, absent-from, grown-still, grown-absent, grown-new, calm-settled, absent-cons}
 use Rattle.pb_propagate.proofs.lemmas.store.Stored.{stored-sum, stored-idle, stored-falling}
 use Rattle.pb_propagate.specs.declared.{heads.Ahead.Ahead, store.stored_form.StoredForm.TheVariants.Vacant}

@@ -1,11 +1,11 @@
 -- The engine between two calls: what a call finds, and what it leaves.
+use Rattle.pb_propagate.proofs.{Common.one_in, Common.terms_in, Common.form_at, Common.IsAbsent, lemmas.clauses.Shapes.AreJoined-push}
 use Rattle.pb_propagate.proofs.Common.{ℕ, ◌++◌, ◌-◌, ◌<◌, ◌∙◌, ◌∷◌, ◌≡◌, ◌⊎◌, [], ap, arith, false, get_or, inl, inr, length, length-append, List, map, None, refl, set}
 use Rattle.pb_propagate.proofs.Common.{subst, suc, sym, take, true, zero, Contains, Option, slice_get, Some, take-append_seam, length-map, map-append}
 use Rattle.pb_propagate.proofs.Common.{Contains-append_left, Contains-push_cases, Form, StoredForm, AreJoined, shapes_of, stored_shape, IsStoredAs}
 use Rattle.pb_propagate.proofs.Common.{Shape, Live, AreSlots, IsSlot, With, ◌*◌, ◌/◌, Global, rules, Vec, sum_by_push, Occurrence, entries_of, AreCrossed, Cross}
 use Rattle.pb_propagate.proofs.Common.{IsLinked, IsStored, Weighted, ◌+◌, ◌≤◌, eqb, eqb-true, list_any, ne_eqb, slice_get-get_or, slice_get_within, length-set}
 use Rattle.pb_propagate.proofs.Common.{get_or-set_other, Contains-push, length_permutation, sum_by, sum_by-cons, sum_by-set, joined, one_term, slot_shape, entry_of}
-use Rattle.pb_propagate.proofs.{Common.one_in, Common.terms_in, Common.form_at, Common.IsAbsent, lemmas.clauses.Shapes.AreJoined-push}
 use Rattle.pb_propagate.proofs.lemmas.{engine.Bridge.AreKept, engine.Literals.get_or-push_default, store.Placed.at-inside, store.Placed.kept-same}
 use Rattle.pb_propagate.proofs.lemmas.store.Positions.{ArePositioned, positioned-put}
 use Rattle.pb_propagate.specs.engine.engine.Rest.{no_slots, add_slot}
@@ -110,8 +110,7 @@ positioned-room list positions form inside gone positioned =
 
 -- one more variable
 crossed-entries : (f g g' : ℕ → ℕ → Option Cross) → ((p q : ℕ) → g' p q ≡ g p q) → AreCrossed f g → AreCrossed f g'
-crossed-entries f g g' e old s i p q w =
-    (λ h. e p q ∙ (old s i p q w).0 h, λ h. (old s i p q w).1 (sym (e p q) ∙ h))
+crossed-entries f g g' e old s i p q w = (λ h. e p q ∙ (old s i p q w).0 h, λ h. (old s i p q w).1 (sym (e p q) ∙ h))
 
 pub stored-push : (forms : List Shape) (spots : List (List ℕ)) (lists : List (List Weighted)) → IsLinked forms spots lists → IsLinked forms spots (lists ++ ([] ∷ []))
 stored-push forms spots lists old = search (rules, get_or-push_default, old.linked, sum_by_push, old.totals, crossed-entries, old.crossed, old.sizes)

@@ -1,4 +1,6 @@
 -- What a run has counted, and the steps that put a literal and go over its entries.
+use Rattle.pb_propagate.{proofs.lemmas.store.Stored.index-within, specs.declared.store.Visited.Visited}
+use Rattle.pb_propagate.proofs.{Common.entries_against, Common.StaysTidy, lemmas.engine.Literals.settled-of_terms, lemmas.engine.Literals.negation-negation}
 use Rattle.pb_propagate.proofs.Common.{◌∙◌, sym, ℕ, ◌++◌, ◌+◌, ◌-◌, ◌<◌, ◌∷◌, ◌≡◌, ◌≤◌, [], arith, eq-eqb, false, get_or, get_or-set_other, length}
 use Rattle.pb_propagate.proofs.Common.{length-append, List, refl, set, suc, true, zero, All, ne_eqb, get_or_append_left, get_or_default, get_or_push, All-push}
 use Rattle.pb_propagate.proofs.Common.{sum_by-cons, NumberedLiteral, negation, Term, AreFalling, beside, Database, Grown, IsTidy, Rests, IsAbsent, IsCalm}
@@ -6,9 +8,7 @@ use Rattle.pb_propagate.proofs.Common.{IsCounted, IsDone, IsTidyAt, Lowers, Prog
 use Rattle.pb_propagate.proofs.Common.{same, Shape, Weighted, Extends, AreSingle, rules, ◌*◌, ◌^◌, ap, Bool, drop, Global, length-set, map, min, Vec, Option}
 use Rattle.pb_propagate.proofs.Common.{sum, drop_more, get_or-map, length-map, Contains-get_or, sum_by_push, Occurrence, Store, more, place, spent, entries_of}
 use Rattle.pb_propagate.proofs.Common.{IsSound, lists_of, shapes_of, spots_of, coefficient_at, terms_at, weighted, broken, Conflicts, Advances, Costs, database}
-use Rattle.pb_propagate.proofs.{Common.entries_against, Common.StaysTidy, lemmas.engine.Literals.settled-of_terms, lemmas.engine.Literals.negation-negation}
 use Rattle.pb_propagate.proofs.lemmas.engine.Literals.{has-push, has-push_old, has-push_new, same-true, same-refl, open_part-falsified, open_part-open}
-use Rattle.pb_propagate.{proofs.lemmas.store.Stored.index-within, specs.declared.store.Visited.Visited}
 use Rattle.pb_propagate.specs.engine.engine.{Counts.entry_weight, Counts.term_weight, Counts.ArePassed, Fields.entry_at, Links.coefficient_at}
 use Rattle.std.proofs.{Math.ListN.get_or-map as get_or-map-default, lemmas.Grind.get_or-set_at}
 

@@ -1,4 +1,5 @@
 -- A form comes to the root, or goes, and the root stays.
+use Rattle.pb_propagate.proofs.{Common.pushed, Common.get_or_default, lemmas.clauses.Heads.KeepsFallen, lemmas.clauses.Heads.walks-kept}
 use Rattle.pb_propagate.proofs.Common.{All-push, stored_form, ℕ, ◌/◌, ◌<◌, ◌∙◌, ◌∷◌, ◌≡◌, [], ap, arith, Bool, get_or, get_or-set_other, length, length-append}
 use Rattle.pb_propagate.proofs.Common.{List, set, subst, sym, true, both_ways, Option, slice_get, Some, cases_eq, get_or_append_left, get_or_push, length-map}
 use Rattle.pb_propagate.proofs.Common.{get_or_from_slice_get, slice_get-get_or, slice_get_within, NumberedLiteral, Clauses, Watch, Waiting, Rests, Run, Store}
@@ -6,10 +7,9 @@ use Rattle.pb_propagate.proofs.Common.{StoredForm, list_at, watch_at, AreStored,
 use Rattle.pb_propagate.proofs.Common.{IsCalm, IsCounted, IsTidy, shapes_of, stored_shape, HaveReasons, open_sum, Shape, HasForm, HasGained, RunIsWidened}
 use Rattle.pb_propagate.proofs.Common.{IsRooted, AreFree, AreSet, IsFreePair, None, Pair, map, slice_get-map, length-set, IsAbsent, ◌*◌, ◌+◌, ◌⊎◌}
 use Rattle.pb_propagate.proofs.Common.{get_or-set_same, get_or_past, Form, forms_of, HasWidened, form_at, map-set, Assignment, AreReady, HasCleared, IsNeedless}
-use Rattle.pb_propagate.proofs.{Common.pushed, Common.get_or_default, lemmas.clauses.Heads.KeepsFallen, lemmas.clauses.Heads.walks-kept}
+use Rattle.pb_propagate.proofs.lemmas.{engine.Runs.grown-new, engine.Runs.grown-still, root.Ready.IsTidyRoot}
 use Rattle.pb_propagate.proofs.lemmas.clauses.{Literals.false-listed, Shapes.IsVacant, Shapes.joined-at, Shapes.joined-length, Shapes.joined-cleared}
 use Rattle.pb_propagate.proofs.lemmas.engine.{Literals.get_or-push_default, Reasoned.moved-same, Reasoned.reasons-moved, Runs.Tidy-rest, Runs.grown-all}
-use Rattle.pb_propagate.proofs.lemmas.{engine.Runs.grown-new, engine.Runs.grown-still, root.Ready.IsTidyRoot}
 use Rattle.pb_propagate.proofs.lemmas.store.{Changes.forms-filled, Changes.forms-length, Gets.get-set_other, Gets.get-push_other}
 use Rattle.pb_propagate.specs.{declared.engine.root.Root.Root, engine.engine.Root.WasRootOf, engine.engine.Root.HasRemoved, engine.engine.Root.IsRootOf}
 use Rattle.std.proofs.lemmas.{Grind.get_or-set_at, Option.unwrap_or-slice_get}

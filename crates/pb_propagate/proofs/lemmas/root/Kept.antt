@@ -5,11 +5,11 @@ use Rattle.pb_propagate.proofs.Common.{negation, Assignment, Clauses, Store, all
 use Rattle.pb_propagate.proofs.Common.{shapes_of, broken, Conflicts, has, HaveReasons, KeepsReasons, open_part, open_sum, opposed, Shape, AreSlots, HasGained}
 use Rattle.pb_propagate.proofs.Common.{HasCleared, IsAnswered, IsConflict, IsFree, IsKeptConflict, IsMet, IsNeedless, HasMet, IsAsked, list_of, HasForm}
 use Rattle.pb_propagate.proofs.Common.{get_or-le-sum_by, get_or-map, length-map, cases_eq, slice_get, IsSettled, rules, Contains}
+use Rattle.pb_propagate.proofs.lemmas.{engine.Reasoned.reasons-derive, engine.Reasoned.reasons-keep, engine.Reasoned.recorded, root.Added.gained-at}
+use Rattle.pb_propagate.proofs.lemmas.{root.Retracted.live-slot, root.Retracted.reasons-fresh, store.Gets.get-set_same, store.Gets.get-set_other}
 use Rattle.pb_propagate.proofs.lemmas.clauses.Literals.{Agree, false-listed}
 use Rattle.pb_propagate.proofs.lemmas.engine.Literals.{open_part-open, has-get, has-push_cases, opposite, says-inside}
-use Rattle.pb_propagate.proofs.lemmas.{engine.Reasoned.reasons-derive, engine.Reasoned.reasons-keep, engine.Reasoned.recorded, root.Added.gained-at}
 use Rattle.pb_propagate.proofs.lemmas.root.{Added.gained-reasons, Added.vacated-all, Added.lost-reasons, Questions.found-after, Questions.root-few}
-use Rattle.pb_propagate.proofs.lemmas.{root.Retracted.live-slot, root.Retracted.reasons-fresh, store.Gets.get-set_same, store.Gets.get-set_other}
 use Rattle.pb_propagate.specs.declared.engine.{conflict.Conflict.Conflict, root.Root.Root}
 
 -- a conflict falsifies a constraint, since no two literals of the list are opposite

@@ -1,4 +1,5 @@
 -- Questions that continue from the root, about a constraint or about a clause by its literals.
+use Rattle.pb_normal.proofs.lemmas.terms.Maps.{IsNormal-negation}
 use Rattle.pb_propagate.proofs.Common.{ℕ, ◌++◌, ◌+◌, ◌-◌, ◌<◌, ◌^◌, ◌∙◌, ◌∷◌, ◌≡◌, ◌≤◌, [], ap, arith, false, get_or, inl, inr, length, length-append, List}
 use Rattle.pb_propagate.proofs.Common.{map, min, rules, refl, suc, true, zero, All, Contains, both_ways, get_or-map, length-map, Contains-append_left}
 use Rattle.pb_propagate.proofs.Common.{Contains-push, Contains-push_cases, IsPermutation-refl, sum_by-cons, Entry, NumberedLiteral, each, Form, IsNormal, total}
@@ -10,14 +11,13 @@ use Rattle.pb_propagate.proofs.Common.{Short, Clauses, Heads, heads_at, Rests, R
 use Rattle.pb_propagate.proofs.Common.{beside, IsTidy, IsUndone, place, spent, AreLonger, entries_of, IsSound, shapes_of, spots_of, stored_shape, Extends, size}
 use Rattle.pb_propagate.proofs.Common.{RunSpends, UpdateCosts, list_of, values_of, Assignment, Bool, HaveReasons, IsAnswered, RunGains, RunRefutes}
 use Rattle.pb_propagate.proofs.Common.{RunVisitsEach, all_of, sum_by-le-sum_by}
+use Rattle.pb_propagate.proofs.lemmas.{root.Rooted.derives-within, root.Rooted.owned, root.Rooted.root-short, root.Rooted.both-le, store.Stored.entries-size}
 use Rattle.pb_propagate.proofs.lemmas.clauses.{Counts.IsOneSided, Counts.killed-both, Shapes.conflicts-joined, Shapes.joined-push}
+use Rattle.pb_propagate.proofs.lemmas.engine.{Literals.derivation-single, Reasoned.reasons-derive, Rests.joined-terms}
 use Rattle.pb_propagate.proofs.lemmas.engine.Advances.{killed-longer, extends-then}
 use Rattle.pb_propagate.proofs.lemmas.engine.Literals.{one_itself, settled-of_terms, derivation-then, negation-negation, open_part-falsified, open_part-open}
 use Rattle.pb_propagate.proofs.lemmas.engine.Literals.{open_sum-lower, has-none, has-push_old, has-push_new, only-itself, opposite as one_sided}
-use Rattle.pb_propagate.proofs.lemmas.engine.{Literals.derivation-single, Reasoned.reasons-derive, Rests.joined-terms}
-use Rattle.pb_propagate.proofs.lemmas.{root.Rooted.derives-within, root.Rooted.owned, root.Rooted.root-short, root.Rooted.both-le, store.Stored.entries-size}
 use Rattle.pb_propagate.specs.{declared.engine.root.Root.Root, engine.engine.Root.HasUpdated, engine.engine.Root.IsStanding, engine.engine.Root.terms_of_all}
-use Rattle.pb_normal.proofs.lemmas.terms.Maps.{IsNormal-negation}
 
 abbrev literal_of : Entry → NumberedLiteral
 literal_of e = (as_term e).literal
@@ -172,8 +172,7 @@ pub both-answered : {shapes : List Shape} (x : Shape) (start mid done : Run) {vi
 both-answered {shapes} x start mid done {visits} {found} begun first second same d e conflict settled =
     let derived = derivation-then (shapes ++ (x ∷ [])) [] (list_of mid) (list_of done) (derives-within _ _ _ _ (Contains-append_left shapes (x ∷ [])) d) e in
     let few : length (list_of done) ≤ visits = grind (arith, done.assignment.list.ok, first, second.found, second.rising) in
-    let sided = λ (l : NumberedLiteral). one_sided (values_of done) (list_of done) l done.assignment.agrees in
-    search rules
+    let sided = λ (l : NumberedLiteral). one_sided (values_of done) (list_of done) l done.assignment.agrees in search rules
 
 -- as many entries are against a list of literals if lists got longer
 spent-longer : (forms forms' : List Shape) (occ occ' : List (Vec Occurrence Global)) (list : List NumberedLiteral) → AreLonger occ occ' →

@@ -1,4 +1,5 @@
 -- The state to which questions return. What the parts of a question need, what they cost, and what they leave.
+use Rattle.pb_propagate.{proofs.lemmas.store.Placed.placed-kept, specs.declared.engine.conflict.Conflict.Conflict, specs.declared.engine.root.Root.Root}
 use Rattle.pb_propagate.proofs.Common.{IsTidy, beside, rules, ℕ, ◌+◌, ◌<◌, ◌∙◌, ◌≡◌, ◌≤◌, [], ap, arith, get_or, get_or-set_other, length, List, set, sym}
 use Rattle.pb_propagate.proofs.Common.{slice_get, slice_get_within, Some, ext_get_or, get_or_default, get_or_read, length-map, Clauses, Waiting, Rests, Run}
 use Rattle.pb_propagate.proofs.Common.{Store, all_of, Walked, IsWalkedTo, heads_at, IsAbsent, IsCounted, IsUndone, shapes_of, stored_shape, HaveReasons}
@@ -9,10 +10,9 @@ use Rattle.pb_propagate.proofs.Common.{IsKeptConflict, Live, numbered, Option, s
 use Rattle.pb_propagate.proofs.Common.{AreWithin, Grows, passed_of, fallen, falsified_code, reached, AreSingle, RunRefutes, Extends, Costs, RunSpends}
 use Rattle.pb_propagate.proofs.lemmas.clauses.{Counts.passed-most, Heads.walks-none, Heads.mark-more, Heads.visits-back, Heads.walks-kept, Heads.heads-is}
 use Rattle.pb_propagate.proofs.lemmas.clauses.Walks.{kept-then, running-grow, grows-listed}
-use Rattle.pb_propagate.proofs.lemmas.engine.Advances.{advances-refl, advances-then, advances-as, extends-then, extends-within, spent-extends, killed-longer}
 use Rattle.pb_propagate.proofs.lemmas.engine.{Bridge.AreKept, Literals.derivation-single, Propagated.open-now, Propagated.IsVisiting, Reasoned.reasons-keep}
 use Rattle.pb_propagate.proofs.lemmas.engine.{Reasoned.keeps-then, Reasoned.reasons-derive, Rests.slots-kept, Runs.Tidy-rest, Runs.absent-from}
-use Rattle.pb_propagate.{proofs.lemmas.store.Placed.placed-kept, specs.declared.engine.conflict.Conflict.Conflict, specs.declared.engine.root.Root.Root}
+use Rattle.pb_propagate.proofs.lemmas.engine.Advances.{advances-refl, advances-then, advances-as, extends-then, extends-within, spent-extends, killed-longer}
 use Rattle.pb_propagate.specs.engine.engine.{Progress.RunIsCalm, Propagation.IsSaved, Root.IsLeft, Root.IsRootOf, Root.IsStanding}
 use Rattle.std.proofs.lemmas.Grind.{get_or-set_at}
 
@@ -145,8 +145,7 @@ pub puts-left : {store : Store} {rests : Rests} {clauses : Clauses} {waiting : L
 puts-left {store} {rests} {clauses} {waiting} {heads} {n} {old} {new} r p =
     let t = p.tidy waiting (length store.stored.items) r.tidy in
     let grows = assigned-grow old.assignment new.assignment p.advances.costs.extends in
-    let running = running-grow clauses (values_of old) (values_of new) p.advances.values grows r.running in
-    search rules
+    let running = running-grow clauses (values_of old) (values_of new) p.advances.values grows r.running in search rules
 
 -- a propagation after literals are put
 pub left-then : {store : Store} {rests : Rests} {before after : Clauses} {n : ℕ} {old mid new : Run} → RunPuts store rests n old mid → Propagates store rests before after mid new → Propagates store rests before after old new
@@ -160,8 +159,7 @@ root-ready {store} {clauses} {run} {rests} {waiting} {walked} r joined running =
     search (rules, r.work, r.trail, r.next)
 
 pub updated-ready : {store : Store} {old clauses : Clauses} {before root : Root} → IsRooted store clauses root.run root.rests root.waiting root.walked (length store.stored.items) → AreJoined (shapes_in store) (clauses_of clauses) → HasUpdated store old clauses before root → IsReadyRun store root.rests clauses [] (heads_at (length (list_of root.run))) root.run
-updated-ready {store} {old} {clauses} {before} {root} r joined u =
-    rw (u.none, u.walked) at (root-ready r joined u.running)
+updated-ready {store} {old} {clauses} {before} {root} r joined u = rw (u.none, u.walked) at (root-ready r joined u.running)
 
 -- the constraints keep the live forms
 pub rest-kept : {store : Store} {clauses : Clauses} {forms : List (Option Form)} {places : List ℕ} → IsAtRest store clauses forms → ArePlaced forms places → AreKept (Live (numbered forms places)) (all_of store clauses)

@@ -16,8 +16,8 @@ use Rattle.pb_propagate.proofs.lemmas.engine.Runs.{Tidy-rest, entry_weight-other
 use Rattle.pb_propagate.proofs.lemmas.root.{Ready.IsTidyRoot, Ready.reasoned-rooted, Rooted.term-entry, Rooted.last-split}
 use Rattle.pb_propagate.proofs.lemmas.store.{Gets.get-map, Gets.get-set_same, Gets.get-set_other, Stored.index-within}
 use Rattle.pb_propagate.specs.{declared.engine.root.Root.Root, engine.engine.Lists.has, engine.engine.Lists.open_part}
-use Rattle.pb_propagate.specs.engine.engine.Refreshed.{AreRefreshed, IsRefreshed, Lacks, IsUntouched, IsReleased, IsShortened, IsSomeRoot}
 use Rattle.pb_propagate.specs.engine.engine.{Rest.no_slots, Rest.add_slot, Root.IsRootOf, Root.IsSized}
+use Rattle.pb_propagate.specs.engine.engine.Refreshed.{AreRefreshed, IsRefreshed, Lacks, IsUntouched, IsReleased, IsShortened, IsSomeRoot}
 use Rattle.std.proofs.lemmas.Grind.{get_or-set_at}
 
 pub refreshed-stays : (store : Store) (b c : Root) (s : ℕ) → AreRefreshed store b c → IsRefreshed store b s → IsRefreshed store c s

@@ -1,4 +1,5 @@
 -- Literals that forms force with nothing assumed: the last one is removed, or they are derived again from given literals.
+use Rattle.pb_propagate.{proofs.lemmas.store.Stored.entry-back, specs.engine.engine.Lists.has, specs.engine.engine.Reached.IsReached}
 use Rattle.pb_propagate.proofs.Common.{ℕ, ◌++◌, ◌+◌, ◌<◌, ◌∷◌, ◌≡◌, ◌≤◌, [], arith, Bool, false, get_or, length, length-append, length-set, List, min}
 use Rattle.pb_propagate.proofs.Common.{None, set, subst, take, Option, sum_by, cases_Bool, length-take-le, set_past, take_all, take_more, sum_by-set}
 use Rattle.pb_propagate.proofs.Common.{NumberedLiteral, has, vacancy, sym, negation, says, true, ◌∙◌, ap, get_or-set_other, inl, inr, map, refl}
@@ -6,13 +7,12 @@ use Rattle.pb_propagate.proofs.Common.{Contains, slice_get, slice_index_or, Some
 use Rattle.pb_propagate.proofs.Common.{slice_get-get_or, slice_get_within, Long, Short, Term, list_at, code_in, joined, one_term, AreSingle, more}
 use Rattle.pb_propagate.proofs.Common.{none, place, spent, IsStored, terms_at, begin, Derives, put, Puts, Shape, Weighted, rules, IfNone, both_ways}
 use Rattle.pb_propagate.proofs.Common.{AreJoined, broken, Conflicts, IsSettled, IsWithin, opposed, HasClash, HasEnded, IsMade, derived, IsRefuted}
-use Rattle.pb_propagate.proofs.lemmas.clauses.Counts.{IsOneSided, occurs, risen, risen-push, occurs-some}
 use Rattle.pb_propagate.proofs.lemmas.clauses.{Literals.code-of, Shapes.joined-source, Shapes.derives-joined, Shapes.conflicts-joined}
+use Rattle.pb_propagate.proofs.lemmas.clauses.Counts.{IsOneSided, occurs, risen, risen-push, occurs-some}
 use Rattle.pb_propagate.proofs.lemmas.engine.Literals.{has-push_old, has-push_new, has-push_cases, Agree, Forgotten, has-elsewhere, has-neither}
 use Rattle.pb_propagate.proofs.lemmas.engine.Literals.{says-apart, says-none, says-inside, opposite, forget-next, forget-none, vacancy-none, has-get}
 use Rattle.pb_propagate.proofs.lemmas.engine.Literals.{lists-clear, place-injective, negation-negation, puts-other, sum_by-agree, derivation-then}
 use Rattle.pb_propagate.proofs.lemmas.engine.Literals.{derivation-keeps, has-none, push-within, open_sum-within, open_sum-lower}
-use Rattle.pb_propagate.{proofs.lemmas.store.Stored.entry-back, specs.engine.engine.Lists.has, specs.engine.engine.Reached.IsReached}
 use Rattle.std.{proofs.lemmas.Grind.get_or-set_at, proofs.lemmas.List.take-take, specs.Cmp.both_ways as same_answers}
 
 -- a list has a literal for each variable with a value, so it is at least as long

@@ -1,4 +1,5 @@
 -- The store after a form was added, removed or emptied, and slots that forms take and leave.
+use Rattle.pb_normal.specs.declared.entry.Entry.{Entry as Given}
 use Rattle.pb_propagate.proofs.Common.{slice_get_past, stored_form, stored_terms, ℕ, ◌⊎◌, ◌++◌, ◌+◌, ◌<◌, ◌∙◌, ◌∷◌, ◌≡◌, [], All, All-permutation, All-set, ap}
 use Rattle.pb_propagate.proofs.Common.{arith, get_or, get_or-set_other, get_or-set_same, Global, inl, inr, IsPermutation, IsPermutation-sym, length}
 use Rattle.pb_propagate.proofs.Common.{length-append, length-set, List, map, None, NumberedLiteral, place, refl, set, set-get_or, set_past, slice_get}
@@ -14,14 +15,12 @@ use Rattle.pb_propagate.proofs.lemmas.engine.{Rests.slots-set, Rests.slots-more,
 use Rattle.pb_propagate.proofs.lemmas.store.{Gets.push-default, Links.cut-length, Placed.agree-sum}
 use Rattle.pb_propagate.proofs.lemmas.store.Stored.{named-term, entries-length, entry-weighted, map-agree}
 use Rattle.pb_propagate.specs.declared.store.{spots.Spots.TheVariants.Empty, stored_form.StoredForm.TheVariants.Vacant}
-use Rattle.pb_normal.specs.declared.entry.Entry.{Entry as Given}
 use Rattle.std.proofs.{Math.ListN.get_or-map as get_or-map_all, lemmas.Grind.get_or-set_at, lemmas.List.get_or-map, lemmas.List.Sums.sum_by-le}
 
 pub kept-inside : (ts : List Term) (es : List Given) (n : ℕ) → IsPermutation (map entry_of ts) es → All (λ e. e.variable < n) es → AreInside n ts
 kept-inside ts es n p all k d h =
     let back = All-permutation (λ (e : Given). e.variable < n) es (map entry_of ts) (IsPermutation-sym (map entry_of ts) es p) all in
-    let here = back k (entry_of d) (omega (arith, h, length-map ts entry_of)) in
-    rw (get_or-map entry_of ts k d (entry_of d) h) at here
+    let here = back k (entry_of d) (omega (arith, h, length-map ts entry_of)) in rw (get_or-map entry_of ts k d (entry_of d) h) at here
 
 -- what is read of a slot
 abbrev bare : Shape
@@ -39,8 +38,7 @@ module _ {old : List Shape} {spots : List (List ℕ)} {lists : List (List Weight
   linked-named p k d h =
       let e = get_or (get_or lists p []) k d in
       let named = named-term old spots lists p k e (slice_get-get_or (get_or lists p []) k d h) linked in
-      let inside = slice_get_within (terms_at old e.form) e.index named.term named.is in
-      grind (arith, get_or_past, inside)
+      let inside = slice_get_within (terms_at old e.form) e.index named.term named.is in grind (arith, get_or_past, inside)
 
   -- so the lists have the coefficients of each form, also of one past the end
   linked-any : (s : ℕ) (l : NumberedLiteral) → weight_in s (get_or lists (place l) []) ≡ weight_on l (terms_at old s)

@@ -7,11 +7,10 @@ use Rattle.pb_propagate.proofs.Common.{slice_get_past, slice_get_within, Vec, we
 use Rattle.pb_propagate.proofs.Common.{term_weight, weight_in, weight_on, cut, degree_at, entry_at, entry_cross, IsLinked, Option, term_at}
 use Rattle.pb_propagate.proofs.Common.{term_cross, terms_at, cases_lt, same, Shape, Weighted, AreLonger, IsSound, Store, stored_terms, subst}
 use Rattle.pb_propagate.proofs.Common.{get_or-map, length-map, map-set, set_past, StoredForm, Spots, spots_in, shapes_of, spots_of, stored_shape}
-use Rattle.pb_propagate.proofs.lemmas.engine.Literals.{same-true, same-refl, place-injective}
-use Rattle.pb_propagate.proofs.lemmas.engine.Propagated.{shape-at, term-inside}
+use Rattle.pb_propagate.proofs.lemmas.engine.{Literals.same-true, Literals.same-refl, Literals.place-injective, Propagated.shape-at, Propagated.term-inside}
 use Rattle.pb_propagate.proofs.lemmas.engine.Runs.{entry_weight-same, entry_weight-other, term_weight-same, term_weight-other, lists-at, place-inside}
-use Rattle.pb_propagate.proofs.lemmas.store.Gets.{get-take_less, get-take_past, get-push_same, get-push_other, get-set_at, get-set_other, swap-other}
 use Rattle.pb_propagate.proofs.lemmas.store.{Gets.swap-past, Gets.swap-here, Gets.swap-length, Positions.taken-is}
+use Rattle.pb_propagate.proofs.lemmas.store.Gets.{get-take_less, get-take_past, get-push_same, get-push_other, get-set_at, get-set_other, swap-other}
 use Rattle.pb_propagate.proofs.lemmas.store.Stored.{to, Same, crossed-add, crossed-drop, crossed-move, entry-back, named-term, named-spot}
 use Rattle.pb_propagate.proofs.lemmas.store.Stored.{entries-length, entries-size, entries-pushed, entries-taken, entry-weighted, item-taken}
 use Rattle.pb_propagate.specs.engine.engine.Links.{none}

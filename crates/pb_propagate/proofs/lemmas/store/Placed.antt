@@ -28,8 +28,7 @@ pub live-back : (forms : List (Option Form)) (places : List ℕ) (f : Form) → 
 live-back forms places f (n, inside, is) =
     let got = slice_get-get_or places n 0 (omega (arith, inside, numbered-length forms places)) in
     let at : form_at forms (get_or places n 0) ≡ Some f = sym (numbered-at forms places n (get_or places n 0) (Some f) got) ∙ is in
-    let less = at-inside forms (get_or places n 0) f at in
-    (get_or places n 0, less, at-any forms (get_or places n 0) (Some f) less ∙ at)
+    let less = at-inside forms (get_or places n 0) f at in (get_or places n 0, less, at-any forms (get_or places n 0) (Some f) less ∙ at)
 
 pub kept-same : (F G : Form → Type 0) (xs : List Shape) → ((f : Form) → F f → G f) → ((f : Form) → G f → F f) → AreKept F xs → AreKept G xs
 kept-same F G xs to from a = record {

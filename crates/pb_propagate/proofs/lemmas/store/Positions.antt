@@ -1,10 +1,10 @@
 -- Lists of numbers: the position of each in a list that has it once, and lists of free slots.
+use Rattle.pb_propagate.{proofs.lemmas.store.Options.some-one, specs.declared.free.Free.Free}
+use Rattle.pb_propagate.proofs.{Common.get_or-set_same, Common.get_or_past, lemmas.store.Gets.get-set_at}
 use Rattle.pb_propagate.proofs.Common.{ℕ, ◌++◌, ◌+◌, ◌-◌, ◌<◌, ◌∙◌, ◌∷◌, ◌≡◌, ◌≤◌, [], ap, arith, Bool, get_or, if◌then◌else◌, inl, inr, length, length-append}
 use Rattle.pb_propagate.proofs.Common.{List, set, suc, sym, slice_get, Some, swap_remove, cases_Bool, cases_eq, get_or_from_slice_get, slice_get-get_or}
 use Rattle.pb_propagate.proofs.Common.{slice_get_within, IsAbsent, IsWithout, Contains, get_or-set_other, get_or_append_left, length-set, subst}
-use Rattle.pb_propagate.proofs.{Common.get_or-set_same, Common.get_or_past, lemmas.store.Gets.get-set_at}
 use Rattle.pb_propagate.proofs.lemmas.store.Gets.{get-set_other, get-push_less, get-push_other, get-push_same, swap-other, swap-past, swap-here, swap-length}
-use Rattle.pb_propagate.{proofs.lemmas.store.Options.some-one, specs.declared.free.Free.Free}
 use Rattle.pb_propagate.specs.engine.engine.Free.{ended, HasPut, IsChain, linked, nobody}
 use Rattle.std.{proofs.lemmas.List.get_or-replicate, proofs.lemmas.List.length-replicate, specs.Prelude.replicate}
 
@@ -37,8 +37,7 @@ positioned-last list positions q d end old i s h = grind (arith, cases_eq i q, s
 
 pub position-inside : (list positions : List ℕ) (form : ℕ) → (IsAbsent list 0 form → ⊥) → ArePositioned list positions → form < length positions
 position-inside list positions form there old =
-    let at = found-at list form there in
-    slice_get_within positions form at.0 (old at.0 form at.1)
+    let at = found-at list form there in slice_get_within positions form at.0 (old at.0 form at.1)
 
 pub position-got : (list positions : List ℕ) (form position : ℕ) → (IsAbsent list 0 form → ⊥) → ArePositioned list positions → position ≡ get_or positions form position → slice_get list position ≡ Some form
 position-got list positions form position there old is =

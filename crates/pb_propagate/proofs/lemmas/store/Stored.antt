@@ -1,4 +1,5 @@
 -- A form's terms, as they are read, sorted and stored, and what terms and entries name.
+use Rattle.pb_propagate.proofs.{Common.slice_get-map, Common.Occurrence, Common.entries_of, Common.lists_of, Common.weighted, lemmas.store.Gets.swap-map}
 use Rattle.pb_propagate.proofs.Common.{ℕ, ◌+◌, ◌-◌, ◌<◌, ◌^◌, ◌∙◌, ◌∷◌, ◌≡◌, ◌≤◌, [], ap, arith, false, get_or, length, List, map, of_z, pos, refl, sym, to_z}
 use Rattle.pb_propagate.proofs.Common.{ℤ, All, IsPermutation, sum_by, sum, sum-map, unsigned_abs, get_or-map, get_or_default, length-map, IsPermutation-map}
 use Rattle.pb_propagate.proofs.Common.{IsPermutation-sym, sum_by-IsPermutation, get_or-le-sum_by, sum_by-cons, w128, Entry, each, total, Rank, Term, AreFalling}
@@ -6,10 +7,9 @@ use Rattle.pb_propagate.proofs.Common.{IsCalm, AreEven, as_term, entry_at_place,
 use Rattle.pb_propagate.proofs.Common.{StoredForm, stored_shape, stored_bound, stored_degree, stored_terms, stored_total, unit_terms, UnitForm, ◌⊎◌}
 use Rattle.pb_propagate.proofs.Common.{get_or_past, None, Option, slice_get, slice_get_within, Some, AreCrossed, Cross, entry_cross, IsLinked, place, Shape}
 use Rattle.pb_propagate.proofs.Common.{term_cross, terms_at, Weighted, map-append, ◌++◌, Global, set, suc, Vec, zero, swap_remove, map-set, slice_get-get_or}
-use Rattle.pb_propagate.proofs.{Common.slice_get-map, Common.Occurrence, Common.entries_of, Common.lists_of, Common.weighted, lemmas.store.Gets.swap-map}
 use Rattle.pb_propagate.specs.declared.store.stored_form.StoredForm.TheVariants.{Single, Counted}
-use Rattle.std.proofs.{Math.ListN.get_or-map as get-mapped, lemmas.Int.fits_signed_from_abs, lemmas.Int.to_z-of_z, lemmas.List.ext_get_or, lemmas.List.map-id}
 use Rattle.std.{proofs.lemmas.List.Elements.All-map, proofs.lemmas.Simd.map-map, specs.List.Sorted.IsNonDecreasingBy}
+use Rattle.std.proofs.{Math.ListN.get_or-map as get-mapped, lemmas.Int.fits_signed_from_abs, lemmas.Int.to_z-of_z, lemmas.List.ext_get_or, lemmas.List.map-id}
 
 -- the ranks of the first terms
 pub record IsStanding (es : List Entry) (ranks : List Rank) (i : ℕ) : Type 0 where

@@ -1,13 +1,13 @@
 use Rattle.pb_propagate.proofs.Common.{rules, ◌≡◌, AreSettled, ℕ, ◌+◌, ◌<◌, ◌∙◌, ◌≤◌, ap, arith, drop, get_or, Global, inl, inr, length, refl, subst, Vec, sum}
 use Rattle.pb_propagate.proofs.Common.{drop_all, get_or_default, length-map, take_rest, passed_of, all_of, clauses_of, heads_at, IsAhead, shapes_in}
 use Rattle.pb_propagate.proofs.Common.{stored_shape, database, progress, list_of, values_of}
+use Rattle.pb_propagate.proofs.lemmas.{clauses.Walks.running-grow, engine.Advances.extends-none, engine.Advances.extends-then, engine.Literals.opposite}
+use Rattle.pb_propagate.proofs.lemmas.clauses.{Shapes.conflicts-joined, Shapes.joined-source, Walks.grows-refl, Walks.grows-trans, Walks.kept-then, Walks.never}
 use Rattle.pb_propagate.proofs.lemmas.clauses.Heads.{mark-walked, walked-mark, marking-start, marking-grow, marking-found, marking-next, cost, next-of}
 use Rattle.pb_propagate.proofs.lemmas.clauses.Heads.{ahead-within, walked-whole, watching-grow, watching-next, watching-settled, same-reached, reached-ahead}
-use Rattle.pb_propagate.proofs.lemmas.clauses.{Shapes.conflicts-joined, Shapes.joined-source, Walks.grows-refl, Walks.grows-trans, Walks.kept-then, Walks.never}
-use Rattle.pb_propagate.proofs.lemmas.{clauses.Walks.running-grow, engine.Advances.extends-none, engine.Advances.extends-then, engine.Literals.opposite}
+use Rattle.pb_propagate.proofs.lemmas.engine.{Propagated.walk-stopped, Reasoned.run-reasons-none, Reasoned.run-reasons-then, Reasoned.run-reasons-joined}
 use Rattle.pb_propagate.proofs.lemmas.engine.Propagated.{propagating-start, propagating-visit, propagating-next, propagating-bound, propagating-take}
 use Rattle.pb_propagate.proofs.lemmas.engine.Propagated.{propagating-settled, propagating-spends, forms-falling, candidates-bounded, stopped, form-stopped}
-use Rattle.pb_propagate.proofs.lemmas.engine.{Propagated.walk-stopped, Reasoned.run-reasons-none, Reasoned.run-reasons-then, Reasoned.run-reasons-joined}
 use Rattle.pb_propagate.proofs.lemmas.root.Ready.{gains-then, assigned-grow}
 use Rattle.pb_propagate.proofs.run.propagate.Goals as goal
 

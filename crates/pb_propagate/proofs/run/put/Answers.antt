@@ -1,8 +1,8 @@
+use Rattle.pb_propagate.proofs.{lemmas.engine.Runs.place-read, run.put.Goals.After-visit-entry, run.put.Goals.In_ok-lower, run.put.Goals.In_ok-put}
 use Rattle.pb_propagate.proofs.Common.{rules, Run, RunPuts, RunRecords, ◌≡◌, ℕ, ◌+◌, ◌∙◌, ap, arith, Global, refl, sym, Vec, length-map, Assignment, place}
 use Rattle.pb_propagate.proofs.Common.{shapes_of, stored_shape, database, entries_against, progress}
 use Rattle.pb_propagate.proofs.lemmas.engine.{Advances.costs-none, Advances.on-err, Reasoned.run-records, Runs.Assigns, Runs.IsPutting, Runs.IsRead}
 use Rattle.pb_propagate.proofs.lemmas.engine.Runs.{putting-fits, putting-next, putting-advances, putting-costs, assigned-tidy, counted-conflict, entry-read}
-use Rattle.pb_propagate.proofs.{lemmas.engine.Runs.place-read, run.put.Goals.After-visit-entry, run.put.Goals.In_ok-lower, run.put.Goals.In_ok-put}
 use Rattle.pb_propagate.proofs.run.put.Goals as goal
 
 pub index-entries-requires : goal.index-entries-requires

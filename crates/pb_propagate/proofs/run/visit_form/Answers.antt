@@ -1,12 +1,12 @@
+use Rattle.pb_propagate.proofs.{Common.IsTidyAt, Common.RunReasons, Common.Conflicts, Common.shapes_in, lemmas.clauses.Walks.never}
+use Rattle.pb_propagate.proofs.{rules.Engine.run, run.visit_form.Goals.After-index-candidate, run.visit_form.Goals.In_ok-found}
 use Rattle.pb_propagate.proofs.Common.{[], stored_degree, stored_terms, ℕ, ◌+◌, ◌<◌, ap, arith, get_or, Global, length, refl, set, Vec, get_or_read}
 use Rattle.pb_propagate.proofs.Common.{get_or_default, rules, length-map, get_or-le-sum_by, Term, stored_shape, database, list_of, progress, reasons_of, ◌≤◌}
-use Rattle.pb_propagate.proofs.{Common.IsTidyAt, Common.RunReasons, Common.Conflicts, Common.shapes_in, lemmas.clauses.Walks.never}
-use Rattle.pb_propagate.proofs.lemmas.engine.Advances.{advances-refl, advances-visit, advances-then, costs-then, on-err}
+use Rattle.pb_propagate.proofs.lemmas.{engine.Runs.counted-conflict, root.Ready.visiting-visits, store.Stored.stored-small, store.Stored.stored-low}
 use Rattle.pb_propagate.proofs.lemmas.engine.{Literals.sum-bounded, Propagated.IsVisiting}
+use Rattle.pb_propagate.proofs.lemmas.engine.Advances.{advances-refl, advances-visit, advances-then, costs-then, on-err}
 use Rattle.pb_propagate.proofs.lemmas.engine.Propagated.{visiting-next, visiting-reasons, forced-read, visiting-settled, shape-at, term-inside, IsForced}
 use Rattle.pb_propagate.proofs.lemmas.engine.Reasoned.{run-reasons-none, keeps-then, reasons-within}
-use Rattle.pb_propagate.proofs.lemmas.{engine.Runs.counted-conflict, root.Ready.visiting-visits, store.Stored.stored-small, store.Stored.stored-low}
-use Rattle.pb_propagate.proofs.{rules.Engine.run, run.visit_form.Goals.After-index-candidate, run.visit_form.Goals.In_ok-found}
 use Rattle.std.proofs.lemmas.Grind.{common_steps}
 use Rattle.pb_propagate.proofs.run.visit_form.Goals as goal
 

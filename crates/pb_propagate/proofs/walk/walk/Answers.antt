@@ -1,9 +1,9 @@
 use Rattle.pb_propagate.proofs.Common.{rules, ◌++◌, ◌+◌, ◌<◌, ◌∙◌, ◌∷◌, [], ap, arith, length, Leaves, Stays, list_at, watch_lists, IsUnit, all_of, clauses_of}
 use Rattle.pb_propagate.proofs.Common.{database, progress, RunReasons, shapes_in, list_of, values_of}
+use Rattle.pb_propagate.proofs.lemmas.{engine.Reasoned.run-reasons-none, engine.Reasoned.unit-reasons, root.Ready.open-later}
 use Rattle.pb_propagate.proofs.lemmas.clauses.{Literals.false-listed, Literals.true-listed, Shapes.broken-conflicts, Shapes.conflicts-joined}
 use Rattle.pb_propagate.proofs.lemmas.clauses.Walks.{IsWalking, kept-then, walking-start, walking-next, walking-pass, walking-forces, walked-end}
 use Rattle.pb_propagate.proofs.lemmas.engine.Advances.{on-err, WalkIsDone, walk-ends, walk-then, walk-costs}
-use Rattle.pb_propagate.proofs.lemmas.{engine.Reasoned.run-reasons-none, engine.Reasoned.unit-reasons, root.Ready.open-later}
 use Rattle.pb_propagate.proofs.walk.walk.Goals.{After-visit_clause, In_ok-put-in-Forces}
 use Rattle.std.proofs.lemmas.Grind.{common_steps}
 use Rattle.pb_propagate.proofs.walk.walk.Goals as goal

@@ -1,7 +1,7 @@
 -- A run of propagation: what it knows of the clauses, and what a visit to a watch finds.
+use Rattle.pb_propagate.specs.{declared.clauses.watched.Pair.Pair, engine.clauses.Blocks.number_at}
 use Rattle.pb_propagate.specs.declared.clauses.{Clauses.Clauses, lists.Watch.Watch, search.Search.Search, visiting.Visit.Visit}
 use Rattle.pb_propagate.specs.declared.clauses.visiting.Visit.TheVariants.{Stays, Leaves, Forces, Falsified}
-use Rattle.pb_propagate.specs.{declared.clauses.watched.Pair.Pair, engine.clauses.Blocks.number_at}
 use Rattle.pb_propagate.specs.engine.clauses.Links.{watch_lists, list_at, watch_at, AreLinked, AreBlocked}
 use Rattle.pb_propagate.specs.engine.clauses.Truths.{flip, true_at, false_at}
 use Rattle.std.specs.Prelude.{◌≡◌, ℕ, ◌+◌, ◌*◌, ◌/◌, ◌<◌, ◌≤◌, ◌⊎◌, ◌++◌, ◌-◌, ◌^◌, nat_lt, if◌then◌else◌, true, false, List, map, length, take, drop, All, Contains, Bool, Option, Some, slice_get, slice_index, slice_index_or}

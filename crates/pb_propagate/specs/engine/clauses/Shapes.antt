@@ -1,7 +1,7 @@
 -- Clauses among the constraints.
 use Rattle.pb_normal.specs.{declared.entry.Entry.Entry, declared.numbered.NumberedLiteral.NumberedLiteral, meaning.Form.Form, meaning.Form.IsNormal}
-use Rattle.pb_propagate.specs.declared.{clause.Group.Group, clause.Group.TheVariants.Short, clause.Group.TheVariants.Long, clauses.Clauses.Clauses}
 use Rattle.pb_propagate.specs.{declared.slots.Planned.Planned, declared.store.Store.Store, declared.term.Term.Term, engine.clauses.Links.list_at}
+use Rattle.pb_propagate.specs.declared.{clause.Group.Group, clause.Group.TheVariants.Short, clause.Group.TheVariants.Long, clauses.Clauses.Clauses}
 use Rattle.pb_propagate.specs.engine.{clauses.Runs.IsPair, engine.Fields.shapes_of, engine.Forms.as_term, engine.Lists.Shape}
 use Rattle.std.specs.Prelude.{◌≡◌, ℕ, ◌+◌, ◌*◌, ◌/◌, ◌%◌, ◌^◌, ◌<◌, ◌≤◌, ◌==◌, not, nat_lt, if◌then◌else◌, All, List, [], ◌∷◌, map, length, count_by, slice_index_or}
 

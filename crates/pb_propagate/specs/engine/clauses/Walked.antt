@@ -1,7 +1,7 @@
 -- The literals that a list falsifies, as codes, and how often clauses contain them.
 use Rattle.pb_normal.specs.{declared.numbered.NumberedLiteral.NumberedLiteral, meaning.Rules.negation}
-use Rattle.pb_propagate.specs.declared.{clause.Group.Group, clause.Group.TheVariants.Short, clause.Group.TheVariants.Long, heads.Ahead.Ahead}
 use Rattle.pb_propagate.specs.{declared.heads.Heads.Heads, engine.clauses.Shapes.code_in}
+use Rattle.pb_propagate.specs.declared.{clause.Group.Group, clause.Group.TheVariants.Short, clause.Group.TheVariants.Long, heads.Ahead.Ahead}
 use Rattle.std.specs.Prelude.{◌≡◌, ℕ, ◌+◌, ◌<◌, ◌==◌, ◌||◌, ◌++◌, false, Bool, [], ◌∷◌, List, map, take, length, count_by, sum_by, slice_index_or}
 
 -- the code is on the list

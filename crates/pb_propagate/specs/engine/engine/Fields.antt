@@ -1,7 +1,7 @@
 -- The engine's fields as lists.
 use Rattle.pb_normal.specs.meaning.Form.{Form}
-use Rattle.pb_propagate.specs.declared.store.{Occurrence.Occurrence, Store.Store, Visited.Visited, spots.Spots.Spots}
 use Rattle.pb_propagate.specs.{declared.store.stored_form.StoredForm.StoredForm, engine.engine.Forms.IsStoredAs}
+use Rattle.pb_propagate.specs.declared.store.{Occurrence.Occurrence, Store.Store, Visited.Visited, spots.Spots.Spots}
 use Rattle.pb_propagate.specs.engine.engine.{Links.IsStored, Links.weighted, Lists.Shape, Lists.Weighted, Spots.spots_in}
 use Rattle.pb_propagate.specs.engine.engine.Stored.{stored_form, stored_terms, stored_degree, stored_total}
 use Rattle.std.specs.Global.{Global}

@@ -1,11 +1,10 @@
 -- A run of propagation as lists, and what each function of propagation does to it.
 use Rattle.pb_normal.specs.{declared.numbered.NumberedLiteral.NumberedLiteral, meaning.Rules.negation}
-use Rattle.pb_propagate.specs.declared.{clauses.Clauses.Clauses, heads.Heads.Heads, rests.Rests.Rests, run.Run.Run, store.Store.Store}
 use Rattle.pb_propagate.specs.{declared.store.Visited.Visited, engine.clauses.Links.watch_lists, engine.clauses.Links.list_at}
-use Rattle.pb_propagate.specs.engine.clauses.{Marks.IsMark, Runs.AreServed, Runs.AreWalked, Runs.passed_of, Shapes.clauses_of}
-use Rattle.pb_propagate.specs.engine.clauses.Walked.{fallen, reached}
-use Rattle.pb_propagate.specs.engine.engine.Counts.{place, Grown, IsCalm, IsCounted, IsTidy, IsAbsent, IsUndone, AreFound, AreSingle, beside, rest_open, spent}
+use Rattle.pb_propagate.specs.declared.{clauses.Clauses.Clauses, heads.Heads.Heads, rests.Rests.Rests, run.Run.Run, store.Store.Store}
+use Rattle.pb_propagate.specs.engine.clauses.{Marks.IsMark, Runs.AreServed, Runs.AreWalked, Runs.passed_of, Shapes.clauses_of, Walked.fallen, Walked.reached}
 use Rattle.pb_propagate.specs.engine.engine.{Fields.shapes_of, Fields.entries_of, Links.coefficient_at}
+use Rattle.pb_propagate.specs.engine.engine.Counts.{place, Grown, IsCalm, IsCounted, IsTidy, IsAbsent, IsUndone, AreFound, AreSingle, beside, rest_open, spent}
 use Rattle.pb_propagate.specs.engine.engine.Lists.{Shape, Weighted, Extends, HaveReasons, KeepsReasons, IsSettled, has}
 use Rattle.std.specs.Prelude.{◌≡◌, ℕ, ◌+◌, ◌-◌, ◌*◌, ◌<◌, ◌≤◌, ◌++◌, ◌∷◌, [], true, false, Contains, Result, IfOk, List, Bool, Option, Some, length, sum, sum_by, slice_get, slice_set, slice_index, slice_index_or}
 

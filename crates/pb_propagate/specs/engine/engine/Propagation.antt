@@ -1,8 +1,7 @@
 -- What the functions of a propagation need, and what they leave.
 use Rattle.pb_propagate.specs.declared.{clauses.Clauses.Clauses, heads.Heads.Heads, rests.Rests.Rests, run.Run.Run, store.Store.Store}
-use Rattle.pb_propagate.specs.engine.clauses.Links.{watch_lists, list_at}
+use Rattle.pb_propagate.specs.engine.clauses.{Shapes.AreJoined, Shapes.clauses_of, Shapes.all_of, Walked.heads_at, Links.watch_lists, Links.list_at}
 use Rattle.pb_propagate.specs.engine.clauses.Runs.{AreReady, Grows, IsRunning, KeepsWalked, passed_of}
-use Rattle.pb_propagate.specs.engine.clauses.{Shapes.AreJoined, Shapes.clauses_of, Shapes.all_of, Walked.heads_at}
 use Rattle.pb_propagate.specs.engine.engine.{Counts.AreSingle, Counts.IsUndone, Lists.Extends}
 use Rattle.pb_propagate.specs.engine.engine.Progress.{AreSettled, list_of, values_of, shapes_in, RunIsOpen, RunIsCounted, RunIsCalm, RunIsUndone, RunIsWalked, RunKeepsReasons, RunReasons, RunAdvances, StaysTidy, RunVisitsEach, RunPays, database, progress}
 use Rattle.std.specs.Prelude.{◌≡◌, ℕ, ◌+◌, ◌*◌, ◌≤◌, [], List, length, sum, take}

@@ -4,13 +4,12 @@ use Rattle.pb_propagate.specs.declared.{assignment.Assignment.Assignment, clause
 use Rattle.pb_propagate.specs.declared.{engine.root.Root.Root, heads.Walked.Walked, rests.Rests.Rests, run.Run.Run, store.Store.Store}
 use Rattle.pb_propagate.specs.declared.{store.stored_form.StoredForm.StoredForm, term.Term.Term, waiting.Waiting.Waiting}
 use Rattle.pb_propagate.specs.engine.clauses.{Links.list_at, Links.watch_at, Marks.IsWalkedTo}
-use Rattle.pb_propagate.specs.engine.clauses.Runs.{AreFree, AreReady, IsRunning, IsSameWatch}
 use Rattle.pb_propagate.specs.engine.clauses.{Shapes.AreJoined, Shapes.clauses_of, Shapes.all_of, Shapes.joined, Truths.false_at, Walked.heads_at}
-use Rattle.pb_propagate.specs.engine.engine.Counts.{AreFound, IsTidy, beside}
+use Rattle.pb_propagate.specs.engine.clauses.Runs.{AreFree, AreReady, IsRunning, IsSameWatch}
 use Rattle.pb_propagate.specs.engine.engine.{Fields.shapes_of, Fields.forms_of, Fields.IsSound, Fields.IsEmpty, Forms.IsStoredAs}
+use Rattle.pb_propagate.specs.engine.engine.{Slots.form_at, Slots.numbered, Slots.ArePlaced, Waiting.IsWithout, Counts.AreFound, Counts.IsTidy, Counts.beside}
 use Rattle.pb_propagate.specs.engine.engine.Lists.{Shape, Derives, HaveReasons, IsDue, Conflicts, IsSettled, has, open_sum}
 use Rattle.pb_propagate.specs.engine.engine.Progress.{RunSpends, RunPays, RunVisitsEach, list_of, values_of}
-use Rattle.pb_propagate.specs.engine.engine.{Slots.form_at, Slots.numbered, Slots.ArePlaced, Waiting.IsWithout}
 use Rattle.std.specs.Prelude.{◌≡◌, ℕ, ◌+◌, ◌*◌, ◌/◌, ◌<◌, ◌≤◌, ◌⊎◌, ◌++◌, ◌∷◌, Contains, true, false, List, [], Bool, Option, Some, length, sum_by, slice_get, slice_set, slice_index, slice_index_or}
 
 -- the slot has a form

@@ -1,4 +1,5 @@
 -- What an accepted conclusion means. Offered to other crates.
+use Rattle.pb_replay.{proofs.lemmas.rules.Completions.Completed-taken, proofs.lemmas.rules.Live.IsLive-live, specs.contract.Rules.HasContradiction}
 use Rattle.pb_replay.proofs.Common.{ℕ, ℤ, ◌∙◌, ◌≡◌, ◌≤ℤ◌, [], arith, Bool, inl, inr, length, List, Some, sym, Contains, Ok, Option, cases_lt, Side, ints}
 use Rattle.pb_replay.proofs.Common.{none-some, same_Some, HasNames-append, Holds-sum, Holds-negation_back, total-le-each, Form, Holds, total, true_at, HasNames}
 use Rattle.pb_replay.proofs.Common.{assignment, IsContradiction, negation_of, names_of, Bound, Conclusion, contains-none, HoldAll, Live, Literal, Term, Answer}
@@ -8,7 +9,6 @@ use Rattle.pb_replay.proofs.Common.{refl, subst, IsSome, with_names, Stage, Clos
 use Rattle.pb_replay.proofs.Common.{VerdictsAreThere, WholeProofsConclude, verdict_at, Verdict, Accepts, mentioned}
 use Rattle.pb_replay.proofs.lemmas.meaning.{Accepting.needed, Accepting.ok-same, Assigned.value-over, Assigned.value-agree, Assigned.side-holds}
 use Rattle.pb_replay.proofs.lemmas.meaning.{Assigned.objective-named, Propagated.IsRup-holds, Ruled.contradiction-to, Ruled.rules-outcomes}
-use Rattle.pb_replay.{proofs.lemmas.rules.Completions.Completed-taken, proofs.lemmas.rules.Live.IsLive-live, specs.contract.Rules.HasContradiction}
 use Rattle.pb_replay.specs.contract.Rules.{some, named, IsNamed, IsLower, infinite, finite, IsUpper, unbounded, by_shown, by_logged, IsJustified, no_claim}
 use Rattle.pb_replay.specs.contract.Rules.{unsat, sat_shown, sat_logged, bounds, Rule, header, formula, pol, rup, soli, solx, delete, output, conclude, end}
 

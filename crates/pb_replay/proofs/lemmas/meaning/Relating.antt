@@ -1,6 +1,7 @@
 -- What the outcomes of a statement have in common, by a relation that passes through its tests. They are single, and larger limits accept more.
 use Rattle.pb_normal.proofs.lemmas.rules.Unique.{IsSum-unique, IsRising-same, same_form}
 use Rattle.pb_proof.proofs.lemmas.pol.Postfix.{words_report}
+use Rattle.pb_replay.proofs.{Common.UnvaluedAreOld, Common.UnvaluedMayWant, Common.literal_names, lemmas.meaning.Accepting.ok-same}
 use Rattle.pb_replay.proofs.Common.{ℕ, ℤ, ◌++◌, ◌-ℤ◌, ◌<◌, ◌∙◌, ◌∷◌, ◌≡◌, ◌≤◌, ◌⊎◌, [], ap, arith, Bool, Err, false, inl, inr, length, List, None, pos, set}
 use Rattle.pb_replay.proofs.Common.{Some, subst, sym, true, Contains, Ok, Option, Result, ext_get_or, same_Some, IsFormOf-unique, same_forms, Side}
 use Rattle.pb_replay.proofs.Common.{NumberedLiteral, AreFormsOf, sides_in, Form, with_names, IsSum, on, Bound, Finite, Infinite, Conclusion, Bounds, NoClaim}
@@ -12,7 +13,6 @@ use Rattle.pb_replay.proofs.Common.{objective_with, upper_bound, FitsAll, names_
 use Rattle.pb_replay.proofs.Common.{HasValue, IsLive, limited, Logged, logged_of, normal_form, numbered, place, Shown, Solution, State, Does, mentioned}
 use Rattle.pb_replay.proofs.Common.{NotBound, Outcome, ◌+◌, get_or, length-append, refl, get_or-append_seam, cases_lt, or_left, or_right, get_or_append_left}
 use Rattle.pb_replay.proofs.Common.{slice_get-get_or, distinct, prefix, number_in-get, AreDistinct, number_in, with_name, only, only-self, derivation-keeps}
-use Rattle.pb_replay.proofs.{Common.UnvaluedAreOld, Common.UnvaluedMayWant, Common.literal_names, lemmas.meaning.Accepting.ok-same}
 use Rattle.pb_replay.specs.declared.fault.Fault.TheVariants.{FormulaCount, NotContradiction, SolutionLogged}
 
 Excludes-unique : (given : List NumberedLiteral) (r s : Form) → Excludes given r → Excludes given s → r ≡ s

@@ -49,8 +49,7 @@ deletes-from live _ rest (one id ids f at d) = inl (f, at, deletes-from (set liv
 -- contradictions
 pub contradiction-to : (live : List (Option Form)) (id : Option ℤ) (next : Answer State) (t : State) → contradicted live id next (Ok t) → HasContradiction live id × next (Ok t)
 contradiction-to live None next t h = let f = needed h in (some f.0.0 f.0.1 f.0.2, f.1)
-contradiction-to live (Some id) next t h =
-    let f = needed h in let last = needed f.2 in (named id f.0 f.1 last.0, last.1)
+contradiction-to live (Some id) next t h = let f = needed h in let last = needed f.2 in (named id f.0 f.1 last.0, last.1)
 
 contradiction-from : (live : List (Option Form)) (id : Option ℤ) (next : Answer State) (t : State) → HasContradiction live id → next (Ok t) → contradicted live id next (Ok t)
 contradiction-from live _ next t (some f at is) n = inl ((f, at, is), n)
@@ -74,10 +73,8 @@ lower-from limit s o _ _ next t (finite b _ _ g above (named_one id f at) side s
 
 upper-to : (v : Problem) (s : State) (u : Bound) (shown : Option (List Literal)) (next : Answer State) (t : State) → upper_bound v s u shown next (Ok t) → IsUpper v s u shown × next (Ok t)
 upper-to v s Infinite shown next t h = (unbounded shown, h)
-upper-to v s (Finite u) (Some given) next t h =
-    let g = needed h in let last = needed g.2 in (by_shown u given g.0 g.1 last.0, last.1)
-upper-to v s (Finite u) None next t h =
-    let last = needed (needed h).1 in (by_logged u last.0.0 last.0.1 last.0.2, last.1)
+upper-to v s (Finite u) (Some given) next t h = let g = needed h in let last = needed g.2 in (by_shown u given g.0 g.1 last.0, last.1)
+upper-to v s (Finite u) None next t h = let last = needed (needed h).1 in (by_logged u last.0.0 last.0.1 last.0.2, last.1)
 
 upper-from : (v : Problem) (s : State) (u : Bound) (shown : Option (List Literal)) (next : Answer State) (t : State) → IsUpper v s u shown → next (Ok t) → upper_bound v s u shown next (Ok t)
 upper-from v s _ _ next t (unbounded shown) n = n

@@ -1,6 +1,5 @@
 -- Every accepted statement preserves what is true of a state, and what a verdict means for the forms, it means for the instance
 use Rattle.pb_normal.proofs.lemmas.{names.Appearing.named, rules.Scales.Holds-multiplied, rules.Scales.Holds-saturated}
-use Rattle.pb_sums.specs.declared.Relation.{Relation, TheVariants.AtLeast, TheVariants.Equal}
 use Rattle.pb_replay.proofs.Common.{ℕ, ◌≤ℤ◌, arith, Bool, List, pos, unsigned_abs, Option, ints, Holds-sum, Holds-divided, Holds-weakened, Form, Holds}
 use Rattle.pb_replay.proofs.Common.{Constraint, LiteralAxiom, Product, Quotient, Saturation, Sum, Tree, Weakening, HoldAll, Live, ℤ, ◌++◌, ◌+ℤ◌, ◌-ℤ◌, ◌<◌, ◌∷◌}
 use Rattle.pb_replay.proofs.Common.{◌≡◌, ◌⊎◌, [], All, append-nil, inl, inr, length, Side, None, refl, set, Some, cases_lt, All-cons, All-head, All-nil}
@@ -15,14 +14,14 @@ use Rattle.pb_replay.proofs.Common.{has_name, HasNames, number_in, by_number, Ho
 use Rattle.pb_replay.proofs.Common.{ProblemsAreProper, SolutionsAreAccounted, VerdictsMean, Verdict, AccountedWritten, allowed_still, beaten_value, IsAtLeast}
 use Rattle.pb_replay.proofs.Common.{IsAtMost, known_names, Means, MeansWritten, names_in, objective_of, Opened, Solves, written_value, first_state}
 use Rattle.pb_replay.proofs.lemmas.conclusions.Concluded.{justified-means, objective-numbers}
-use Rattle.pb_replay.proofs.lemmas.meaning.Accepting.{needed, ok-same}
+use Rattle.pb_replay.proofs.lemmas.meaning.{Propagated.IsRup-holds, Ruled.rules-outcomes, Ruled.solved-from, Accepting.needed, Accepting.ok-same}
 use Rattle.pb_replay.proofs.lemmas.meaning.Assigned.{IsNamePrefix-more, length-prefix, side-holds, value-over, Holds-agree, back, true_sum-agree, value-agree}
-use Rattle.pb_replay.proofs.lemmas.meaning.{Propagated.IsRup-holds, Ruled.rules-outcomes, Ruled.solved-from}
 use Rattle.pb_replay.proofs.lemmas.rules.Completions.{IsTaken, Completed-taken, taken-known, clause-fails}
 use Rattle.pb_replay.proofs.lemmas.rules.Live.{IsLive-live, Live-deleted, Live-loaded, HoldAll-added}
 use Rattle.pb_replay.specs.contract.Rules.{HasForm, constraint, literal, sum, product, quotient, saturation, weakening, Deletes, none, one, IsSolvedBy, Rule}
 use Rattle.pb_replay.specs.contract.Rules.{header, formula, pol, rup, soli, solx, delete, output, conclude, end}
 use Rattle.pb_replay.specs.declared.verdict.Verdict.TheVariants.{NoClaim, Unsat, Sat, Bounds}
+use Rattle.pb_sums.specs.declared.Relation.{Relation, TheVariants.AtLeast, TheVariants.Equal}
 
 -- divisors are above 0
 abbrev pub HasDivisors : Tree → Type 0

@@ -1,4 +1,5 @@
 -- Logged and shown solutions, and what they do once their parts are done
+use Rattle.pb_replay.proofs.{Common.Closing, Common.Conclude, Common.IsBest, Common.state_of, Common.NoSolution, Common.State, lemmas.meaning.Accepting.needed}
 use Rattle.pb_replay.proofs.Common.{ℕ, ◌<◌, ◌∙◌, ◌≡◌, arith, Bool, false, get_or, inl, inr, length, List, not, refl, sym, true, Ok, both_ways, cases_Bool}
 use Rattle.pb_replay.proofs.Common.{cond-true, not-true, not_from_false, get_or_default, NumberedLiteral, Form, Holds, total, true_at, assignment, on, only}
 use Rattle.pb_replay.proofs.Common.{only-true, total-within, HoldAll, IsCompletion, MeetsConflict, IsSolution, Problem, AreValues, Completed, Excludes}
@@ -7,9 +8,8 @@ use Rattle.pb_replay.proofs.Common.{Result, Gives, value_says, begin, broken, De
 use Rattle.pb_replay.proofs.Common.{Fault, Conflict, Memory, AllHold, AreTotal, Judged, Answer, Shown, Solution, ◌++◌, ◌∷◌, [], All, cond, subst, option_map}
 use Rattle.pb_replay.proofs.Common.{or_cases, All-head, All-tail, Contains-get_or, Soli, Solx, only-self, rising-positive, total-has, Live, Linear, Literal}
 use Rattle.pb_replay.proofs.Common.{Term, GoesAt, IsInside, Logs, problem_of, Running, Demands, numbered, is_some, map, Verdict, get_or-map, length-map, Sat}
-use Rattle.pb_replay.proofs.{Common.Closing, Common.Conclude, Common.IsBest, Common.state_of, Common.NoSolution, Common.State, lemmas.meaning.Accepting.needed}
-use Rattle.pb_replay.proofs.lemmas.meaning.{Accepting.eached, Accepting.ok-same, Propagated.AreTrue, Propagated.on-negations, Propagated.derivation-true}
 use Rattle.pb_replay.proofs.lemmas.{meaning.Propagated.true_at-not, meaning.Relating.single-completed, rules.Live.Live-loaded}
+use Rattle.pb_replay.proofs.lemmas.meaning.{Accepting.eached, Accepting.ok-same, Propagated.AreTrue, Propagated.on-negations, Propagated.derivation-true}
 
 -- what an accepted completion has
 pub record IsTaken (v : Problem) (forms : Form → Type 0) (names : ℕ) (given : List NumberedLiteral) (g : Logged) : Type 0 where

@@ -1,5 +1,4 @@
 -- What statements do on a replay, whatever was logged, the visits of a `rup`, and what is true before each statement
-use Rattle.std.specs.List.{All as AllOf}
 use Rattle.pb_replay.proofs.Common.{ℕ, ◌≡◌, List, subst, Option, Result, Form, Stage, Limits, top_of, Fault, Verdict, added, Logged, State, ℤ, Err, inl, inr}
 use Rattle.pb_replay.proofs.Common.{refl, sym, Ok, Statement, stage_of, Adding, Carries, Comes, does_in, Goes, IsBest, outcome_in, state_of, with_mentioned}
 use Rattle.pb_replay.proofs.Common.{Running, Answer, ◌∙◌, ap, false, length, IfErr, OnOk, Delete, IsInside, IsLinked, Deleted, ◌∷◌, [], HasNames, with_names}
@@ -16,6 +15,7 @@ use Rattle.pb_replay.proofs.lemmas.meaning.{Accepting.ok-same, Assigned.length-p
 use Rattle.pb_replay.proofs.lemmas.meaning.Soundness.{problems-proper, loaded-inside, meanings-agree, Deletes-live, first-sound, statements-sound}
 use Rattle.pb_replay.proofs.lemmas.rules.{Live.inside-more, Words.tree-inside}
 use Rattle.pb_replay.specs.contract.{Faults.fault_of, ReplayModel.Preserves, Visits.RupVisits, Visits.IsFew, Visits.CoversConflict, Visits.CoversCompletion}
+use Rattle.std.specs.List.{All as AllOf}
 
 -- states are equal if their fields are
 pub same-state : {l m : List (Option Form)} {ns ms : List (List ℕ)} {logged : List Logged} {x y : Stage} {c d : Option Verdict} → l ≡ m → ns ≡ ms → x ≡ y → c ≡ d

@@ -3,7 +3,7 @@ use Rattle.pb_proof.specs.declared.Statement.TheVariants.{Header}
 use Rattle.pb_replay.specs.declared.fault.Fault.TheVariants.{Memory}
 use Rattle.pb_text.specs.contract.{Automaton.AcceptsItems as AcceptsBytes, Standing.Counts, Standing.Halts, Standing.Waits, Standing.IsOpen as IsOpenText}
 use Rattle.pb_text.specs.declared.Fed.{Fed}
-use Rattle.std.proofs.lemmas.Bool.Decides.{nat_tests}
+use Rattle.pb_tool.{proofs.Common.EndsStatement, proofs.Common.HoldsOpen, proofs.lemmas.check.OneRead.no_prefix, specs.contract.Checks.IsRefusedAt}
 use Rattle.pb_tool.proofs.Common.{ℕ, ◌++◌, ◌+◌, ◌-◌, ◌<◌, ◌∙◌, ◌∷◌, ◌≡◌, ◌⊎◌, [], add-zero, All, ap, append-nil, append_assoc, Bool, drop, Err, false, arith}
 use Rattle.pb_tool.proofs.Common.{inl, inr, length, length-append, List, None, Ok, Option, refl, Result, Some, subst, sym, take, take-append-drop, true, IsSome}
 use Rattle.pb_tool.proofs.Common.{not, All-head, All-tail, ReadsProofs, ReadStatements, IsStatementValue, Proof, Stage, Statement, Conclude, End, F, Output}
@@ -15,8 +15,8 @@ use Rattle.pb_tool.proofs.Common.{IsAt, IsSomewhere, ProofFeeder, StepsFrom, Tex
 use Rattle.pb_tool.proofs.Common.{Rejects, StepsTo, AllocatesAt, AnyCutting, bytes_to, ChecksAt, ChecksOnce, CountsAt, CountsOnce, fault_of, FeedsInTurn}
 use Rattle.pb_tool.proofs.Common.{is_whole, joined, MayGoOn, place_in, CheckFault, Begins, ◌≤◌, length-map, PrefixFree, same_prefix, bytes-append, length-bytes}
 use Rattle.pb_tool.proofs.Common.{place_after-offset, HoldsFew, Answers as AnswersText, open_bytes, bytes_of, Letter, letters_of, plain, spans_since}
-use Rattle.pb_tool.{proofs.Common.EndsStatement, proofs.Common.HoldsOpen, proofs.lemmas.check.OneRead.no_prefix, specs.contract.Checks.IsRefusedAt}
 use Rattle.pb_tool.specs.declared.commands.check.checker.CheckFault.TheVariants.{Text, Step}
+use Rattle.std.proofs.lemmas.Bool.Decides.{nat_tests}
 use Rattle.pb_text.proofs.lemmas.text.Formats as formats
 
 abbrev pub failed : CheckFault → Result Unit CheckFault

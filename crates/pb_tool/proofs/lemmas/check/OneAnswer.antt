@@ -2,7 +2,6 @@
 use Rattle.pb_opb.proofs.lemmas.instances.OneValue.{same_value}
 use Rattle.pb_replay.specs.declared.fault.Fault.TheVariants.{Memory as no_memory, Overflow as over}
 use Rattle.pb_text.proofs.lemmas.text.Blanks.{blank_passes, passes_at}
-use Rattle.std.specs.declared.alloc.Global.{Global}
 use Rattle.pb_tool.proofs.Common.{ℕ, ◌++◌, ◌+◌, ◌∙◌, ◌∷◌, ◌≡◌, ◌≤◌, [], ap, append-nil, arith, Err, IsTrue, length, length-append, List, Option, refl, Some}
 use Rattle.pb_tool.proofs.Common.{subst, sym, both_ways, place_after-offset, Place, Spanned, Stop, Why, Byte, TooLarge, TooLong, IsBlank, IsStray, passes}
 use Rattle.pb_tool.proofs.Common.{ReadsBlank, Took, byte_limit, Explains, IsSpelled, IsUnderWay, Item, place_after, place_past, IsSpelling, IsOfText, ◌↔◌, ◌≢◌}
@@ -16,6 +15,7 @@ use Rattle.pb_tool.proofs.lemmas.check.{CheckerSteps.spelled_events, OneRead.aft
 use Rattle.pb_tool.proofs.lemmas.check.OneRead.{one_prefix, same_rest, some_left, NoneGoesOn, OneSpelling, not_both, one_spelled, one_stop, Compared}
 use Rattle.pb_tool.proofs.lemmas.check.OneRead.{two_prefixes, Begins, spans_begin, so_far_reached, reached_before, so_far_before, spelling_reached, way_reached}
 use Rattle.pb_tool.specs.{declared.fault.Input.TheVariants.Instance as of_instance, declared.fault.Input.TheVariants.Proof as of_proof, engine.Single.AllSingle}
+use Rattle.std.specs.declared.alloc.Global.{Global}
 
 -- a byte within a blank text passes
 passes_in : (text used more : List ℕ) (b : ℕ) → IsBlank text → text ≡ used ++ b ∷ more → IsTrue (passes used b)

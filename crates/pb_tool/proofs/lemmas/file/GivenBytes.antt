@@ -83,8 +83,7 @@ module _ (before mid : Option (List ℕ)) (k : Keeps before mid) {V : Type 0} wh
 
       -- nothing, if the source failed at its first byte
       pub tidies_nothing : ReadsNothing format longest → (old : W) → TidiesAs (IsRead format longest IsValue) (ReadsValue format longest May Keep IsValue) text contents faults before old (Err (Text File first_fault)) mid old
-      tidies_nothing reads old =
-          let t = took_nothing before mid k in (in_text ([], t.0, t.1, Reading [] (reads t.0) tt), refl)
+      tidies_nothing reads old = let t = took_nothing before mid k in (in_text ([], t.0, t.1, Reading [] (reads t.0) tt), refl)
 
 -- ---- which format it is
 

@@ -1,12 +1,12 @@
 -- Statements that are shown one after another. Offered to other crates.
 use Rattle.pb_text.specs.contract.{Pulled.PullsOnce, Standing.IsOpen}
+use Rattle.pb_tool.{proofs.lemmas.check.OneRead.so_far_reached, specs.contract.Show.InText, specs.contract.Show.InRest}
 use Rattle.pb_tool.proofs.Common.{ℕ, ◌++◌, ◌+◌, ◌-◌, ◌<◌, ◌^◌, ◌∙◌, ◌∷◌, ◌≡◌, ◌≤◌, [], ap, append-nil, append_assoc, arith, Bool, Err, false, length}
 use Rattle.pb_tool.proofs.Common.{length-append, List, None, Ok, Option, refl, Result, rules, Some, subst, sym, true, flat_map-append, append_cancel_right}
 use Rattle.pb_tool.proofs.Common.{place_bytes, row, took_join, asking_to, given_both, place_after-offset, AcceptsItems, MayAsk, halt_of, is_complete, place_of}
 use Rattle.pb_tool.proofs.Common.{StandsAt, stop_of, Feeder, Ghosts, Place, Spanned, Stop, ReadsBlank, OfGiven, Pulls, Took, HasPulled, PullsOn, TookAll}
 use Rattle.pb_tool.proofs.Common.{TookSoFar, byte_limit, IsSpelled, Reads, Item, place_after, Broke, Wrote, EndsAt, IsRefusedAfter, IsSpelling, line_of, shown}
 use Rattle.pb_tool.proofs.Common.{shown_line, ShowsLines, File, ToolFault, Text, Write, HasGiven}
-use Rattle.pb_tool.{proofs.lemmas.check.OneRead.so_far_reached, specs.contract.Show.InText, specs.contract.Show.InRest}
 
 -- a line is a position and what follows it
 pub line_parts : {E : Type 0} (text : E → List ℕ) (m : Spanned E) → shown_line text m ≡ place_bytes m.first ++ line_of text m.event

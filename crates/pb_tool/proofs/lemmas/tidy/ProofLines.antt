@@ -1,9 +1,9 @@
 -- The text of a proof whose statements are gathered one by one is its canonical text.
 use Rattle.pb_proof.specs.{contract.Gather.asks, contract.Gather.MayKeep, declared.Statement.TheVariants.Header, meaning.Canonical.lines}
+use Rattle.pb_tool.{proofs.Common.TidiesProof, proofs.lemmas.tidy.InstanceLines.tidies_value, specs.declared.commands.tidy.proof_text.ProofText.ProofText}
 use Rattle.pb_tool.proofs.Common.{ℕ, ◌++◌, ◌↔◌, ◌∙◌, ◌∷◌, ◌≡◌, [], All, ap, append-nil, append_assoc, arith, List, Option, refl, Result, sym, flat_map-append}
 use Rattle.pb_tool.proofs.Common.{All-head, All-tail, flat_map, Proof, Statement, Conclude, End, F, Output, Pol, statement_bytes, IsProofOf, IsStep}
 use Rattle.pb_tool.proofs.Common.{statements_of, Limits, Item, events_of, gathered, ToolFault, TidiesEach, AsksInProofText, IsProofText, tidied_proof}
-use Rattle.pb_tool.{proofs.Common.TidiesProof, proofs.lemmas.tidy.InstanceLines.tidies_value, specs.declared.commands.tidy.proof_text.ProofText.ProofText}
 use Rattle.pb_tool.specs.engine.ProofText.{line, with, text_of, IsProofTextOf}
 
 -- lines, each with its line feed

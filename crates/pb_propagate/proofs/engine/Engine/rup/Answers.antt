@@ -3,9 +3,9 @@ use Rattle.pb_propagate.proofs.Common.{NumberedLiteral, negation_of, all_of, for
 use Rattle.pb_propagate.proofs.Common.{MeetsConflict, With, ℕ, ◌++◌, ◌∷◌, Bool, sym, Option, Some, both_ways, Form, Shape, AreSlots, IsAsked, posed, ArePlaced}
 use Rattle.pb_propagate.proofs.Common.{Derivation, HasConflict, IsAnswered}
 use Rattle.pb_propagate.proofs.engine.Engine.rup.Goals.{After-ask, After-of-self-inside, In_ok-answer}
-use Rattle.pb_propagate.proofs.lemmas.engine.Bridge.{AreKept, derives, conflicts, is-closed, has-none}
-use Rattle.pb_propagate.proofs.lemmas.engine.{Completing.closed-none, Literals.has-none as on-none, Rests.slots-terms, Rests.slots-more, Rests.slots-kept}
 use Rattle.pb_propagate.proofs.lemmas.{engine.Rests.with-kept, root.Kept.conflict-answered, store.Placed.placed-kept, store.Placed.placed-with}
+use Rattle.pb_propagate.proofs.lemmas.engine.{Completing.closed-none, Literals.has-none as on-none, Rests.slots-terms, Rests.slots-more, Rests.slots-kept}
+use Rattle.pb_propagate.proofs.lemmas.engine.Bridge.{AreKept, derives, conflicts, is-closed, has-none}
 use Rattle.pb_propagate.specs.meaning.Propagation.{begin, put, opposed, broken}
 use Rattle.pb_propagate.proofs.engine.Engine.rup.Goals as goal
 

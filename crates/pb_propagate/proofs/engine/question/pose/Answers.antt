@@ -1,14 +1,14 @@
+use Rattle.pb_propagate.{proofs.lemmas.store.Stored.stored-sum, specs.engine.engine.Root.terms_of_all, specs.engine.engine.Root.HasSameForms}
+use Rattle.pb_propagate.proofs.{Common.values_of, Common.◌<◌, engine.question.pose.Goals.After-propagate, engine.question.pose.Goals.In_ok-enter}
 use Rattle.pb_propagate.proofs.Common.{map, length_permutation, entry_of, ℕ, ◌+◌, ◌∙◌, ◌∷◌, ◌≡◌, [], ap, arith, Global, length, length-append, length-set}
 use Rattle.pb_propagate.proofs.Common.{rules, sym, Vec, sum, sum_by, take-append_seam, length-map, sum_by_push, Assignment, all_of, clauses_of, none, shapes_of}
 use Rattle.pb_propagate.proofs.Common.{stored_shape, Derives, Shape, list_of, posed, ◌*◌, ◌≤◌, Contains-append_left, IsTidy, beside, get_or_append_left}
-use Rattle.pb_propagate.proofs.{Common.values_of, Common.◌<◌, engine.question.pose.Goals.After-propagate, engine.question.pose.Goals.In_ok-enter}
+use Rattle.pb_propagate.proofs.lemmas.{root.Ready.rooted-again, root.Ready.heads-now, root.Rooted.derives-within, store.Placed.numbered-entered}
 use Rattle.pb_propagate.proofs.lemmas.clauses.Heads.{visits-back, walks-kept}
 use Rattle.pb_propagate.proofs.lemmas.engine.{Literals.derivation-single, Reasoned.reasons-derive, Rests.joined-entered, Rests.prefix-of, Runs.grown-length}
 use Rattle.pb_propagate.proofs.lemmas.root.{Added.slot-counted, Added.slot-tidy, Kept.met-asked, Questions.entered-shapes}
 use Rattle.pb_propagate.proofs.lemmas.root.Questions.{undone-same, updated-most, all-entered, both-answered, entered-tidy, posed-most, spends-refutes}
-use Rattle.pb_propagate.proofs.lemmas.{root.Ready.rooted-again, root.Ready.heads-now, root.Rooted.derives-within, store.Placed.numbered-entered}
 use Rattle.pb_propagate.proofs.lemmas.store.Placed.{numbered-same}
-use Rattle.pb_propagate.{proofs.lemmas.store.Stored.stored-sum, specs.engine.engine.Root.terms_of_all, specs.engine.engine.Root.HasSameForms}
 use Rattle.std.proofs.lemmas.{Grind.common_steps, List.length_push}
 use Rattle.pb_propagate.proofs.engine.question.pose.Goals as goal
 

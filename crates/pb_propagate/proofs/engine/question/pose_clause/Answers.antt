@@ -1,7 +1,7 @@
-use Rattle.pb_propagate.proofs.Common.{◌+◌, ◌≡◌, ap, arith, length, List, refl, Entry, denial_of, posed, ◌*◌, ◌≤◌, list_of, sym}
-use Rattle.pb_propagate.proofs.{engine.question.pose_clause.Goals.After-refute, lemmas.engine.Reasoned.reasons-derive, lemmas.root.Kept.met-asked}
-use Rattle.pb_propagate.proofs.lemmas.root.Questions.{denial-stored, both-answered, posed-most, updated-most}
 use Rattle.pb_propagate.{proofs.lemmas.root.Ready.undone-left, proofs.rules.Engine.question, specs.engine.engine.Root.terms_of_all}
+use Rattle.pb_propagate.proofs.{engine.question.pose_clause.Goals.After-refute, lemmas.engine.Reasoned.reasons-derive, lemmas.root.Kept.met-asked}
+use Rattle.pb_propagate.proofs.Common.{◌+◌, ◌≡◌, ap, arith, length, List, refl, Entry, denial_of, posed, ◌*◌, ◌≤◌, list_of, sym}
+use Rattle.pb_propagate.proofs.lemmas.root.Questions.{denial-stored, both-answered, posed-most, updated-most}
 use Rattle.pb_propagate.proofs.engine.question.pose_clause.Goals as goal
 
 pub returns-then-branch-clause-asked : goal.returns-then-branch-clause-asked

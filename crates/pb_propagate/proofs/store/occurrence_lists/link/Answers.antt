@@ -1,5 +1,5 @@
-use Rattle.pb_propagate.proofs.Common.{set, ◌++◌, lists_of, ◌<◌, ◌∙◌, ◌∷◌, ◌≡◌, [], ap, arith, get_or, length, length-append, length-set, Term, place}
 use Rattle.pb_propagate.proofs.{Common.stored_terms, Common.Occurrence, lemmas.engine.Runs.lists-at}
+use Rattle.pb_propagate.proofs.Common.{set, ◌++◌, lists_of, ◌<◌, ◌∙◌, ◌∷◌, ◌≡◌, [], ap, arith, get_or, length, length-append, length-set, Term, place}
 use Rattle.pb_propagate.proofs.lemmas.store.Links.{longer-push, pushed-lists, IsTerm, link-by}
 use Rattle.pb_propagate.proofs.store.occurrence_lists.link.Goals as goal
 

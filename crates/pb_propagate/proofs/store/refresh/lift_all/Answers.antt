@@ -1,8 +1,8 @@
+use Rattle.pb_propagate.{proofs.lemmas.store.Stored.stored-small, proofs.store.refresh.lift_all.Goals.After-index-entry, specs.engine.engine.Refreshed.Lacks}
 use Rattle.pb_propagate.proofs.Common.{ℕ, ◌+◌, ◌∙◌, drop, get_or, get_or_read, map, set, size, stored_shape, subst, Shape, Term, ap, arith, length, length-map}
 use Rattle.pb_propagate.proofs.Common.{shapes_of, weighted, slice_get_within}
 use Rattle.pb_propagate.proofs.lemmas.{engine.Propagated.shape-at, engine.Propagated.weight-read, root.Retracted.ahead-entry}
 use Rattle.pb_propagate.proofs.lemmas.root.Retracted.{all-next, lacks-fits, lacks-next, listed-entries, IsOccurrence, occurrence-read, refreshed-then}
-use Rattle.pb_propagate.{proofs.lemmas.store.Stored.stored-small, proofs.store.refresh.lift_all.Goals.After-index-entry, specs.engine.engine.Refreshed.Lacks}
 use Rattle.pb_propagate.proofs.store.refresh.lift_all.Goals as goal
 
 -- the entry that is read is one of the literal's

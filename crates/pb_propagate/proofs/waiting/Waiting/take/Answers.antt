@@ -1,6 +1,6 @@
+use Rattle.pb_propagate.proofs.{lemmas.store.Positions.positioned-last, waiting.Waiting.take.Goals.After-index-position}
 use Rattle.pb_propagate.proofs.Common.{◌-◌, ◌<◌, ◌≡◌, arith, length, slice_get, slice_get_within, Some}
 use Rattle.pb_propagate.proofs.lemmas.store.{Gets.swap-length, Positions.position-inside, Positions.position-got, Positions.taken-is, Positions.moved-last}
-use Rattle.pb_propagate.proofs.{lemmas.store.Positions.positioned-last, waiting.Waiting.take.Goals.After-index-position}
 use Rattle.pb_propagate.proofs.waiting.Waiting.take.Goals as goal
 
 pub index-position-requires : goal.index-position-requires
@@ -43,5 +43,4 @@ index_mut-requires c =
 
 pub returns-clause-list : goal.returns-clause-list
 returns-clause-list c =
-    let got = found (goal.at.returns-clause-list c).After-index-position in
-    (c.index-position.result.now, got, grind (arith, taken-is, got))
+    let got = found (goal.at.returns-clause-list c).After-index-position in (c.index-position.result.now, got, grind (arith, taken-is, got))

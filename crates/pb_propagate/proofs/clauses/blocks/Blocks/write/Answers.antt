@@ -14,8 +14,7 @@ index_mut-requires c = omega (arith, (own (goal.at.index_mut-requires c).After-i
 
 pub write-requires : goal.write-requires
 write-requires c =
-    let at = (own (goal.at.write-requires c).After-index).at in
-    omega (arith, at.end, at.room_is, c.requires.room, length-set {A = ℕ})
+    let at = (own (goal.at.write-requires c).After-index).at in omega (arith, at.end, at.room_is, c.requires.room, length-set {A = ℕ})
 
 pub invariant_of-self : goal.invariant_of-self
 invariant_of-self c =

@@ -1,9 +1,9 @@
+use Rattle.pb_propagate.{proofs.lemmas.store.Positions.get-absent, proofs.lemmas.store.Positions.push-older, specs.engine.engine.Progress.RunIsCalm}
 use Rattle.pb_propagate.proofs.Common.{pushed, ◌∙◌, ap, arith, inl, inr, length, sym, cases_eq, length-map, shapes_of, stored_shape, IsRooted, [], ℕ, ◌++◌, ◌∷◌}
 use Rattle.pb_propagate.proofs.Common.{◌<◌, List, rules, length-set, IsUndone}
 use Rattle.pb_propagate.proofs.engine.root.Root.add.Goals.{In_ok-widen_run, In_ok-open_form}
 use Rattle.pb_propagate.proofs.lemmas.{engine.Runs.grown-absent, engine.Runs.grown-new, engine.Runs.grown-still, root.Added.arrived}
 use Rattle.pb_propagate.proofs.lemmas.root.{Added.gained-rooted, Added.clause-rooted, Added.slot-counted, Added.slot-tidy, Ready.IsEnded, Ready.kept-rooted}
-use Rattle.pb_propagate.{proofs.lemmas.store.Positions.get-absent, proofs.lemmas.store.Positions.push-older, specs.engine.engine.Progress.RunIsCalm}
 use Rattle.pb_propagate.proofs.engine.root.Root.add.Goals as goal
 
 -- the slot is the only one whose open sum is not that of the root's literals

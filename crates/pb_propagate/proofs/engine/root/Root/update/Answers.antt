@@ -1,5 +1,5 @@
-use Rattle.pb_propagate.proofs.Common.{ℕ, ◌∙◌, ◌≡◌, [], ap, arith, Global, length, refl, take, Vec, slice_get_within, all_of, ◌++◌, ◌-◌, Assignment, heads_at}
 use Rattle.pb_propagate.proofs.{Common.rules, lemmas.clauses.Heads.heads-is, lemmas.clauses.Heads.visits-back, lemmas.clauses.Heads.walks-back}
+use Rattle.pb_propagate.proofs.Common.{ℕ, ◌∙◌, ◌≡◌, [], ap, arith, Global, length, refl, take, Vec, slice_get_within, all_of, ◌++◌, ◌-◌, Assignment, heads_at}
 use Rattle.pb_propagate.proofs.lemmas.{clauses.Heads.walks-ended, clauses.Heads.ready-running, engine.Reasoned.run-reasons-rooted, root.Kept.conflicts-kept}
 use Rattle.pb_propagate.proofs.lemmas.root.{Kept.conflict-same, Ready.back-rooted, Ready.rooted-waiting, Ready.root-ready, Ready.kept-rooted}
 use Rattle.std.proofs.Math.ListN.{replicate}

@@ -22,8 +22,7 @@ returns-then-not-went-clause-names c =
     let t = rw c.in-Ok.is at c.advance.ensures in checked.prefix_on _ _ _ c.loop-went.invariant.names t.names
 
 pub returns-in-Err-clause-names : goal.returns-in-Err-clause-names
-returns-in-Err-clause-names c =
-    let t = rw c.in-Err.is at c.advance.ensures in checked.prefix_on _ _ _ c.loop-went.invariant.names t.names
+returns-in-Err-clause-names c = let t = rw c.in-Err.is at c.advance.ensures in checked.prefix_on _ _ _ c.loop-went.invariant.names t.names
 
 pub loop-went-preserved : goal.loop-went-preserved
 loop-went-preserved c =

@@ -1,4 +1,6 @@
 -- `and` makes the empty struct, with the statements that its clause names.
+use Rattle.pb_tool.proofs.Common.{◌++◌, ◌∷◌, [], List, refl, Notes}
+use Rattle.pb_tool.specs.contracts.commands.tidy.notes.Notes.and.Key.{name as #self}
 use base.Logic.{SProp, ent}
 use contract.{Monad.Fun, Running.tables, Running.tables_of}
 use denote.{Builtin.RefOf, Exit.yes, RattleType.owns, Shadow.pure_i, Signature.plain, Signature.types_at, Steps.nothing}
@@ -8,11 +10,9 @@ use mir.Val.{Val, vptr, vstruct, vcons, vnil}
 use prog.{Memory.Memory, Routine.Routine, Wp.Calls, Wp.Loops, Wp.WpFn, Wp.Tables}
 use seplogic.Ra.Ura.{Ura}
 use sound.WpLaws.{WpFn-mono}
+use types.{Logic.Logic, Part.agg, Run.enter, Run.returns, Run.and_then, Run.no_more}
 use types.ByLocal.{alloc_all, pass_all, free_all, look_at, get, sets}
 use types.Kit.{‵, raw, ◌⊛◌, prop, ◌$◌, ◌∵◌, !, qed, move, keep, drop, split, fsplit, fjoin, feq_l, regoal, suffices, done}
-use types.{Logic.Logic, Part.agg, Run.enter, Run.returns, Run.and_then, Run.no_more}
-use Rattle.pb_tool.proofs.Common.{◌++◌, ◌∷◌, [], List, refl, Notes}
-use Rattle.pb_tool.specs.contracts.commands.tidy.notes.Notes.and.Key.{name as #self}
 use Rattle.pb_opb.specs.contracts.event.OpbEvent as E
 use Rattle.pb_tool.specs.contracts.commands.tidy.notes.Notes as T
 use Rattle.pb_tool.specs.contracts.commands.tidy.notes.Notes.and as F
