@@ -1,7 +1,6 @@
 -- One more token, compared and given.
-use Rattle.pb_pieces.proofs.Common.{ℕ, ◌++◌, ◌+◌, ◌∙◌, ◌∷◌, ◌≡◌, ◌⊎◌, [], ap, arith, inl, inr, length, length-append, List, map, refl, Some, subst}
-use Rattle.pb_pieces.proofs.Common.{suc, sym, take, true, zero, slice_get, length-map, map_push, Arrays, IsGivenAt, token_in, AreFirst}
-use Rattle.pb_pieces.proofs.Common.{Compared, Token, GivenToken}
+use Rattle.pb_pieces.proofs.Common.{ℕ, ◌++◌, ◌+◌, ◌∙◌, ◌∷◌, ◌≡◌, ◌⊎◌, [], ap, arith, inl, inr, length, length-append, List, map, refl, Some, subst, suc, sym}
+use Rattle.pb_pieces.proofs.Common.{take, true, zero, slice_get, length-map, map_push, Arrays, IsGivenAt, token_in, AreFirst, Compared, Token, GivenToken}
 use Rattle.pb_pieces.specs.declared.matcher.Matcher.{Matcher}
 use Rattle.std.proofs.lemmas.{List.take_more, Option.get_or_from_slice_get, Option.none-some, Option.same_Some, Option.slice_get_within}
 

@@ -1,11 +1,9 @@
 -- A session at its end, and at its beginning.
-use Rattle.pb_pieces.proofs.Common.{ℕ, ◌∙◌, ◌≡◌, [], ap, append-nil, arith, Bor, drop, Err, inl, length, List, None, Ok, Option, refl, Result, Some}
-use Rattle.pb_pieces.proofs.Common.{subst, sym, true, Vec, drop-append_seam, drop-nil, Fault, Opened, Problem, first_state, State, place_after-offset}
-use Rattle.pb_pieces.proofs.Common.{Limits, Place, Spanned, Stop, ReadsBlank, largest, top_of, Reads, Checking, IsAt, EndsAfter, CountsAt, fault_of}
-use Rattle.pb_pieces.proofs.Common.{place_in, CheckFault, IsProofText, AfterProof, IsAccepted, HasFault, IsInstanceOf, IsRejected, IsRunning}
-use Rattle.pb_pieces.proofs.Common.{IsSession, Session}
-use Rattle.pb_text.specs.contract.{Over.reported, OverState.inner_of, OverState.shown_of}
-use Rattle.pb_text.specs.meaning.Whole.{IsRead, events_at}
+use Rattle.pb_pieces.proofs.Common.{ℕ, ◌∙◌, ◌≡◌, [], ap, append-nil, arith, Bor, drop, Err, inl, length, List, None, Ok, Option, refl, Result, Some, subst, sym}
+use Rattle.pb_pieces.proofs.Common.{true, Vec, drop-append_seam, drop-nil, Fault, Opened, Problem, first_state, State, place_after-offset, Limits, Place}
+use Rattle.pb_pieces.proofs.Common.{Spanned, Stop, ReadsBlank, largest, top_of, Reads, Checking, IsAt, EndsAfter, CountsAt, fault_of, place_in, CheckFault}
+use Rattle.pb_pieces.proofs.Common.{IsProofText, AfterProof, IsAccepted, HasFault, IsInstanceOf, IsRejected, IsRunning, IsSession, Session}
+use Rattle.pb_text.specs.{contract.Over.reported, contract.OverState.inner_of, contract.OverState.shown_of, meaning.Whole.IsRead, meaning.Whole.events_at}
 use Rattle.std.specs.declared.alloc.Global.{Global}
 use Rattle.pb_text.specs.declared.place.Why.TheVariants as reason
 use Rattle.pb_opb.specs.{declared.Instance.Instance, meaning.Reading.ReadsInstance, meaning.Values.IsValueOf}
@@ -13,9 +11,8 @@ use Rattle.pb_proof.specs.declared.Stage.{Stage, TheVariants.Complete}
 use Rattle.pb_replay.specs.contract.ReplayModel.{Replaying, StandsFor, verdict_at}
 use Rattle.pb_replay.specs.{declared.verdict.Verdict.Verdict, meaning.Statements.Accepts}
 use Rattle.pb_text.specs.declared.over.Over.{Over}
-use Rattle.pb_tool.specs.{contract.Runs.Replays, meaning.Decided.AreVerified}
-use Rattle.pb_tool.specs.meaning.Files.{IsInstanceFile, IsInstanceText, IsNoInstanceFile, IsRefused.InText, IsRefused.InRest}
-use Rattle.pb_tool.specs.meaning.Headline.{VerdictsAreTrue}
+use Rattle.pb_tool.specs.{contract.Runs.Replays, meaning.Decided.AreVerified, meaning.Files.IsInstanceFile}
+use Rattle.pb_tool.specs.meaning.{Files.IsInstanceText, Files.IsNoInstanceFile, Files.IsRefused.InText, Files.IsRefused.InRest, Headline.VerdictsAreTrue}
 use Rattle.pb_tool.specs.declared.commands.check.checker.CheckFault.TheVariants as check
 use Rattle.pb_pieces.proofs.{Faults.accepting, Faults.refused_at_end, Fed.running, Fed.with_stands}
 use Rattle.pb_tool.proofs.lemmas.{check.TwoSources.whole_file, file.GivenBytes.file_then_blank}

@@ -1,14 +1,13 @@
 -- What a checker has accepted, and the first fault that a check finds in the same text.
-use Rattle.pb_pieces.proofs.Common.{ℕ, ◌++◌, ◌∙◌, ◌∷◌, ◌≡◌, [], ap, Bool, false, get_or, inl, inr, length, List, None, Ok, Option, refl, Result, Some}
-use Rattle.pb_pieces.proofs.Common.{subst, sym, append_cancel_left, Statement, Fault, Problem, first_state, State, place_after-offset, Limits, Place}
-use Rattle.pb_pieces.proofs.Common.{Stop, Answers, Reads, place_after, reported, many, running_at, Checking, CountsSoFar, TextsAreRead, Checks}
-use Rattle.pb_pieces.proofs.Common.{IsRefusedAt, Rejects, AllocatesAt, CountsAt, fault_of, is_whole, place_in, CheckFault, AsksInProofText}
-use Rattle.pb_pieces.proofs.Common.{largest, Spanned, top_of, IsProofText, ComesTo, InProof, IsAccepted, IsReported, HasFault}
-use Rattle.pb_text.specs.{declared.place.Why.Why, meaning.Stopping.IsAsking, meaning.Whole.events_at}
-use Rattle.pb_text.specs.declared.place.Why.TheVariants as reason
-use Rattle.pb_text.proofs.lemmas.source.Wholes.{same_prefix}
-use Rattle.pb_replay.specs.declared.fault.Fault.TheVariants as fault
+use Rattle.pb_pieces.proofs.Common.{ℕ, ◌++◌, ◌∙◌, ◌∷◌, ◌≡◌, [], ap, Bool, false, get_or, inl, inr, length, List, None, Ok, Option, refl, Result, Some, subst}
+use Rattle.pb_pieces.proofs.Common.{sym, append_cancel_left, Statement, Fault, Problem, first_state, State, place_after-offset, Limits, Place, Stop, Answers}
+use Rattle.pb_pieces.proofs.Common.{Reads, place_after, reported, many, running_at, Checking, CountsSoFar, TextsAreRead, Checks, IsRefusedAt, Rejects}
+use Rattle.pb_pieces.proofs.Common.{AllocatesAt, CountsAt, fault_of, is_whole, place_in, CheckFault, AsksInProofText, largest, Spanned, top_of, IsProofText}
+use Rattle.pb_pieces.proofs.Common.{ComesTo, InProof, IsAccepted, IsReported, HasFault}
+use Rattle.pb_text.{proofs.lemmas.source.Wholes.same_prefix, specs.declared.place.Why.Why, specs.meaning.Stopping.IsAsking, specs.meaning.Whole.events_at}
 use Rattle.pb_replay.specs.meaning.Statements.{Accepts}
+use Rattle.pb_text.specs.declared.place.Why.TheVariants as reason
+use Rattle.pb_replay.specs.declared.fault.Fault.TheVariants as fault
 use Rattle.pb_tool.specs.declared.commands.check.checker.CheckFault.TheVariants as check
 
 -- ---- memory runs out at a byte that may allocate

@@ -3,10 +3,7 @@ mod Compared
 mod Ended
 mod Faults
 mod Fed
-mod FedTokens
 mod Giving
-mod Numbered
 mod Numbers
-mod Pulled
 mod Readers
 mod Statements

@@ -1,12 +1,10 @@
 -- What a reader of an instance or of a proof gives.
 use Rattle.pb_pieces.proofs.Common.{ℕ, Err, IfErr, IfOk, List, None, Ok, Option, Result, Some, OpbEvent, opb, OpbState, IsInstance, Statement, proofs}
-use Rattle.pb_pieces.proofs.Common.{ProofState, IsProof, AcceptsItems, Limits, Place, Spanned, Stop, largest, top_of, EndsAs, Given, given, AreRead}
-use Rattle.pb_pieces.proofs.Common.{Ends, GivesFor, GivesOne, IsReader, new_instance, new_proof, opb_statements, proof_statements, StopsAt, Gives}
-use Rattle.pb_pieces.proofs.Common.{IsReading, Stops, Event, TokenReader}
-use Rattle.pb_pieces.specs.declared.reader.Format.{Format}
+use Rattle.pb_pieces.proofs.Common.{ProofState, IsProof, AcceptsItems, Limits, Place, Spanned, Stop, largest, top_of, EndsAs, Given, given, AreRead, Ends}
+use Rattle.pb_pieces.proofs.Common.{GivesFor, GivesOne, IsReader, new_instance, new_proof, opb_statements, proof_statements, StopsAt, Gives, IsReading, Stops}
+use Rattle.pb_pieces.proofs.{Common.Event, Common.TokenReader, Giving.Next, Giving.ended, Giving.next, Giving.stops}
+use Rattle.pb_pieces.specs.declared.{reader.Format.Format, reader.Reader.TheVariants.Instance, reader.Reader.TheVariants.Proof, token_reader.Taken.Taken}
 use Rattle.pb_pieces.specs.declared.reader.Format.TheVariants as format
-use Rattle.pb_pieces.proofs.Giving.{Next, ended, next, stops}
-use Rattle.pb_pieces.specs.declared.{reader.Reader.TheVariants.Instance, reader.Reader.TheVariants.Proof, token_reader.Taken.Taken}
 
 module _ (limits : Limits) (longest : ℕ) (fed : List ℕ) (events : List Given) (piece : List ℕ) where
   -- a reader of an instance

@@ -7,9 +7,8 @@ use Rattle.pb_opb.specs.declared.OpbEvent.TheVariants as opb
 use Rattle.pb_proof.specs.{contract.Values.IsStatementValue, meaning.Canonical.statement_bytes}
 use Rattle.pb_pieces.specs.OpbTokens as instance
 use Rattle.pb_pieces.specs.ProofTokens as proof
-use Rattle.pb_pieces.specs.{Tokens.Token, declared.any_statement.AnyStatement.AnyStatement}
-use Rattle.pb_pieces.specs.declared.any_statement.AnyStatement.TheVariants.{Instance, Proof}
-use Rattle.pb_pieces.specs.declared.tokenized.EventKind.{EventKind}
+use Rattle.pb_pieces.specs.{Tokens.Token, declared.any_statement.AnyStatement.AnyStatement, declared.any_statement.AnyStatement.TheVariants.Instance}
+use Rattle.pb_pieces.specs.declared.{any_statement.AnyStatement.TheVariants.Proof, tokenized.EventKind.EventKind}
 
 abbrev pub kind_in : AnyStatement → EventKind
 kind_in (Instance event) = instance.kind_in event

@@ -1,11 +1,9 @@
 -- An instance in flat arrays.
 use Rattle.pb_opb.specs.declared.OpbEvent.{OpbEvent, TheVariants.Header, TheVariants.Comment, TheVariants.Objective, TheVariants.Constraint}
-use Rattle.pb_pieces.specs.{Flat.HoldNamed, Places.HoldPlaces, Rows.HoldRows, declared.instance.Flat.Flat, declared.places.Span.Span}
-use Rattle.pb_pieces.specs.declared.rows.Row.{Row}
+use Rattle.pb_pieces.specs.{Flat.HoldNamed, Places.HoldPlaces, Rows.HoldRows, declared.instance.Flat.Flat, declared.places.Span.Span, declared.rows.Row.Row}
 use Rattle.pb_sums.specs.declared.{Term.Term, linear.Relation.Relation, linear.Relation.TheVariants.AtLeast, linear.Relation.TheVariants.Equal}
 use Rattle.pb_text.specs.declared.Spanned.{Spanned}
-use Rattle.std.specs.List.{flat_map}
-use Rattle.std.specs.Prelude.{ℕ, ◌+◌, pos, List, [], ◌∷◌, ◌++◌, length}
+use Rattle.std.specs.{List.flat_map, Prelude.ℕ, Prelude.◌+◌, Prelude.pos, Prelude.List, Prelude.[], Prelude.◌∷◌, Prelude.◌++◌, Prelude.length}
 
 abbrev pub kind_code : Relation → ℕ
 kind_code AtLeast = 1

@@ -1,7 +1,6 @@
 -- A statement that is made from the arrays of a caller.
 use Rattle.pb_pieces.specs.AnyStatement.{IsAnyValue, kind_in, text_in, tokens_in}
-use Rattle.pb_pieces.specs.{GivenTokens.AreGiven, GivenTokens.Arrays, declared.any_statement.AnyStatement.AnyStatement}
-use Rattle.pb_pieces.specs.declared.tokenized.EventKind.{EventKind}
+use Rattle.pb_pieces.specs.{GivenTokens.AreGiven, GivenTokens.Arrays, declared.any_statement.AnyStatement.AnyStatement, declared.tokenized.EventKind.EventKind}
 use Rattle.pb_text.specs.{declared.Limits.Limits, meaning.Limits.largest, meaning.Limits.top_of}
 use Rattle.std.specs.Prelude.{◌≡◌, ℕ, List}
 

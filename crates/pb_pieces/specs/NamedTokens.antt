@@ -1,11 +1,10 @@
 -- The tokens of statements, with the names that they are numbered by.
 use Rattle.pb_normal.specs.meaning.Names.{HasNames, number_in, with_names}
-use Rattle.pb_pieces.specs.{Tokens.HoldTokens, Tokens.Token, Tokens.token, declared.tokens.TokenKind.TokenKind}
+use Rattle.pb_pieces.specs.{Tokens.HoldTokens, Tokens.Token, Tokens.token, declared.named_tokens.NamedTokens.NamedTokens, declared.tokens.TokenKind.TokenKind}
 use Rattle.pb_sums.specs.declared.{Literal.Literal, Term.Term}
 use Rattle.std.specs.List.{flat_map}
 use Rattle.std.specs.Prelude.{◌≡◌, ℕ, List, [], ◌∷◌, ◌++◌, Bool, true, false, Option, Some, None, map, pos}
 use Rattle.pb_pieces.specs.declared.tokens.TokenKind.TheVariants as kind
-use Rattle.pb_pieces.specs.declared.named_tokens.NamedTokens.{NamedTokens}
 
 abbrev pub literal_kind : Bool → TokenKind
 literal_kind true = kind.NegatedLiteral

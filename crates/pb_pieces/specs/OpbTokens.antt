@@ -1,11 +1,10 @@
 -- The tokens of the statements of an instance.
 use Rattle.pb_sums.specs.declared.{Linear.Linear, linear.Relation.Relation}
 use Rattle.std.specs.Prelude.{ℕ, List, [], ◌∷◌, ◌++◌, None, map, pos}
-use Rattle.pb_sums.specs.declared.linear.Relation.TheVariants as relation
 use Rattle.pb_opb.specs.declared.OpbEvent.{OpbEvent, TheVariants.Header, TheVariants.Comment, TheVariants.Objective, TheVariants.Constraint}
-use Rattle.pb_pieces.specs.{NamedTokens.token_of_term, Tokens.Token, Tokens.token, declared.tokenized.EventKind.EventKind}
+use Rattle.pb_pieces.specs.{NamedTokens.token_of_term, Tokens.Token, Tokens.token, declared.tokenized.EventKind.EventKind, declared.tokens.TokenKind.TokenKind}
+use Rattle.pb_sums.specs.declared.linear.Relation.TheVariants as relation
 use Rattle.pb_pieces.specs.declared.tokenized.EventKind.TheVariants as event
-use Rattle.pb_pieces.specs.declared.tokens.TokenKind.{TokenKind}
 use Rattle.pb_pieces.specs.declared.tokens.TokenKind.TheVariants as kind
 
 abbrev pub relation_kind : Relation → TokenKind

@@ -1,6 +1,5 @@
 -- The tokens of the statements of a proof.
-use Rattle.pb_pieces.specs.{NamedTokens.token_of_literal, OpbTokens.tokens_of_linear, Tokens.Token, Tokens.token}
-use Rattle.pb_pieces.specs.declared.tokenized.EventKind.{EventKind}
+use Rattle.pb_pieces.specs.{NamedTokens.token_of_literal, OpbTokens.tokens_of_linear, Tokens.Token, Tokens.token, declared.tokenized.EventKind.EventKind}
 use Rattle.pb_proof.specs.declared.Statement.{Statement}
 use Rattle.pb_proof.specs.declared.Statement.TheVariants.{Header, F, Pol, Rup, Soli, Solx, Delete, Output, Conclude, End}
 use Rattle.pb_proof.specs.declared.conclusion.{Bound.Bound, Bound.TheVariants.Finite, Bound.TheVariants.Infinite, Conclusion.Conclusion}

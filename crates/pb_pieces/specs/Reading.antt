@@ -2,8 +2,7 @@
 use Rattle.pb_opb.specs.declared.OpbEvent.{OpbEvent}
 use Rattle.pb_pieces.specs.{Instance.IsFlatOf, declared.instance.Flat.Flat}
 use Rattle.pb_text.specs.declared.{Place.Place, Spanned.Spanned, Stop.Stop, place.Why.TheVariants.Memory}
-use Rattle.pb_text.specs.meaning.{Blank.IsBlank, Blank.ReadsBlank, Pulling.Took, PullsInARow.TookAll, Reading.IsSpelled, Reading.byte_limit}
-use Rattle.pb_text.specs.meaning.Spelling.{Item}
+use Rattle.pb_text.specs.meaning.{Blank.IsBlank, Blank.ReadsBlank, Pulling.Took, PullsInARow.TookAll, Reading.IsSpelled, Reading.byte_limit, Spelling.Item}
 use Rattle.std.specs.Prelude.{◌≡◌, ℕ, ◌≤◌, List, [], ◌++◌, length, true, false, Option, Some, None, Err}
 
 -- The source had a text of the format and a blank rest, and ended there. The arrays are those of its statements.

@@ -1,5 +1,5 @@
 use Rattle.pb_pieces.proofs.Common.{◌++◌, ◌∷◌, [], ap, Err, Ok, subst, opb, AcceptsItems, Place, ReadsBlank, first_pull, InRest, InText, Unstored}
-use Rattle.pb_pieces.proofs.Pulled.{flat_by}
+use Rattle.pb_pieces.proofs.Statements.{flat_by}
 use Rattle.pb_pieces.proofs.read.read_events.Goals as goal
 
 pub loop-read-init : goal.loop-read-init

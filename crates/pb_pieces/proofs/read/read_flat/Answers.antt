@@ -1,5 +1,4 @@
-use Rattle.pb_pieces.proofs.Common.{opb, IsInstance, AcceptsItems, largest, top_of}
-use Rattle.pb_pieces.proofs.Pulled.{read_as, refused_as}
+use Rattle.pb_pieces.proofs.{Common.opb, Common.IsInstance, Common.AcceptsItems, Common.largest, Common.top_of, Statements.read_as, Statements.refused_as}
 use Rattle.pb_pieces.proofs.read.read_flat.Goals as goal
 
 pub returns-clause-read : goal.returns-clause-read

@@ -1,5 +1,4 @@
-use Rattle.pb_pieces.proofs.Common.{◌++◌, ◌∷◌, ◌≡◌, [], rules, arrays_of}
-use Rattle.pb_pieces.proofs.Compared.{given_next}
+use Rattle.pb_pieces.proofs.{Common.◌++◌, Common.◌∷◌, Common.◌≡◌, Common.[], Common.rules, Common.arrays_of, Compared.given_next}
 use Rattle.pb_pieces.proofs.token_arrays.tokens_given.Goals as goal
 
 pub tokens-preserved : goal.tokens-preserved

@@ -1,5 +1,4 @@
-use Rattle.pb_pieces.proofs.Common.{ℕ, ◌∙◌, ap, List, map, number_in, with_name}
-use Rattle.pb_pieces.proofs.Numbers.{one_more}
+use Rattle.pb_pieces.proofs.{Common.ℕ, Common.◌∙◌, Common.ap, Common.List, Common.map, Common.number_in, Common.with_name, Numbers.one_more}
 use Rattle.pb_pieces.proofs.flat.Named.push.Goals as goal
 
 pub returns : goal.returns

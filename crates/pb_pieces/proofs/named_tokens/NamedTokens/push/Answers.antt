@@ -1,5 +1,5 @@
 use Rattle.pb_pieces.proofs.Common.{ℤ, ◌++◌, ◌∷◌, ◌≡◌, [], None, of_z, refl, rules, subst, to_z, HoldTokens, token}
-use Rattle.pb_pieces.proofs.Numbered.{numbers, one_bare}
+use Rattle.pb_pieces.proofs.Numbers.{numbers, one_bare}
 use mir.Syntax.{w128}
 use Rattle.pb_pieces.proofs.named_tokens.NamedTokens.push.Goals as goal
 

@@ -1,5 +1,5 @@
 use Rattle.pb_pieces.proofs.Common.{ℤ, ◌++◌, ◌∷◌, ◌≡◌, [], of_z, refl, rules, Some, subst, to_z, HoldTokens, token}
-use Rattle.pb_pieces.proofs.Numbered.{numbers, one_named}
+use Rattle.pb_pieces.proofs.Numbers.{numbers, one_named}
 use mir.Syntax.{w128}
 use Rattle.pb_pieces.proofs.named_tokens.NamedTokens.push_named.Goals as goal
 

@@ -1,5 +1,4 @@
-use Rattle.pb_pieces.proofs.Common.{◌∙◌, ap, Err, rules}
-use Rattle.pb_pieces.proofs.Ended.{file, no_rest, no_text, opened, whole}
+use Rattle.pb_pieces.proofs.{Common.◌∙◌, Common.ap, Common.Err, Common.rules, Ended.file, Ended.no_rest, Ended.no_text, Ended.opened, Ended.whole}
 use Rattle.pb_pieces.proofs.session.Session.open.Goals as goal
 
 pub returns-in-Err-clause-refused : goal.returns-in-Err-clause-refused

@@ -1,5 +1,5 @@
 use Rattle.pb_pieces.proofs.Common.{◌++◌, inl, inr, Some, names_of}
-use Rattle.pb_pieces.proofs.FedTokens.{given, names_more, none, stopped}
+use Rattle.pb_pieces.proofs.Giving.{fed_event, names_more, none, stopped}
 use Rattle.pb_pieces.proofs.token_reader.TokenReader.feed.Goals as goal
 
 pub returns-in-Err-clause-stops : goal.returns-in-Err-clause-stops
@@ -29,7 +29,7 @@ returns-in-Ok-give-clause-gives g c longest start fed spans running reading =
       r.shown,
       holds.arrays,
       record {
-        stands = rw c.give.ensures.feeder (given longest start fed c.args.piece.now spans c.args.self.now.feeder c.feed.new.self reading.running reading.stands c.in-Ok.fed (Some m) c.in-Some-event.is f.feeds);
+        stands = rw c.give.ensures.feeder (fed_event longest start fed c.args.piece.now spans c.args.self.now.feeder c.feed.new.self reading.running reading.stands c.in-Ok.fed (Some m) c.in-Some-event.is f.feeds);
         running = rw c.give.ensures.feeder f.stop;
         seen = reading.seen ++ names_of reading.current;
         current = g.E.Tokenized.tokens m.event;
@@ -43,5 +43,5 @@ returns-in-Err-give-clause-stops g c longest start fed spans running reading =
     let f = rw c.in-Ok.is at c.feed.ensures in
     let m = c.in-Some-event.read in
     let r = rw c.in-Some-event.is at c.in-Err-give.ensures in
-    let at = given longest start fed c.args.piece.now spans c.args.self.now.feeder c.feed.new.self reading.running reading.stands c.in-Ok.fed (Some m) c.in-Some-event.is f.feeds in
+    let at = fed_event longest start fed c.args.piece.now spans c.args.self.now.feeder c.feed.new.self reading.running reading.stands c.in-Ok.fed (Some m) c.in-Some-event.is f.feeds in
     inr (r.spent.0, m, c.in-Ok.fed.used, r.spent.1, rw c.give.ensures.feeder at, rw c.give.ensures.feeder f.stop)

@@ -1,4 +1,4 @@
-use Rattle.pb_pieces.proofs.{Common.◌++◌, Common.[], Common.names_of, Numbered.nothing_added}
+use Rattle.pb_pieces.proofs.{Common.◌++◌, Common.[], Common.names_of, Numbers.nothing_added}
 use Rattle.pb_pieces.proofs.token_reader.TokenReader.store.Goals as goal
 
 pub returns-clause-stored : goal.returns-clause-stored
