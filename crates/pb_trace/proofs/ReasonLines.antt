@@ -6,8 +6,7 @@ use Rattle.pb_trace.proofs.Common.{AreAround, AreBefore, ArePieces, AreReasons, 
 use Rattle.pb_trace.proofs.Common.{Silence, words_of, WritesBefore, WritesPieces, WritesReasons, WritesShown, WritesSome, broken_by, end_of, Reasons}
 use Rattle.pb_trace.{proofs.Common.Stored, proofs.Texts.broke_append, proofs.Texts.texts, specs.Rejected.Then, specs.declared.broken.Broken.Broken}
 use Rattle.pb_trace.specs.declared.broken.Broken.TheVariants as broken
-use Rattle.pb_trace.specs.declared.{piece.Derivation.Derivation, piece.Lines.Lines, piece.Piece.Piece, reasons.Scene.Scene}
-use Rattle.pb_trace.specs.declared.stored.Constraints.{Constraints}
+use Rattle.pb_trace.specs.declared.{piece.Derivation.Derivation, piece.Lines.Lines, piece.Piece.Piece, reasons.Scene.Scene, stored.Constraints.Constraints}
 
 module _ (known : Known) where
   joined : (x y : List ℕ) → AreReasons known x → AreReasons known y → AreReasons known (x ++ y)
@@ -25,9 +24,6 @@ module _ {S : Type 0} (contents : S → Option (List ℕ)) (faults : S → ℕ) 
   some_broke a b (Err e) f i h = h
 
 module _ {S : Type 0} (contents : S → Option (List ℕ)) (faults : S → ℕ) (known : Known) where
-  pub no_piece : (a : S) → WritesPieces contents faults known a (Ok tt) a
-  no_piece a = ([], Nothing, writes_nothing contents faults a)
-
   pub one_piece : (a b : S) (piece : Piece) (r : Result Unit Failed) → Writes contents faults a (piece_bytes known piece) r b → WritesPieces contents faults known a r b
   one_piece a b piece r h = ([] ++ piece_bytes known piece, Then [] piece Nothing, h)
 
@@ -35,9 +31,6 @@ module _ {S : Type 0} (contents : S → Option (List ℕ)) (faults : S → ℕ) 
   pub pieces_then : (a b c : S) (r : Result Unit Failed) → WritesPieces contents faults known a (Ok tt) b
       → WritesPieces contents faults known b r c → WritesPieces contents faults known a r c
   pieces_then a b c r (x, are, h) (y, others, k) = (x ++ y, pieces_joined known x y are others, writes_then contents faults a b c x y r h k)
-
-  pub no_reason : (a : S) → WritesReasons contents faults known a (Ok tt) a
-  no_reason a = ([], Silence, writes_nothing contents faults a)
 
   -- some reasons, and then others with their result
   pub reasons_then : (a b c : S) (r : Result Unit Failed) → WritesReasons contents faults known a (Ok tt) b

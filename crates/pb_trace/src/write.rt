@@ -1,5 +1,5 @@
 //! Lines of a trace.
-#![tactic(auto, using(crate::proofs::Shown::shown))]
+#![tactic(auto, using(crate::proofs::Texts::shown))]
 
 ghost use Rattle.std.specs.Prelude.{◌≡◌, pos, ◌<◌, ◌^◌, ◌-◌, ◌∷◌, ◌++◌, List, ℕ, All, length, map, slice_get, decimal, codes};
 ghost use Rattle.std.specs.Fmt.{signed_decimal};

@@ -1,4 +1,4 @@
-use Rattle.pb_trace.proofs.TracedLines.{traces-each-line}
+use Rattle.pb_trace.proofs.Storing.{traces-each-line}
 use Rattle.pb_trace.proofs.laws.traces_each_line.Goals as goal
 
 pub returns : goal.returns

@@ -1,9 +1,9 @@
-use Rattle.pb_trace.proofs.Common.{Ok, known_by, AreReasons}
-use Rattle.pb_trace.proofs.ReasonLines.{no_reason, reasons_then, some_broke}
+use Rattle.pb_trace.proofs.{Common.[], Common.Ok, Common.writes_nothing, Common.known_by, Common.AreReasons, Common.Silence}
+use Rattle.pb_trace.proofs.ReasonLines.{reasons_then, some_broke}
 use Rattle.pb_trace.proofs.rejected.write_lines.Goals as goal
 
 pub loop-end-init : goal.loop-end-init
-loop-end-init g c = no_reason g.S.Sink.contents g.S.Sink.faults (known_by c.args.facts.now) _
+loop-end-init g c = ([], Silence, writes_nothing g.S.Sink.contents g.S.Sink.faults _)
 
 pub returns-in_err-write_reason : goal.returns-in_err-write_reason
 returns-in_err-write_reason g c =

@@ -1,9 +1,9 @@
-use Rattle.pb_trace.proofs.Common.{Ok, known_by, ArePieces}
-use Rattle.pb_trace.proofs.ReasonLines.{no_piece, pieces_then, some_broke}
+use Rattle.pb_trace.proofs.{Common.[], Common.Ok, Common.writes_nothing, Common.known_by, Common.ArePieces, Common.Nothing}
+use Rattle.pb_trace.proofs.ReasonLines.{pieces_then, some_broke}
 use Rattle.pb_trace.proofs.rejected.write_pieces.Goals as goal
 
 pub loop-piece-init : goal.loop-piece-init
-loop-piece-init g c = no_piece g.S.Sink.contents g.S.Sink.faults (known_by c.args.facts.now) _
+loop-piece-init g c = ([], Nothing, writes_nothing g.S.Sink.contents g.S.Sink.faults _)
 
 pub returns-in_err-write_piece : goal.returns-in_err-write_piece
 returns-in_err-write_piece g c =

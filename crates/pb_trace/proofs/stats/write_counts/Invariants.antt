@@ -1,5 +1,4 @@
-use Rattle.pb_trace.proofs.Common.{flat_map, take, Wrote}
-use Rattle.pb_trace.specs.Counted.{count_line}
+use Rattle.pb_trace.{proofs.Common.flat_map, proofs.Common.take, proofs.Common.Wrote, specs.Counted.count_line}
 use Rattle.pb_trace.proofs.stats.write_counts.Given as goal
 
 abbrev pub invariant-loop-name : goal.invariant-loop-name

@@ -1,5 +1,5 @@
 use Rattle.pb_trace.proofs.Common.{◌≡◌, arith, take, common_steps, no_entry, total-read}
-use Rattle.pb_trace.proofs.{Shown.entry_bytes, Shown.head_entries, Texts.each_broke, Texts.each_wrote}
+use Rattle.pb_trace.proofs.{Texts.entry_bytes, Texts.head_entries, Texts.each_broke, Texts.each_wrote}
 use Rattle.pb_trace.proofs.write.write_entries.Goals as goal
 
 pub write_entry-requires : goal.write_entry-requires

@@ -1,4 +1,4 @@
-use Rattle.pb_trace.proofs.{Common.take, Common.flat_map, Common.Wrote, Shown.entry_bytes}
+use Rattle.pb_trace.proofs.{Common.take, Common.flat_map, Common.Wrote, Texts.entry_bytes}
 use Rattle.pb_trace.proofs.write.write_entries.Given as goal
 
 abbrev pub invariant-entries : goal.invariant-entries

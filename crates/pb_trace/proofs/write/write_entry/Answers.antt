@@ -1,4 +1,4 @@
-use Rattle.pb_trace.proofs.{Common.refl, Common.part_broke, Common.part_then, Shown.entry_parts}
+use Rattle.pb_trace.proofs.{Common.refl, Common.part_broke, Common.part_then, Texts.entry_parts}
 use Rattle.pb_trace.proofs.write.write_entry.Goals as goal
 
 pub returns-in_err-write_coefficient : goal.returns-in_err-write_coefficient

@@ -1,4 +1,4 @@
-use Rattle.pb_trace.proofs.{Adding.newer_more, Common.arith, Common.length, Common.live_in}
+use Rattle.pb_trace.proofs.{Changing.newer_more, Common.arith, Common.length, Common.live_in}
 use Rattle.pb_trace.proofs.stored.Constraints.extend.Goals as goal
 
 pub loop-index-preserved : goal.loop-index-preserved
