@@ -1,30 +1,25 @@
--- What a replay verifies is true of its instance.
+-- What a source over a slice has, and what a replay verifies of an instance.
 use Rattle.pb_examples.specs.Fed.{Verifies}
 use Rattle.pb_opb.specs.declared.Instance.{Instance}
-use Rattle.pb_proof.specs.{contract.ValueLaws.ReadStatements, contract.Values.IsStatementValue, declared.Stage.Stage}
-use Rattle.pb_proof.specs.declared.Stage.TheVariants.{Opening, Formula, Steps, Concluding, Closing, Complete}
-use Rattle.pb_proof.specs.declared.Statement.{Statement}
-use Rattle.pb_replay.specs.contract.Laws.{MeaningsAgree, StatementsAreSound}
-use Rattle.pb_replay.specs.contract.ReplayModel.{Replaying, StandsFor, verdict_at}
-use Rattle.pb_replay.specs.declared.{fault.Fault.Fault, verdict.Verdict.Verdict}
-use Rattle.pb_replay.specs.meaning.{Meaning.IsProblem, Meaning.IsSound, Meaning.Means, Meaning.MeansWritten, Problem.Opened, Problem.Problem}
-use Rattle.pb_replay.specs.meaning.{Replay.State, Statements.Accepts}
+use Rattle.pb_proof.specs.contract.{ValueLaws.ReadStatements, Values.IsStatementValue}
+use Rattle.pb_proof.specs.declared.{Stage.Stage, Stage.TheVariants.Complete, Statement.Statement}
+use Rattle.pb_replay.specs.contract.{Laws.MeaningsAgree, Laws.StatementsAreSound, ReplayModel.Replaying, ReplayModel.StandsFor, ReplayModel.verdict_at}
+use Rattle.pb_replay.specs.{declared.fault.Fault.Fault, declared.verdict.Verdict.Verdict, meaning.Meaning.IsProblem}
+use Rattle.pb_replay.specs.meaning.{Meaning.IsSound, Meaning.Means, Meaning.MeansWritten, Problem.Opened, Problem.Problem, Replay.State, Statements.Accepts}
+use Rattle.pb_text.specs.{contract.Over.reported, contract.OverState.inner_of, contract.OverState.shown_of, declared.over.Over.Over}
 use Rattle.pb_text.specs.meaning.{Limits.largest, Limits.top_of, Reading.byte_limit, Whole.events_at}
 use Rattle.pb_tool.specs.contract.Checker.{IsAt}
-use Rattle.std.proofs.Common.{◌≡◌, ℕ, List, [], ◌∷◌, Option, Some, None, Result, Ok, Err, refl, subst, true, All}
+use Rattle.std.proofs.Common.{◌≡◌, ℕ, List, [], ◌∷◌, Option, Some, None, Ok, Err, refl, subst, true, All, Bor, ap, ◌∙◌}
 use Rattle.std.proofs.lemmas.List.Elements.{All-head, All-tail}
+
+-- the text of a source over a slice is the slice
+pub whole : (o : Over (Bor (List ℕ))) (s : Bor (List ℕ)) → inner_of o ≡ s → shown_of o ≡ None → reported (Some o.inner.now) None o.shown ≡ Some s.now
+whole o s is none = ap (λ (x : Option ℕ). reported (Some o.inner.now) None x) none ∙ ap (λ (x : Bor (List ℕ)). Some x.now) is
 
 -- a complete proof has the verdict of its conclusion
 concluded_as : (next : Stage) (concluded : Option Verdict) (w : Verdict) → verdict_at next concluded ≡ Some w → concluded ≡ Some w
 concluded_as Complete concluded w e = e
-concluded_as Opening concluded w e = absurd cc
-concluded_as Formula concluded w e = absurd cc
-concluded_as Steps concluded w e = absurd cc
-concluded_as Concluding concluded w e = absurd cc
-concluded_as Closing concluded w e = absurd cc
-
-same_state : {s t : State} → ◌≡◌ {A = Result State Fault} (Ok s) (Ok t) → s ≡ t
-same_state e = cc
+concluded_as _ concluded w e = absurd cc
 
 -- the accepted statements of a proof preserve soundness
 sound_after : StatementsAreSound → (limit top : ℕ) (v : Problem) → IsProblem v → (sts : List Statement) (s t : State)
@@ -40,9 +35,10 @@ module _ (law : StatementsAreSound) (agree : MeaningsAgree) (read : ReadStatemen
   from_state fine s at sound =
       let (place, (t, replayed, is)) = shows (Ok s) at in
       let (u, same, accepted) = replayed.accepted in
+      let there : t ≡ u = cc same in
       let begins = read (largest r.limits) (top_of r.limits) byte_limit bytes replayed.used replayed.spans place true None replayed.reads in
       let last = sound_after law (largest r.limits) (top_of r.limits) r.problem fine (events_at replayed.spans) s u begins.each sound accepted in
-      last.meant w (concluded_as u.next u.concluded w (subst (λ (x : State). verdict_at x.next x.concluded ≡ Some w) (same_state same) is))
+      last.meant w (concluded_as u.next u.concluded w (rw there at is))
 
   -- a spent one verifies nothing
   at_fault : (fault : Option Fault) → r.fault ≡ fault → (r.fault ≡ None → IsProblem r.problem)

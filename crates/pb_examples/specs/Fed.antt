@@ -3,8 +3,7 @@ use Rattle.pb_opb.specs.declared.Instance.{Instance}
 use Rattle.pb_replay.specs.{contract.ReplayModel.Replaying, declared.fault.Fault.Fault, declared.verdict.Verdict.Verdict}
 use Rattle.pb_replay.specs.{declared.verdict.Verdict.TheVariants.Unsat, meaning.Problem.Opened, meaning.Problem.Problem, meaning.Replay.State}
 use Rattle.pb_text.specs.{declared.Limits.Limits, declared.Place.Place, meaning.Reading.byte_limit}
-use Rattle.pb_tool.specs.contract.{Checker.Checking, Checker.IsAt, Checks.Ends, Pieces.ChecksAt}
-use Rattle.pb_tool.specs.meaning.Headline.{IsUnsatisfiable}
+use Rattle.pb_tool.specs.{contract.Checker.Checking, contract.Checker.IsAt, contract.Checks.Ends, contract.Pieces.ChecksAt, meaning.Headline.IsUnsatisfiable}
 use Rattle.std.specs.Prelude.{◌≡◌, ◌↔◌, ℕ, List, [], Bool, IsTrue, Result, Ok}
 
 -- No assignment solves the instance that the replay was opened for.

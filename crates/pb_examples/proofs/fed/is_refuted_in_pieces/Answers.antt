@@ -1,7 +1,7 @@
 use Rattle.pb_examples.{proofs.Sound.true_of, specs.Fed.ReportsUnsat, specs.Fed.Verifies}
 use Rattle.pb_replay.specs.declared.verdict.Verdict.{Verdict, TheVariants.Unsat}
 use Rattle.pb_tool.specs.declared.commands.check.checker.CheckFault.{CheckFault}
-use Rattle.std.proofs.Common.{◌≡◌, ℕ, List, Result, Ok, Err, Bool, true, IsTrue, IfOk, Bor, refl, subst}
+use Rattle.std.proofs.Common.{ℕ, List, Result, Ok, Err, Bool, IfOk, Bor, refl, subst}
 use Rattle.std.specs.List.{flat_map}
 use Rattle.pb_examples.proofs.fed.is_refuted_in_pieces.Goals as goal
 
@@ -22,11 +22,8 @@ returns-clause-exact c =
     (λ answer found. (found.0, (λ first at. found.2 c.args.replay.limits c.args.replay.problem first (c.new-checker.ensures.stands first at)), found.1))
     c.is_unsat.ensures
 
-is_true : (answer : Bool) → answer ≡ true → IsTrue answer
-is_true answer e = cc
-
 pub returns-clause-unsat : goal.returns-clause-unsat
 returns-clause-unsat c e =
     let (verdict, verified, whether) = subst (λ (r : Result Bool CheckFault). IfOk r (ReportsUnsat c.args.replay (joined c.args.pieces.now))) e (returns-clause-exact c) in
     true_of c.statements_are_sound.ensures.statements c.verdicts_are_true.ensures.forms c.reads_are_of_proofs.ensures c.args.replay (joined c.args.pieces.now) Unsat
-    (subst (λ (v : Verdict). Verifies c.args.replay (joined c.args.pieces.now) v) (whether.0 (is_true true refl)) verified) c.report_sound.ensures.problem c.report_sound.ensures.sound
+    (subst (λ (v : Verdict). Verifies c.args.replay (joined c.args.pieces.now) v) (whether.0 refl) verified) c.report_sound.ensures.problem c.report_sound.ensures.sound

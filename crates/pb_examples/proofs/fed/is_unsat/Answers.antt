@@ -1,8 +1,7 @@
 use Rattle.pb_text.specs.meaning.Reading.{byte_limit}
-use Rattle.pb_tool.specs.contract.Pieces.{ChecksAt, MayGoOn, place_in}
-use Rattle.pb_tool.specs.declared.commands.check.checker.CheckFault.{CheckFault}
-use Rattle.std.proofs.Common.{arith, ◌≡◌, ◌∙◌, ℕ, ◌+◌, ◌<◌, List, [], ◌∷◌, ◌++◌, None, Option, Bool, true, IsTrue, Bor, get_or, length, take, ap, refl, sym, subst}
-use Rattle.std.proofs.lemmas.{Grind.flat_map-append, List.append-nil, List.take_all, List.take_more}
+use Rattle.pb_tool.specs.{contract.Pieces.ChecksAt, contract.Pieces.MayGoOn, contract.Pieces.place_in, declared.commands.check.checker.CheckFault.CheckFault}
+use Rattle.std.proofs.Common.{arith, ◌≡◌, ◌∙◌, ℕ, ◌+◌, ◌<◌, List, [], ◌∷◌, ◌++◌, None, Option, true, Bor, get_or, length, take, ap, refl, sym}
+use Rattle.std.proofs.{Common.subst, lemmas.Grind.flat_map-append, lemmas.List.append-nil, lemmas.List.take_all, lemmas.List.take_more}
 use Rattle.std.specs.List.{flat_map}
 use Rattle.pb_examples.proofs.fed.is_unsat.Goals as goal
 
@@ -31,14 +30,11 @@ loop-piece-preserved c = (
       (opens c.loop-piece.checker.fault c.loop-piece.invariant.0) (c.loop-piece.invariant.1 limits v first at)),
 )
 
-is_true : (answer : Bool) → answer ≡ true → IsTrue answer
-is_true answer e = cc
-
 -- the verdict on all pieces is UNSAT
 pub returns-in-Unsat : goal.returns-in-Unsat
 returns-in-Unsat c = (
   c.in_ok-verdict.verdict,
-  ((λ yes. c.in-Unsat.is), (λ e. is_true true refl)),
+  ((λ yes. c.in-Unsat.is), (λ e. refl)),
   λ limits v first at. (
     place_in c.finish.new.self,
     c.in_ok-verdict.ensures.ends limits byte_limit v first (joined c.args.pieces.now) c.loop-piece.invariant.0

@@ -1,13 +1,10 @@
+use Rattle.pb_examples.proofs.{Sound.whole, refuted.is_refuted.Goals.in-Unsat, refuted.is_refuted.Goals.in_default}
 use Rattle.pb_replay.specs.declared.verdict.Verdict.{Verdict, TheVariants.Unsat}
-use Rattle.pb_text.specs.{contract.Over.reported, contract.OverState.inner_of, contract.OverState.shown_of, declared.Limits.Limits}
-use Rattle.pb_text.specs.{declared.over.Over.Over, meaning.Reading.byte_limit}
-use Rattle.pb_tool.specs.declared.fault.ToolFault.{ToolFault}
-use Rattle.pb_tool.specs.meaning.{Decided.AreVerified, Decided.IsDecided, Decided.IsOfTexts, Files.IsInstanceFile}
-use Rattle.pb_tool.specs.meaning.Headline.{AreWidest, IsUnsatText, UnsatIsExact, UnsatOf}
-use Rattle.pb_tool.specs.meaning.Verified.{CheckCall, ChecksFiles}
-use Rattle.std.proofs.Common.{◌≡◌, ◌∙◌, ◌↔◌, None, Result, ℕ, List, Option, Some, Ok, Bor, Bool, IsTrue, refl, sym, ap, subst}
+use Rattle.pb_text.specs.{declared.Limits.Limits, meaning.Reading.byte_limit}
+use Rattle.pb_tool.specs.meaning.{Decided.AreVerified, Decided.IsDecided, Decided.IsOfTexts, Files.IsInstanceFile, Headline.AreWidest, Headline.IsUnsatText}
+use Rattle.pb_tool.specs.meaning.{Headline.UnsatIsExact, Headline.UnsatOf, Verified.CheckCall, Verified.ChecksFiles}
+use Rattle.std.proofs.Common.{◌≡◌, ◌∙◌, ◌↔◌, ℕ, List, Option, Some, Ok, Bor, Bool, IsTrue, refl, sym, ap, subst}
 use Rattle.pb_examples.proofs.refuted.is_refuted.Goals as goal
-use Rattle.pb_examples.proofs.refuted.is_refuted.Goals.{in-Unsat, in_default}
 
 -- A source with a known text has given all of it at its end.
 unsat_text : (limits : Limits) → AreWidest limits → (text : List ℕ) (after : Option (List ℕ)) → UnsatOf limits byte_limit (Some text) after → IsUnsatText text
@@ -24,19 +21,12 @@ returns-clause-unsat c e =
     ]
 
 -- What is answered for a verdict is whether it is UNSAT, and so whether the rules accept the two texts.
-same : {w v : Verdict} → ◌≡◌ {A = Result Verdict ToolFault} (Ok w) (Ok v) → w ≡ v
-same e = cc
-
 answered : {W : Type 0} (contents : W → Option (List ℕ)) (faults : W → ℕ) → UnsatIsExact contents faults → (limits : Limits) (i p : List ℕ) (c : CheckCall (Option (List ℕ)) W) (w : Verdict)
     → c.result ≡ Ok w → IsOfTexts i p c → ChecksFiles limits byte_limit contents faults c
     → (answer : Bool) → IsTrue answer ↔ (w ≡ Unsat) → IsTrue answer ↔ AreVerified limits byte_limit i p Unsat
 answered contents faults exact limits i p c w ok texts checks answer is =
     let (accepted, _) = exact limits byte_limit i p c texts checks (subst IsDecided (sym ok) tt) in
-    (λ yes. accepted.0 (ok ∙ ap Ok (is.0 yes)), λ v. is.1 (same (sym ok ∙ accepted.1 v)))
-
--- the text of a source over a slice is the slice
-whole : (o : Over (Bor (List ℕ))) (s : Bor (List ℕ)) → inner_of o ≡ s → shown_of o ≡ None → reported (Some o.inner.now) None o.shown ≡ Some s.now
-whole o s is none = ap (λ (x : Option ℕ). reported (Some o.inner.now) None x) none ∙ ap (λ (x : Bor (List ℕ)). Some x.now) is
+    (λ yes. accepted.0 (ok ∙ ap Ok (is.0 yes)), λ v. is.1 (cc (ok, accepted.1 v)))
 
 -- the answer says whether the verdict is UNSAT
 whether : (c : goal.After-drop-out-2) → IsTrue c.match-matches.matches ↔ (c.in_ok-verdict.verdict ≡ Unsat)

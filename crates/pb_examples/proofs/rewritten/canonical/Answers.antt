@@ -1,16 +1,10 @@
-use Rattle.pb_examples.specs.Rewritten.{IsRewritten, IsTextOf}
+use Rattle.pb_examples.{proofs.Sound.whole, specs.Rewritten.IsRewritten, specs.Rewritten.IsTextOf}
 use Rattle.pb_opb.specs.{contract.Canonical.instance_bytes, contract.Laws.CanonicalInstance, contract.Laws.InstanceValues, declared.Instance.Instance}
 use Rattle.pb_opb.specs.{declared.OpbEvent.OpbEvent, meaning.Instances.IsInstance, meaning.Reading.ReadsInstance, meaning.Values.IsValueOf}
-use Rattle.pb_text.specs.{contract.Over.reported, contract.OverState.inner_of, contract.OverState.shown_of, declared.Spanned.Spanned}
-use Rattle.pb_text.specs.{declared.over.Over.Over, meaning.Reading.byte_limit, meaning.Spelling.Item, meaning.Spelling.bytes_of}
-use Rattle.pb_text.specs.meaning.Whole.{events_of}
-use Rattle.std.proofs.Common.{arith, ◌≡◌, ◌∙◌, None, ℕ, ◌-◌, ◌^◌, ◌<◌, List, [], ◌++◌, sym, Vec, Option, Some, Ok, Bor, ap, subst}
+use Rattle.pb_text.specs.{declared.Spanned.Spanned, meaning.Reading.byte_limit, meaning.Spelling.Item, meaning.Spelling.bytes_of, meaning.Whole.events_of}
+use Rattle.std.proofs.Common.{arith, ◌≡◌, ◌∙◌, ℕ, ◌-◌, ◌^◌, ◌<◌, List, [], ◌++◌, sym, Vec, Option, Some, Ok, ap, subst}
 use Rattle.std.specs.declared.alloc.Global.{Global}
 use Rattle.pb_examples.proofs.rewritten.canonical.Goals as goal
-
--- the text of a source over a slice is the slice
-whole : (o : Over (Bor (List ℕ))) (s : Bor (List ℕ)) → inner_of o ≡ s → shown_of o ≡ None → reported (Some o.inner.now) None o.shown ≡ Some s.now
-whole o s is none = ap (λ (x : Option ℕ). reported (Some o.inner.now) None x) none ∙ ap (λ (x : Bor (List ℕ)). Some x.now) is
 
 -- what a sink that was empty has after a write is what was written
 filled : (before after bytes text : List ℕ) → after ≡ before ++ text → before ≡ [] → bytes ≡ after → bytes ≡ text
