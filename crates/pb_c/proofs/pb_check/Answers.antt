@@ -1,4 +1,4 @@
-use Rattle.pb_c.proofs.Unsat.{shows_truth, shows_unsat}
+use Rattle.pb_c.proofs.Claims.{shows_truth, shows_unsat}
 use Rattle.pb_c.proofs.pb_check.Goals as goal
 
 pub returns-clause-truth : goal.returns-clause-truth

@@ -1,4 +1,4 @@
-use Rattle.pb_c.proofs.{Answered.whole, Common.Err, Common.Ok, Common.refl}
+use Rattle.pb_c.proofs.{Claims.whole, Common.Err, Common.Ok, Common.refl}
 use Rattle.pb_c.proofs.answer.checked.Goals as goal
 
 pub returns-in-Ok : goal.returns-in-Ok

@@ -1,4 +1,4 @@
-use Rattle.pb_c.proofs.{Answered.of_tidy, Answered.whole, Common.Err, Common.Ok, Common.refl}
+use Rattle.pb_c.proofs.{Claims.of_tidy, Claims.whole, Common.Err, Common.Ok, Common.refl}
 use Rattle.pb_c.proofs.answer.tidied.Goals as goal
 
 pub returns-in-Ok : goal.returns-in-Ok

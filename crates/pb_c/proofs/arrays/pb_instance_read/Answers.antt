@@ -1,4 +1,4 @@
-use Rattle.pb_c.proofs.Answered.{whole}
+use Rattle.pb_c.proofs.Claims.{whole}
 use Rattle.pb_c.proofs.Common.{ℕ, ◌^◌, ◌≡◌, inl, inr, List, Option, refl, rules, Some, subst, unwrap_or, Stop}
 use Rattle.pb_opb.specs.{declared.OpbEvent.OpbEvent, meaning.Instances.IsInstance}
 use Rattle.pb_pieces.specs.{Reading.IsFlatBy, Reading.IsNotFlat, declared.instance.Flat.Flat}

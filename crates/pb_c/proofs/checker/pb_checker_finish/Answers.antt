@@ -1,6 +1,5 @@
-use Rattle.pb_c.proofs.Claims.{under, unsat_of}
-use Rattle.pb_c.proofs.Common.{◌^◌, ◌∙◌, ◌≡◌, ap, rules, Some, sym, unwrap_or, Session}
-use Rattle.pb_c.specs.declared.claim.Claim.{Claim}
+use Rattle.pb_c.proofs.{Claims.under, Claims.unsat_of, Common.◌^◌, Common.◌∙◌, Common.◌≡◌, Common.ap, Common.rules, Common.Some, Common.sym, Common.unwrap_or}
+use Rattle.pb_c.{proofs.Common.Session, specs.declared.claim.Claim.Claim}
 use Rattle.pb_c.proofs.checker.pb_checker_finish.Goals as goal
 
 pub returns-clause-stands : goal.returns-clause-stands

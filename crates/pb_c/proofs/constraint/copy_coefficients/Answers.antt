@@ -1,9 +1,8 @@
 use Rattle.pb_c.proofs.Common.{ℤ, ◌<◌, ◌∙◌, ◌≡◌, ap, arith, FitsSigned, length, of_z, rules, sym, to_z, w64, to_z-of_z, coefficient_high}
-use Rattle.pb_c.proofs.{Common.coefficient_low, Copied.copied_more, Copied.positive_is}
+use Rattle.pb_c.proofs.{Common.coefficient_low, Copied.copied_more, Copied.positive_is, constraint.copy_coefficients.Goals.terms-preserved as goal}
 use Rattle.pb_pieces.specs.Words.{high_word, low_word}
-use Rattle.pb_c.proofs.constraint.copy_coefficients.Goals as goal
 
-pub terms-preserved : goal.terms-preserved
+pub terms-preserved : goal
 terms-preserved c =
     let terms = c.args.form.now.terms in
     let inv = c.terms.invariant in

@@ -1,5 +1,4 @@
-use Rattle.pb_c.proofs.Common.{◌<◌, arith, length, refl, sign}
-use Rattle.pb_c.proofs.Copied.{byte_is, copied_more}
+use Rattle.pb_c.proofs.{Common.◌<◌, Common.arith, Common.length, Common.refl, Common.sign, Copied.byte_is, Copied.copied_more}
 use Rattle.pb_c.proofs.constraint.copy_literals.Goals as goal
 
 pub terms-preserved : goal.terms-preserved

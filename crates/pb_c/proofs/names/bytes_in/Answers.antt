@@ -1,8 +1,7 @@
 use Rattle.pb_c.proofs.Common.{ℕ, ◌+◌, ◌-◌, ◌^◌, ◌∙◌, ◌≡◌, ap, length, min, rules, slice_get, Some, sym, take, joined}
-use Rattle.pb_c.proofs.Copied.{counted_next, length_next}
-use Rattle.pb_c.proofs.names.bytes_in.Goals as goal
+use Rattle.pb_c.proofs.{Copied.counted_next, Copied.length_next, names.bytes_in.Goals.names-preserved as goal}
 
-pub names-preserved : goal.names-preserved
+pub names-preserved : goal
 names-preserved c =
     let names = c.args.names.now in
     let n = c.names.number in

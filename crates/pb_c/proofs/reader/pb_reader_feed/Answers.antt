@@ -1,8 +1,7 @@
-use Rattle.pb_c.proofs.Claims.{same_value, fed_under}
+use Rattle.pb_c.proofs.{Claims.same_value, Claims.fed_under, reader.pb_reader_feed.Goals.returns-clause-feeds as goal}
 use Rattle.pb_c.proofs.Common.{◌^◌, ◌≡◌, None, rules, Some, subst, unwrap_or, fault_of, IsReader, Reader}
-use Rattle.pb_c.proofs.reader.pb_reader_feed.Goals as goal
 
-pub returns-clause-feeds : goal.returns-clause-feeds
+pub returns-clause-feeds : goal
 returns-clause-feeds c f options fed events (r, is, running, (limits, longest, asked, reading)) =
     let within = unwrap_or longest (2 ^ 40) in
     let held : c.args.reader.now.value ≡ Some c.deref_mut.result.now = search rules in

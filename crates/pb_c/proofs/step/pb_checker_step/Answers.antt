@@ -1,5 +1,4 @@
-use Rattle.pb_c.proofs.Claims.{under}
-use Rattle.pb_c.proofs.Common.{◌^◌, ◌≡◌, rules, Some, unwrap_or}
+use Rattle.pb_c.proofs.{Claims.under, Common.◌^◌, Common.◌≡◌, Common.rules, Common.Some, Common.unwrap_or}
 use Rattle.pb_c.proofs.step.pb_checker_step.Goals as goal
 
 pub returns-clause-fed : goal.returns-clause-fed

@@ -1,7 +1,6 @@
-use Rattle.pb_c.proofs.Common.{ℕ, List, subst, Puts}
-use Rattle.pb_c.proofs.write.pb_write_statement.Goals as goal
+use Rattle.pb_c.proofs.{Common.ℕ, Common.List, Common.subst, Common.Puts, write.pb_write_statement.Goals.returns-in-Ok-clause-writes as goal}
 
-pub returns-in-Ok-clause-writes : goal.returns-in-Ok-clause-writes
+pub returns-in-Ok-clause-writes : goal
 returns-in-Ok-clause-writes c zero =
     let put = subst (λ (text : List ℕ). Puts text c.args.out.now c.put.new.room c.put.result) c.as_slice.ensures c.put.ensures in
     let kind = c.in-Some-kind_asked in

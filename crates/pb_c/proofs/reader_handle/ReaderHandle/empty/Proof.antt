@@ -1,6 +1,5 @@
--- `empty` is null, and owns nothing.
-use Rattle.pb_c.proofs.{HandleWalks.reader, HandleWalks.empty_walk, reader_handle.ReaderHandle.empty.Statement.statement}
-use Rattle.pb_c.proofs.reader_handle.ReaderHandle.empty.Code as code
+use Rattle.pb_c.proofs.HandleWalks.{reader, empty_walk}
+use Rattle.pb_c.proofs.reader_handle.ReaderHandle.empty.{Code.unfolded, Statement.statement}
 
 pub empty_spec : {M : Type 1} → statement M
-empty_spec 𝓤 𝓛 𝓜 𝓡 wired = empty_walk 𝓤 𝓛 𝓜 𝓡 reader _ (code.unfolded 𝓤 𝓛.H 𝓜 𝓡 wired)
+empty_spec 𝓤 𝓛 𝓜 𝓡 wired = empty_walk 𝓤 𝓛 𝓜 𝓡 reader _ (unfolded 𝓤 𝓛.H 𝓜 𝓡 wired)
