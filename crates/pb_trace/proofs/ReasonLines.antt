@@ -1,7 +1,7 @@
 -- Lines of reasons, one after another.
 use Rattle.pb_proof.specs.declared.PolWord.{PolWord}
 use Rattle.pb_trace.proofs.Common.{ℕ, ◌++◌, ◌≡◌, [], append-nil, append_assoc, Err, inl, inr, List, Ok, Option, refl, Result, codes, IsErr, AreDistinct}
-use Rattle.pb_trace.proofs.Common.{Linear, writes_nothing, writes_then, Broke, Failed, Writes, Wrote, live_in, derivation_bytes, Known, IsShownIn}
+use Rattle.pb_trace.proofs.Common.{Linear, writes_then, Broke, Failed, Writes, Wrote, live_in, derivation_bytes, Known, IsShownIn}
 use Rattle.pb_trace.proofs.Common.{AreAround, AreBefore, ArePieces, AreReasons, IsText, IsUnshown, IsWhy, More, Nothing, piece_bytes, Rejects, Seen}
 use Rattle.pb_trace.proofs.Common.{Silence, words_of, WritesBefore, WritesPieces, WritesReasons, WritesShown, WritesSome, broken_by, end_of, Reasons}
 use Rattle.pb_trace.{proofs.Common.Stored, proofs.Texts.broke_append, proofs.Texts.texts, specs.Rejected.Then, specs.declared.broken.Broken.Broken}

@@ -1,4 +1,12 @@
--- What is stored of the constraints is what the replay has, and the lines of accepted statements, one after another.
+-- What a statement adds and deletes, what is stored of it is what the replay has, and the lines of accepted statements, one after another.
+use Rattle.pb_trace.proofs.Common.{ℕ, ◌++◌, ◌+◌, ◌-◌, ◌<◌, ◌∷◌, ◌≡◌, ◌≤◌, [], ap, append-nil, append_assoc, arith, Bool, drop, get_or, length, List, None}
+use Rattle.pb_trace.proofs.Common.{Option, suc, take, zero, get_or-drop, length-drop, take_more, Form, constraint_in, added_bytes, found_bytes, ℤ, ◌∙◌, refl}
+use Rattle.pb_trace.proofs.Common.{take-append-drop, drop-cons, deleted_bytes, deletion_bytes, without, without_all, length-map, map-set, to_z-of_z, Ok, set}
+use Rattle.pb_trace.proofs.Common.{Some, sym, common_steps, drop_all, length-set, with_names, Statement, Problem, Deleted, place, State, Does, mentioned}
+use Rattle.pb_trace.proofs.Common.{Outcome, IsEmptyAt, StoresTheLive, extended, stored_after, Err, Result, subst, first_state, part_wrote}
+use Rattle.pb_trace.proofs.Common.{writes_nothing, Limits, Wrote, lines_of, TracesEachLine, line_bytes, TracesCall, Tracing, false, slice_get, length-take-le}
+use Rattle.pb_trace.proofs.Common.{get_or_from_slice_get, slice_get_within, AreDistinct, has_name, with_name}
+use Rattle.std.{proofs.lemmas.List.Concat.flat_map-append, proofs.lemmas.List.Concat.flat_map-cons, specs.List.range_with_len, specs.Result.IsErr}
 use Rattle.pb_proof.specs.declared.{Bound.Bound, Bound.TheVariants.Finite, Bound.TheVariants.Infinite, Conclusion.Conclusion}
 use Rattle.pb_proof.specs.declared.Conclusion.TheVariants.{NoClaim, Unsat, Sat, Bounds}
 use Rattle.pb_proof.specs.declared.Stage.{Stage, TheVariants.Steps}
@@ -8,14 +16,63 @@ use Rattle.pb_replay.proofs.lemmas.{conclusions.Concluded.contradicted-has, mean
 use Rattle.pb_replay.specs.meaning.Answer.{Answer}
 use Rattle.pb_replay.specs.meaning.Conclusions.{none_left, named, lower_bound, upper_bound, Concludes}
 use Rattle.pb_sums.specs.declared.{Literal.Literal, Term.Term}
-use Rattle.pb_trace.proofs.Common.{ℕ, ℤ, ◌++◌, ◌∙◌, ◌∷◌, ◌≡◌, [], ap, append-nil, arith, drop, length, List, None, Ok, Option, refl, set, Some, sym}
-use Rattle.pb_trace.proofs.Common.{common_steps, drop_all, length-set, Form, with_names, Statement, Problem, Deleted, place, State, Does, mentioned, Outcome}
-use Rattle.pb_trace.proofs.Common.{FirstIsEmpty, IsEmptyAt, StoresTheLive, extended, stored_after, without_all, Err, Result, subst, first_state, part_wrote}
-use Rattle.pb_trace.proofs.Common.{writes_nothing, Limits, Wrote, lines_of, TracesEachLine, line_bytes, TracesCall, Tracing}
 use Rattle.pb_text.specs.{declared.Spanned.Spanned, meaning.Limits.largest, meaning.Limits.top_of}
 use Rattle.pb_tool.specs.contract.Watched.{Call, Accepted, Rejected, GotEach, ShowsEach}
 use Rattle.pb_tool.specs.declared.ToolFault.{ToolFault}
-use Rattle.std.specs.Result.{IsErr}
+use Rattle.pb_normal.proofs.lemmas.names.Numbering.{number_in-append, number_in-below, number_in-get}
+
+-- the constraint with the next id
+pub constraint_next : (live : List (Option Form)) (i : ℕ) → constraint_in live (i + 1) ≡ get_or live i None
+constraint_next live i = let e : i + 1 ≡ suc i = omega arith in ap (constraint_in live) e
+
+-- numbers in order, cut in two
+range-add : (a k m : ℕ) → range_with_len a (k + m) ≡ range_with_len a k ++ range_with_len (a + k) m
+range-add a zero m = grind arith
+range-add a (suc k) m = let count : suc k + m ≡ suc (k + m) = omega arith in rw count (grind (arith, range-add (a + 1) k m))
+
+module _ (ids : Bool) (lines arrow : List ℕ) (names : List (List ℕ)) (live : List (Option Form)) where
+  -- one more of them
+  pub added_more : (n i : ℕ) → n ≤ i → added_bytes ids lines arrow names live n ((i + 1) - n)
+      ≡ added_bytes ids lines arrow names live n (i - n) ++ found_bytes ids lines arrow names (i + 1) (constraint_in live (i + 1))
+  added_more n i h =
+      let more : range_with_len n ((i + 1) - n) ≡ range_with_len n (i - n) ++ i ∷ [] = grind (arith, range-add n (i - n) 1) in
+      grind (arith, more, flat_map-append, flat_map-cons, append-nil, constraint_next live i)
+
+  -- all of them, up to one
+  pub added_at : (n i : ℕ) → n ≤ i → i < length live → added_bytes ids lines arrow names live n (length live - n)
+      ≡ added_bytes ids lines arrow names live n (i - n) ++ (found_bytes ids lines arrow names (i + 1) (constraint_in live (i + 1)) ++ added_bytes ids lines arrow names live (i + 1) (length live - (i + 1)))
+  added_at n i h lt =
+      let all : range_with_len n (length live - n) ≡ range_with_len n (i - n) ++ (i ∷ range_with_len (i + 1) (length live - (i + 1))) =
+      grind (arith, range-add n (i - n) (suc (length live - (i + 1)))) in
+      grind (arith, all, flat_map-append, flat_map-cons, constraint_next live i)
+
+-- one more of the newer constraints is stored
+pub newer_more : (stored live : List (Option Form)) (n i : ℕ) → n ≤ i → i < length live →
+    stored ++ take ((i + 1) - n) (drop n live) ≡ (stored ++ take (i - n) (drop n live)) ++ constraint_in live (i + 1) ∷ []
+newer_more stored live n i h lt =
+    grind (arith, take_more (drop n live) (i - n) None, get_or-drop n live (i - n) None, length-drop n live, append_assoc, constraint_next live i)
+
+without_all-append : (live : List (Option Form)) (xs ys : List ℤ) → without_all live (xs ++ ys) ≡ without_all (without_all live xs) ys
+without_all-append live [] ys = refl
+without_all-append live (x ∷ xs) ys = without_all-append (without live x) xs ys
+
+pub without_more : (live : List (Option Form)) (xs : List ℤ) (i : ℕ) (d : ℤ) → i < length xs → without_all live (take (i + 1) xs) ≡ without (without_all live (take i xs)) (get_or xs i d)
+without_more live xs i d h = ap (without_all live) (take_more xs i d h) ∙ without_all-append live (take i xs) (get_or xs i d ∷ [])
+
+module _ (ids : Bool) (lines : List ℕ) (names : List (List ℕ)) where
+  deleted-append : (live : List (Option Form)) (xs ys : List ℤ) → deleted_bytes ids lines names live (xs ++ ys) ≡ deleted_bytes ids lines names live xs ++ deleted_bytes ids lines names (without_all live xs) ys
+  deleted-append live [] ys = refl
+  deleted-append live (x ∷ xs) ys = grind (arith, append_assoc, deleted-append (without live x) xs ys)
+
+  pub deleted_more : (live : List (Option Form)) (xs : List ℤ) (i : ℕ) (d : ℤ) → i < length xs →
+      deleted_bytes ids lines names live (take (i + 1) xs) ≡ deleted_bytes ids lines names live (take i xs) ++ deletion_bytes ids lines names (without_all live (take i xs)) (get_or xs i d)
+  deleted_more live xs i d h = grind (arith, take_more xs i d h, deleted-append live (take i xs) (get_or xs i d ∷ []), append-nil)
+
+  pub deleted_at : (live : List (Option Form)) (xs : List ℤ) (i : ℕ) (d : ℤ) → i < length xs → deleted_bytes ids lines names live xs
+      ≡ deleted_bytes ids lines names live (take i xs) ++ (deletion_bytes ids lines names (without_all live (take i xs)) (get_or xs i d) ++ deleted_bytes ids lines names (without (without_all live (take i xs)) (get_or xs i d)) (drop (suc i) xs))
+  deleted_at live xs i d h = grind (arith, take-append-drop i xs, deleted-append live (take i xs) (drop i xs), drop-cons xs i d h)
+
+pub ruleset stored = (map-set, length-map, to_z-of_z, without_more)
 
 -- an accepted conclusion continues
 left_next : (s : State) (id : Option ℤ) (next : Answer State) (t : State) → none_left s id next (Ok t) → next (Ok t)
@@ -62,44 +119,41 @@ deleted live (id ∷ ids) rest h =
     let later = deleted (set live (place (length live) id) None) ids rest found.2 in
     (later.0, later.1 ∙ length-set live (place (length live) id) None)
 
-stored : (limit top : ℕ) (v : Problem) (s t : State) (st : Statement) → s.next ≡ stage_of st → IsEmptyAt s.next s.live → Does limit top v s st (Ok t)
+step_stores : (limit top : ℕ) (v : Problem) (s t : State) (st : Statement) → s.next ≡ stage_of st → IsEmptyAt s.next s.live → Does limit top v s st (Ok t)
     → (stored_after (extended s.live t.live) st ≡ t.live) × IsEmptyAt t.next t.live
-stored limit top v s t Header due p h = rw (ok-same h) (nothing_new s.live s.live refl, rw due at p)
-stored limit top v s t (F count) due p h =
+step_stores limit top v s t Header due p h = rw (ok-same h) (nothing_new s.live s.live refl, rw due at p)
+step_stores limit top v s t (F count) due p h =
     let last = needed (needed h).1 in
     let none = rw due at p in
     rw (ok-same last.1, none) (refl, tt)
-stored limit top v s t (Pol ws) due p h =
+step_stores limit top v s t (Pol ws) due p h =
     let last = needed (followed h.2).2 in
     rw (ok-same last.1) (one_new s.live _, in_steps s.next _ due)
-stored limit top v s t (Rup linear) due p h =
+step_stores limit top v s t (Rup linear) due p h =
     let last = needed (needed (needed h).1.2).1 in
     rw (ok-same last.1) (one_new s.live _, in_steps s.next _ due)
-stored limit top v s t (Soli given) due p h =
+step_stores limit top v s t (Soli given) due p h =
     let last = needed (needed (followed (needed h).2).2).1.2 in
     rw (ok-same last.1) (one_new s.live _, in_steps s.next _ due)
-stored limit top v s t (Solx given) due p h =
+step_stores limit top v s t (Solx given) due p h =
     let last = needed (followed h).2.2 in
     rw (ok-same last.1) (one_new s.live _, in_steps s.next _ due)
-stored limit top v s t (Delete ids) due p h =
+step_stores limit top v s t (Delete ids) due p h =
     let rest = followed h in
     let same = deleted s.live ids rest.0 rest.1 in
     rw (ok-same rest.2) (rw (nothing_new s.live rest.0 same.1) (sym same.0), in_steps s.next _ due)
-stored limit top v s t Output due p h = rw (ok-same h) (nothing_new s.live s.live refl, tt)
-stored limit top v s t (Conclude c) due p h =
+step_stores limit top v s t Output due p h = rw (ok-same h) (nothing_new s.live s.live refl, tt)
+step_stores limit top v s t (Conclude c) due p h =
     let last = concluded_next limit v s c _ t h in
     rw (ok-same last) (nothing_new s.live s.live refl, tt)
-stored limit top v s t End due p h = rw (ok-same h) (nothing_new s.live s.live refl, tt)
+step_stores limit top v s t End due p h = rw (ok-same h) (nothing_new s.live s.live refl, tt)
 
 -- the same for two states of an accepted statement
 pub state-stores : (limit top : ℕ) (v : Problem) (s t : State) (st : Statement) → IsEmptyAt s.next s.live → Outcome limit top v s st (Ok t)
     → (stored_after (extended s.live t.live) st ≡ t.live) × IsEmptyAt t.next t.live
 state-stores limit top v s t st empty out =
     let due = needed out in
-    stored limit top v (record s { names = with_names s.names (mentioned st) }) t st due.0 empty due.1
-
-pub first-empty : FirstIsEmpty
-first-empty r first = rw (← first.next) (sym first.live)
+    step_stores limit top v (record s { names = with_names s.names (mentioned st) }) t st due.0 empty due.1
 
 pub stores-live : StoresTheLive
 stores-live old new st (s, before) empty steps =
@@ -151,3 +205,20 @@ module _ {S : Type 0} (contents : S → Option (List ℕ)) (faults : S → ℕ) 
 pub traces-each-line : {S : Type 0} (contents : S → Option (List ℕ)) (faults : S → ℕ) → TracesEachLine contents faults
 traces-each-line contents faults limits v spans calls last old new stored begun shows got done =
     all_lines contents faults limits v (first_state v) last spans calls old new refl stored begun shows got done
+
+-- a name is not among those before it
+absent : (names : List (List ℕ)) (i : ℕ) (x : List ℕ) → AreDistinct names → slice_get names i ≡ Some x → has_name (take i names) x ≡ false
+absent names i x distinct is =
+    grind (
+      arith,
+      number_in-below (take i names) x,
+      number_in-append (take i names) (drop i names) x,
+      take-append-drop i names,
+      number_in-get names i x distinct is,
+      slice_get_within names i x is,
+      length-take-le,
+    )
+
+pub copied : (names : List (List ℕ)) (i : ℕ) (x : List ℕ) → AreDistinct names → slice_get names i ≡ Some x → with_name (take i names) x ≡ take (i + 1) names
+copied names i x distinct is =
+    grind (arith, absent names i x distinct is, take_more names i [], slice_get_within names i x is, get_or_from_slice_get names i x [] is)

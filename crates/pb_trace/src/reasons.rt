@@ -46,7 +46,7 @@ pub(crate) struct Scene<'a> {
 }
 
 /// The names of a replay, each with its number there.
-#[tactic(auto, using(crate::proofs::Naming::copied))]
+#[tactic(auto, using(crate::proofs::Storing::copied))]
 fn names_of(alloc: Global, replay: &Replay) -> Result<Names, AllocError>
     ensures { IfOk result (λ names. AreDistinct replay.now.names → names ≡ replay.now.names) }
 {

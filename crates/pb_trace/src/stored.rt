@@ -168,7 +168,7 @@ impl Constraints {
     }
 
     /// Deletes a constraint in a line, and it then stays as a deleted one.
-    #[tactic(auto, using(crate::proofs::Changing::stored))]
+    #[tactic(auto, using(crate::proofs::Storing::stored))]
     pub(crate) fn delete(&mut self, id: u64, line: u64)
         ensures { 0 < id → stored_in self.new ≡ set (stored_in self.old) (id - 1) None }
     {
@@ -182,7 +182,7 @@ impl Constraints {
     }
 
     /// Deletes constraints by their ids as they are written, in a line.
-    #[tactic(auto, using(crate::proofs::Changing::stored))]
+    #[tactic(auto, using(crate::proofs::Storing::stored))]
     pub(crate) fn delete_all(&mut self, ids: &[i64], line: u64)
         ensures { stored_in self.new ≡ without_all (stored_in self.old) ids.now }
     {
@@ -193,7 +193,7 @@ impl Constraints {
 
     /// Deletes a constraint by its id as it is written, in a line. If there is no such constraint,
     /// it does nothing.
-    #[tactic(auto, using(crate::proofs::Changing::stored))]
+    #[tactic(auto, using(crate::proofs::Storing::stored))]
     fn delete_written(&mut self, id: i64, line: u64)
         ensures { stored_in self.new ≡ without (stored_in self.old) id }
     {

@@ -1,5 +1,4 @@
-use Rattle.pb_trace.proofs.Storing.{traces-each-line}
-use Rattle.pb_trace.proofs.laws.traces_each_line.Goals as goal
+use Rattle.pb_trace.proofs.{Storing.traces-each-line, laws.traces_each_line.Goals.returns as goal}
 
-pub returns : goal.returns
+pub returns : goal
 returns g c = traces-each-line g.S.Sink.contents g.S.Sink.faults

@@ -1,4 +1,4 @@
-use Rattle.pb_trace.proofs.{Changing.added_at, Changing.added_more, Common.arith, Common.refl, Common.part_broke, Common.part_then, Common.part_wrote}
+use Rattle.pb_trace.proofs.{Storing.added_at, Storing.added_more, Common.arith, Common.refl, Common.part_broke, Common.part_then, Common.part_wrote}
 use Rattle.pb_trace.proofs.line.write_added.Goals as goal
 
 pub returns-in_err-write_found : goal.returns-in_err-write_found

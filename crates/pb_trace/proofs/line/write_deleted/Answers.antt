@@ -1,5 +1,5 @@
 use Rattle.pb_trace.proofs.Common.{ℤ, ◌∙◌, arith, get_or, pos, refl, rules, sym, to_z-of_z, w64, part_broke, part_then, part_wrote, live_in}
-use Rattle.pb_trace.proofs.Changing.{deleted_at, deleted_more, without_more}
+use Rattle.pb_trace.proofs.Storing.{deleted_at, deleted_more, without_more}
 use mir.Val.{SFits}
 use Rattle.pb_trace.proofs.line.write_deleted.Goals as goal
 

@@ -1,5 +1,4 @@
-use Rattle.pb_trace.proofs.{Common.arith, Texts.texts}
-use Rattle.pb_trace.proofs.rejected.write_rejected_line.Goals as goal
+use Rattle.pb_trace.proofs.{Common.arith, Texts.texts, rejected.write_rejected_line.Goals.returns as goal}
 
-pub returns : goal.returns
+pub returns : goal
 returns g c = grind (arith, texts)

@@ -1,5 +1,4 @@
-use Rattle.pb_trace.proofs.Common.{rules}
-use Rattle.pb_trace.proofs.write.write_coefficient.Goals as goal
+use Rattle.pb_trace.proofs.{Common.rules, write.write_coefficient.Goals.returns as goal}
 
-pub returns : goal.returns
+pub returns : goal
 returns g c = search rules

@@ -1,9 +1,8 @@
 use Rattle.pb_trace.proofs.Common.{◌∙◌, arith, get_or, refl, subst, Contains, Contains-get_or, no_entry}
-use Rattle.pb_trace.proofs.Deriving.{follows, forced, forced-same}
+use Rattle.pb_trace.proofs.{Deriving.follows, Deriving.forced, Deriving.forced-same, propagation.Propagation.force_all.Goals.terms-preserved as goal}
 use Rattle.pb_trace.proofs.propagation.Propagation.force_all.Goals.{then-slack-entry+in_ok-force, else-slack-entry}
-use Rattle.pb_trace.proofs.propagation.Propagation.force_all.Goals as goal
 
-pub terms-preserved : goal.terms-preserved
+pub terms-preserved : goal
 terms-preserved c negation stored over given named low sound =
     let before = c.terms.invariant negation stored over given named low sound in
     let entry = c.get-entry.result in

@@ -1,5 +1,4 @@
-use Rattle.pb_trace.proofs.Common.{rules}
-use Rattle.pb_trace.proofs.propagation.Propagation.visit_named.Goals as goal
+use Rattle.pb_trace.proofs.{Common.rules, propagation.Propagation.visit_named.Goals.returns-in-Some as goal}
 
-pub returns-in-Some : goal.returns-in-Some
+pub returns-in-Some : goal
 returns-in-Some c = search rules

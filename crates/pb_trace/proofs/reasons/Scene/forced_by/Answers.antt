@@ -1,5 +1,4 @@
-use Rattle.pb_trace.proofs.Common.{rules}
-use Rattle.pb_trace.proofs.reasons.Scene.forced_by.Goals as goal
+use Rattle.pb_trace.proofs.{Common.rules, reasons.Scene.forced_by.Goals.returns as goal}
 
-pub returns : goal.returns
+pub returns : goal
 returns c = search rules

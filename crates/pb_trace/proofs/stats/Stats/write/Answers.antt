@@ -1,5 +1,4 @@
-use Rattle.pb_trace.proofs.Common.{rules}
-use Rattle.pb_trace.proofs.stats.Stats.write.Goals as goal
+use Rattle.pb_trace.proofs.{Common.rules, stats.Stats.write.Goals.returns as goal}
 
-pub returns : goal.returns
+pub returns : goal
 returns g c = search rules
