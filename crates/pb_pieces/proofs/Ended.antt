@@ -1,8 +1,8 @@
 -- A session at its end, and at its beginning.
 use Rattle.pb_pieces.proofs.Common.{ℕ, ◌∙◌, ◌≡◌, [], ap, append-nil, arith, Bor, drop, Err, inl, length, List, None, Ok, Option, refl, Result, Some, subst, sym}
 use Rattle.pb_pieces.proofs.Common.{true, Vec, drop-append_seam, drop-nil, Fault, Opened, Problem, first_state, State, place_after-offset, Limits, Place}
-use Rattle.pb_pieces.proofs.Common.{Spanned, Stop, ReadsBlank, largest, top_of, Reads, Checking, IsAt, EndsAfter, CountsAt, fault_of, place_in, CheckFault}
-use Rattle.pb_pieces.proofs.Common.{IsProofText, AfterProof, IsAccepted, HasFault, IsInstanceOf, IsRejected, IsRunning, IsSession, Session}
+use Rattle.pb_pieces.proofs.Common.{Spanned, Stop, ReadsBlank, largest, top_of, Checking, IsAt, EndsAfter, CountsAt, fault_of, place_in, CheckFault}
+use Rattle.pb_pieces.proofs.Common.{AfterProof, IsAccepted, HasFault, IsInstanceOf, IsRejected, IsRunning, IsSession, Session}
 use Rattle.pb_text.specs.{contract.Over.reported, contract.OverState.inner_of, contract.OverState.shown_of, meaning.Whole.IsRead, meaning.Whole.events_at}
 use Rattle.std.specs.declared.alloc.Global.{Global}
 use Rattle.pb_text.specs.declared.place.Why.TheVariants as reason

@@ -1,5 +1,5 @@
 -- Statements in flat arrays: one more, and an instance that is pulled from a source.
-use Rattle.pb_pieces.proofs.Common.{ℕ, ℤ, ◌++◌, ◌+◌, ◌∙◌, ◌∷◌, ◌≡◌, [], ap, append-nil, append_assoc, arith, length, length-append, List, subst, sym}
+use Rattle.pb_pieces.proofs.Common.{ℕ, ℤ, ◌++◌, ◌+◌, ◌∙◌, ◌∷◌, ◌≡◌, [], ap, append-nil, append_assoc, arith, length, length-append, List, sym}
 use Rattle.pb_pieces.proofs.Common.{flat_map-append, OpbEvent, Term, Spanned, HoldAll, IsFlatOf, places_of, row_in, rows_from, span_in, terms_in, terms_of}
 use Rattle.pb_pieces.proofs.Common.{Flat, Span, Row, Bool, Err, false, IfErr, IfOk, None, Ok, Option, Result, Some, true, Place, Stop, ReadsBlank, TookAll}
 use Rattle.pb_pieces.proofs.Common.{Reads, Item, rest_within, InRest, InText, Unstored}

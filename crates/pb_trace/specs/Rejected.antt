@@ -1,7 +1,7 @@
 -- The lines of a rejected statement.
 use Rattle.pb_normal.specs.meaning.{Form.Form, Names.AreDistinct}
 use Rattle.pb_proof.specs.declared.{PolWord.PolWord, Statement.Statement}
-use Rattle.pb_proof.specs.declared.Statement.TheVariants.{Header, F, Pol, Rup, Soli, Solx, Delete, Output, Conclude, End}
+use Rattle.pb_proof.specs.declared.Statement.TheVariants.{Pol, Rup}
 use Rattle.pb_proof.specs.meaning.Canonical.{statement_bytes, word_bytes}
 use Rattle.pb_replay.specs.declared.fault.Fault.{Fault, TheVariants.Memory as no_memory, TheVariants.NotImplied}
 use Rattle.pb_sums.specs.{contract.Canonical.place_bytes, declared.linear.Linear.Linear, meaning.Sums.literal_bytes}

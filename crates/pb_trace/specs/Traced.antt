@@ -1,7 +1,7 @@
 -- The line of an accepted statement.
 use Rattle.pb_normal.specs.meaning.Form.{Form}
 use Rattle.pb_proof.specs.declared.Statement.{Statement}
-use Rattle.pb_proof.specs.declared.Statement.TheVariants.{Header, F, Pol, Rup, Soli, Solx, Delete, Output, Conclude, End}
+use Rattle.pb_proof.specs.declared.Statement.TheVariants.{F, Soli, Delete}
 use Rattle.pb_proof.specs.meaning.Canonical.{statement_bytes}
 use Rattle.pb_replay.specs.{contract.ReplayModel.Replaying, declared.fault.Fault.Fault, meaning.Replay.place}
 use Rattle.pb_sums.specs.contract.Canonical.{place_bytes}

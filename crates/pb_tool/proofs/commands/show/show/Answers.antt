@@ -1,4 +1,3 @@
-use Rattle.pb_tool.proofs.Common.{arith}
 use Rattle.pb_tool.proofs.lemmas.file.GivenBytes.{shows_instance, shows_proof, shows_unread, some_of, given_shown_proof, given_shown_instance, given_unshown}
 use Rattle.pb_tool.proofs.commands.show.show.Goals as goal
 

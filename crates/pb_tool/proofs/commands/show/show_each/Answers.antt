@@ -1,5 +1,5 @@
 use Rattle.pb_tool.proofs.{Common.place_of, Common.Place, Common.OfGiven, Common.EndsAt, lemmas.file.GivenBytes.given_by, lemmas.file.GivenBytes.given_shown}
-use Rattle.pb_tool.proofs.Common.{◌++◌, ◌^◌, ◌∙◌, ◌∷◌, ◌≤◌, [], ap, append-nil, arith, refl, subst, sym, part_wrote, writes_nothing, AcceptsItems, MayAsk}
+use Rattle.pb_tool.proofs.Common.{◌++◌, ◌^◌, ◌∙◌, ◌∷◌, ◌≤◌, [], ap, append-nil, refl, subst, sym, part_wrote, writes_nothing, AcceptsItems, MayAsk}
 use Rattle.pb_tool.proofs.lemmas.show.ShownStatements.{broken, given_next, given_row, refused, fewer, first_pull, shown_more, shows_end, so_far_within}
 use Rattle.pb_tool.proofs.commands.show.show_each.Goals as goal
 
