@@ -16,7 +16,7 @@ terms_in (Comment text) = []
 terms_in (Objective terms) = terms
 terms_in (Constraint c) = c.terms
 
--- the row of a statement after so many terms, if it has one
+-- the row of a statement, with the number of terms before it, if it has one
 abbrev pub row_in : ℕ → OpbEvent → List Row
 row_in n (Header variables constraints tail) = []
 row_in n (Comment text) = []

@@ -32,7 +32,7 @@ module _ (ids : Bool) (lines : List ℕ) where
   found_bytes arrow names id None = []
   found_bytes arrow names id (Some f) = constraint_bytes ids lines arrow names id f
 
-  -- the live constraints with the next so many ids, in order
+  -- the live constraints with the given number of next ids, in order
   abbrev pub added_bytes : List ℕ → List (List ℕ) → List (Option Form) → ℕ → ℕ → List ℕ
   added_bytes arrow names live newest more =
       flat_map (λ i. found_bytes arrow names (i + 1) (get_or live i None)) (range_with_len newest more)

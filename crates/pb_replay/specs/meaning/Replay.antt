@@ -29,14 +29,15 @@ pub record State : Type 0 where
 abbrev pub first_state : Problem → State
 first_state v = record { live = []; names = v.names; logged = []; next = Opening; concluded = None }
 
--- the objective's value, at an assignment of the numbers of names
+-- the value of a name, at an assignment of the numbers of names
 abbrev pub by_name : List (List ℕ) → (ℕ → Bool) → List ℕ → Bool
 by_name names a name = a (number_in names name)
 
+-- the objective's value, at an assignment of the numbers of names
 abbrev pub value : Problem → (ℕ → Bool) → ℤ
 value v a = true_sum (by_name v.names a) (objective_of v.objective)
 
--- the index of the id among so many; a negative id counts back from the newest; their number if the id was never given
+-- the index of an id, if this many were given; a negative id counts back from the newest; their number if it was never given
 abbrev pub place : ℕ → ℤ → ℕ
 place newest (pos zero) = newest
 place newest (pos (suc n)) = n

@@ -1,3 +1,4 @@
+-- What occurrence lists, open sums and candidates hold, and which forms need no visit.
 use Rattle.pb_normal.specs.{declared.numbered.NumberedLiteral.NumberedLiteral, meaning.Rules.negation}
 use Rattle.pb_propagate.specs.declared.{rests.Rests.Rests, term.Term.Term}
 use Rattle.pb_propagate.specs.engine.engine.Lists.{Shape, Weighted, same, has, open_sum, size}

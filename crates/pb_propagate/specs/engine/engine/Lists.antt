@@ -1,3 +1,4 @@
+-- Forms as lists of terms, the literals on a list, open sums, and derivations with their reasons.
 use Rattle.pb_normal.specs.{declared.numbered.NumberedLiteral.NumberedLiteral, meaning.Rules.negation}
 use Rattle.pb_propagate.specs.declared.term.Term.{Term}
 use Rattle.std.specs.{Bool.beq, List.list_any}
