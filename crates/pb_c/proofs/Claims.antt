@@ -3,12 +3,11 @@ use Rattle.pb_c.proofs.Common.{Bool, ℕ, ◌^◌, ◌≡◌, arith, List, Optio
 use Rattle.pb_c.proofs.Common.{Limits, refusal_status, IsUnsatisfiable, IsSession, Session, Under, Options, ◌⊎◌, inl, inr, None, fault_of, StopsAt, Reader}
 use Rattle.pb_c.proofs.Common.{Stop, IsAsked, GivesNext, ◌∙◌, ap, Bor, Result, ToolFault, empty, faults, written, Page, Answers, Puts, length, length-append}
 use Rattle.pb_c.proofs.Common.{Ok, sym, exit_status, VerdictsAreTrue, AnswersCheck, Ends, codes, Err}
-use Rattle.pb_c.specs.{Checker.IsCheckerFor, Claim.claim_of, Event.no_event, Report.status_of_fault, Unsat.ShowsTruth, Unsat.ShowsUnsat}
-use Rattle.pb_c.specs.declared.{event.Statement.Statement, handle.CheckerHandle.CheckerHandle}
-use Rattle.pb_tool.specs.{contract.Show.ShowsFile, contract.Tidy.TidiesFile, declared.commands.check.checker.CheckFault.CheckFault}
-use Rattle.pb_tool.specs.declared.fault.ToolFault.TheVariants.{Text, Step}
+use Rattle.{pb_c.specs.Checker.IsCheckerFor, pb_c.specs.Event.no_event, pb_c.specs.Report.status_of_fault, pb_tool.specs.contract.Show.ShowsFile}
+use Rattle.pb_c.specs.{Claim.claim_of, Unsat.ShowsTruth, Unsat.ShowsUnsat, declared.event.Statement.Statement, declared.handle.CheckerHandle.CheckerHandle}
+use Rattle.{pb_tool.specs.contract.Tidy.TidiesFile, pb_pieces.specs.Given.Given, pb_pieces.specs.declared.reader.Format.Format}
+use Rattle.pb_tool.specs.declared.{commands.check.checker.CheckFault.CheckFault, fault.ToolFault.TheVariants.Text, fault.ToolFault.TheVariants.Step}
 use Rattle.pb_tool.specs.meaning.{Files.IsInstanceFile, Verified.CheckCall, Verified.Returns, Verified.verdict_line}
-use Rattle.pb_pieces.specs.{Given.Given, declared.reader.Format.Format}
 use Rattle.pb_text.specs.{contract.Over.reported, contract.OverState.inner_of, contract.OverState.shown_of, declared.over.Over.Over, meaning.Writing.Wrote}
 use Rattle.pb_tool.specs.declared.commands.check.checker.CheckFault.TheVariants as check
 use Rattle.pb_text.specs.declared.place.Why.TheVariants as why

@@ -2,8 +2,7 @@
 use Rattle.pb_c.proofs.Common.{ℕ, ℤ, ◌++◌, ◌+◌, ◌<◌, ◌∙◌, ◌∷◌, ◌≡◌, ◌≤ℤ◌, [], ap, ap₂, arith, Bool, false, length, List, map, negsuc, None, pos, refl}
 use Rattle.pb_c.proofs.Common.{slice_get, Some, sym, take, true, unsigned_abs, set, ints, map-append, take_more, take_more_set, get_or_from_slice_get}
 use Rattle.pb_c.proofs.Common.{slice_get-get_or, slice_get_within, ◌≤◌, ◌⊎◌, append-nil, get_or, inl, inr, length-append, min, get_or-set_other}
-use Rattle.pb_c.proofs.Common.{get_or-set_same, joined}
-use Rattle.pb_pieces.specs.Terms.{bit}
+use Rattle.{pb_c.proofs.Common.get_or-set_same, pb_c.proofs.Common.joined, pb_pieces.specs.Terms.bit}
 use Rattle.std.proofs.lemmas.{Bool.cases_lt, Grind.flat_map-append, List.Folds.length-flat_map-take}
 use mir.Val.{bool_byte}
 

@@ -5,15 +5,11 @@ use Rattle.pb_c.proofs.Machine.{block_ptr, drop, ent, fact_use, feq_i, feq_l, fj
 use Rattle.pb_c.proofs.Machine.{Item, layout, learn, lies_at, move, never_e, nothing, null_ptr, of_list, Ptr, ptr_val, RattleType, rewrite, Seq, snd∗, SProp}
 use Rattle.pb_c.proofs.Machine.{Step, step, Testable, use1, Val, Valss, via, vstruct, WT, ‵, ◌$◌}
 use base.Fraction.{full_share}
-use denote.Builtin.{RawPtr}
-use denote.Exit.{hidden, under}
-use denote.Memory.{lone}
-use denote.Param.Laws.{Laws}
+use denote.{Builtin.RawPtr, Exit.hidden, Exit.under, Memory.lone, Param.Laws.Laws}
 use denote.Struct.{Field.RawPtr-field, Owning.Owning, Owning.row, Owning.shape, Struct.Struct, Struct.exits_of, Struct.within}
 use lib.Dec.{T, lit<}
 use mathlib.Core.Bool.{◌&&◌, true}
-use mir.Raw.{raw as bare}
-use mir.Syntax.{impl, tnil, dnil}
+use mir.{Raw.raw as bare, Syntax.impl, Syntax.tnil, Syntax.dnil}
 use seplogic.Ra.Ura.{Ura}
 use types.Logic.{Logic, sem}
 use Rattle.std.specs.contracts.alloc.Global as heap

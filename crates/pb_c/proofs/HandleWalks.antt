@@ -2,25 +2,19 @@
 use Rattle.pb_c.proofs.Common.{ℕ, ◌++◌, ◌∙◌, ◌∷◌, ◌≡◌, [], ap, List, map, lit<, None, Option, refl, Some, after, Good, none_of, one, Some-of, leaves, proved_at}
 use Rattle.pb_c.proofs.Common.{ghosts, and_tt, box_owns, both, Loose, loose_good, loose_in, loose_out}
 use Rattle.pb_c.proofs.HandleSteps.{Handle, type_of, Z, LZ, held_good, held_in, held_out, either_held, testable}
-use Rattle.pb_c.proofs.Machine.{agg, !, alloc_all, and_then, at_ret, bin, block_ptr, branches, by, emp, enter, env, exec, fact, fact_i, first, fjoin, fld}
-use Rattle.pb_c.proofs.Machine.{free_all, fsplit, ftrue, get, get_in, given, Goes-dropped, keep, layout, learn, lit, live, look_at, move, no_more, nothing}
-use Rattle.pb_c.proofs.Machine.{null_ptr, of_opd, owns, pass_all, plain, Ptr, ptr_val, qed, RattleType, raw, returns, rewrite, sets, sets_last, split}
-use Rattle.pb_c.proofs.Machine.{stay_dropped, Stays, stop, sub, tables, Testable, tests_null, types_at, use0, use1, Val, vcons, vnil, vptr, walk_of, whole}
-use Rattle.pb_c.proofs.Machine.{WpFn, yes, ‵, ◌$◌, ◌∵◌, ◌⊛◌}
-use Rattle.std.specs.Option.{MatchOption}
+use Rattle.pb_c.proofs.Machine.{agg, !, alloc_all, and_then, at_ret, bin, block_ptr, branches, by, emp, enter, env, exec, fact, fact_i, first, fjoin, fld, yes}
+use Rattle.pb_c.proofs.Machine.{free_all, fsplit, ftrue, get, get_in, given, Goes-dropped, keep, layout, learn, lit, live, look_at, move, no_more, nothing, ◌$◌}
+use Rattle.pb_c.proofs.Machine.{null_ptr, of_opd, owns, pass_all, plain, Ptr, ptr_val, qed, RattleType, raw, returns, rewrite, sets, sets_last, split, WpFn, ‵}
+use Rattle.pb_c.proofs.Machine.{stay_dropped, Stays, stop, sub, tables, Testable, tests_null, types_at, use0, use1, Val, vcons, vnil, vptr, walk_of, whole, ◌∵◌}
+use Rattle.{pb_c.proofs.Machine.◌⊛◌, std.specs.Option.MatchOption}
 use contract.Running.{MachineTables, Running}
-use denote.Exit.{Last, left}
-use denote.Laws.{Are, Ises}
-use denote.Signature.{Signature}
-use denote.Struct.Owning.{Owning, row}
-use denote.Triple.{Clauses.Clauses, Clauses.Ended, Clauses.closing, Spec.Meets, Statement.Contract}
+use denote.{Exit.Last, Exit.left, Triple.Clauses.Clauses, Triple.Clauses.Ended, Triple.Clauses.closing, Triple.Spec.Meets, Triple.Statement.Contract}
+use denote.{Laws.Are, Laws.Ises, Signature.Signature, Struct.Owning.Owning, Struct.Owning.row}
 use mir.Syntax.{Body, Callee, Fn, Opd, Ty, aggregate, assign, cond, copy, field, int, local, op2, place, ptr_eq, return, rv_opd, seq, ty_bool, ty_ptr}
 use mir.Syntax.{value_local, w8, w64}
-use prog.Model.{Model}
-use prog.Wp.{Closed}
+use prog.{Model.Model, Wp.Closed}
 use seplogic.Ra.Ura.{Ura}
-use types.Kit.{Goal, Sq, drop, prop, regoal}
-use types.Logic.{Logic}
+use types.{Kit.Goal, Kit.Sq, Kit.drop, Kit.prop, Kit.regoal, Logic.Logic}
 use Rattle.core.specs.contracts.option.Option as option
 use Rattle.pb_pieces.specs.contracts.instance.Flat as flat
 use Rattle.pb_pieces.specs.contracts.reader.Reader as texts

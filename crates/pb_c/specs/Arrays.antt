@@ -1,12 +1,10 @@
 -- What a handle on flat arrays stands for, and what the calls return.
-use Rattle.pb_c.specs.{Checker.NameOf, Checker.Under, Options.AreWrong}
-use Rattle.pb_c.specs.Report.{misused, of_instance, report_of_reason, report_of_stop, report_with, spent}
+use Rattle.{pb_c.specs.Checker.NameOf, pb_c.specs.Checker.Under, pb_tool.specs.contract.Faults.stop_status, pb_tool.specs.contract.Pieces.joined}
+use Rattle.pb_c.specs.{Options.AreWrong, Report.misused, Report.of_instance, Report.report_of_reason, Report.report_of_stop, Report.report_with, Report.spent}
 use Rattle.pb_c.specs.declared.{arrays.Sizes.Sizes, instance_handle.InstanceHandle.InstanceHandle, options.Options.Options, report.Report.Report}
-use Rattle.pb_opb.specs.meaning.Instances.{IsInstance}
-use Rattle.pb_pieces.specs.{Reading.IsFlatBy, Reading.IsNotFlat, declared.instance.Flat.Flat, declared.places.Places.Places, declared.rows.Rows.Rows}
-use Rattle.pb_pieces.specs.declared.terms.Terms.{Terms}
+use Rattle.{pb_opb.specs.meaning.Instances.IsInstance, pb_pieces.specs.Reading.IsFlatBy, pb_pieces.specs.Reading.IsNotFlat}
+use Rattle.pb_pieces.specs.declared.{instance.Flat.Flat, places.Places.Places, rows.Rows.Rows, terms.Terms.Terms}
 use Rattle.pb_text.specs.{declared.Stop.Stop, meaning.Limits.largest, meaning.Limits.top_of}
-use Rattle.pb_tool.specs.contract.{Faults.stop_status, Pieces.joined}
 use Rattle.std.specs.Prelude.{◌≡◌, ◌≢◌, ◌-◌, ◌^◌, ◌⊎◌, ℕ, ℤ, List, length, min, Option, Some, None, slice_get}
 
 -- the text is an instance and a blank rest, and the arrays are those of its statements

@@ -2,11 +2,9 @@
 use Rattle.pb_c.specs.{Buffer.Puts, Claim.claim_of, Claim.unsat_kind, Options.AreWrong, Options.IsAsked}
 use Rattle.pb_c.specs.Report.{misused, position_of, report_of, report_of_opening, report_of_place, report_of_reason, spent, status_of_fault, status_of_opening}
 use Rattle.pb_c.specs.declared.{claim.Claim.Claim, handle.CheckerHandle.CheckerHandle, options.Options.Options, report.Position.Position, report.Report.Report}
-use Rattle.pb_opb.specs.declared.Instance.{Instance}
+use Rattle.{pb_opb.specs.declared.Instance.Instance, pb_pieces.specs.declared.session.OpenFault.OpenFault, pb_pieces.specs.declared.session.Session.Session}
 use Rattle.pb_pieces.specs.Session.{IsInstanceOf, IsNoSession, IsSession, held_in}
-use Rattle.pb_pieces.specs.declared.session.{OpenFault.OpenFault, Session.Session}
-use Rattle.pb_replay.specs.declared.verdict.Verdict.{Verdict}
-use Rattle.pb_text.specs.declared.Limits.{Limits}
+use Rattle.{pb_replay.specs.declared.verdict.Verdict.Verdict, pb_text.specs.declared.Limits.Limits}
 use Rattle.pb_tool.specs.{contract.Pieces.HoldsOpen, contract.Pieces.place_in, declared.commands.check.checker.CheckFault.CheckFault}
 use Rattle.pb_tool.specs.meaning.{Decided.AreVerified, Files.IsInstanceFile, Headline.IsUnsatisfiable}
 use Rattle.std.specs.Prelude.{◌≡◌, ◌≢◌, ◌⊎◌, ◌+◌, ◌≤◌, ◌^◌, ℕ, List, [], length, Option, Some, None, slice_get, unwrap_or}

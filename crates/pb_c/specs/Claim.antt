@@ -1,6 +1,5 @@
 -- A verdict as numbers.
-use Rattle.pb_c.specs.declared.claim.Claim.{Claim}
-use Rattle.pb_pieces.specs.Words.{high_word, low_word}
+use Rattle.{pb_c.specs.declared.claim.Claim.Claim, pb_pieces.specs.Words.high_word, pb_pieces.specs.Words.low_word}
 use Rattle.pb_proof.specs.declared.conclusion.Bound.{Bound, TheVariants.Finite, TheVariants.Infinite}
 use Rattle.pb_replay.specs.declared.verdict.Verdict.{Verdict, TheVariants.NoClaim, TheVariants.Unsat, TheVariants.Sat, TheVariants.Bounds}
 use Rattle.std.specs.Prelude.{ℕ, ℤ, pos, Bool, true, false}

@@ -1,8 +1,7 @@
 -- What the calls return that copy a constraint.
 use Rattle.pb_c.specs.declared.constraint.Number.{Number}
-use Rattle.pb_normal.specs.{declared.entry.Entry.Entry, meaning.Form.Form}
+use Rattle.{pb_normal.specs.declared.entry.Entry.Entry, pb_normal.specs.meaning.Form.Form, pb_replay.specs.contract.ReplayModel.constraint_in}
 use Rattle.pb_pieces.specs.{Terms.bit, Words.high_word, Words.low_word, declared.session.Session.Session}
-use Rattle.pb_replay.specs.contract.ReplayModel.{constraint_in}
 use Rattle.std.specs.Prelude.{◌≡◌, ◌≢◌, ◌⊎◌, ℕ, ℤ, pos, List, length, map, Option, Some, None}
 
 -- the live constraint with an id, if there is one

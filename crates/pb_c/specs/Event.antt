@@ -1,9 +1,8 @@
 -- A statement that a reader gives, as numbers.
 use Rattle.pb_c.specs.declared.event.Statement.{Statement}
-use Rattle.pb_pieces.specs.declared.{token_reader.Event.Event, tokenized.EventKind.EventKind}
+use Rattle.{pb_pieces.specs.declared.token_reader.Event.Event, pb_pieces.specs.declared.tokenized.EventKind.EventKind, std.specs.Prelude.ℕ}
 use Rattle.pb_pieces.specs.declared.tokenized.EventKind.TheVariants.{Header, Comment, Objective, Constraint, Proof, F, Pol, Rup, Soli, Solx, Delete, Output}
 use Rattle.pb_pieces.specs.declared.tokenized.EventKind.TheVariants.{NoClaim, Unsat, Sat, Bounds, End}
-use Rattle.std.specs.Prelude.{ℕ}
 
 -- the kinds of statements of instances from 1, those of proofs from 16
 abbrev pub event_code : EventKind → ℕ

@@ -1,9 +1,8 @@
 -- What a handle owns: a box, or nothing.
-use Rattle.std.specs.{Box.Ownership.box_owns, Prelude.Option, Prelude.Some, Prelude.None, contracts.impls.GlobalAllocator.TheImpl.ghosts}
-use Rattle.std.specs.declared.alloc.Global.{Global}
+use Rattle.std.specs.Box.Ownership.{box_owns}
+use Rattle.std.specs.{Prelude.Option, Prelude.Some, Prelude.None, contracts.impls.GlobalAllocator.TheImpl.ghosts, declared.alloc.Global.Global}
 use base.Fml.{Fml, ftrue, ffalse}
-use denote.RattleType.{RattleType}
-use denote.RawPtr.{Ptr, block_ptr, null_ptr}
+use denote.{RattleType.RattleType, RawPtr.Ptr, RawPtr.block_ptr, RawPtr.null_ptr}
 
 module _ (R : RattleType) (a : Global) where
   -- at null nothing, and else the box with the value

@@ -1,6 +1,5 @@
 -- The names of an instance in one text.
-use Rattle.pb_pieces.specs.declared.instance.Flat.{Flat}
-use Rattle.pb_tool.specs.contract.Pieces.{joined}
+use Rattle.{pb_pieces.specs.declared.instance.Flat.Flat, pb_tool.specs.contract.Pieces.joined}
 use Rattle.std.specs.Prelude.{◌≡◌, ◌≢◌, ◌⊎◌, ◌<◌, ℕ, List, get_or, length, take, Option, Some, None}
 
 -- each name begins where those before it end

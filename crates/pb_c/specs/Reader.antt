@@ -1,11 +1,9 @@
 -- What a handle on a reader stands for, and what the calls return.
-use Rattle.pb_pieces.specs.{Given.Given, Reader.Ends, Reader.IsReader, Reader.IsShown, Reader.StopsAt, Reader.fault_of, Reader.place_in, Reader.text_in}
-use Rattle.pb_pieces.specs.{Reader.tokens_in, declared.reader.Format.Format, declared.reader.Reader.Reader}
-use Rattle.pb_pieces.specs.declared.{reader.Reader.TheVariants.Instance, reader.Reader.TheVariants.Proof, token_reader.Event.Event, tokens.Tokens.Tokens}
-use Rattle.pb_text.specs.declared.{Limits.Limits, Stop.Stop}
-use Rattle.pb_tool.specs.contract.Faults.{stop_status}
+use Rattle.pb_pieces.specs.{Given.Given, declared.token_reader.Event.Event, declared.tokens.Tokens.Tokens}
+use Rattle.pb_pieces.specs.Reader.{Ends, IsReader, IsShown, StopsAt, fault_of, place_in, text_in, tokens_in}
+use Rattle.pb_pieces.specs.declared.reader.{Format.Format, Reader.Reader, Reader.TheVariants.Instance, Reader.TheVariants.Proof}
+use Rattle.{pb_text.specs.declared.Limits.Limits, pb_text.specs.declared.Stop.Stop, pb_tool.specs.contract.Faults.stop_status, std.specs.Prelude.slice_get}
 use Rattle.std.specs.Prelude.{◌≡◌, ◌≢◌, ◌⊎◌, ◌+◌, ◌≤◌, ℕ, ℤ, pos, List, [], ◌∷◌, ◌++◌, eqb, if◌then◌else◌, length, take, Option, Some, None, Result, Ok, Err}
-use Rattle.std.specs.Prelude.{slice_get}
 use Rattle.pb_c.specs.{Checker.NameOf, Checker.Under, Event.event_of, Event.no_event, Options.AreWrong}
 use Rattle.pb_c.specs.Report.{misused, of_instance, of_proof, report_at, report_of_reason, report_of_stop, spent}
 use Rattle.pb_c.specs.declared.{event.Statement.Statement, options.Options.Options, reader_handle.ReaderHandle.ReaderHandle, report.Report.Report}

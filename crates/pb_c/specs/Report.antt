@@ -1,14 +1,12 @@
 -- Where and why a text is rejected, as numbers.
 use Rattle.pb_text.specs.declared.{Place.Place, Stop.Stop, place.Why.Why}
-use Rattle.std.specs.Prelude.{ℕ, ℤ, pos}
-use Rattle.pb_text.specs.declared.place.Why.TheVariants as why
-use Rattle.pb_replay.specs.declared.fault.Fault.{Fault}
-use Rattle.pb_replay.specs.declared.fault.Fault.TheVariants as fault
+use Rattle.{std.specs.Prelude.ℕ, std.specs.Prelude.ℤ, std.specs.Prelude.pos, pb_replay.specs.declared.fault.Fault.Fault}
 use Rattle.pb_tool.specs.{contract.Faults.stop_status, contract.Refusals.refusal_status, declared.commands.check.checker.CheckFault.CheckFault}
+use Rattle.{pb_pieces.specs.declared.session.OpenFault.OpenFault, pb_c.specs.declared.report.Position.Position, pb_c.specs.declared.report.Report.Report}
+use Rattle.pb_text.specs.declared.place.Why.TheVariants as why
+use Rattle.pb_replay.specs.declared.fault.Fault.TheVariants as fault
 use Rattle.pb_tool.specs.declared.commands.check.checker.CheckFault.TheVariants as check
-use Rattle.pb_pieces.specs.declared.session.OpenFault.{OpenFault}
 use Rattle.pb_pieces.specs.declared.session.OpenFault.TheVariants as open_fault
-use Rattle.pb_c.specs.declared.report.{Position.Position, Report.Report}
 
 abbrev pub position_of : Place → Position
 position_of p = record { line = p.line; column = p.column; offset = p.offset }

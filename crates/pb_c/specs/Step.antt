@@ -1,7 +1,6 @@
 -- What the calls return that go through a proof statement by statement.
-use Rattle.pb_c.specs.declared.step.State.{State}
+use Rattle.{pb_c.specs.declared.step.State.State, pb_text.specs.declared.Limits.Limits}
 use Rattle.pb_pieces.specs.{Session.HasAccepted, Session.IsSession, declared.session.Session.Session}
-use Rattle.pb_text.specs.declared.Limits.{Limits}
 use Rattle.std.specs.Prelude.{◌≡◌, ◌+◌, ℕ, List, Bool, cond, length, Option, Some, None}
 
 -- one more statement was accepted, or none

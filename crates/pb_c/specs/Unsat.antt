@@ -1,8 +1,6 @@
 -- What a caller may conclude from a status and a line.
-use Rattle.pb_c.specs.{Buffer.Puts, Options.IsAsked, declared.options.Options.Options}
-use Rattle.pb_opb.specs.declared.Instance.{Instance}
-use Rattle.pb_replay.specs.{declared.verdict.Verdict.Verdict, meaning.Meaning.MeansWritten}
-use Rattle.pb_text.specs.declared.Limits.{Limits}
+use Rattle.{pb_c.specs.Buffer.Puts, pb_c.specs.Options.IsAsked, pb_c.specs.declared.options.Options.Options, pb_opb.specs.declared.Instance.Instance}
+use Rattle.{pb_replay.specs.declared.verdict.Verdict.Verdict, pb_replay.specs.meaning.Meaning.MeansWritten, pb_text.specs.declared.Limits.Limits}
 use Rattle.pb_tool.specs.meaning.{Files.IsInstanceFile, Headline.IsUnsatisfiable, Verified.verdict_line}
 use Rattle.std.specs.Prelude.{◌≡◌, ◌^◌, ℕ, List, codes, take, Option, Some, unwrap_or}
 

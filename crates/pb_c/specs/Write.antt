@@ -1,9 +1,7 @@
 -- What the call returns that writes a statement from arrays.
-use Rattle.pb_c.specs.{Buffer.Puts, Event.event_code, Options.IsAsked, declared.options.Options.Options}
-use Rattle.pb_pieces.specs.{AnyStatement.line_of, GivenTokens.Arrays, Made.IsMadeOf, declared.any_statement.AnyStatement.AnyStatement}
-use Rattle.pb_pieces.specs.declared.tokenized.EventKind.{EventKind}
-use Rattle.pb_text.specs.declared.Limits.{Limits}
-use Rattle.std.specs.Prelude.{◌≡◌, ℕ, List, Option}
+use Rattle.{pb_c.specs.Buffer.Puts, pb_c.specs.Event.event_code, pb_c.specs.Options.IsAsked, pb_c.specs.declared.options.Options.Options, std.specs.Prelude.ℕ}
+use Rattle.pb_pieces.specs.{AnyStatement.line_of, GivenTokens.Arrays, declared.any_statement.AnyStatement.AnyStatement, declared.tokenized.EventKind.EventKind}
+use Rattle.{pb_pieces.specs.Made.IsMadeOf, pb_text.specs.declared.Limits.Limits, std.specs.Prelude.◌≡◌, std.specs.Prelude.List, std.specs.Prelude.Option}
 
 -- The line is the canonical text of a statement of this kind, with exactly these tokens and this free text. The statement
 -- meets the rules under the limits.

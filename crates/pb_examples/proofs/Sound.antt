@@ -1,16 +1,14 @@
 -- What a source over a slice has, and what a replay verifies of an instance.
 use Rattle.pb_examples.specs.Fed.{Verifies}
-use Rattle.pb_opb.specs.declared.Instance.{Instance}
-use Rattle.pb_proof.specs.contract.{ValueLaws.ReadStatements, Values.IsStatementValue}
+use Rattle.{pb_opb.specs.declared.Instance.Instance, pb_proof.specs.contract.ValueLaws.ReadStatements, pb_proof.specs.contract.Values.IsStatementValue}
 use Rattle.pb_proof.specs.declared.{Stage.Stage, Stage.TheVariants.Complete, Statement.Statement}
 use Rattle.pb_replay.specs.contract.{Laws.MeaningsAgree, Laws.StatementsAreSound, ReplayModel.Replaying, ReplayModel.StandsFor, ReplayModel.verdict_at}
-use Rattle.pb_replay.specs.{declared.fault.Fault.Fault, declared.verdict.Verdict.Verdict, meaning.Meaning.IsProblem}
-use Rattle.pb_replay.specs.meaning.{Meaning.IsSound, Meaning.Means, Meaning.MeansWritten, Problem.Opened, Problem.Problem, Replay.State, Statements.Accepts}
-use Rattle.pb_text.specs.{contract.Over.reported, contract.OverState.inner_of, contract.OverState.shown_of, declared.over.Over.Over}
-use Rattle.pb_text.specs.meaning.{Limits.largest, Limits.top_of, Reading.byte_limit, Whole.events_at}
-use Rattle.pb_tool.specs.contract.Checker.{IsAt}
+use Rattle.pb_replay.specs.{declared.fault.Fault.Fault, declared.verdict.Verdict.Verdict, meaning.Statements.Accepts}
+use Rattle.pb_replay.specs.meaning.{Meaning.IsProblem, Meaning.IsSound, Meaning.Means, Meaning.MeansWritten, Problem.Opened, Problem.Problem, Replay.State}
+use Rattle.pb_text.specs.contract.{Over.reported, OverState.inner_of, OverState.shown_of}
+use Rattle.pb_text.specs.{declared.over.Over.Over, meaning.Limits.largest, meaning.Limits.top_of, meaning.Reading.byte_limit, meaning.Whole.events_at}
+use Rattle.{pb_tool.specs.contract.Checker.IsAt, std.proofs.lemmas.List.Elements.All-head, std.proofs.lemmas.List.Elements.All-tail}
 use Rattle.std.proofs.Common.{◌≡◌, ℕ, List, [], ◌∷◌, Option, Some, None, Ok, Err, refl, subst, true, All, Bor, ap, ◌∙◌}
-use Rattle.std.proofs.lemmas.List.Elements.{All-head, All-tail}
 
 -- the text of a source over a slice is the slice
 pub whole : (o : Over (Bor (List ℕ))) (s : Bor (List ℕ)) → inner_of o ≡ s → shown_of o ≡ None → reported (Some o.inner.now) None o.shown ≡ Some s.now
@@ -43,13 +41,10 @@ module _ (law : StatementsAreSound) (agree : MeaningsAgree) (read : ReadStatemen
   -- a spent one verifies nothing
   at_fault : (fault : Option Fault) → r.fault ≡ fault → (r.fault ≡ None → IsProblem r.problem)
       → (r.fault ≡ None → (s : State) × StandsFor r s × IsSound r.problem s) → Means r.problem w
-  at_fault None none fine reported =
-      let (s, stands, sound) = reported none in
-      from_state (fine none) s (none, stands) sound
+  at_fault None none fine reported = let (s, stands, sound) = reported none in from_state (fine none) s (none, stands) sound
   at_fault (Some e) spent fine reported =
       let (place, (t, replayed, is)) = shows (Err e) spent in
-      let (nothing, other) = replayed.accepted in
-      absurd cc
+      let (nothing, other) = replayed.accepted in absurd cc
 
   pub true_of : (r.fault ≡ None → IsProblem r.problem) → (r.fault ≡ None → (s : State) × StandsFor r s × IsSound r.problem s)
       → (limit : ℕ) (v : Instance) → Opened limit v (Ok r.problem) → MeansWritten v w

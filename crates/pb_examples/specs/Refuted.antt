@@ -1,7 +1,6 @@
 -- What the first program answers.
-use Rattle.pb_replay.specs.declared.verdict.Verdict.TheVariants.{Unsat}
+use Rattle.{pb_replay.specs.declared.verdict.Verdict.TheVariants.Unsat, pb_tool.specs.meaning.Decided.AreVerified, pb_tool.specs.meaning.Headline.AreWidest}
 use Rattle.pb_text.specs.{declared.Limits.Limits, meaning.Reading.byte_limit}
-use Rattle.pb_tool.specs.meaning.{Decided.AreVerified, Headline.AreWidest}
 use Rattle.std.specs.Prelude.{◌↔◌, ℕ, List, Bool, IsTrue}
 
 -- Under the widest limits the answer is true if and only if the two texts are an instance and a proof of UNSAT that the

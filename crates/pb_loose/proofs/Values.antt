@@ -1,13 +1,9 @@
 -- The machine values of a `Loose`. Offered to other crates.
-use Rattle.core.specs.declared.alloc.Allocator.{Ghosts}
+use Rattle.{core.specs.declared.alloc.Allocator.Ghosts, pb_loose.proofs.Machine.box_owns, std_alloc.proofs.ResultValues.and_tt}
 use Rattle.pb_loose.proofs.Machine.{◌≡◌, ℕ, List, [], ◌∷◌, ◌++◌, refl, subst, impl, tnil, dnil, bare, Val, vptr, vstruct, vcons, vnil, of_list, has_ty, WT}
 use Rattle.pb_loose.proofs.Machine.{never, fst∗, Logic, sem, Item, Goal, Seq, Step, step, ‵, ◌$◌, move, drop, fsplit, fjoin, fpick, fpack, feq_i, feq_l}
 use Rattle.pb_loose.proofs.Machine.{RattleType, Valss, RawPtr, Ptr, block_ptr, null_ptr, ptr_val, in_a_block, nothing, layout, Laws, Al, handle_tells, Good}
-use Rattle.pb_loose.proofs.Machine.{box_owns}
-use Rattle.std_alloc.proofs.ResultValues.{and_tt}
-use denote.Laws.{Is, Lawful, Typed, shows}
-use denote.Memory.{lone}
-use denote.Struct.{Owning.shape, Struct.Struct, Struct.within}
+use denote.{Laws.Is, Laws.Lawful, Laws.Typed, Laws.shows, Memory.lone, Struct.Owning.shape, Struct.Struct.Struct, Struct.Struct.within}
 use lib.Dec.{T}
 use mathlib.Core.Bool.{true, ◌&&◌}
 use seplogic.Ra.Ura.{Ura}

@@ -3,14 +3,13 @@ use Rattle.pb_normal.proofs.Common.{append-nil, map-set_same, le-ltb, lt-ltb, to
 use Rattle.pb_normal.proofs.lemmas.names.{Appearing.distinct, Appearing.in_turn, Appearing.named, Appearing.prefix, Appearing.present, Loaded.after_all}
 use Rattle.pb_normal.proofs.lemmas.names.Numbering.{OnErr-always, has_name-append, number_in-append, number_in-below, number_in-get, slice_get-number}
 use Rattle.pb_normal.proofs.lemmas.names.WrittenForms.{HasNames-append, magnitude-read, magnitude-side, shift-side-le, total-raw}
-use Rattle.pb_normal.proofs.lemmas.rules.{Bounds.SumPasses-swap, Bounds.overflow-Memory, Bounds.overflow-Ok, Keeps.Holds-alike, Scales.IfOk-multiplied-one}
-use Rattle.pb_normal.proofs.lemmas.rules.{Scales.divided-one, Scales.All-multiplied, Scales.Holds-multiplied, Scales.Holds-saturated}
-use Rattle.pb_normal.proofs.lemmas.rules.{Scales.IsWithin-multiplied, Scales.Passes-degree, Scales.Passes-not, Scales.Passes-size, Scales.total-multiplied}
-use Rattle.pb_normal.proofs.lemmas.rules.{Scales.within_quotient, Sums.Holds-sum, Sums.IsSum-swapped, Unique.IsSum-unique, Unique.form-unique}
-use Rattle.pb_normal.proofs.lemmas.terms.{KeyedTerms.IsKeyed-get, KeyedTerms.IsKeyed-remove, KeyedTerms.get-le-total, KeyedTerms.dropped-none}
-use Rattle.pb_normal.proofs.lemmas.terms.{KeyedTerms.size-some, KeyedTerms.Cancels-AllCancel, KeyedTerms.TermCancels-absent, KeyedTerms.TermCancels-present}
-use Rattle.pb_normal.proofs.lemmas.terms.{Maps.Holds-divided, Maps.Holds-negation, Maps.Holds-negation_back, Maps.Holds-weakened, Maps.total-le-each}
-use Rattle.pb_normal.proofs.lemmas.terms.{Merging.total-drop, Totals.IsRising-read, Totals.total-permutation, Totals.IsRising-from}
+use Rattle.pb_normal.proofs.lemmas.rules.{Bounds.SumPasses-swap, Bounds.overflow-Memory, Bounds.overflow-Ok, Unique.IsSum-unique, Unique.form-unique}
+use Rattle.pb_normal.proofs.lemmas.{rules.Keeps.Holds-alike, rules.Sums.Holds-sum, rules.Sums.IsSum-swapped, terms.Merging.total-drop}
+use Rattle.pb_normal.proofs.lemmas.rules.Scales.{IfOk-multiplied-one, divided-one, All-multiplied, Holds-multiplied, Holds-saturated, IsWithin-multiplied}
+use Rattle.pb_normal.proofs.lemmas.rules.Scales.{Passes-degree, Passes-not, Passes-size, total-multiplied, within_quotient}
+use Rattle.pb_normal.proofs.lemmas.terms.KeyedTerms.{IsKeyed-get, IsKeyed-remove, get-le-total, dropped-none, size-some, Cancels-AllCancel, TermCancels-absent}
+use Rattle.pb_normal.proofs.lemmas.terms.{KeyedTerms.TermCancels-present, Totals.IsRising-read, Totals.total-permutation, Totals.IsRising-from}
+use Rattle.pb_normal.proofs.lemmas.terms.Maps.{Holds-divided, Holds-negation, Holds-negation_back, Holds-weakened, total-le-each}
 use borrow.Author.Tests.{le-leb, lt-leb}
 
 pub ruleset multiply = (All-multiplied, IsWithin-multiplied, Passes-degree, Passes-not, Passes-size, overflow-Memory, overflow-Ok, within_quotient)

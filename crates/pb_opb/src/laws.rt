@@ -11,20 +11,20 @@ pub fn instances_are_exact()
 {}
 
 /// A text is the text of one instance only.
-#[tactic(auto, using(crate::proofs::Rules::laws))]
+#[tactic(auto, using(crate::proofs::Rulesets::laws))]
 pub fn one_instance()
     ensures { OneInstance }
 {}
 
 /// In all instances whose texts begin with the same bytes, the statements that end within these
 /// bytes are the same. Their positions are the same too.
-#[tactic(auto, using(crate::proofs::Rules::laws))]
+#[tactic(auto, using(crate::proofs::Rulesets::laws))]
 pub fn fixed_spans()
     ensures { FixedSpans }
 {}
 
 /// No instance's text is a prefix of another's.
-#[tactic(auto, using(crate::proofs::Rules::laws))]
+#[tactic(auto, using(crate::proofs::Rulesets::laws))]
 pub fn prefix_free()
     ensures { PrefixFree }
 {}

@@ -1,21 +1,19 @@
 -- A session at its end, and at its beginning.
 use Rattle.pb_pieces.proofs.Common.{ℕ, ◌∙◌, ◌≡◌, [], ap, append-nil, arith, Bor, drop, Err, inl, length, List, None, Ok, Option, refl, Result, Some, subst, sym}
 use Rattle.pb_pieces.proofs.Common.{true, Vec, drop-append_seam, drop-nil, Fault, Opened, Problem, first_state, State, place_after-offset, Limits, Place}
-use Rattle.pb_pieces.proofs.Common.{Spanned, Stop, ReadsBlank, largest, top_of, Checking, IsAt, EndsAfter, CountsAt, fault_of, place_in, CheckFault}
-use Rattle.pb_pieces.proofs.Common.{AfterProof, IsAccepted, HasFault, IsInstanceOf, IsRejected, IsRunning, IsSession, Session}
+use Rattle.pb_pieces.proofs.Common.{Spanned, Stop, ReadsBlank, largest, top_of, Checking, IsAt, EndsAfter, CountsAt, fault_of, place_in, CheckFault, AfterProof}
+use Rattle.pb_pieces.proofs.Common.{IsAccepted, HasFault, IsInstanceOf, IsRejected, IsRunning, IsSession, Session}
 use Rattle.pb_text.specs.{contract.Over.reported, contract.OverState.inner_of, contract.OverState.shown_of, meaning.Whole.IsRead, meaning.Whole.events_at}
-use Rattle.std.specs.declared.alloc.Global.{Global}
-use Rattle.pb_text.specs.declared.place.Why.TheVariants as reason
+use Rattle.{std.specs.declared.alloc.Global.Global, pb_tool.proofs.lemmas.check.TwoSources.whole_file, pb_tool.proofs.lemmas.file.GivenBytes.file_then_blank}
 use Rattle.pb_opb.specs.{declared.Instance.Instance, meaning.Reading.ReadsInstance, meaning.Values.IsValueOf}
-use Rattle.pb_proof.specs.declared.Stage.{Stage, TheVariants.Complete}
-use Rattle.pb_replay.specs.contract.ReplayModel.{Replaying, StandsFor, verdict_at}
-use Rattle.pb_replay.specs.{declared.verdict.Verdict.Verdict, meaning.Statements.Accepts}
+use Rattle.{pb_proof.specs.declared.Stage.Stage, pb_proof.specs.declared.Stage.TheVariants.Complete, pb_replay.specs.meaning.Statements.Accepts}
+use Rattle.pb_replay.specs.{contract.ReplayModel.Replaying, contract.ReplayModel.StandsFor, contract.ReplayModel.verdict_at, declared.verdict.Verdict.Verdict}
 use Rattle.pb_text.specs.declared.over.Over.{Over}
-use Rattle.pb_tool.specs.{contract.Runs.Replays, meaning.Decided.AreVerified, meaning.Files.IsInstanceFile}
-use Rattle.pb_tool.specs.meaning.{Files.IsInstanceText, Files.IsNoInstanceFile, Files.IsRefused.InText, Files.IsRefused.InRest, Headline.VerdictsAreTrue}
-use Rattle.pb_tool.specs.declared.commands.check.checker.CheckFault.TheVariants as check
+use Rattle.pb_tool.specs.{contract.Runs.Replays, meaning.Decided.AreVerified, meaning.Headline.VerdictsAreTrue}
+use Rattle.pb_tool.specs.meaning.Files.{IsInstanceFile, IsInstanceText, IsNoInstanceFile, IsRefused.InText, IsRefused.InRest}
 use Rattle.pb_pieces.proofs.{Faults.accepting, Faults.refused_at_end, Fed.running, Fed.with_stands}
-use Rattle.pb_tool.proofs.lemmas.{check.TwoSources.whole_file, file.GivenBytes.file_then_blank}
+use Rattle.pb_text.specs.declared.place.Why.TheVariants as reason
+use Rattle.pb_tool.specs.declared.commands.check.checker.CheckFault.TheVariants as check
 
 -- a source over a slice has the bytes of the slice left
 pub whole : (o : Over (Bor (List ℕ))) (s : Bor (List ℕ)) → inner_of o ≡ s → shown_of o ≡ None → reported (Some o.inner.now) None o.shown ≡ Some s.now

@@ -1,15 +1,13 @@
 -- What a session was fed, with one more piece.
-use Rattle.pb_pieces.proofs.Common.{ℕ, ◌++◌, ◌+◌, ◌-◌, ◌<◌, ◌^◌, ◌∙◌, ◌∷◌, ◌≡◌, ◌≢◌, ◌≤◌, [], add-zero, ap, append-nil, append_assoc, arith, Bool}
-use Rattle.pb_pieces.proofs.Common.{cond, drop, false, inl, inr, length, length-append, List, min, None, Ok, Option, refl, Result, Some, subst, sym}
-use Rattle.pb_pieces.proofs.Common.{take, true, drop-append-add, drop-length, drop-append-le, drop-take, Statement, IsProof, Fault, Problem}
-use Rattle.pb_pieces.proofs.Common.{first_state, State, place_after-offset, is_complete, Limits, Place, Spanned, largest, top_of, Answers, Reads}
-use Rattle.pb_pieces.proofs.Common.{Item, reported, Checking, TextsAreRead, AllocatesAt, bytes_to, ChecksAt, CountsAt, CountsOnce, fault_of, is_whole}
-use Rattle.pb_pieces.proofs.Common.{MayGoOn, place_in, CheckFault, IsProofText, IsRejected, IsRunning, IsSession, Stands, Session}
-use Rattle.pb_proof.specs.contract.Formats.{PrefixFree}
-use Rattle.pb_text.specs.declared.place.Why.TheVariants.{Memory as no_memory}
+use Rattle.pb_pieces.proofs.Common.{ℕ, ◌++◌, ◌+◌, ◌-◌, ◌<◌, ◌^◌, ◌∙◌, ◌∷◌, ◌≡◌, ◌≢◌, ◌≤◌, [], add-zero, ap, append-nil, append_assoc, arith, Bool, cond, drop}
+use Rattle.pb_pieces.proofs.Common.{false, inl, inr, length, length-append, List, min, None, Ok, Option, refl, Result, Some, subst, sym, take, true}
+use Rattle.pb_pieces.proofs.Common.{drop-append-add, drop-length, drop-append-le, drop-take, Statement, IsProof, Fault, Problem, first_state, State}
+use Rattle.pb_pieces.proofs.Common.{place_after-offset, is_complete, Limits, Place, Spanned, largest, top_of, Answers, Reads, Item, reported, Checking}
+use Rattle.pb_pieces.proofs.Common.{TextsAreRead, AllocatesAt, bytes_to, ChecksAt, CountsAt, CountsOnce, fault_of, is_whole, MayGoOn, place_in, CheckFault}
+use Rattle.pb_pieces.proofs.{Common.IsProofText, Common.IsRejected, Common.IsRunning, Common.IsSession, Common.Stands, Common.Session, Faults.so_far}
+use Rattle.{pb_proof.specs.contract.Formats.PrefixFree, pb_tool.proofs.lemmas.check.OneRead.one_spelt, pb_tool.specs.declared.commands.check.checker.Went.Went}
+use Rattle.{pb_text.specs.declared.place.Why.TheVariants.Memory as no_memory, pb_pieces.proofs.Faults.AcceptedBy, pb_pieces.proofs.Faults.refused_here}
 use Rattle.pb_tool.specs.declared.commands.check.checker.CheckFault.TheVariants as check
-use Rattle.pb_pieces.proofs.Faults.{AcceptedBy, refused_here, so_far}
-use Rattle.pb_tool.{proofs.lemmas.check.OneRead.one_spelt, specs.declared.commands.check.checker.Went.Went}
 
 -- ---- what is read of a longer text
 module _ (free : PrefixFree) (limits : Limits) (longest : ℕ) where

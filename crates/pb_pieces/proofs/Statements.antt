@@ -1,10 +1,9 @@
 -- Statements in flat arrays: one more, and an instance that is pulled from a source.
-use Rattle.pb_pieces.proofs.Common.{ℕ, ℤ, ◌++◌, ◌+◌, ◌∙◌, ◌∷◌, ◌≡◌, [], ap, append-nil, append_assoc, arith, length, length-append, List, sym}
-use Rattle.pb_pieces.proofs.Common.{flat_map-append, OpbEvent, Term, Spanned, HoldAll, IsFlatOf, places_of, row_in, rows_from, span_in, terms_in, terms_of}
-use Rattle.pb_pieces.proofs.Common.{Flat, Span, Row, Bool, Err, false, IfErr, IfOk, None, Ok, Option, Result, Some, true, Place, Stop, ReadsBlank, TookAll}
-use Rattle.pb_pieces.proofs.Common.{Reads, Item, rest_within, InRest, InText, Unstored}
-use Rattle.pb_pieces.specs.Reading.{IsFlatBy, IsNotFlat}
-use Rattle.pb_text.proofs.lemmas.source.PullsInARow.{took_join}
+use Rattle.pb_pieces.proofs.Common.{ℕ, ℤ, ◌++◌, ◌+◌, ◌∙◌, ◌∷◌, ◌≡◌, [], ap, append-nil, append_assoc, arith, length, length-append, List, sym, flat_map-append}
+use Rattle.pb_pieces.proofs.Common.{OpbEvent, Term, Spanned, HoldAll, IsFlatOf, places_of, row_in, rows_from, span_in, terms_in, terms_of, Flat, Span, Row}
+use Rattle.pb_pieces.proofs.Common.{Bool, Err, false, IfErr, IfOk, None, Ok, Option, Result, Some, true, Place, Stop, ReadsBlank, TookAll, Reads, Item}
+use Rattle.pb_pieces.proofs.Common.{rest_within, InRest, InText, Unstored}
+use Rattle.{pb_pieces.specs.Reading.IsFlatBy, pb_pieces.specs.Reading.IsNotFlat, pb_text.proofs.lemmas.source.PullsInARow.took_join}
 
 terms_more : (ms : List (Spanned OpbEvent)) (m : Spanned OpbEvent) → terms_of (ms ++ m ∷ []) ≡ terms_of ms ++ terms_in m.event
 terms_more ms m = flat_map-append (λ (x : Spanned OpbEvent). terms_in x.event) ms (m ∷ []) ∙ ap (λ (x : List Term). terms_of ms ++ x) (append-nil (terms_in m.event))

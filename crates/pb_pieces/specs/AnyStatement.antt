@@ -1,14 +1,12 @@
 -- A statement of an instance or of a proof.
-use Rattle.pb_opb.specs.{contract.Canonical.event_bytes, declared.OpbEvent.OpbEvent, meaning.Instances.IsTail}
-use Rattle.pb_sums.specs.contract.Canonical.{AreTerms, IsLinear}
-use Rattle.pb_text.specs.meaning.Blank.{IsInLine}
-use Rattle.std.specs.Prelude.{ℕ, ◌≤◌, List, []}
+use Rattle.{pb_opb.specs.contract.Canonical.event_bytes, pb_opb.specs.declared.OpbEvent.OpbEvent, pb_opb.specs.meaning.Instances.IsTail, std.specs.Prelude.[]}
+use Rattle.{pb_sums.specs.contract.Canonical.AreTerms, pb_sums.specs.contract.Canonical.IsLinear, std.specs.Prelude.ℕ}
+use Rattle.{pb_text.specs.meaning.Blank.IsInLine, pb_proof.specs.contract.Values.IsStatementValue, pb_proof.specs.meaning.Canonical.statement_bytes}
+use Rattle.{std.specs.Prelude.◌≤◌, std.specs.Prelude.List, pb_pieces.specs.Tokens.Token, pb_pieces.specs.declared.tokenized.EventKind.EventKind}
+use Rattle.pb_pieces.specs.declared.any_statement.AnyStatement.{AnyStatement, TheVariants.Instance, TheVariants.Proof}
 use Rattle.pb_opb.specs.declared.OpbEvent.TheVariants as opb
-use Rattle.pb_proof.specs.{contract.Values.IsStatementValue, meaning.Canonical.statement_bytes}
 use Rattle.pb_pieces.specs.OpbTokens as instance
 use Rattle.pb_pieces.specs.ProofTokens as proof
-use Rattle.pb_pieces.specs.{Tokens.Token, declared.any_statement.AnyStatement.AnyStatement, declared.any_statement.AnyStatement.TheVariants.Instance}
-use Rattle.pb_pieces.specs.declared.{any_statement.AnyStatement.TheVariants.Proof, tokenized.EventKind.EventKind}
 
 abbrev pub kind_in : AnyStatement → EventKind
 kind_in (Instance event) = instance.kind_in event

@@ -1,8 +1,7 @@
 -- An instance in flat arrays.
 use Rattle.pb_normal.specs.meaning.Names.{HasNames, number_in, with_names}
 use Rattle.pb_pieces.specs.{Terms.HoldTerms, declared.flat.Named.Named}
-use Rattle.pb_sums.specs.declared.Term.{Term}
-use Rattle.std.specs.Prelude.{◌≡◌, ℕ, List, [], map}
+use Rattle.{pb_sums.specs.declared.Term.Term, std.specs.Prelude.◌≡◌, std.specs.Prelude.ℕ, std.specs.Prelude.List, std.specs.Prelude.[], std.specs.Prelude.map}
 
 abbrev pub names_of : List Term → List (List ℕ)
 names_of = map (λ t. t.literal.name)

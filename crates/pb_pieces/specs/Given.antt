@@ -1,7 +1,6 @@
 -- A statement as it is given to programs in other languages.
 use Rattle.pb_pieces.specs.{Tokens.Token, declared.tokenized.EventKind.EventKind, declared.tokenized.Tokenized.Ghosts as Statements}
-use Rattle.pb_text.specs.declared.place.{Place.Place, Spanned.Spanned}
-use Rattle.std.specs.Prelude.{ℕ, List}
+use Rattle.{pb_text.specs.declared.place.Place.Place, pb_text.specs.declared.place.Spanned.Spanned, std.specs.Prelude.ℕ, std.specs.Prelude.List}
 
 -- what a statement is, its tokens and its free text, where it begins, and the position past it
 pub record Given : Type 0 where

@@ -1,8 +1,7 @@
 -- The tokens of statements, with the names that they are numbered by.
-use Rattle.pb_normal.specs.meaning.Names.{HasNames, number_in, with_names}
+use Rattle.{pb_normal.specs.meaning.Names.HasNames, pb_normal.specs.meaning.Names.number_in, pb_normal.specs.meaning.Names.with_names, std.specs.List.flat_map}
 use Rattle.pb_pieces.specs.{Tokens.HoldTokens, Tokens.Token, Tokens.token, declared.named_tokens.NamedTokens.NamedTokens, declared.tokens.TokenKind.TokenKind}
 use Rattle.pb_sums.specs.declared.{Literal.Literal, Term.Term}
-use Rattle.std.specs.List.{flat_map}
 use Rattle.std.specs.Prelude.{◌≡◌, ℕ, List, [], ◌∷◌, ◌++◌, Bool, true, false, Option, Some, None, map, pos}
 use Rattle.pb_pieces.specs.declared.tokens.TokenKind.TheVariants as kind
 

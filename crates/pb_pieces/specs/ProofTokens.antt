@@ -1,12 +1,10 @@
 -- The tokens of the statements of a proof.
 use Rattle.pb_pieces.specs.{NamedTokens.token_of_literal, OpbTokens.tokens_of_linear, Tokens.Token, Tokens.token, declared.tokenized.EventKind.EventKind}
-use Rattle.pb_proof.specs.declared.Statement.{Statement}
+use Rattle.{pb_proof.specs.declared.Statement.Statement, pb_sums.specs.declared.Literal.Literal}
 use Rattle.pb_proof.specs.declared.Statement.TheVariants.{Header, F, Pol, Rup, Soli, Solx, Delete, Output, Conclude, End}
-use Rattle.pb_proof.specs.declared.conclusion.{Bound.Bound, Bound.TheVariants.Finite, Bound.TheVariants.Infinite, Conclusion.Conclusion}
-use Rattle.pb_proof.specs.declared.conclusion.Conclusion.TheVariants.{NoClaim, Unsat, Sat, Bounds}
-use Rattle.pb_proof.specs.declared.word.PolWord.{PolWord}
+use Rattle.pb_proof.specs.declared.{conclusion.Bound.Bound, conclusion.Bound.TheVariants.Finite, conclusion.Bound.TheVariants.Infinite, word.PolWord.PolWord}
+use Rattle.pb_proof.specs.declared.conclusion.Conclusion.{Conclusion, TheVariants.NoClaim, TheVariants.Unsat, TheVariants.Sat, TheVariants.Bounds}
 use Rattle.pb_proof.specs.declared.word.PolWord.TheVariants.{Id, Axiom, Add, Multiply, Divide, Saturate, Weaken}
-use Rattle.pb_sums.specs.declared.Literal.{Literal}
 use Rattle.std.specs.Prelude.{ℕ, ℤ, List, [], ◌∷◌, ◌++◌, Option, Some, None, map, pos}
 use Rattle.pb_pieces.specs.declared.tokenized.EventKind.TheVariants as event
 use Rattle.pb_pieces.specs.declared.tokens.TokenKind.TheVariants as kind

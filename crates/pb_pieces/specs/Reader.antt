@@ -1,17 +1,14 @@
 -- How a reader of an instance or a proof relates to the text that it was fed.
-use Rattle.pb_opb.specs.{declared.OpbEvent.OpbEvent, meaning.Instances.IsInstance}
+use Rattle.{pb_opb.specs.declared.OpbEvent.OpbEvent, pb_opb.specs.meaning.Instances.IsInstance, pb_normal.specs.meaning.Names.with_names}
 use Rattle.pb_text.specs.contract.{Automaton.AcceptsItems, Automaton.Automaton, Feeding.StandsAt, Feeding.halt_of, Feeding.is_complete, Feeding.place_of}
-use Rattle.pb_text.specs.declared.{Feeder.Feeder, Limits.Limits, machine.Machine.Ghosts, place.Place.Place, place.Spanned.Spanned, place.Stop.Stop}
-use Rattle.pb_text.specs.declared.place.Why.TheVariants.{Memory}
+use Rattle.pb_text.specs.declared.{Feeder.Feeder, Limits.Limits, machine.Machine.Ghosts, place.Place.Place, place.Spanned.Spanned, place.Why.TheVariants.Memory}
+use Rattle.{pb_text.specs.declared.place.Stop.Stop, std.specs.List.flat_map, pb_proof.specs.declared.Statement.Statement, pb_proof.specs.meaning.Proofs.IsProof}
 use Rattle.pb_text.specs.meaning.{Limits.largest, Limits.top_of, Reading.EndsAs, Reading.Reads, Spelling.Item}
-use Rattle.std.specs.List.{flat_map}
 use Rattle.std.specs.Prelude.{◌≡◌, ◌⊎◌, ℕ, List, [], ◌∷◌, ◌++◌, map, take, Bool, Option, Some, None, Result}
-use Rattle.pb_proof.specs.{declared.Statement.Statement, meaning.Proofs.IsProof}
-use Rattle.pb_normal.specs.meaning.Names.{with_names}
-use Rattle.pb_pieces.specs.{Given.Given, Given.given, NamedTokens.names_of, NamedTokens.number_of, TokenReader.IsReading, Tokens.HoldTokens}
-use Rattle.pb_pieces.specs.declared.{named_tokens.NamedTokens.NamedTokens, reader.Format.Format, reader.Reader.Reader, reader.Reader.TheVariants.Instance}
-use Rattle.pb_pieces.specs.declared.{reader.Reader.TheVariants.Proof, token_reader.Event.Event, token_reader.Taken.Taken, token_reader.TokenReader.TokenReader}
-use Rattle.pb_pieces.specs.declared.tokenized.Tokenized.{Ghosts as Statements}
+use Rattle.pb_pieces.specs.{Given.Given, Given.given, declared.named_tokens.NamedTokens.NamedTokens, declared.tokenized.Tokenized.Ghosts as Statements}
+use Rattle.pb_pieces.specs.{NamedTokens.names_of, NamedTokens.number_of, TokenReader.IsReading, Tokens.HoldTokens}
+use Rattle.pb_pieces.specs.declared.reader.{Format.Format, Reader.Reader, Reader.TheVariants.Instance, Reader.TheVariants.Proof}
+use Rattle.pb_pieces.specs.declared.token_reader.{Event.Event, Taken.Taken, TokenReader.TokenReader}
 use Rattle.pb_opb.specs.engine.State as instances
 use Rattle.pb_proof.specs.engine.machine.State as proofs
 use Rattle.pb_pieces.specs.OpbTokens as opb

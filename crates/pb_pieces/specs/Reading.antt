@@ -1,6 +1,5 @@
 -- The instance that a source had, in flat arrays.
-use Rattle.pb_opb.specs.declared.OpbEvent.{OpbEvent}
-use Rattle.pb_pieces.specs.{Instance.IsFlatOf, declared.instance.Flat.Flat}
+use Rattle.{pb_opb.specs.declared.OpbEvent.OpbEvent, pb_pieces.specs.Instance.IsFlatOf, pb_pieces.specs.declared.instance.Flat.Flat}
 use Rattle.pb_text.specs.declared.{Place.Place, Spanned.Spanned, Stop.Stop, place.Why.TheVariants.Memory}
 use Rattle.pb_text.specs.meaning.{Blank.IsBlank, Blank.ReadsBlank, Pulling.Took, PullsInARow.TookAll, Reading.IsSpelled, Reading.byte_limit, Spelling.Item}
 use Rattle.std.specs.Prelude.{◌≡◌, ℕ, ◌≤◌, List, [], ◌++◌, length, true, false, Option, Some, None, Err}

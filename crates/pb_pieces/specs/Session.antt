@@ -1,17 +1,15 @@
 -- How a session relates to the texts that it was given.
 use Rattle.pb_opb.specs.declared.Instance.{Instance}
-use Rattle.pb_proof.specs.engine.machine.State.{proofs}
-use Rattle.pb_replay.specs.{declared.fault.Fault.TheVariants.Overflow as over, declared.verdict.Verdict.Verdict, meaning.Meaning.MeansWritten}
-use Rattle.pb_replay.specs.meaning.{Problem.FitsAll, Problem.Opened, Problem.Problem, Replay.State, Replay.first_state}
-use Rattle.pb_text.specs.{contract.Feeding.state_of, declared.Limits.Limits, declared.Place.Place, declared.Stop.Stop}
-use Rattle.pb_text.specs.{declared.place.Why.TheVariants.Memory as no_memory, meaning.Limits.largest}
-use Rattle.pb_tool.specs.contract.Pieces.{CountsAt, fault_of, place_in}
-use Rattle.pb_tool.specs.{declared.commands.check.checker.CheckFault.CheckFault, meaning.Files.IsInstanceFile, meaning.Files.IsNoInstanceFile}
+use Rattle.{pb_proof.specs.engine.machine.State.proofs, pb_text.specs.contract.Feeding.state_of, pb_text.specs.meaning.Limits.largest}
+use Rattle.pb_replay.specs.declared.{fault.Fault.TheVariants.Overflow as over, verdict.Verdict.Verdict}
+use Rattle.pb_replay.specs.meaning.{Meaning.MeansWritten, Problem.FitsAll, Problem.Opened, Problem.Problem, Replay.State, Replay.first_state}
+use Rattle.pb_text.specs.declared.{Limits.Limits, Place.Place, Stop.Stop, place.Why.TheVariants.Memory as no_memory}
+use Rattle.pb_tool.specs.{contract.Pieces.CountsAt, contract.Pieces.fault_of, contract.Pieces.place_in, declared.commands.check.checker.CheckFault.CheckFault}
+use Rattle.{pb_tool.specs.meaning.Files.IsInstanceFile, pb_tool.specs.meaning.Files.IsNoInstanceFile, pb_pieces.specs.declared.session.Session.Session}
 use Rattle.pb_tool.specs.meaning.Verified.{AfterProof, InProof, IsAccepted, IsRefusedStep, IsRefusedText}
 use Rattle.std.specs.Prelude.{◌≡◌, ◌≢◌, ◌≤◌, ◌⊎◌, ℕ, List, [], ◌++◌, drop, length, Bool, true, Option, Some, None, Ok, Err}
-use Rattle.pb_tool.specs.declared.commands.check.checker.CheckFault.TheVariants as check
 use Rattle.pb_pieces.specs.declared.session.OpenFault.{OpenFault, TheVariants.Text, TheVariants.Overflow, TheVariants.Memory}
-use Rattle.pb_pieces.specs.declared.session.Session.{Session}
+use Rattle.pb_tool.specs.declared.commands.check.checker.CheckFault.TheVariants as check
 
 -- the bytes that were fed after the last statement of the proof
 abbrev pub rest_of : Session → List ℕ

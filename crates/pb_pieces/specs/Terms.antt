@@ -1,6 +1,5 @@
 -- The terms of an instance in arrays.
-use Rattle.pb_pieces.specs.{Words.high_word, Words.low_word, declared.terms.Terms.Terms}
-use Rattle.pb_sums.specs.declared.Term.{Term}
+use Rattle.{pb_pieces.specs.Words.high_word, pb_pieces.specs.Words.low_word, pb_pieces.specs.declared.terms.Terms.Terms, pb_sums.specs.declared.Term.Term}
 use Rattle.std.specs.Prelude.{◌≡◌, ℕ, Bool, true, false, List, map}
 
 abbrev pub bit : Bool → ℕ

@@ -1,10 +1,8 @@
 -- How a reader relates to the text that it was fed.
-use Rattle.pb_pieces.specs.NamedTokens.{AreTokens, names_of, number_of}
-use Rattle.pb_pieces.specs.{Tokens.HoldTokens, Tokens.Token, declared.token_reader.Event.Event, declared.token_reader.Taken.Taken}
-use Rattle.pb_pieces.specs.declared.{token_reader.TokenReader.TokenReader, tokenized.Tokenized.Ghosts as Statements}
-use Rattle.pb_text.specs.{contract.Feeding.StandsAt, contract.Feeding.halt_of, declared.machine.Machine.Ghosts, declared.place.Spanned.Spanned}
-use Rattle.pb_text.specs.declared.place.{Stop.Stop, Why.TheVariants.Memory}
-use Rattle.std.specs.List.{flat_map}
+use Rattle.pb_pieces.specs.{NamedTokens.AreTokens, NamedTokens.names_of, NamedTokens.number_of, Tokens.Token, declared.tokenized.Tokenized.Ghosts as Statements}
+use Rattle.{pb_pieces.specs.Tokens.HoldTokens, pb_text.specs.contract.Feeding.StandsAt, pb_text.specs.contract.Feeding.halt_of, std.specs.List.flat_map}
+use Rattle.pb_pieces.specs.declared.token_reader.{Event.Event, Taken.Taken, TokenReader.TokenReader}
+use Rattle.pb_text.specs.declared.{machine.Machine.Ghosts, place.Spanned.Spanned, place.Stop.Stop, place.Why.TheVariants.Memory}
 use Rattle.std.specs.Prelude.{◌≡◌, ◌⊎◌, ℕ, List, [], ◌∷◌, ◌++◌, map, take, Option, Some, None}
 
 -- the names of these statements, in order

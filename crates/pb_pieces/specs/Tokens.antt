@@ -1,8 +1,7 @@
 -- The tokens of a statement in arrays.
-use Rattle.pb_pieces.specs.{Words.high_word, Words.low_word, declared.tokens.TokenKind.TokenKind}
+use Rattle.pb_pieces.specs.{Words.high_word, Words.low_word, declared.tokens.TokenKind.TokenKind, declared.tokens.Tokens.Tokens}
 use Rattle.pb_pieces.specs.declared.tokens.TokenKind.TheVariants.{Term, NegatedTerm, Literal, NegatedLiteral, AtLeast, Equal, Count, Id, Add, Multiply, Divide}
 use Rattle.pb_pieces.specs.declared.tokens.TokenKind.TheVariants.{Saturate, Weaken, Bound, Infinite, Solution}
-use Rattle.pb_pieces.specs.declared.tokens.Tokens.{Tokens}
 use Rattle.std.specs.Prelude.{◌≡◌, ℕ, ℤ, List, Option, map}
 
 -- what a token is, its number, or 0, and the bytes of its name, if it has one

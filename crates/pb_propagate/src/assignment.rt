@@ -100,7 +100,7 @@ fn shorten(
 
 impl Assignment {
     /// The empty list, over no variables.
-    #[tactic(auto, using(crate::proofs::rules::Store::new))]
+    #[tactic(auto, using(crate::proofs::rulesets::Store::new))]
     pub fn new(alloc: Global) -> Assignment
         ensures { (result.values.items ≡ []) × (result.list.items ≡ []) }
     {
@@ -113,7 +113,7 @@ impl Assignment {
     }
 
     /// Adds a variable.
-    #[tactic(auto, using(crate::proofs::rules::Store::widen))]
+    #[tactic(auto, using(crate::proofs::rulesets::Store::widen))]
     pub fn widen(&mut self) -> Result<(), AllocError>
         ensures values { OnOk result
             (length self.new.values.items ≡ length self.old.values.items + 1) }
@@ -133,7 +133,7 @@ impl Assignment {
     }
 
     /// Removes all literals from the list.
-    #[tactic(auto, using(crate::proofs::rules::Store::clear))]
+    #[tactic(auto, using(crate::proofs::rulesets::Store::clear))]
     pub fn clear(&mut self)
         ensures values { length self.new.values.items ≡ length self.old.values.items }
         ensures list { self.new.list.items ≡ [] }
@@ -203,7 +203,7 @@ impl Assignment {
     }
 
     /// Adds a literal to the list. The form of the slot `reason` has forced it.
-    #[tactic(auto, using(crate::proofs::rules::Store::put))]
+    #[tactic(auto, using(crate::proofs::rulesets::Store::put))]
     pub fn put(&mut self, literal: NumberedLiteral, reason: usize) -> Result<(), AllocError>
         requires inside { literal.variable < length self.old.values.items }
         requires absent { has self.old.list.items literal ≡ false }

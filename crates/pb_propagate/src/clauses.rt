@@ -1,6 +1,6 @@
 //! Clauses by slots.
 
-#![tactic(auto, using(crate::proofs::rules::Clauses::clauses))]
+#![tactic(auto, using(crate::proofs::rulesets::Clauses::clauses))]
 
 ghost use Rattle.std.specs.Prelude.{◌≡◌, ℕ, ◌+◌, ◌*◌, ◌/◌, ◌<◌, ◌≤◌, ◌++◌, ◌∷◌, [], List, All, Bool, Option, length, slice_set, true, false, OnOk, OnErr, IfOk, IfSome};
 ghost use Rattle.pb_propagate.specs.engine.clauses.Links.{watch_lists, list_at, watch_at};

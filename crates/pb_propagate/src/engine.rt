@@ -1,6 +1,6 @@
 //! The engine: live forms by number, and the results of propagation over them.
 
-#![tactic(auto, using(crate::proofs::rules::Engine::engine))]
+#![tactic(auto, using(crate::proofs::rulesets::Engine::engine))]
 
 pub mod completion;
 pub mod conflict;

@@ -1,6 +1,6 @@
 //! The slots of removed forms, by how many literals their blocks have room for.
 
-#![tactic(auto, using(crate::proofs::rules::Store::free))]
+#![tactic(auto, using(crate::proofs::rulesets::Store::free))]
 
 ghost use Rattle.std.specs.Prelude.{◌≡◌, ℕ, ◌<◌, [], List, length, OnOk, IfSome, IfNone};
 ghost use Rattle.pb_propagate.specs.engine.engine.Free.{Holds, HasPut, HasTaken, IsSizeOf};

@@ -1,6 +1,6 @@
 //! How far the literals of a list are walked in each group of clauses.
 
-#![tactic(auto, using(crate::proofs::rules::Clauses::heads))]
+#![tactic(auto, using(crate::proofs::rulesets::Clauses::heads))]
 
 ghost use Rattle.std.specs.Prelude.{◌≡◌, ◌+◌, ◌-◌, ◌*◌, ◌^◌, ◌<◌, ◌≤◌, ◌⊎◌, ◌++◌, [], true, false, All, length, replicate, slice_index_or, take, IfSome, IfNone, OnOk};
 ghost use Rattle.pb_propagate.specs.engine.clauses.Walked.{IsAhead};

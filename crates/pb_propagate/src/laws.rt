@@ -1,6 +1,6 @@
 //! A law of propagation. The function does nothing: what it ensures is the law.
 
-#![tactic(auto, using(crate::proofs::rules::Store::laws))]
+#![tactic(auto, using(crate::proofs::rulesets::Store::laws))]
 
 ghost use Rattle.pb_propagate.specs.engine.engine.Laws.{CompletionsExist};
 

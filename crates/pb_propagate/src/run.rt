@@ -1,6 +1,6 @@
 //! Literals are assigned, and the constraints that they touch are visited.
 
-#![tactic(auto, using(crate::proofs::rules::Engine::run))]
+#![tactic(auto, using(crate::proofs::rulesets::Engine::run))]
 
 ghost use Rattle.std.specs.Prelude.{◌≡◌, ◌≤◌, ◌+◌, ◌-◌, ◌*◌, ◌^◌, ◌<◌, ◌++◌, ◌∷◌, [], true, false, All, length, OnOk, OnErr, sum, sum_by};
 ghost use Rattle.pb_normal.specs.declared.numbered.NumberedLiteral.{NumberedLiteral};

@@ -1,6 +1,6 @@
 //! Forms take slots and leave them.
 
-#![tactic(auto, using(crate::proofs::rules::Store::slots))]
+#![tactic(auto, using(crate::proofs::rulesets::Store::slots))]
 
 ghost use Rattle.std.specs.Prelude.{◌≡◌, ℕ, ◌<◌, ◌++◌, ◌∷◌, [], All, Some, None, length, slice_get, slice_set, slice_index_or, IfSome, IfOk, OnOk, OnErr};
 ghost use Rattle.pb_propagate.specs.engine.engine.Fields.{forms_of};

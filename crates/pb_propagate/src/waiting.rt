@@ -1,6 +1,6 @@
 //! The forms that may propagate with nothing assigned.
 
-#![tactic(auto, using(crate::proofs::rules::Store::waiting))]
+#![tactic(auto, using(crate::proofs::rulesets::Store::waiting))]
 
 ghost use Rattle.std.specs.Prelude.{◌≡◌, ℕ, ◌<◌, ◌≤◌, ◌+◌, ◌++◌, ◌∷◌, [], Some, length, slice_get, swap_remove, true, false, vec_capacity, OnOk};
 ghost use Rattle.pb_propagate.specs.engine.engine.Counts.{IsAbsent};

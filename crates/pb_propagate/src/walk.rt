@@ -1,6 +1,6 @@
 //! Visits to the clauses in which a falsified literal is watched.
 
-#![tactic(auto, using(crate::proofs::rules::Clauses::walk))]
+#![tactic(auto, using(crate::proofs::rulesets::Clauses::walk))]
 
 ghost use Rattle.std.specs.Prelude.{◌≡◌, ◌≤◌, ◌+◌, ◌<◌, true, false, length, OnOk, OnErr};
 ghost use Rattle.pb_propagate.specs.engine.engine.Lists.{Conflicts};

@@ -33,7 +33,7 @@ pub fn larger_limits()
 
 /// The canonical text of a value within the limits is a text of that value, and it is what the
 /// writers write.
-#[tactic(auto, using(crate::proofs::Rules::canonical))]
+#[tactic(auto, using(crate::proofs::Rulesets::canonical))]
 pub fn canonical_spells()
     ensures linear { CanonicalLinear }
     ensures sum { CanonicalSum }

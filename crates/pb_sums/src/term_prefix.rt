@@ -47,7 +47,7 @@ pub fn tilde_prefix(text: &[u8]) -> (usize, bool)
 /// A number and a space after it at the start of the text, and their length, if they are fast to
 /// read.
 #[inline(always)]
-#[tactic(auto, using(crate::proofs::Rules::terms))]
+#[tactic(auto, using(crate::proofs::Rulesets::terms))]
 pub fn spaced_number_prefix(limit: u128, phase: Phase, text: &[u8]) -> Option<(usize, i128)>
     requires room { limit < 2 ^ 127 }
     requires begins { begins_number phase ≡ true }

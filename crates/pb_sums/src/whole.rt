@@ -73,7 +73,7 @@ fn terms_at(alloc: Global, limit: u128, text: &[u8]) -> Option<(usize, Sequence<
 
 /// A term and a space after it at the start of a text, and their length, if they are fast to read.
 #[inline(always)]
-#[tactic(auto, using(crate::proofs::Rules::terms))]
+#[tactic(auto, using(crate::proofs::Rulesets::terms))]
 fn term_at(alloc: Global, limit: u128, phase: Phase, text: &[u8]) -> Option<(usize, Term)>
     requires room { limit < 2 ^ 127 }
     requires begins { begins_term phase ≡ true }

@@ -105,7 +105,7 @@ fn put_term(term: &Term, prefix: &[u8], piece: &mut Piece)
 }
 
 /// Writes a piece and then the rest of a name.
-#[tactic(auto, using(crate::proofs::Rules::writing))]
+#[tactic(auto, using(crate::proofs::Rulesets::writing))]
 fn write_both<S: Sink>(piece: &Piece, rest: &[u8], out: &mut S) -> Result<(), Failed>
     ensures { Writes S.contents S.faults out.old (piece.now ++ rest.now) result out.new }
 {
@@ -190,7 +190,7 @@ fn write_batch<S: Sink>(terms: &[Term], out: &mut S) -> Result<(), Failed>
 }
 
 /// Writes terms with a space before each.
-#[tactic(auto, using(crate::proofs::Rules::writing))]
+#[tactic(auto, using(crate::proofs::Rulesets::writing))]
 fn write_further<S: Sink>(terms: &[Term], out: &mut S) -> Result<(), Failed>
     ensures { Writes S.contents S.faults out.old (further_bytes terms.now) result out.new }
 {
@@ -278,7 +278,7 @@ pub fn put_linear(linear: &Linear, piece: &mut Piece) -> bool
 }
 
 /// Writes a linear text in several pieces.
-#[tactic(auto, using(crate::proofs::Rules::writing))]
+#[tactic(auto, using(crate::proofs::Rulesets::writing))]
 fn write_pieces<S: Sink>(linear: &Linear, out: &mut S) -> Result<(), Failed>
     ensures { Writes S.contents S.faults out.old (linear_bytes linear.now) result out.new }
 {

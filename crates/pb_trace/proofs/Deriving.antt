@@ -1,13 +1,12 @@
 -- Literals that became true follow from those before them.
-use Rattle.pb_normal.specs.meaning.Rules.{on, only}
+use Rattle.{pb_normal.specs.meaning.Rules.on, pb_normal.specs.meaning.Rules.only, std.proofs.lemmas.Grind.get_or-set_at}
 use Rattle.pb_propagate.proofs.lemmas.engine.Choices.{only-true, only-self, total-has, total-within}
 use Rattle.pb_propagate.proofs.lemmas.engine.Completing.{IsPart, opened-part}
-use Rattle.pb_trace.proofs.Common.{ℕ, ◌++◌, ◌+◌, ◌<◌, ◌||◌, ◌∙◌, ◌∷◌, ◌≡◌, ◌≤◌, [], ap, arith, Bool, cond, Err, get_or, inl, inr, length, List, None}
-use Rattle.pb_trace.proofs.Common.{not, Ok, Option, refl, Result, set, Some, subst, suc, sym, true, zero, Contains, MatchOption, OnOk, get_or-set_other}
-use Rattle.pb_trace.proofs.Common.{Entry, counted, Form, IsRising, total, opened, AreValues, Begin, Derived, Follows, Forces, IsBroken, IsSound, Keeps}
-use Rattle.pb_trace.proofs.Common.{cases_Bool, false, literals, Names, Then, true_by, Forced, Over, Stored}
+use Rattle.pb_trace.proofs.Common.{ℕ, ◌++◌, ◌+◌, ◌<◌, ◌||◌, ◌∙◌, ◌∷◌, ◌≡◌, ◌≤◌, [], ap, arith, Bool, cond, Err, get_or, inl, inr, length, List, None, not, Ok}
+use Rattle.pb_trace.proofs.Common.{Option, refl, Result, set, Some, subst, suc, sym, true, zero, Contains, MatchOption, OnOk, get_or-set_other, Entry, counted}
+use Rattle.pb_trace.proofs.Common.{Form, IsRising, total, opened, AreValues, Begin, Derived, Follows, Forces, IsBroken, IsSound, Keeps, cases_Bool, false}
+use Rattle.pb_trace.proofs.Common.{literals, Names, Then, true_by, Forced, Over, Stored}
 use Rattle.pb_trace.specs.declared.propagation.{Propagation.Propagation, Reason.Reason, Reason.TheVariants.Given}
-use Rattle.std.proofs.lemmas.Grind.{get_or-set_at}
 
 or_false : (b : Bool) → (b || false) ≡ b
 or_false true = refl

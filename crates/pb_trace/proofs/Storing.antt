@@ -1,24 +1,20 @@
 -- What a statement adds and deletes, what is stored of it is what the replay has, and the lines of accepted statements, one after another.
-use Rattle.pb_trace.proofs.Common.{ℕ, ◌++◌, ◌+◌, ◌-◌, ◌<◌, ◌∷◌, ◌≡◌, ◌≤◌, [], ap, append-nil, append_assoc, arith, Bool, drop, get_or, length, List, None}
-use Rattle.pb_trace.proofs.Common.{Option, suc, take, zero, get_or-drop, length-drop, take_more, Form, constraint_in, added_bytes, found_bytes, ℤ, ◌∙◌, refl}
-use Rattle.pb_trace.proofs.Common.{take-append-drop, drop-cons, deleted_bytes, deletion_bytes, without, without_all, length-map, map-set, to_z-of_z, Ok, set}
-use Rattle.pb_trace.proofs.Common.{Some, sym, common_steps, drop_all, length-set, with_names, Statement, Problem, Deleted, place, State, Does, mentioned}
-use Rattle.pb_trace.proofs.Common.{Outcome, IsEmptyAt, StoresTheLive, extended, stored_after, Err, Result, subst, first_state, part_wrote}
-use Rattle.pb_trace.proofs.Common.{writes_nothing, Limits, Wrote, lines_of, TracesEachLine, line_bytes, TracesCall, Tracing, false, slice_get, length-take-le}
-use Rattle.pb_trace.proofs.Common.{get_or_from_slice_get, slice_get_within, AreDistinct, has_name, with_name}
+use Rattle.pb_trace.proofs.Common.{ℕ, ◌++◌, ◌+◌, ◌-◌, ◌<◌, ◌∷◌, ◌≡◌, ◌≤◌, [], ap, append-nil, append_assoc, arith, Bool, drop, get_or, length, List, None, zero}
+use Rattle.pb_trace.proofs.Common.{Option, get_or-drop, length-drop, constraint_in, get_or_from_slice_get, slice_get_within, AreDistinct, has_name, with_name}
+use Rattle.pb_trace.proofs.Common.{suc, added_bytes, Limits, Wrote, lines_of, TracesEachLine, line_bytes, TracesCall, Tracing, false, slice_get, length-take-le}
+use Rattle.pb_trace.proofs.Common.{take, Some, sym, common_steps, drop_all, length-set, with_names, Statement, Problem, Deleted, place, State, Does, mentioned}
+use Rattle.{pb_trace.proofs.Common.take_more, pb_trace.proofs.Common.found_bytes, pb_proof.specs.meaning.Order.stage_of, pb_replay.specs.meaning.Answer.Answer}
+use Rattle.pb_trace.proofs.Common.{Form, Outcome, IsEmptyAt, StoresTheLive, extended, stored_after, Err, Result, subst, first_state, part_wrote, writes_nothing}
+use Rattle.pb_trace.proofs.Common.{ℤ, take-append-drop, drop-cons, deleted_bytes, deletion_bytes, without, without_all, length-map, map-set, to_z-of_z, Ok, set}
+use Rattle.{pb_trace.proofs.Common.◌∙◌, pb_text.specs.declared.Spanned.Spanned, pb_text.specs.meaning.Limits.largest, pb_text.specs.meaning.Limits.top_of}
+use Rattle.{pb_trace.proofs.Common.refl, pb_sums.specs.declared.Literal.Literal, pb_sums.specs.declared.Term.Term, pb_tool.specs.declared.ToolFault.ToolFault}
 use Rattle.std.{proofs.lemmas.List.Concat.flat_map-append, proofs.lemmas.List.Concat.flat_map-cons, specs.List.range_with_len, specs.Result.IsErr}
-use Rattle.pb_proof.specs.declared.{Bound.Bound, Bound.TheVariants.Finite, Bound.TheVariants.Infinite, Conclusion.Conclusion}
-use Rattle.pb_proof.specs.declared.Conclusion.TheVariants.{NoClaim, Unsat, Sat, Bounds}
-use Rattle.pb_proof.specs.declared.Stage.{Stage, TheVariants.Steps}
+use Rattle.pb_proof.specs.declared.{Bound.Bound, Bound.TheVariants.Finite, Bound.TheVariants.Infinite, Stage.Stage, Stage.TheVariants.Steps}
+use Rattle.pb_proof.specs.declared.Conclusion.{Conclusion, TheVariants.NoClaim, TheVariants.Unsat, TheVariants.Sat, TheVariants.Bounds}
 use Rattle.pb_proof.specs.declared.Statement.TheVariants.{Header, F, Pol, Rup, Soli, Solx, Delete, Output, Conclude, End}
-use Rattle.pb_proof.specs.meaning.Order.{stage_of}
 use Rattle.pb_replay.proofs.lemmas.{conclusions.Concluded.contradicted-has, meaning.Accepting.needed, meaning.Accepting.followed, meaning.Accepting.ok-same}
-use Rattle.pb_replay.specs.meaning.Answer.{Answer}
 use Rattle.pb_replay.specs.meaning.Conclusions.{none_left, named, lower_bound, upper_bound, Concludes}
-use Rattle.pb_sums.specs.declared.{Literal.Literal, Term.Term}
-use Rattle.pb_text.specs.{declared.Spanned.Spanned, meaning.Limits.largest, meaning.Limits.top_of}
 use Rattle.pb_tool.specs.contract.Watched.{Call, Accepted, Rejected, GotEach, ShowsEach}
-use Rattle.pb_tool.specs.declared.ToolFault.{ToolFault}
 use Rattle.pb_normal.proofs.lemmas.names.Numbering.{number_in-append, number_in-below, number_in-get}
 
 -- the constraint with the next id
@@ -84,9 +80,7 @@ named_next live (Some i) next t h = let found = needed h in (Some found.0, found
 
 lower_next : (limit : ℕ) (s : State) (o : List Term) (b : Bound) (id : Option ℤ) (next : Answer State) (t : State) → lower_bound limit s o b id next (Ok t) → next (Ok t)
 lower_next limit s o Infinite id next t h = left_next s id next t h
-lower_next limit s o (Finite b) id next t h =
-    let normal = (needed (named_next s.live id _ t (needed h).1).1).1 in
-    (needed normal.2).1
+lower_next limit s o (Finite b) id next t h = let normal = (needed (named_next s.live id _ t (needed h).1).1).1 in (needed normal.2).1
 
 upper_next : (v : Problem) (s : State) (u : Bound) (shown : Option (List Literal)) (next : Answer State) (t : State) → upper_bound v s u shown next (Ok t) → next (Ok t)
 upper_next v s Infinite shown next t h = h
@@ -99,8 +93,7 @@ concluded_next limit v s (Unsat id) next t h = left_next s id next t h
 concluded_next limit v s (Sat (Some given)) next t h = (needed h).2
 concluded_next limit v s (Sat None) next t h = (needed h).1
 concluded_next limit v s (Bounds lower id upper shown) next t h =
-    let o = needed h in
-    upper_next v s upper shown next t (lower_next limit s o.0 lower id _ t o.2)
+    let o = needed h in upper_next v s upper shown next t (lower_next limit s o.0 lower id _ t o.2)
 
 -- nothing new, or one more
 nothing_new : (live rest : List (Option Form)) → length rest ≡ length live → extended live rest ≡ live
@@ -124,36 +117,29 @@ step_stores : (limit top : ℕ) (v : Problem) (s t : State) (st : Statement) →
 step_stores limit top v s t Header due p h = rw (ok-same h) (nothing_new s.live s.live refl, rw due at p)
 step_stores limit top v s t (F count) due p h =
     let last = needed (needed h).1 in
-    let none = rw due at p in
-    rw (ok-same last.1, none) (refl, tt)
+    let none = rw due at p in rw (ok-same last.1, none) (refl, tt)
 step_stores limit top v s t (Pol ws) due p h =
-    let last = needed (followed h.2).2 in
-    rw (ok-same last.1) (one_new s.live _, in_steps s.next _ due)
+    let last = needed (followed h.2).2 in rw (ok-same last.1) (one_new s.live _, in_steps s.next _ due)
 step_stores limit top v s t (Rup linear) due p h =
-    let last = needed (needed (needed h).1.2).1 in
-    rw (ok-same last.1) (one_new s.live _, in_steps s.next _ due)
+    let last = needed (needed (needed h).1.2).1 in rw (ok-same last.1) (one_new s.live _, in_steps s.next _ due)
 step_stores limit top v s t (Soli given) due p h =
-    let last = needed (needed (followed (needed h).2).2).1.2 in
-    rw (ok-same last.1) (one_new s.live _, in_steps s.next _ due)
+    let last = needed (needed (followed (needed h).2).2).1.2 in rw (ok-same last.1) (one_new s.live _, in_steps s.next _ due)
 step_stores limit top v s t (Solx given) due p h =
-    let last = needed (followed h).2.2 in
-    rw (ok-same last.1) (one_new s.live _, in_steps s.next _ due)
+    let last = needed (followed h).2.2 in rw (ok-same last.1) (one_new s.live _, in_steps s.next _ due)
 step_stores limit top v s t (Delete ids) due p h =
     let rest = followed h in
     let same = deleted s.live ids rest.0 rest.1 in
     rw (ok-same rest.2) (rw (nothing_new s.live rest.0 same.1) (sym same.0), in_steps s.next _ due)
 step_stores limit top v s t Output due p h = rw (ok-same h) (nothing_new s.live s.live refl, tt)
 step_stores limit top v s t (Conclude c) due p h =
-    let last = concluded_next limit v s c _ t h in
-    rw (ok-same last) (nothing_new s.live s.live refl, tt)
+    let last = concluded_next limit v s c _ t h in rw (ok-same last) (nothing_new s.live s.live refl, tt)
 step_stores limit top v s t End due p h = rw (ok-same h) (nothing_new s.live s.live refl, tt)
 
 -- the same for two states of an accepted statement
 pub state-stores : (limit top : ℕ) (v : Problem) (s t : State) (st : Statement) → IsEmptyAt s.next s.live → Outcome limit top v s st (Ok t)
     → (stored_after (extended s.live t.live) st ≡ t.live) × IsEmptyAt t.next t.live
 state-stores limit top v s t st empty out =
-    let due = needed out in
-    step_stores limit top v (record s { names = with_names s.names (mentioned st) }) t st due.0 empty due.1
+    let due = needed out in step_stores limit top v (record s { names = with_names s.names (mentioned st) }) t st due.0 empty due.1
 
 pub stores-live : StoresTheLive
 stores-live old new st (s, before) empty steps =
@@ -165,11 +151,9 @@ module _ {S : Type 0} (contents : S → Option (List ℕ)) (faults : S → ℕ) 
   stays : (calls : List Call) (old new : Tracing S) → IsErr old.end → GotEach (TracesCall contents faults) old calls new → new ≡ old
   stays [] old new h got = got
   stays (Accepted m r ∷ calls) old new h (mid, first, rest) =
-      let same : mid ≡ old = first.ended h in
-      stays calls mid new (subst (λ (x : Tracing S). IsErr x.end) (sym same) h) rest ∙ same
+      let same : mid ≡ old = first.ended h in stays calls mid new (subst (λ (x : Tracing S). IsErr x.end) (sym same) h) rest ∙ same
   stays (Rejected m r f ∷ calls) old new h (mid, first, rest) =
-      let same : mid ≡ old = first.ended h in
-      stays calls mid new (subst (λ (x : Tracing S). IsErr x.end) (sym same) h) rest ∙ same
+      let same : mid ≡ old = first.ended h in stays calls mid new (subst (λ (x : Tracing S). IsErr x.end) (sym same) h) rest ∙ same
 
   failed_stays : (calls : List Call) (old new : Tracing S) (f : ToolFault) → old.end ≡ Err f → new.end ≡ Ok tt → GotEach (TracesCall contents faults) old calls new → ⊥
   failed_stays calls old new f is done got = let same = stays calls old new (rw is refl) got in absurd (cc (ap (λ (x : Tracing S). x.end) same))

@@ -1,10 +1,8 @@
 -- Forms in a trace, and what adds or deletes them.
 use Rattle.pb_normal.specs.{declared.entry.Entry.Entry, meaning.Form.Form, meaning.Written.linear_of}
-use Rattle.pb_sums.specs.{contract.Canonical.linear_bytes, declared.linear.Linear.Linear, declared.linear.Relation.TheVariants.AtLeast}
-use Rattle.pb_sums.specs.declared.linear.Term.{Term}
-use Rattle.pb_trace.specs.declared.write.Style.{Style}
-use Rattle.std.specs.Fmt.{signed_decimal}
-use Rattle.std.specs.Prelude.{◌≡◌, ◌<◌, ℕ, ℤ, pos, ◌-◌, Bool, true, false, List, [], ◌++◌, map, length, All, get_or, slice_get, decimal, codes, Option, Some, None}
+use Rattle.{pb_sums.specs.contract.Canonical.linear_bytes, pb_trace.specs.declared.write.Style.Style, std.specs.Fmt.signed_decimal, std.specs.Prelude.None}
+use Rattle.pb_sums.specs.declared.linear.{Linear.Linear, Relation.TheVariants.AtLeast, Term.Term}
+use Rattle.std.specs.Prelude.{◌≡◌, ◌<◌, ℕ, ℤ, pos, ◌-◌, Bool, true, false, List, [], ◌++◌, map, length, All, get_or, slice_get, decimal, codes, Option, Some}
 
 -- the name with a number, or `?` if no name has it
 abbrev pub name_shown : List (List ℕ) → ℕ → List ℕ

@@ -1,11 +1,8 @@
 -- The counts of a check, and the lines that show them.
-use Rattle.pb_proof.specs.declared.Statement.{Statement}
+use Rattle.{pb_proof.specs.declared.Statement.Statement, pb_replay.specs.contract.ReplayModel.Replaying, pb_trace.specs.declared.stats.Stats.Stats}
 use Rattle.pb_proof.specs.declared.Statement.TheVariants.{Header, F, Pol, Rup, Soli, Solx, Delete, Output, Conclude, End}
-use Rattle.pb_replay.specs.contract.ReplayModel.{Replaying}
 use Rattle.pb_text.specs.declared.Spanned.{Spanned}
-use Rattle.pb_tool.specs.contract.Watched.{Call, Accepted, Rejected}
-use Rattle.pb_trace.specs.declared.stats.Stats.{Stats}
-use Rattle.std.specs.List.{flat_map}
+use Rattle.{pb_tool.specs.contract.Watched.Call, pb_tool.specs.contract.Watched.Accepted, pb_tool.specs.contract.Watched.Rejected, std.specs.List.flat_map}
 use Rattle.std.specs.Prelude.{ℕ, ◌+◌, ◌-◌, ◌^◌, min, max, List, [], ◌∷◌, ◌++◌, length, decimal, codes}
 
 -- before any statement

@@ -1,18 +1,14 @@
 -- The literals that became true, each with what forced it: a derivation.
 use Rattle.pb_normal.specs.declared.{entry.Entry.Entry, numbered.NumberedLiteral.NumberedLiteral, side.Side.TheVariants.AtLeast}
-use Rattle.pb_normal.specs.meaning.{Form.Form, Form.total, Names.with_names, Rules.negation_of, Rules.on}
-use Rattle.pb_normal.specs.meaning.Written.{IsSideOf, magnitude, names_of}
-use Rattle.pb_propagate.specs.meaning.Propagation.{MayPropagate, opened}
-use Rattle.pb_sums.specs.declared.linear.Linear.{Linear}
-use Rattle.pb_text.specs.{declared.Limits.Limits, meaning.Limits.largest}
-use Rattle.pb_trace.specs.declared.piece.{Derivation.Derivation, Reasons.Reasons}
-use Rattle.pb_trace.specs.declared.piece.Reasons.TheVariants.{Nothing, Plain, Shown}
-use Rattle.pb_trace.specs.declared.propagation.{Base.Base, Forced.Forced, Over.Over}
-use Rattle.pb_trace.specs.declared.propagation.{Over.TheVariants.Live, Over.TheVariants.All, Over.TheVariants.First, Propagation.Propagation}
-use Rattle.pb_trace.specs.declared.propagation.Reason.{Reason, TheVariants.Given, TheVariants.Negation, TheVariants.Id}
-use Rattle.pb_trace.specs.declared.{reasons.Scene.Scene, stored.Constraints.Constraints, stored.Stored.Stored}
-use Rattle.std.specs.{Int.RustNames.unsigned_abs, Option.option_copied}
-use Rattle.std.specs.Prelude.{◌≡◌, ◌⊎◌, ℕ, ◌+◌, ◌-◌, ◌<◌, ◌≤◌, Bool, false, not, if◌then◌else◌, List, ◌∷◌, [], ◌++◌, length, map, set, get_or, slice_get, IsTrue, Option, Some, None, MatchOption}
+use Rattle.pb_normal.specs.meaning.{Form.Form, Form.total, Names.with_names, Rules.negation_of, Rules.on, Written.IsSideOf, Written.magnitude, Written.names_of}
+use Rattle.{pb_propagate.specs.meaning.Propagation.MayPropagate, pb_propagate.specs.meaning.Propagation.opened, pb_sums.specs.declared.linear.Linear.Linear}
+use Rattle.{pb_text.specs.declared.Limits.Limits, pb_text.specs.meaning.Limits.largest, pb_trace.specs.declared.reasons.Scene.Scene}
+use Rattle.pb_trace.specs.declared.{piece.Derivation.Derivation, propagation.Base.Base, stored.Constraints.Constraints, stored.Stored.Stored}
+use Rattle.pb_trace.specs.declared.piece.Reasons.{Reasons, TheVariants.Nothing, TheVariants.Plain, TheVariants.Shown}
+use Rattle.pb_trace.specs.declared.propagation.{Forced.Forced, Reason.Reason, Reason.TheVariants.Given, Reason.TheVariants.Negation, Reason.TheVariants.Id}
+use Rattle.pb_trace.specs.declared.propagation.{Over.Over, Over.TheVariants.Live, Over.TheVariants.All, Over.TheVariants.First, Propagation.Propagation}
+use Rattle.std.specs.{Int.RustNames.unsigned_abs, Option.option_copied, Prelude.IsTrue, Prelude.Option, Prelude.Some, Prelude.None, Prelude.MatchOption}
+use Rattle.std.specs.Prelude.{◌≡◌, ◌⊎◌, ℕ, ◌+◌, ◌-◌, ◌<◌, ◌≤◌, Bool, false, not, if◌then◌else◌, List, ◌∷◌, [], ◌++◌, length, map, set, get_or, slice_get}
 
 abbrev pub literal_of : Forced → NumberedLiteral
 literal_of f = record { variable = f.variable; negated = f.negated }

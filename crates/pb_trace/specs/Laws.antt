@@ -1,8 +1,6 @@
 -- What is stored of the constraints is what the replay has, and what is written for a proof.
-use Rattle.pb_normal.specs.meaning.Form.{Form}
-use Rattle.pb_proof.specs.declared.Stage.{Stage}
+use Rattle.{pb_normal.specs.meaning.Form.Form, pb_proof.specs.declared.Stage.Stage, pb_proof.specs.declared.Statement.Statement}
 use Rattle.pb_proof.specs.declared.Stage.TheVariants.{Opening, Formula, Steps, Concluding, Closing, Complete}
-use Rattle.pb_proof.specs.declared.Statement.{Statement}
 use Rattle.pb_replay.specs.contract.ReplayModel.{Replaying, StandsFor, StepsAs}
 use Rattle.pb_replay.specs.meaning.{Problem.Problem, Replay.State, Replay.first_state}
 use Rattle.pb_text.specs.{declared.Limits.Limits, declared.Spanned.Spanned, meaning.Writing.Wrote}

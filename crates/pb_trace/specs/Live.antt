@@ -1,6 +1,5 @@
 -- The stored constraints that are live.
-use Rattle.pb_normal.specs.meaning.Form.{Form}
-use Rattle.pb_trace.specs.declared.stored.{Constraints.Constraints, Stored.Stored}
+use Rattle.{pb_normal.specs.meaning.Form.Form, pb_trace.specs.declared.stored.Constraints.Constraints, pb_trace.specs.declared.stored.Stored.Stored}
 use Rattle.std.specs.Prelude.{if◌then◌else◌, List, map, Option, Some, None}
 
 -- The stored constraints as a replay has its own: that with id i is at index i - 1, and a deleted one is `None`.

@@ -1,12 +1,8 @@
 -- A stored constraint as reasons show it, and the lines of a derivation.
-use Rattle.pb_normal.specs.meaning.Form.{Form}
-use Rattle.pb_proof.specs.declared.PolWord.{PolWord}
-use Rattle.pb_sums.specs.meaning.Sums.{literal_bytes}
-use Rattle.pb_trace.specs.{Changes.change_bytes, Changes.form_bytes, Changes.name_shown, declared.facts.Facts.Facts}
-use Rattle.pb_trace.specs.declared.{piece.Derivation.Derivation, propagation.Forced.Forced, propagation.Reason.Reason}
-use Rattle.pb_trace.specs.declared.propagation.Reason.TheVariants.{Given, Negation, Id}
-use Rattle.pb_trace.specs.declared.stored.Stored.{Stored}
-use Rattle.std.specs.{Fmt.signed_decimal, List.flat_map}
+use Rattle.{pb_normal.specs.meaning.Form.Form, pb_proof.specs.declared.PolWord.PolWord, std.specs.Fmt.signed_decimal, std.specs.List.flat_map}
+use Rattle.{pb_sums.specs.meaning.Sums.literal_bytes, pb_trace.specs.Changes.change_bytes, pb_trace.specs.Changes.form_bytes, pb_trace.specs.Changes.name_shown}
+use Rattle.pb_trace.specs.declared.{facts.Facts.Facts, piece.Derivation.Derivation, stored.Stored.Stored}
+use Rattle.pb_trace.specs.declared.propagation.{Forced.Forced, Reason.Reason, Reason.TheVariants.Given, Reason.TheVariants.Negation, Reason.TheVariants.Id}
 use Rattle.std.specs.Prelude.{ℕ, pos, ◌-◌, ◌^◌, min, nat_le, nat_lt, if◌then◌else◌, List, [], ◌++◌, slice_get, decimal, codes, Option, Some, None}
 
 -- What reasons are written from: the names of the replay, the stored constraints, how many of them are those of the

@@ -1,21 +1,16 @@
 -- The lines of a rejected statement.
-use Rattle.pb_normal.specs.meaning.{Form.Form, Names.AreDistinct}
-use Rattle.pb_proof.specs.declared.{PolWord.PolWord, Statement.Statement}
-use Rattle.pb_proof.specs.declared.Statement.TheVariants.{Pol, Rup}
-use Rattle.pb_proof.specs.meaning.Canonical.{statement_bytes, word_bytes}
+use Rattle.{pb_normal.specs.meaning.Form.Form, pb_text.specs.meaning.Writing.Wrote, pb_text.specs.meaning.Writing.Broke, pb_text.specs.meaning.Writing.Writes}
+use Rattle.{pb_normal.specs.meaning.Names.AreDistinct, pb_proof.specs.meaning.Canonical.statement_bytes, pb_proof.specs.meaning.Canonical.word_bytes}
+use Rattle.pb_proof.specs.declared.{PolWord.PolWord, Statement.Statement, Statement.TheVariants.Pol, Statement.TheVariants.Rup}
 use Rattle.pb_replay.specs.declared.fault.Fault.{Fault, TheVariants.Memory as no_memory, TheVariants.NotImplied}
 use Rattle.pb_sums.specs.{contract.Canonical.place_bytes, declared.linear.Linear.Linear, meaning.Sums.literal_bytes}
-use Rattle.pb_text.specs.declared.{Failed.Failed, Limits.Limits, Spanned.Spanned}
-use Rattle.pb_text.specs.meaning.Writing.{Wrote, Broke, Writes}
-use Rattle.pb_tool.specs.declared.CheckFault.{CheckFault, TheVariants.Text as ended_text, TheVariants.Step}
-use Rattle.pb_tool.specs.declared.{Input.TheVariants.Proof, ToolFault.ToolFault}
-use Rattle.pb_tool.specs.declared.ToolFault.TheVariants.{Memory as NoMemory, Write as NotWritten}
-use Rattle.pb_trace.specs.{Changes.form_bytes, Changes.name_shown, Derived.IsShown, Live.live_in}
-use Rattle.pb_trace.specs.{Named.Known, Named.derivation_bytes, Named.named_bytes, declared.piece.Derivation.Derivation, declared.piece.Lines.Lines}
-use Rattle.pb_trace.specs.declared.piece.Piece.{Piece}
+use Rattle.{pb_text.specs.declared.Failed.Failed, pb_text.specs.declared.Limits.Limits, pb_text.specs.declared.Spanned.Spanned, std.specs.Fmt.signed_decimal}
+use Rattle.pb_tool.specs.declared.{CheckFault.CheckFault, CheckFault.TheVariants.Text as ended_text, CheckFault.TheVariants.Step, Input.TheVariants.Proof}
+use Rattle.pb_tool.specs.declared.ToolFault.{ToolFault, TheVariants.Memory as NoMemory, TheVariants.Write as NotWritten}
+use Rattle.pb_trace.specs.{Changes.form_bytes, Changes.name_shown, declared.piece.Derivation.Derivation, declared.piece.Lines.Lines, declared.piece.Piece.Piece}
+use Rattle.pb_trace.specs.{Derived.IsShown, Live.live_in, Named.Known, Named.derivation_bytes, Named.named_bytes}
 use Rattle.pb_trace.specs.declared.piece.Piece.TheVariants.{Text, Count, Number, Literal, Constraint, Form as Unnamed, Word}
 use Rattle.pb_trace.specs.declared.piece.Reasons.{Reasons, TheVariants.Nothing as NoReason, TheVariants.Plain, TheVariants.Shown}
-use Rattle.std.specs.Fmt.{signed_decimal}
 use Rattle.std.specs.Prelude.{◌≡◌, ◌≢◌, ◌⊎◌, ℕ, ◌-◌, List, [], ◌++◌, slice_get, decimal, codes, Option, Some, None, Result, Ok, Err}
 
 -- The statement is wrong: memory did not run out for it.

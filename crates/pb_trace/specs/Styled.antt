@@ -1,11 +1,8 @@
 -- The words of a trace's lines, for a style.
 use Rattle.pb_normal.specs.meaning.Form.{Form}
-use Rattle.pb_proof.specs.declared.Statement.{Statement}
-use Rattle.pb_replay.specs.contract.ReplayModel.{Replaying}
-use Rattle.pb_text.specs.declared.Spanned.{Spanned}
-use Rattle.pb_trace.specs.Live.{stored_in}
+use Rattle.{pb_proof.specs.declared.Statement.Statement, pb_replay.specs.contract.ReplayModel.Replaying, pb_text.specs.declared.Spanned.Spanned}
+use Rattle.pb_trace.specs.{Live.stored_in, declared.stored.Constraints.Constraints, declared.write.Style.Style}
 use Rattle.pb_trace.specs.Traced.{added_bytes, deleted_bytes, deletion_bytes, found_bytes, line_after, stored_after, tail_bytes, without, without_all}
-use Rattle.pb_trace.specs.declared.{stored.Constraints.Constraints, write.Style.Style}
 use Rattle.std.specs.Prelude.{◌≡◌, ℕ, ◌-◌, ℤ, List, length, Option}
 
 module _ (style : Style) where

@@ -1,20 +1,14 @@
 -- The line of an accepted statement.
-use Rattle.pb_normal.specs.meaning.Form.{Form}
-use Rattle.pb_proof.specs.declared.Statement.{Statement}
-use Rattle.pb_proof.specs.declared.Statement.TheVariants.{F, Soli, Delete}
-use Rattle.pb_proof.specs.meaning.Canonical.{statement_bytes}
+use Rattle.{pb_normal.specs.meaning.Form.Form, std.specs.Fmt.signed_decimal, std.specs.List.flat_map, std.specs.List.range_with_len, std.specs.Result.IsErr}
+use Rattle.pb_proof.specs.declared.Statement.{Statement, TheVariants.F, TheVariants.Soli, TheVariants.Delete}
+use Rattle.{pb_proof.specs.meaning.Canonical.statement_bytes, pb_sums.specs.contract.Canonical.place_bytes, pb_tool.specs.declared.CheckFault.CheckFault}
 use Rattle.pb_replay.specs.{contract.ReplayModel.Replaying, declared.fault.Fault.Fault, meaning.Replay.place}
-use Rattle.pb_sums.specs.contract.Canonical.{place_bytes}
 use Rattle.pb_text.specs.{declared.Spanned.Spanned, meaning.Whole.gathered, meaning.Writing.Wrote, meaning.Writing.Broke}
-use Rattle.pb_tool.specs.contract.Watched.{Call, Accepted, Rejected}
-use Rattle.pb_tool.specs.declared.{CheckFault.CheckFault, Input.TheVariants.Proof, ToolFault.ToolFault}
-use Rattle.pb_tool.specs.declared.ToolFault.TheVariants.{Memory as NoMemory, Write as NotWritten}
-use Rattle.pb_trace.specs.Changes.{constraint_bytes}
-use Rattle.pb_trace.specs.Rejected.{IsWrong, Rejects, Seen, fault_in, rejected_line}
+use Rattle.pb_tool.specs.{contract.Watched.Call, contract.Watched.Accepted, contract.Watched.Rejected, declared.Input.TheVariants.Proof}
+use Rattle.pb_tool.specs.declared.ToolFault.{ToolFault, TheVariants.Memory as NoMemory, TheVariants.Write as NotWritten}
+use Rattle.pb_trace.specs.{Changes.constraint_bytes, Rejected.IsWrong, Rejected.Rejects, Rejected.Seen, Rejected.fault_in, Rejected.rejected_line}
 use Rattle.pb_trace.specs.declared.broken.Broken.{Broken, TheVariants.Memory, TheVariants.Write}
-use Rattle.std.specs.{Fmt.signed_decimal, List.flat_map, List.range_with_len}
 use Rattle.std.specs.Prelude.{◌≡◌, ◌⊎◌, ℕ, ◌+◌, ◌-◌, ℤ, Bool, List, [], ◌∷◌, ◌++◌, length, drop, get_or, set, codes, Option, Some, None, Result, Ok, Err}
-use Rattle.std.specs.Result.{IsErr}
 
 -- the stored constraints and those of a replay that are newer
 abbrev pub extended : List (Option Form) → List (Option Form) → List (Option Form)

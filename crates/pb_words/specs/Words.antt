@@ -1,13 +1,11 @@
 -- What the arguments of the command line ask for.
-use Rattle.clap.specs.Simple.{on_top}
-use Rattle.clap.specs.Words.{App, HasKind, IsUnsignedIn, Row, Rule, Text, fault_of, first_of, kind_of, new_app, new_rule, subcommand_of, with_rule, with_subcommand}
-use Rattle.clap.specs.declared.builder.action.ArgAction.TheVariants.{SetTrue}
-use Rattle.clap.specs.declared.error.ErrorKind.TheVariants.{ValueValidation, MissingRequiredArgument}
-use Rattle.pb_words.specs.declared.words.{Selection.Selection, fault.WordsFault.WordsFault}
-use Rattle.pb_words.specs.declared.words.Job.{Job, TheVariants.Show, TheVariants.Tidy, TheVariants.Check, TheVariants.Trace}
-use Rattle.pb_words.specs.declared.words.fault.WordsFault.TheVariants.{Words, Memory}
-use Rattle.std.specs.{Str.Parse.digits_value, Str.Parse.without_leading_plus, declared.alloc.Global.Global}
-use Rattle.std.specs.Prelude.{◌≡◌, ◌⊎◌, ◌↔◌, ℕ, ◌^◌, ◌≤◌, List, [], Option, Some, None, String, option_map, codes, Bool, true, string_bytes, IfSome, IsSomeAnd, IsTrue}
+use Rattle.clap.specs.{Simple.on_top, declared.error.ErrorKind.TheVariants.ValueValidation, declared.error.ErrorKind.TheVariants.MissingRequiredArgument}
+use Rattle.clap.specs.Words.{App, HasKind, IsUnsignedIn, Row, Rule, Text, fault_of, first_of, kind_of, new_app, new_rule, subcommand_of, with_rule}
+use Rattle.clap.specs.{Words.with_subcommand, declared.builder.action.ArgAction.TheVariants.SetTrue}
+use Rattle.pb_words.specs.declared.words.{Selection.Selection, Job.TheVariants.Show, Job.TheVariants.Tidy, Job.TheVariants.Check, Job.TheVariants.Trace}
+use Rattle.pb_words.specs.declared.words.{fault.WordsFault.WordsFault, Job.Job, fault.WordsFault.TheVariants.Words, fault.WordsFault.TheVariants.Memory}
+use Rattle.std.specs.{Str.Parse.digits_value, Str.Parse.without_leading_plus, declared.alloc.Global.Global, Prelude.IsTrue}
+use Rattle.std.specs.Prelude.{◌≡◌, ◌⊎◌, ◌↔◌, ℕ, ◌^◌, ◌≤◌, List, [], Option, Some, None, String, option_map, codes, Bool, true, string_bytes, IfSome, IsSomeAnd}
 
 -- ---- The command: `pb show`, `pb tidy`, `pb check` and `pb trace`. `show` and `tidy` take FILE, and `tidy` also takes `--normal`.
 -- ---- `check` and `trace` take INSTANCE, PROOF and `--progress`. `check` also takes `--stats` and `--explain`, and `trace`

@@ -1,7 +1,6 @@
 -- Terms as they are stored
-use Rattle.pb_normal.specs.declared.{entry.Entry.Entry, terms.Stored.Stored}
-use Rattle.pb_normal.specs.declared.terms.Stored.TheVariants.{Codes, Few, Narrow, Wide}
-use Rattle.pb_normal.specs.engine.Codes.{decoded, weighed}
+use Rattle.pb_normal.specs.{declared.entry.Entry.Entry, engine.Codes.decoded, engine.Codes.weighed}
+use Rattle.pb_normal.specs.declared.terms.Stored.{Stored, TheVariants.Codes, TheVariants.Few, TheVariants.Narrow, TheVariants.Wide}
 use Rattle.std.specs.Prelude.{List, map}
 
 abbrev pub entries_of : Stored → List Entry

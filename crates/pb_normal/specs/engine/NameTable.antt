@@ -1,8 +1,7 @@
 -- Names in one list of bytes, and chains by which a name is found.
-use Rattle.pb_normal.specs.{contract.NameHasher.finish, contract.NameHasher.write, declared.names.entry.NameEntry.NameEntry}
-use Rattle.pb_normal.specs.{declared.names.hasher.NameHasher.NameHasher, declared.names.table.NameTable.NameTable, meaning.Names.AreDistinct}
+use Rattle.pb_normal.specs.{contract.NameHasher.finish, contract.NameHasher.write, declared.names.hasher.NameHasher.NameHasher, meaning.Names.AreDistinct}
+use Rattle.{pb_normal.specs.declared.names.entry.NameEntry.NameEntry, pb_normal.specs.declared.names.table.NameTable.NameTable, std.specs.Str.IsUtf8}
 use Rattle.std.specs.Prelude.{◌≡◌, ◌≢◌, ◌<◌, ◌≤◌, ℕ, suc, ◌-◌, ◌/◌, ◌^◌, List, [], ◌∷◌, All, drop, get_or, length, map, take, bit_and}
-use Rattle.std.specs.Str.{IsUtf8}
 
 abbrev pub ends_of : List NameEntry → List ℕ
 ends_of entries = map (λ (e : NameEntry). e.end) entries

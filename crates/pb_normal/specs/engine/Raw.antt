@@ -1,6 +1,5 @@
 -- A written term as a positive coefficient on a literal.
-use Rattle.pb_normal.specs.{declared.entry.Entry.Entry, meaning.Names.number_in}
-use Rattle.pb_sums.specs.declared.linear.Term.{Term}
+use Rattle.{pb_normal.specs.declared.entry.Entry.Entry, pb_normal.specs.meaning.Names.number_in, pb_sums.specs.declared.linear.Term.Term}
 use Rattle.std.specs.Prelude.{ℕ, ◌+◌, ℤ, pos, negsuc, unsigned_abs, Bool, true, false, not, if◌then◌else◌, List, [], ◌∷◌}
 
 abbrev pub is_below_0 : ℤ → Bool

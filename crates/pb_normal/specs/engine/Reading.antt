@@ -1,7 +1,6 @@
 -- Terms as they are read
-use Rattle.pb_normal.specs.declared.{entry.Entry.Entry, terms.reading.Reading.Reading}
-use Rattle.pb_normal.specs.declared.terms.reading.Reading.TheVariants.{Codes, Narrow, Wide}
-use Rattle.pb_normal.specs.engine.Codes.{decoded, weighed}
+use Rattle.pb_normal.specs.{declared.entry.Entry.Entry, engine.Codes.decoded, engine.Codes.weighed}
+use Rattle.pb_normal.specs.declared.terms.reading.Reading.{Reading, TheVariants.Codes, TheVariants.Narrow, TheVariants.Wide}
 use Rattle.std.specs.Prelude.{List, map}
 
 abbrev pub read_entries : Reading → List Entry

@@ -2,8 +2,7 @@
 use Rattle.pb_normal.specs.declared.side.Side.{Side, TheVariants.AtLeast as least, TheVariants.AtMost as most}
 use Rattle.pb_normal.specs.meaning.{Form.Form, Written.names_of, Written.magnitude, Written.IsSideOf}
 use Rattle.pb_sums.specs.declared.linear.{Linear.Linear, Relation.Relation, Relation.TheVariants.AtLeast, Relation.TheVariants.Equal}
-use Rattle.std.specs.List.{flat_map, AllZip}
-use Rattle.std.specs.Prelude.{ℕ, ◌+◌, ◌≤◌, unsigned_abs, List, [], ◌∷◌, map}
+use Rattle.std.specs.{List.flat_map, List.AllZip, Prelude.ℕ, Prelude.◌+◌, Prelude.◌≤◌, Prelude.unsigned_abs, Prelude.List, Prelude.[], Prelude.◌∷◌, Prelude.map}
 
 -- the names that are written in constraints, with repetitions
 abbrev pub constraint_names : List Linear → List (List ℕ)

@@ -1,7 +1,6 @@
 -- Names in the order of their first appearance. A name's number is its position, counted from 0.
-use Rattle.std.specs.List.{list_any, position_or_len}
+use Rattle.std.specs.{List.list_any, List.position_or_len, Str.bytes_eq}
 use Rattle.std.specs.Prelude.{◌≡◌, ℕ, Bool, true, false, List, [], ◌∷◌, ◌++◌, take, if◌then◌else◌}
-use Rattle.std.specs.Str.{bytes_eq}
 
 abbrev pub has_name : List (List ℕ) → List ℕ → Bool
 has_name names name = list_any (bytes_eq name) names

@@ -1,7 +1,6 @@
 -- What a machine of instances stores.
-use Rattle.pb_opb.specs.{declared.machine.OpbMachine.TheInside.Inside, engine.State.OpbState}
+use Rattle.{pb_opb.specs.declared.machine.OpbMachine.TheInside.Inside, pb_opb.specs.engine.State.OpbState, std.specs.Prelude.◌≡◌}
 use Rattle.pb_text.specs.meaning.Limits.{largest, top_of}
-use Rattle.std.specs.Prelude.{◌≡◌}
 
 -- the state that its fields form
 abbrev pub state_of : Inside → OpbState

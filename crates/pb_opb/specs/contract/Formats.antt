@@ -1,8 +1,7 @@
 -- The laws of the format of instances.
 use Rattle.pb_opb.specs.{declared.event.OpbEvent.OpbEvent, engine.State.opb, engine.State.begin, meaning.Instances.IsInstance}
 use Rattle.pb_text.specs.contract.{Automaton.AcceptsItems, FormatLaws.IsOneText, FormatLaws.FixesSpans, FormatLaws.IsPrefixFree, FormatLaws.Widens}
-use Rattle.pb_text.specs.meaning.Spelling.{Item}
-use Rattle.std.specs.Prelude.{ℕ, List, ◌↔◌}
+use Rattle.{pb_text.specs.meaning.Spelling.Item, std.specs.Prelude.ℕ, std.specs.Prelude.List, std.specs.Prelude.◌↔◌}
 
 -- A new machine accepts the instances, and nothing else.
 abbrev pub ReadsInstances : Type 0

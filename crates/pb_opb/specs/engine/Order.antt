@@ -1,9 +1,7 @@
 -- The invariant of the state of a machine of instances.
-use Rattle.pb_opb.specs.{declared.phase.Phase.Phase, engine.Machine.word_of, declared.phase.Action.Action}
-use Rattle.pb_opb.specs.declared.phase.Action.TheVariants.{To, Declare, BeginTail, EndHeader, Give}
-use Rattle.pb_opb.specs.engine.State.{OpbState, linears, objectives}
-use Rattle.pb_sums.specs.{declared.Spaces.TheVariants.White, engine.State.sums}
-use Rattle.pb_text.specs.contract.Automaton.{IsState}
+use Rattle.pb_opb.specs.{declared.phase.Phase.Phase, engine.Machine.word_of, engine.State.OpbState, engine.State.linears, engine.State.objectives}
+use Rattle.pb_opb.specs.declared.phase.Action.{Action, TheVariants.To, TheVariants.Declare, TheVariants.BeginTail, TheVariants.EndHeader, TheVariants.Give}
+use Rattle.{pb_sums.specs.declared.Spaces.TheVariants.White, pb_sums.specs.engine.State.sums, pb_text.specs.contract.Automaton.IsState}
 use Rattle.std.specs.Prelude.{◌≡◌, ℕ, ◌<◌, ◌≤◌, ◌^◌, false, [], length}
 
 -- a word was not read to its end, and a count is at most top

@@ -1,9 +1,8 @@
 -- The states of a machine of instances, and its automaton.
-use Rattle.pb_opb.specs.{declared.phase.Field.Field, declared.phase.Phase.Phase, engine.Machine.transition}
-use Rattle.pb_opb.specs.declared.{event.OpbEvent.OpbEvent, phase.Action.Action}
+use Rattle.pb_opb.specs.declared.{phase.Field.Field, phase.Phase.Phase, event.OpbEvent.OpbEvent, phase.Action.Action}
+use Rattle.{pb_opb.specs.engine.Machine.transition, pb_sums.specs.engine.State.SumState, pb_sums.specs.engine.State.sums, pb_sums.specs.engine.State.first}
 use Rattle.pb_opb.specs.declared.phase.Action.TheVariants.{To, Declare, BeginTail, Keep, EndHeader, EndTail, EndComment, BeginSum, Give, Stop}
 use Rattle.pb_sums.specs.declared.{Part.Part, Spaces.TheVariants.White, SumEvent.SumEvent}
-use Rattle.pb_sums.specs.engine.State.{SumState, sums, first}
 use Rattle.pb_text.specs.contract.Automaton.{Automaton, Next, Go, End, Refuse}
 use Rattle.std.specs.Prelude.{ℕ, zero, suc, ◌+◌, ◌-◌, ◌^◌, min, Bool, true, false, List, [], ◌∷◌, ◌++◌, length}
 

@@ -1,8 +1,7 @@
 -- What is read as an instance, under limits.
-use Rattle.pb_opb.specs.{declared.instance.Instance.Instance, meaning.Asking.Asks, meaning.Gather.MayKeep, meaning.Instances.IsInstance}
-use Rattle.pb_opb.specs.meaning.Values.{IsValueOf}
+use Rattle.{pb_opb.specs.declared.instance.Instance.Instance, std.specs.Prelude.ℕ, std.specs.Prelude.List, std.specs.Prelude.Option, std.specs.Prelude.Result}
+use Rattle.pb_opb.specs.meaning.{Asking.Asks, Gather.MayKeep, Instances.IsInstance, Values.IsValueOf}
 use Rattle.pb_text.specs.{declared.Spanned.Spanned, declared.Stop.Stop, meaning.Asking.AsksOnly, meaning.Whole.ReadsValue}
-use Rattle.std.specs.Prelude.{ℕ, List, Option, Result}
 
 module _ (limit top : ℕ) where
   -- the bytes of an instance that may allocate

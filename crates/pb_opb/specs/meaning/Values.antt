@@ -1,10 +1,9 @@
 -- The value of an instance: what its statements state, and the rules that it meets.
-use Rattle.pb_opb.specs.{declared.event.OpbEvent.OpbEvent, meaning.Instances.IsTail}
+use Rattle.pb_opb.specs.{declared.event.OpbEvent.OpbEvent, meaning.Instances.IsTail, declared.instance.Comment.Comment, declared.instance.Instance.Instance}
 use Rattle.pb_sums.specs.{contract.Canonical.AreTerms, contract.Canonical.IsLinear, declared.linear.Linear.Linear, declared.linear.Term.Term}
 use Rattle.pb_text.specs.meaning.Blank.{IsInLine}
 use Rattle.std.specs.Prelude.{◌≡◌, ℕ, ◌+◌, ◌<◌, ◌≤◌, List, [], ◌∷◌, length, Option, Some, None}
 use Rattle.pb_opb.specs.declared.event.OpbEvent as event
-use Rattle.pb_opb.specs.declared.instance.{Comment.Comment, Instance.Instance}
 
 -- the last element of a list, or x if it is empty
 abbrev pub last_or : {A : Type 0} → A → List A → A

@@ -1,23 +1,21 @@
 -- Lemmas about proofs, their texts and their values.
-use Rattle.pb_proof.{specs.engine.line.Ended.ended_lines, proofs.Common.ℤ, specs.declared.read.gather.ProofSoFar.ProofSoFar}
-use Rattle.pb_proof.{specs.meaning.Reading.AsksInProof}
-use Rattle.pb_proof.proofs.Common.{[], proof_bytes, IsProofValue, IsStatementValue, SpellsConclusion, ℕ, SpellsLiteral, statements_of, number-within}
+use Rattle.pb_proof.specs.{engine.line.Ended.ended_lines, contract.Gather.with, contract.Gather.asks, contract.Gather.MayKeep, contract.Gather.nothing}
+use Rattle.pb_proof.proofs.Common.{ℤ, [], proof_bytes, IsProofValue, IsStatementValue, SpellsConclusion, ℕ, SpellsLiteral, statements_of, number-within}
+use Rattle.pb_proof.{proofs.Common.All-nil, specs.declared.read.gather.ProofSoFar.ProofSoFar, specs.meaning.Reading.AsksInProof}
 use Rattle.pb_proof.proofs.Common.{length-append, CanonicalProof, ReadStatements, ◌++◌, events_of, IsProofOf, leb-false, events_at, ReadsBack, length, Header}
-use Rattle.pb_proof.proofs.Common.{Output, Option, Letter, Bounds, Delete, Nothing, ◌<◌, ◌∙◌, ◌∷◌, ◌≡◌, ◌≤◌, sym, ap₂, Sat, Pol, Rup, ◌^◌, All, Soli, Solx}
-use Rattle.pb_proof.proofs.Common.{◌↔◌, Item, Part, Bool, ap, Proof, lines, IsName, IsWord, subst, bytes, Factor, Listed, nat_le, lt-leb, IsRead, IsStep}
-use Rattle.pb_proof.proofs.Common.{Linear, append-nil, SpellsWord, Conclusion, spans_since, ended_lines, ProofValues, place_after, append_assoc, SpellsLinear}
+use Rattle.pb_proof.proofs.Common.{Output, Option, Letter, Bounds, Delete, Nothing, ◌<◌, ◌∙◌, ◌∷◌, ◌≡◌, ◌≤◌, sym, ap₂, Sat, Pol, Rup, ◌^◌, All, Soli, Solx, ◌↔◌}
+use Rattle.pb_proof.proofs.Common.{Item, Part, Bool, ap, Proof, lines, IsName, IsWord, subst, bytes, Factor, Listed, nat_le, lt-leb, IsRead, IsStep, Linear}
+use Rattle.pb_proof.proofs.Common.{append-nil, SpellsWord, Conclusion, spans_since, ended_lines, ProofValues, place_after, append_assoc, SpellsLinear, StopsIn}
 use Rattle.pb_proof.proofs.Common.{IsConclusion, bytes-append, arith, All-head, All-tail, Literal, Language, IsFactor, SpellsId, All-cons, bytes_of, OneValue}
 use Rattle.pb_proof.proofs.Common.{spans_of, gathered, SumEvent, Conclude, List, refl, F, true, ints, IsId, None, Some, Bound, Unsat, false, Blank, IsGap}
-use Rattle.pb_proof.proofs.Common.{rules, statement_bytes, SpellsStatement, StatementValues, Statement, AreSpelled, All-append, All-weaker, letters_of}
+use Rattle.pb_proof.proofs.Common.{rules, statement_bytes, SpellsStatement, StatementValues, Statement, AreSpelled, All-append, All-weaker, letters_of, IsProof}
 use Rattle.pb_proof.proofs.Common.{false≢true, BeginProof, AreLiterals, SpellsBound, NoClaim, PolWord, IfGiven, IsBound, IdShown, Spanned, IsWhole, MayHold}
-use Rattle.pb_proof.proofs.Common.{StopsIn, IsProof, All-nil}
-use Rattle.pb_proof.specs.contract.Gather.{with, asks, MayKeep, nothing}
 use Rattle.pb_sums.proofs.lemmas.values.{Larger.spells_larger, Within.number-within as value-within, Within.linear-within}
-use Rattle.pb_text.{proofs.lemmas.source.Wholes.spans_events, proofs.lemmas.text.Short.place_after-offset, specs.declared.Place.Place}
-use Rattle.pb_text.{specs.declared.Stop.Stop, specs.meaning.Reading.ended_within, specs.meaning.Reading.IsUnderWay, specs.meaning.Reading.IsSpelled}
+use Rattle.pb_text.proofs.lemmas.{source.Wholes.spans_events, text.Short.place_after-offset}
+use Rattle.pb_text.specs.{declared.Place.Place, declared.Stop.Stop, meaning.Reading.ended_within, meaning.Reading.IsUnderWay, meaning.Reading.IsSpelled}
+use Rattle.pb_proof.proofs.lemmas.Texts.{ended_none, ended-cons, lines-ended, line_bytes, Has, line_has}
 use Rattle.pb_text.proofs.lemmas.source.Unkept as stopped
 use Rattle.pb_text.proofs.lemmas.text.Formats as formats
-use Rattle.pb_proof.proofs.lemmas.Texts.{ended_none, ended-cons, lines-ended, line_bytes, Has, line_has}
 
 -- What is read of a proof.
 

@@ -1,19 +1,18 @@
 -- What is written, in parts, and the canonical texts of statements.
-use Rattle.pb_proof.{specs.engine.line.Ended.ended_lines, proofs.Common.ℤ, specs.meaning.Canonical.listed_bytes, proofs.lemmas.line.Ends.fed}
-use Rattle.pb_proof.{proofs.lemmas.line.Ends.ended, specs.meaning.Canonical.count_bytes}
-use Rattle.pb_proof.proofs.Common.{bounds_word, [], proof_bytes, degree_text, linear_text, bytes-digits, listed_bytes, literal_line, conclusion_word}
-use Rattle.pb_proof.proofs.Common.{take-append-drop, conclusion_bytes, IsStatementValue, SpellsConclusion, SpellsConclusionLine, literal_bytes, ℕ}
+use Rattle.pb_proof.specs.{engine.line.Ended.ended_lines, meaning.Canonical.listed_bytes, meaning.Canonical.count_bytes}
+use Rattle.pb_proof.proofs.Common.{ℤ, bounds_word, [], proof_bytes, degree_text, linear_text, bytes-digits, listed_bytes, literal_line, conclusion_word}
+use Rattle.pb_proof.proofs.{Common.Blanks0, Common.Blanks1, Common.IfGiven, Common.IsBound, Common.IdShown, lemmas.line.Ends.fed, lemmas.line.Ends.ended}
+use Rattle.pb_proof.proofs.Common.{take-append-drop, conclusion_bytes, IsStatementValue, SpellsConclusion, SpellsConclusionLine, literal_bytes, ℕ, PolWord}
 use Rattle.pb_proof.proofs.Common.{SpellsLiteral, LiteralsShown, SpellsLiterals, ◌++◌, drop_all, soli_word, solx_word, SpellsIds, SpellsRup, digits_of, ◌+◌}
 use Rattle.pb_proof.proofs.Common.{get_or, length, Header, Output, Option, Letter, Finite, Bounds, Delete, Divide, Weaken, f_word, negsuc, degree, ◌-◌, ◌<◌}
-use Rattle.pb_proof.proofs.Common.{◌∙◌, ◌∷◌, ◌≡◌, ◌≤◌, suc, sym, ap₂, Sat, Pol, Rup, Add, Id, ◌^◌, All, pos, ◌⋅◌, Soli, Solx, ap, Proof, lines, IsName}
-use Rattle.pb_proof.proofs.Common.{IsWord, subst, space, bytes, plain, Factor, Listed, append-nil, proof_word, unsat_word, SpellsWord, Conclusion}
-use Rattle.pb_proof.proofs.Common.{SpellsWords, ended_lines, append_assoc, version_word, SpellsLinear, IsConclusion, bytes-degree, bytes-linear, linear_bytes}
-use Rattle.pb_proof.proofs.Common.{literal_text, bytes-append, arith, All-head, All-tail, Literal, Language, IsFactor, SpellsId, drop, Conclude, unmarked}
-use Rattle.pb_proof.proofs.Common.{Infinite, Multiply, Saturate, del_word, end_word, inf_word, pol_word, rup_word, sat_word, two_word, List, refl, take, F}
-use Rattle.pb_proof.proofs.Common.{true, ints, Byte, IsId, Feed, None, Some, Bound, Unsat, Axiom, false, Blank, Bytes, Count, drop-cons, statement_bytes}
-use Rattle.pb_proof.proofs.Common.{signed_decimal, id_shown_bytes, linear-spelled, decimal-digits, SpellsStatement, take_more, Statement, none_word, decimal}
-use Rattle.pb_proof.proofs.Common.{word_bytes, bytes-plain, bound_bytes, shown_bytes, LineEnd, output_word, pseudo_word, AreLiterals, SpellsBound}
-use Rattle.pb_proof.proofs.Common.{SpellsCount, SpellsShown, NoClaim, PolWord, id_word, Blanks0, Blanks1, IfGiven, IsBound, IdShown}
+use Rattle.pb_proof.proofs.Common.{◌∙◌, ◌∷◌, ◌≡◌, ◌≤◌, suc, sym, ap₂, Sat, Pol, Rup, Add, Id, ◌^◌, All, pos, ◌⋅◌, Soli, Solx, ap, Proof, lines, IsName, IsWord}
+use Rattle.pb_proof.proofs.Common.{subst, space, bytes, plain, Factor, Listed, append-nil, proof_word, unsat_word, SpellsWord, Conclusion, SpellsWords, id_word}
+use Rattle.pb_proof.proofs.Common.{ended_lines, append_assoc, version_word, SpellsLinear, IsConclusion, bytes-degree, bytes-linear, linear_bytes, literal_text}
+use Rattle.pb_proof.proofs.Common.{bytes-append, arith, All-head, All-tail, Literal, Language, IsFactor, SpellsId, drop, Conclude, unmarked, Infinite, Multiply}
+use Rattle.pb_proof.proofs.Common.{Saturate, del_word, end_word, inf_word, pol_word, rup_word, sat_word, two_word, List, refl, take, F, true, ints, Byte, IsId}
+use Rattle.pb_proof.proofs.Common.{Feed, None, Some, Bound, Unsat, Axiom, false, Blank, Bytes, Count, drop-cons, statement_bytes, signed_decimal, NoClaim}
+use Rattle.pb_proof.proofs.Common.{id_shown_bytes, linear-spelled, decimal-digits, SpellsStatement, take_more, Statement, none_word, decimal, word_bytes}
+use Rattle.pb_proof.proofs.Common.{bytes-plain, bound_bytes, shown_bytes, LineEnd, output_word, pseudo_word, AreLiterals, SpellsBound, SpellsCount, SpellsShown}
 
 -- What is written, in parts.
 

@@ -1,7 +1,6 @@
 -- What the machine for proofs stores.
-use Rattle.pb_proof.specs.{declared.machine.ProofMachine.TheInside.Inside, engine.machine.State.ProofState}
+use Rattle.{pb_proof.specs.declared.machine.ProofMachine.TheInside.Inside, pb_proof.specs.engine.machine.State.ProofState, std.specs.Prelude.◌≡◌}
 use Rattle.pb_text.specs.meaning.Limits.{largest, top_of}
-use Rattle.std.specs.Prelude.{◌≡◌}
 
 -- the state that its fields make up
 abbrev pub proof_state : Inside → ProofState

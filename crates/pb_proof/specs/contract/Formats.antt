@@ -1,8 +1,7 @@
 -- The laws of the format of proofs.
 use Rattle.pb_proof.specs.{declared.statement.Statement.Statement, engine.machine.State.proofs, engine.machine.State.begin, meaning.Proofs.IsProof}
 use Rattle.pb_text.specs.contract.{Automaton.AcceptsItems, FormatLaws.IsOneText, FormatLaws.FixesSpans, FormatLaws.IsPrefixFree, FormatLaws.Widens}
-use Rattle.pb_text.specs.meaning.Spelling.{Item}
-use Rattle.std.specs.Prelude.{ℕ, List, ◌↔◌}
+use Rattle.{pb_text.specs.meaning.Spelling.Item, std.specs.Prelude.ℕ, std.specs.Prelude.List, std.specs.Prelude.◌↔◌}
 
 -- A new machine accepts exactly the proofs.
 abbrev pub ReadsProofs : Type 0

@@ -1,9 +1,8 @@
 -- The laws of proofs and their values.
-use Rattle.pb_proof.specs.{contract.Values.IsStatementValue, contract.Values.IsProofValue, declared.proof.Proof.Proof}
-use Rattle.pb_proof.specs.{declared.statement.Statement.Statement, meaning.Canonical.proof_bytes, meaning.Lines.SpellsStatement}
-use Rattle.pb_proof.specs.meaning.Proofs.{statements_of, IsProof, IsProofOf}
-use Rattle.pb_text.specs.{declared.Place.Place, declared.Spanned.Spanned, declared.Stop.Stop, meaning.Reading.Reads}
-use Rattle.pb_text.specs.meaning.{Spelling.Letter, Spelling.Item, Spelling.bytes_of, Whole.events_at, Whole.events_of, Whole.IsRead}
+use Rattle.pb_proof.specs.{contract.Values.IsStatementValue, contract.Values.IsProofValue, declared.proof.Proof.Proof, declared.statement.Statement.Statement}
+use Rattle.pb_proof.specs.meaning.{Canonical.proof_bytes, Lines.SpellsStatement, Proofs.statements_of, Proofs.IsProof, Proofs.IsProofOf}
+use Rattle.pb_text.specs.declared.{Place.Place, Spanned.Spanned, Stop.Stop}
+use Rattle.pb_text.specs.meaning.{Reading.Reads, Spelling.Letter, Spelling.Item, Spelling.bytes_of, Whole.events_at, Whole.events_of, Whole.IsRead}
 use Rattle.std.specs.Prelude.{◌≡◌, ℕ, ◌^◌, ◌<◌, List, [], ◌++◌, All, Bool, true, Option}
 
 -- The canonical text of a proof that meets the rules is a text of that proof.

@@ -1,9 +1,8 @@
 -- Where reading a proof may allocate, in terms of a statement, its bytes so far and the next byte.
 use Rattle.pb_proof.specs.declared.{conclusion.Conclusion.Conclusion, statement.Statement.Statement}
 use Rattle.pb_proof.specs.meaning.Lines.{pol_word, rup_word, soli_word, solx_word, del_word, id_word, conclusion_word}
-use Rattle.pb_sums.specs.meaning.Asking.{EndsIn, AsksLiteral}
-use Rattle.pb_text.specs.meaning.{Classes.is_digit, Classes.is_name_byte, Spelling.Letter, Spelling.bytes}
-use Rattle.pb_text.specs.meaning.Languages.{Language, ◌⋅◌, Bytes, Blanks1}
+use Rattle.{pb_sums.specs.meaning.Asking.EndsIn, pb_sums.specs.meaning.Asking.AsksLiteral, pb_text.specs.meaning.Spelling.Letter}
+use Rattle.pb_text.specs.meaning.{Classes.is_digit, Classes.is_name_byte, Spelling.bytes, Languages.Language, Languages.◌⋅◌, Languages.Bytes, Languages.Blanks1}
 use Rattle.std.specs.Prelude.{◌≡◌, ℕ, false, List, [], ◌∷◌, ◌++◌, IsTrue, ◌⊎◌, Some}
 
 -- The next byte ends a number: it comes after a digit and is not a digit.

@@ -1,10 +1,9 @@
 -- The one text that is written for a proof.
-use Rattle.pb_proof.specs.declared.{conclusion.Bound.Bound, conclusion.Conclusion.Conclusion, proof.Proof.Proof, statement.Statement.Statement}
-use Rattle.pb_proof.specs.declared.word.PolWord.{PolWord}
-use Rattle.pb_proof.specs.meaning.Lines.{pseudo_word, proof_word, version_word, two_word, f_word, pol_word, rup_word, soli_word, solx_word, del_word, id_word, output_word, conclusion_word, end_word, none_word, unsat_word, sat_word, bounds_word, inf_word}
-use Rattle.pb_proof.specs.meaning.Proofs.{statements_of}
+use Rattle.pb_proof.specs.declared.{conclusion.Bound.Bound, conclusion.Conclusion.Conclusion, statement.Statement.Statement, word.PolWord.PolWord}
+use Rattle.{pb_proof.specs.declared.proof.Proof.Proof, pb_proof.specs.meaning.Proofs.statements_of, std.specs.Fmt.signed_decimal}
+use Rattle.pb_proof.specs.meaning.Lines.{pseudo_word, proof_word, version_word, two_word, f_word, pol_word, rup_word, soli_word, solx_word, del_word, id_word}
+use Rattle.pb_proof.specs.meaning.Lines.{output_word, conclusion_word, end_word, none_word, unsat_word, sat_word, bounds_word, inf_word}
 use Rattle.pb_sums.specs.{contract.Canonical.linear_bytes, declared.Literal.Literal, meaning.Sums.literal_bytes}
-use Rattle.std.specs.Fmt.{signed_decimal}
 use Rattle.std.specs.Prelude.{ℕ, ℤ, List, [], ◌∷◌, ◌++◌, Option, Some, None, decimal, codes}
 
 abbrev pub literal_line : Literal → List ℕ

@@ -1,8 +1,7 @@
 -- The statements of a proof, and their texts.
 use Rattle.pb_proof.specs.declared.{conclusion.Bound.Bound, conclusion.Conclusion.Conclusion, statement.Statement.Statement, word.PolWord.PolWord}
-use Rattle.pb_proof.specs.meaning.Postfix.{IsPostfix}
-use Rattle.pb_sums.specs.declared.{Linear.Linear, Literal.Literal, Relation.TheVariants.AtLeast, Spaces.TheVariants.Blank}
-use Rattle.pb_sums.specs.meaning.Sums.{IsName, SpellsLiteral, SpellsLinear}
+use Rattle.{pb_proof.specs.meaning.Postfix.IsPostfix, pb_sums.specs.declared.Literal.Literal, pb_sums.specs.declared.Relation.TheVariants.AtLeast}
+use Rattle.pb_sums.specs.{declared.Linear.Linear, declared.Spaces.TheVariants.Blank, meaning.Sums.IsName, meaning.Sums.SpellsLiteral, meaning.Sums.SpellsLinear}
 use Rattle.pb_text.specs.meaning.Languages.{Language, ◌⋅◌, Empty, Byte, Bytes, Blanks0, Blanks1}
 use Rattle.pb_text.specs.meaning.Numbers.{Digits, Number, Count, signed}
 use Rattle.std.specs.Prelude.{◌≡◌, ℕ, ℤ, pos, ◌<◌, ◌≤◌, Bool, true, false, List, [], ◌∷◌, length, ◌⊎◌, Option, Some, None, codes}

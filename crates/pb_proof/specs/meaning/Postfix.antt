@@ -1,6 +1,5 @@
 -- Expressions of cutting planes and their postfix words.
-use Rattle.pb_proof.specs.declared.word.PolWord.{PolWord}
-use Rattle.pb_sums.specs.declared.Literal.{Literal}
+use Rattle.{pb_proof.specs.declared.word.PolWord.PolWord, pb_sums.specs.declared.Literal.Literal}
 use Rattle.std.specs.Prelude.{◌≡◌, ℕ, ℤ, List, [], ◌∷◌, ◌++◌}
 
 -- a constraint, an axiom, a sum of two expressions, or one expression under a rule

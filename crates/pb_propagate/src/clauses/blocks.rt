@@ -139,7 +139,7 @@ impl Blocks {
     }
 
     /// How many slots there are.
-    #[tactic(auto, using(crate::proofs::rules::Clauses::len))]
+    #[tactic(auto, using(crate::proofs::rulesets::Clauses::len))]
     pub fn len(&self) -> usize
         ensures { result ≡ length self.now.literals }
     {
@@ -174,7 +174,7 @@ impl Blocks {
     }
 
     /// The clause of a slot with its search. What precedes the literals is read as one slice.
-    #[tactic(auto, using(crate::proofs::rules::Clauses::read))]
+    #[tactic(auto, using(crate::proofs::rulesets::Clauses::read))]
     pub fn read(&self, slot: usize) -> Clause<'_>
         requires { slot < length self.now.literals }
         ensures search { result.search ≡ search_at self.now.searches slot }
@@ -270,7 +270,7 @@ impl Blocks {
     }
 
     // Begins all searches where they are.
-    #[tactic(auto, using(crate::proofs::rules::Clauses::begin_all))]
+    #[tactic(auto, using(crate::proofs::rulesets::Clauses::begin_all))]
     fn begin_all(&mut self)
         ensures { IsRenewed self.old self.new }
     {
@@ -304,7 +304,7 @@ impl Blocks {
 
     /// Makes a block for a clause with that number of literals, if the slot has none. Returns
     /// whether the block has room for them. All blocks together have fewer than `2^32` words.
-    #[tactic(auto, using(crate::proofs::rules::Clauses::fit))]
+    #[tactic(auto, using(crate::proofs::rulesets::Clauses::fit))]
     pub fn fit(&mut self, slot: usize, count: usize) -> Result<bool, AllocError>
         requires slot { slot < length self.old.literals }
         requires some { 0 < count }

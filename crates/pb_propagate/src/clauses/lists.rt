@@ -1,6 +1,6 @@
 //! For each literal the list of the watches on it.
 
-#![tactic(auto, using(crate::proofs::rules::Clauses::lists))]
+#![tactic(auto, using(crate::proofs::rulesets::Clauses::lists))]
 
 ghost use Rattle.std.specs.Prelude.{◌≡◌, ℕ, ◌+◌, ◌-◌, ◌/◌, ◌^◌, ◌<◌, ◌++◌, ◌∷◌, [], true, false, length, slice_get, slice_set, swap_remove, OnOk, IfOk, IfSome, IfNone, Some};
 ghost use Rattle.pb_propagate.specs.declared.clauses.lists.Listed.{Listed};

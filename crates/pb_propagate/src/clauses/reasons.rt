@@ -1,6 +1,6 @@
 //! A clause goes: the literals that it has forced need other reasons. No visit is counted.
 
-#![tactic(auto, using(crate::proofs::rules::Clauses::reasons))]
+#![tactic(auto, using(crate::proofs::rulesets::Clauses::reasons))]
 
 ghost use Rattle.std.specs.Prelude.{◌≡◌, ℕ, ◌*◌, ◌<◌, true, All, length, slice_index_or};
 ghost use Rattle.pb_propagate.specs.engine.engine.Lists.{IsDue};

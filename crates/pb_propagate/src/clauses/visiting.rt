@@ -1,6 +1,6 @@
 //! A visit to one watch of a falsified literal.
 
-#![tactic(auto, using(crate::proofs::rules::Clauses::visiting))]
+#![tactic(auto, using(crate::proofs::rulesets::Clauses::visiting))]
 
 ghost use Rattle.std.specs.Prelude.{◌≡◌, ℕ, ◌+◌, ◌-◌, ◌/◌, ◌^◌, ◌<◌, ◌≤◌, ◌⊎◌, ◌++◌, ◌∷◌, [], true, false, All, List, length, min, sum, slice_get, OnOk, IfOk, Some};
 ghost use Rattle.pb_propagate.specs.engine.clauses.Truths.{flip, true_at, false_at};

@@ -1,6 +1,6 @@
 //! The completion of given literals.
 
-#![tactic(auto, using(crate::proofs::rules::Engine::completion))]
+#![tactic(auto, using(crate::proofs::rulesets::Engine::completion))]
 
 ghost use Rattle.std.specs.Prelude.{◌≡◌, [], ◌*◌, ◌<◌, ◌≤◌, true, All, length, OnOk, IfOk, IfSome, IfNone};
 ghost use Rattle.pb_normal.specs.declared.numbered.NumberedLiteral.{NumberedLiteral};

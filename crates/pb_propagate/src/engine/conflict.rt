@@ -1,6 +1,6 @@
 //! A conflict that the live forms meet with nothing assumed. It is kept beside the root.
 
-#![tactic(auto, using(crate::proofs::rules::Engine::conflict))]
+#![tactic(auto, using(crate::proofs::rulesets::Engine::conflict))]
 
 ghost use Rattle.std.specs.Prelude.{◌≡◌, List, ◌*◌, ◌<◌, [], true, false, length, OnOk};
 ghost use Rattle.pb_propagate.specs.declared.store.Store.{Store};

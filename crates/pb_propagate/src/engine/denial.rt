@@ -1,7 +1,7 @@
 //! A clause that is asked about. Its literals are assigned as false, in place of its negation in
 //! the store.
 
-#![tactic(auto, using(crate::proofs::rules::Engine::denial))]
+#![tactic(auto, using(crate::proofs::rulesets::Engine::denial))]
 
 ghost use Rattle.std.specs.Prelude.{◌≡◌, ◌<◌, ◌≤◌, ◌++◌, ◌∷◌, [], true, false, All, length, OnOk, OnErr};
 ghost use Rattle.pb_normal.specs.meaning.Form.{IsNormal};

@@ -1,6 +1,6 @@
 //! A form goes: what the root keeps. Nothing is allocated.
 
-#![tactic(auto, using(crate::proofs::rules::Engine::losing))]
+#![tactic(auto, using(crate::proofs::rulesets::Engine::losing))]
 
 ghost use Rattle.std.specs.Prelude.{◌≡◌, ◌-◌, ◌*◌, ◌<◌, length, take};
 ghost use Rattle.pb_propagate.specs.declared.store.Store.{Store};

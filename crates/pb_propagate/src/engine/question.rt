@@ -1,6 +1,6 @@
 //! A question that continues from the root.
 
-#![tactic(auto, using(crate::proofs::rules::Engine::question))]
+#![tactic(auto, using(crate::proofs::rulesets::Engine::question))]
 
 ghost use Rattle.std.specs.Prelude.{◌≡◌, All, ◌≤◌, ◌+◌, ◌*◌, ◌<◌, true, length, sum_by, OnOk, OnErr, IfOk};
 ghost use Rattle.pb_propagate.specs.engine.engine.Fields.{forms_of};

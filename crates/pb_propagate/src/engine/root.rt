@@ -1,6 +1,6 @@
 //! The root: what the live forms force with nothing assumed.
 
-#![tactic(auto, using(crate::proofs::rules::Engine::root))]
+#![tactic(auto, using(crate::proofs::rulesets::Engine::root))]
 
 ghost use Rattle.std.specs.Prelude.{◌≡◌, ℕ, List, ◌+◌, ◌*◌, ◌<◌, ◌⊎◌, ◌++◌, ◌∷◌, [], length, slice_set, slice_index_or, OnOk};
 ghost use Rattle.pb_propagate.specs.declared.store.Store.{Store};

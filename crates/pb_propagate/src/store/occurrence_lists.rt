@@ -1,6 +1,6 @@
 //! Forms are added and removed.
 
-#![tactic(auto, using(crate::proofs::rules::Store::occurrence_lists))]
+#![tactic(auto, using(crate::proofs::rulesets::Store::occurrence_lists))]
 
 ghost use Rattle.std.specs.Prelude.{◌≡◌, ℕ, List, All, Some, None, ◌+◌, ◌-◌, ◌*◌, ◌/◌, ◌<◌, ◌≤◌, ◌^◌, ◌++◌, ◌∷◌, [], true, length, take, sum_by, IfOk, OnOk, OnErr, slice_get, slice_index_or, slice_set, swap_remove};
 ghost use Rattle.pb_propagate.specs.declared.term.Term.{Term};

@@ -1,6 +1,6 @@
 //! A form under the values of some literals, outside of questions. No visit is counted.
 
-#![tactic(auto, using(crate::proofs::rules::Store::opened))]
+#![tactic(auto, using(crate::proofs::rulesets::Store::opened))]
 
 ghost use Rattle.std.specs.Prelude.{◌≡◌, ◌≤◌, ◌<◌, ◌^◌, false, List, length, sum_by};
 ghost use Rattle.pb_normal.specs.declared.numbered.NumberedLiteral.{NumberedLiteral};

@@ -1,6 +1,6 @@
 //! A form goes: the literals that it has forced need other reasons.
 
-#![tactic(auto, using(crate::proofs::rules::Store::reasons))]
+#![tactic(auto, using(crate::proofs::rulesets::Store::reasons))]
 
 ghost use Rattle.std.specs.Prelude.{◌≡◌, ℕ, ◌*◌, ◌^◌, ◌<◌, [], true, length, slice_index_or};
 ghost use Rattle.pb_propagate.specs.declared.term.Term.{Term};

@@ -34,7 +34,7 @@ pub fn term_of(entry: Entry) -> Term
 }
 
 // The positions of the terms with their coefficients, in the order of the form.
-#[tactic(auto, using(crate::proofs::rules::Store::standing))]
+#[tactic(auto, using(crate::proofs::rulesets::Store::standing))]
 fn standing(alloc: Global, entries: &Terms) -> Result<Vec<Rank>, AllocError>
     ensures { IfOk result (λ ranks. All (IsPlaced entries.now) ranks.items ×
         (map entry_of (picked entries.now (map (λ r. r.place) ranks.items)) ≡ entries.now)) }
@@ -51,7 +51,7 @@ fn standing(alloc: Global, entries: &Terms) -> Result<Vec<Rank>, AllocError>
 }
 
 // The same, in order of falling coefficient.
-#[tactic(auto, using(crate::proofs::rules::Store::ranked))]
+#[tactic(auto, using(crate::proofs::rulesets::Store::ranked))]
 fn ranked(alloc: Global, entries: &Terms) -> Result<Vec<Rank>, AllocError>
     requires { sum_by (λ e. e.coefficient) entries.now < 2 ^ 127 }
     ensures placed { IfOk result (λ ranks. All (IsPlaced entries.now) ranks.items) }
@@ -95,7 +95,7 @@ fn are_equal(entries: &Terms) -> bool
 
 // The positions in order of falling coefficient. If all coefficients are equal, there are none, and
 // nothing is allocated.
-#[tactic(auto, using(crate::proofs::rules::Store::order_of))]
+#[tactic(auto, using(crate::proofs::rulesets::Store::order_of))]
 fn order_of(alloc: Global, entries: &Terms) -> Result<Vec<usize>, AllocError>
     requires { sum_by (λ e. e.coefficient) entries.now < 2 ^ 127 }
     ensures inside { IfOk result (λ order. All (λ p. p < length entries.now) order.items) }
@@ -122,7 +122,7 @@ impl SortedForm {
     ghost use Rattle.pb_propagate.specs.engine.engine.Terms.{terms_of};
 
     /// A form.
-    #[tactic(auto, using(crate::proofs::rules::Store::totals))]
+    #[tactic(auto, using(crate::proofs::rulesets::Store::totals))]
     pub fn new(alloc: Global, form: Shared) -> Result<SortedForm, AllocError>
         ensures form { IfOk result (λ f. f.form ≡ form) }
         ensures same { IfOk result (λ f. IsPermutation (map entry_of (terms_of f)) form.terms) }
@@ -154,7 +154,7 @@ impl SortedForm {
     }
 
     /// How many terms there are.
-    #[tactic(auto, using(crate::proofs::rules::Store::len))]
+    #[tactic(auto, using(crate::proofs::rulesets::Store::len))]
     pub fn len(&self) -> usize
         ensures { result ≡ length (terms_of self.now) }
     {
@@ -166,7 +166,7 @@ impl SortedForm {
     }
 
     // The position in the form of a term of the order.
-    #[tactic(auto, using(crate::proofs::rules::Store::place_at))]
+    #[tactic(auto, using(crate::proofs::rulesets::Store::place_at))]
     fn place_at(&self, index: usize) -> usize
         requires { index < length (terms_of self.now) }
         ensures inside { result < length self.now.form.terms }

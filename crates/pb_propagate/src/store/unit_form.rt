@@ -1,6 +1,6 @@
 //! A form of one term in the occurrence lists.
 
-#![tactic(auto, using(crate::proofs::rules::Store::unit_form))]
+#![tactic(auto, using(crate::proofs::rulesets::Store::unit_form))]
 
 ghost use Rattle.std.specs.Prelude.{◌≡◌, ◌<◌, ◌^◌, length};
 ghost use Rattle.pb_normal.specs.meaning.Form.{size};

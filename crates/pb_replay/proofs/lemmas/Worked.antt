@@ -1,17 +1,15 @@
 -- Forms on two variables, short proofs over them that are accepted, and conclusions that are rejected
 use Rattle.pb_normal.specs.declared.Side.TheVariants.{AtLeast as least, AtMost as most}
-use Rattle.pb_propagate.proofs.lemmas.engine.Literals.{literal}
+use Rattle.{pb_propagate.proofs.lemmas.engine.Literals.literal, pb_replay.specs.contract.Example.both_on, pb_replay.specs.contract.Example.opposed}
 use Rattle.pb_replay.proofs.Common.{ℕ, ◌<◌, ◌∙◌, ◌∷◌, ◌≡◌, [], ap, arith, Bool, cond, false, inl, List, None, not, refl, Some, subst, suc, sym, zero, Contains}
-use Rattle.pb_replay.proofs.Common.{Ok, Option, Entry, NumberedLiteral, Form, Holds, total, assignment, on, only, begin, Live, MayPropagate, Term, name_x}
+use Rattle.pb_replay.proofs.Common.{Ok, Option, Entry, NumberedLiteral, Form, Holds, total, assignment, on, only, begin, Live, MayPropagate, Term, name_x, true}
 use Rattle.pb_replay.proofs.Common.{name_y, Problem, AreValues, Completed, Excludes, HasValue, logged_of, negations, same_Some, slice_get, ◌++◌, ◌≤ℤ◌, ◌≤◌, All}
 use Rattle.pb_replay.proofs.Common.{inr, length, map, pos, Fits, IsSum, negation_of, IsFormOf, IsSideOf, Finite, Steps, Concluding, Statement, Conclude, End, F}
-use Rattle.pb_replay.proofs.Common.{Header, Solx, Constraint, Sum, Tree, broken, IsRup, put, With, all_logged, at_least_one, best_logged, best_proof}
+use Rattle.pb_replay.proofs.Common.{Header, Solx, Constraint, Sum, Tree, broken, IsRup, put, With, all_logged, at_least_one, best_logged, best_proof, Linear}
 use Rattle.pb_replay.proofs.Common.{both_terms, bounds_of, either, logged_proof, other_proof, Refuses, short_proof, shown_proof, unit_on, Verifies, NotBound}
 use Rattle.pb_replay.proofs.Common.{SolutionLogged, objective_with, propagated, Opened, first_state, FormOfExpression, Logged, State, Accepts, IsCount, Outcome}
-use Rattle.pb_replay.proofs.Common.{true, Linear, ints, drop, take}
+use Rattle.{pb_replay.proofs.Common.ints, pb_replay.proofs.Common.drop, pb_replay.proofs.Common.take, std.proofs.lemmas.List.Elements.All-from_recursion}
 use Rattle.pb_replay.proofs.lemmas.meaning.Propagated.{AreTrue, on-negations, conflict-none}
-use Rattle.pb_replay.specs.contract.Example.{both_on, opposed}
-use Rattle.std.proofs.lemmas.List.Elements.{All-from_recursion}
 use Rattle.pb_proof.specs.declared.Conclusion.TheVariants as conclusion
 use Rattle.pb_replay.specs.declared.verdict.Verdict.TheVariants as verdict
 

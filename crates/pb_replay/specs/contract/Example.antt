@@ -1,10 +1,9 @@
 -- Short proofs that are accepted, and some that are rejected
-use Rattle.pb_opb.specs.declared.Instance.{Instance}
-use Rattle.pb_proof.specs.declared.{PolWord.TheVariants.Id, PolWord.TheVariants.Add, Statement.Statement, Bound.TheVariants.Finite}
-use Rattle.pb_proof.specs.declared.Conclusion.TheVariants.{Unsat, Sat, Bounds}
+use Rattle.{pb_opb.specs.declared.Instance.Instance, pb_replay.specs.declared.fault.Fault.Fault, pb_replay.specs.declared.verdict.Verdict.Verdict}
+use Rattle.pb_proof.specs.declared.{PolWord.TheVariants.Id, PolWord.TheVariants.Add, Statement.Statement}
+use Rattle.pb_proof.specs.declared.{Bound.TheVariants.Finite, Conclusion.TheVariants.Unsat, Conclusion.TheVariants.Sat, Conclusion.TheVariants.Bounds}
 use Rattle.pb_proof.specs.declared.Statement.TheVariants.{Header, F, Pol, Rup, Soli, Solx, Output, Conclude, End}
-use Rattle.pb_replay.specs.{declared.fault.Fault.Fault, declared.verdict.Verdict.Verdict, meaning.Problem.Problem, meaning.Problem.Opened}
-use Rattle.pb_replay.specs.meaning.{Replay.State, Replay.first_state, Statements.Outcome, Statements.Accepts}
+use Rattle.pb_replay.specs.meaning.{Problem.Problem, Problem.Opened, Replay.State, Replay.first_state, Statements.Outcome, Statements.Accepts}
 use Rattle.pb_sums.specs.declared.{Linear.Linear, Literal.Literal, Relation.TheVariants.AtLeast, Term.Term}
 use Rattle.std.specs.Prelude.{◌≡◌, ℕ, pos, negsuc, Bool, false, true, List, [], ◌∷◌, ◌++◌, Option, Some, None, Ok, Err}
 

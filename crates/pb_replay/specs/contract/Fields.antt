@@ -1,6 +1,5 @@
 -- What a replay stores.
-use Rattle.pb_replay.specs.declared.{replay.Replay.TheInside.Inside, state.Running.Running}
-use Rattle.std.specs.Prelude.{◌≡◌}
+use Rattle.{pb_replay.specs.declared.replay.Replay.TheInside.Inside, pb_replay.specs.declared.state.Running.Running, std.specs.Prelude.◌≡◌}
 
 -- Both have the same instance, names, engine, best value, stage, conclusion and number of visits, under the same limits and
 -- with the same allocator.

@@ -1,15 +1,12 @@
 -- The laws of replay, over the definitions alone
 use Rattle.pb_normal.specs.{declared.numbered.NumberedLiteral.NumberedLiteral, meaning.Form.Form, meaning.Names.AreDistinct, meaning.Rules.on}
-use Rattle.pb_opb.specs.declared.Instance.{Instance}
-use Rattle.pb_proof.specs.{contract.Values.IsStatementValue, declared.Proof.Proof, declared.Stage.Stage}
-use Rattle.pb_proof.specs.declared.{Stage.TheVariants.Opening, Stage.TheVariants.Closing, Stage.TheVariants.Complete, Statement.Statement}
-use Rattle.pb_proof.specs.meaning.Proofs.{statements_of}
+use Rattle.{pb_opb.specs.declared.Instance.Instance, pb_replay.specs.contract.ReplayModel.verdict_at, pb_replay.specs.meaning.Replay.first_state}
+use Rattle.pb_proof.specs.{contract.Values.IsStatementValue, declared.Proof.Proof, meaning.Proofs.statements_of}
+use Rattle.pb_proof.specs.declared.{Stage.Stage, Stage.TheVariants.Opening, Stage.TheVariants.Closing, Stage.TheVariants.Complete, Statement.Statement}
 use Rattle.pb_propagate.specs.meaning.Propagation.{Derivation, MeetsConflict, IsCompletion}
-use Rattle.pb_replay.specs.{contract.ReplayModel.verdict_at, declared.fault.Fault.Fault, declared.fault.Fault.TheVariants.NotTotal}
-use Rattle.pb_replay.specs.{declared.verdict.Verdict.Verdict, meaning.Answer.Answer}
-use Rattle.pb_replay.specs.meaning.{Problem.Problem, Problem.Opened, Problem.Solves, Replay.State, Replay.first_state}
-use Rattle.pb_replay.specs.meaning.Meaning.{Means, MeansWritten, AccountedWritten, IsProblem, IsSound}
-use Rattle.pb_replay.specs.meaning.Statements.{Outcome, Accepts, MayWantAt}
+use Rattle.pb_replay.specs.declared.{fault.Fault.Fault, fault.Fault.TheVariants.NotTotal, verdict.Verdict.Verdict}
+use Rattle.pb_replay.specs.meaning.{Answer.Answer, Meaning.Means, Meaning.MeansWritten, Meaning.AccountedWritten, Meaning.IsProblem, Meaning.IsSound}
+use Rattle.pb_replay.specs.meaning.{Problem.Problem, Problem.Opened, Problem.Solves, Replay.State, Statements.Outcome, Statements.Accepts, Statements.MayWantAt}
 use Rattle.std.specs.Prelude.{◌≡◌, ℕ, ◌≤◌, Bool, List, All, Contains, Some, Result, Ok, Err, ◌<◌, length, Option, IsSome}
 
 -- what an instance opens as follows the rules of a problem

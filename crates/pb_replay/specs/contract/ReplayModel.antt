@@ -1,15 +1,14 @@
 -- What a replay stores, as a problem and a state
 use Rattle.pb_normal.specs.meaning.{Form.Form, Names.with_names, Written.magnitude}
-use Rattle.pb_opb.specs.declared.Instance.{Instance}
+use Rattle.{pb_opb.specs.declared.Instance.Instance, pb_propagate.specs.engine.engine.Live.Standing, pb_propagate.specs.meaning.Propagation.Live}
 use Rattle.pb_proof.specs.declared.{Stage.Stage, Stage.TheVariants.Complete, Statement.Statement}
-use Rattle.pb_propagate.specs.{engine.engine.Live.Standing, meaning.Propagation.Live}
-use Rattle.pb_replay.specs.{declared.verdict.Verdict.Verdict, meaning.Answer.Answer}
-use Rattle.pb_replay.specs.declared.{fault.Fault.Fault, fault.Fault.TheVariants.Memory, fault.Fault.TheVariants.NotTotal, state.Running.Running}
-use Rattle.pb_replay.specs.meaning.{Meaning.IsNamePrefix, Meaning.IsProblem, Meaning.IsSound, Problem.Problem, Problem.Opened, Problem.objective_of}
-use Rattle.pb_replay.specs.meaning.Replay.{State, Logged, added, first_state}
-use Rattle.pb_replay.specs.meaning.Statements.{Does, Outcome, PassesFirst, mentioned}
+use Rattle.pb_replay.specs.declared.{verdict.Verdict.Verdict, fault.Fault.Fault, fault.Fault.TheVariants.Memory, fault.Fault.TheVariants.NotTotal}
+use Rattle.pb_replay.specs.meaning.{Answer.Answer, Statements.Does, Statements.Outcome, Statements.PassesFirst, Statements.mentioned}
+use Rattle.pb_replay.specs.{declared.state.Running.Running, meaning.Problem.Problem, meaning.Problem.Opened, meaning.Problem.objective_of}
+use Rattle.pb_replay.specs.meaning.{Meaning.IsNamePrefix, Meaning.IsProblem, Meaning.IsSound, Replay.State, Replay.Logged, Replay.added, Replay.first_state}
 use Rattle.pb_text.specs.{declared.Limits.Limits, meaning.Limits.largest, meaning.Limits.top_of}
-use Rattle.std.specs.Prelude.{◌≡◌, ℕ, ℤ, zero, suc, ◌<◌, ◌≤◌, ◌≤ℤ◌, ◌⊎◌, false, if◌then◌else◌, is_some, List, [], ◌∷◌, ◌++◌, All, Contains, length, take, get_or, Option, Some, None, option_map, Result, Ok, Err, OnOk}
+use Rattle.std.specs.Prelude.{◌≡◌, ℕ, ℤ, zero, suc, ◌<◌, ◌≤◌, ◌≤ℤ◌, ◌⊎◌, false, if◌then◌else◌, is_some, List, [], ◌∷◌, ◌++◌, All, Contains, length, take}
+use Rattle.std.specs.Prelude.{get_or, Option, Some, None, option_map, Result, Ok, Err, OnOk}
 
 -- the least value of those that were logged
 abbrev pub IsBest : List Logged → Option ℤ → Type 0

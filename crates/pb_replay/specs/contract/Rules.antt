@@ -1,23 +1,20 @@
 -- The rules of a proof, one constructor each: what a statement needs, and the state that it gives. They say the same as `Outcome` of
 -- an accepted statement, which also says in which order the tests come and what fails. The law `rules_are_the_outcomes` is that.
-use Rattle.pb_normal.specs.{declared.numbered.NumberedLiteral.NumberedLiteral, meaning.Constraints.Fits}
-use Rattle.pb_normal.specs.declared.Side.{Side, TheVariants.AtLeast as least, TheVariants.AtMost as most}
-use Rattle.pb_normal.specs.meaning.{Form.Form, Form.Holds, Form.IsWithin, Names.number_in, Names.with_names}
+use Rattle.pb_normal.specs.declared.{numbered.NumberedLiteral.NumberedLiteral, Side.Side, Side.TheVariants.AtLeast as least, Side.TheVariants.AtMost as most}
+use Rattle.pb_normal.specs.meaning.{Constraints.Fits, Form.Form, Form.Holds, Form.IsWithin, Names.number_in, Names.with_names, Written.IsSideOf}
 use Rattle.pb_normal.specs.meaning.Rules.{IsSum, IsContradiction, multiplied, divided, saturated, weakened, axiom_on, assignment}
-use Rattle.pb_normal.specs.meaning.Written.{IsSideOf}
-use Rattle.pb_proof.specs.declared.{Bound.Bound, Bound.TheVariants.Finite, Bound.TheVariants.Infinite, Conclusion.Conclusion}
-use Rattle.pb_proof.specs.declared.Conclusion.TheVariants.{NoClaim, Unsat, Sat, Bounds}
+use Rattle.pb_proof.specs.declared.{Bound.Bound, Bound.TheVariants.Finite, Bound.TheVariants.Infinite, Statement.Statement}
+use Rattle.pb_proof.specs.declared.Conclusion.{Conclusion, TheVariants.NoClaim, TheVariants.Unsat, TheVariants.Sat, TheVariants.Bounds}
 use Rattle.pb_proof.specs.declared.Stage.TheVariants.{Formula, Steps, Concluding, Closing, Complete}
-use Rattle.pb_proof.specs.declared.Statement.{Statement}
 use Rattle.pb_proof.specs.declared.Statement.TheVariants.{Header, F, Pol, Rup, Soli, Solx, Delete, Output, Conclude, End}
-use Rattle.pb_proof.specs.meaning.Order.{stage_of}
+use Rattle.{pb_proof.specs.meaning.Order.stage_of, std.specs.Prelude.None, std.specs.Prelude.Ok}
 use Rattle.pb_proof.specs.meaning.Postfix.{Tree, Constraint, LiteralAxiom, Sum, Product, Quotient, Saturation, Weakening, words}
 use Rattle.pb_propagate.specs.meaning.Propagation.{IsRup, IsCompletion, MeetsConflict, Live}
 use Rattle.pb_replay.specs.meaning.{Conclusions.IsShownBy, Conclusions.objective_with, Conclusions.verdict_of, Problem.Problem}
 use Rattle.pb_replay.specs.meaning.Replay.{State, Logged, IsLive, Excludes, HasValue, AreValues, Shown, no_form, numbered, place, value}
 use Rattle.pb_replay.specs.meaning.Statements.{IsCount, Outcome, mentioned}
 use Rattle.pb_sums.specs.declared.{Linear.Linear, Literal.Literal, Term.Term}
-use Rattle.std.specs.Prelude.{◌≡◌, ◌↔◌, ℕ, ◌<◌, ◌≤◌, ℤ, pos, unsigned_abs, ◌-ℤ◌, ◌≤ℤ◌, Contains, List, [], ◌∷◌, ◌++◌, length, map, get_or, set, Option, Some, None, Ok}
+use Rattle.std.specs.Prelude.{◌≡◌, ◌↔◌, ℕ, ◌<◌, ◌≤◌, ℤ, pos, unsigned_abs, ◌-ℤ◌, ◌≤ℤ◌, Contains, List, [], ◌∷◌, ◌++◌, length, map, get_or, set, Option, Some}
 
 -- an expression has a form; those of sums and products are within the limit
 pub data HasForm (limit : ℕ) (names : List (List ℕ)) (live : List (Option Form)) : Tree → Form → Type 0 where

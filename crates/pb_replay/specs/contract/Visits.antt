@@ -1,11 +1,10 @@
 -- Visits of one `rup`: those to entries of occurrence lists, to terms, and to watches and literals of clauses are counted.
-use Rattle.pb_normal.specs.{declared.Side.TheVariants.AtLeast as least, declared.numbered.NumberedLiteral.NumberedLiteral, meaning.Form.Form}
-use Rattle.pb_normal.specs.meaning.{Names.with_names, Rules.negation_of, Written.names_of, Written.IsSideOf}
-use Rattle.pb_proof.specs.declared.Statement.{Statement, TheVariants.Rup}
+use Rattle.pb_normal.specs.declared.{Side.TheVariants.AtLeast as least, numbered.NumberedLiteral.NumberedLiteral}
+use Rattle.pb_normal.specs.meaning.{Form.Form, Names.with_names, Rules.negation_of, Written.names_of, Written.IsSideOf}
+use Rattle.{pb_proof.specs.declared.Statement.Statement, pb_proof.specs.declared.Statement.TheVariants.Rup, pb_sums.specs.declared.Linear.Linear}
 use Rattle.pb_propagate.specs.engine.engine.Live.{terms_in, one_in}
 use Rattle.pb_propagate.specs.meaning.Propagation.{Derivation, HasConflict, IsCompletion, With, Live}
 use Rattle.pb_replay.specs.declared.fault.Fault.{Fault, TheVariants.IdsSpent, TheVariants.NotImplied, TheVariants.Overflow, TheVariants.Order}
-use Rattle.pb_sums.specs.declared.Linear.{Linear}
 use Rattle.std.specs.Prelude.{◌≡◌, ℕ, ◌+◌, ◌*◌, ◌<◌, ◌≤◌, ◌⊎◌, List, [], length, sum_by, Option, Result, Ok, Err}
 
 -- With the goal, at most three visits for each live term and one for each live form.

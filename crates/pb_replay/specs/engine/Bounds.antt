@@ -1,16 +1,13 @@
 -- The bounds of a conclusion, as the code tests them
-use Rattle.pb_normal.specs.{declared.numbered.NumberedLiteral.NumberedLiteral, meaning.Form.Form}
-use Rattle.pb_normal.specs.declared.Side.{Side, TheVariants.AtLeast as least, TheVariants.AtMost as most}
-use Rattle.pb_normal.specs.meaning.Rules.{negation_of, IsContradiction, SumIsContradiction}
+use Rattle.pb_normal.specs.declared.{numbered.NumberedLiteral.NumberedLiteral, Side.Side, Side.TheVariants.AtLeast as least, Side.TheVariants.AtMost as most}
+use Rattle.pb_normal.specs.meaning.{Form.Form, Rules.negation_of, Rules.IsContradiction, Rules.SumIsContradiction}
 use Rattle.pb_proof.specs.declared.Bound.{Bound, TheVariants.Finite, TheVariants.Infinite}
 use Rattle.pb_replay.specs.contract.ReplayModel.{IsBest, Returns, problem_of, state_of}
 use Rattle.pb_replay.specs.declared.fault.Fault.{Fault, TheVariants.Memory, TheVariants.NoObjective, TheVariants.NoSolution, TheVariants.NotBound}
-use Rattle.pb_replay.specs.declared.state.Running.{Running}
-use Rattle.pb_replay.specs.meaning.{Conclusions.IsShownBy, Conclusions.lower_bound, Conclusions.objective_with, Problem.Problem}
+use Rattle.pb_replay.specs.{declared.state.Running.Running, meaning.Conclusions.IsShownBy, meaning.Conclusions.lower_bound, meaning.Conclusions.objective_with}
+use Rattle.pb_replay.specs.meaning.{Problem.Problem, Replay.Logged, Replay.IsLive, Replay.Shown, Replay.normal_form, Replay.added}
 use Rattle.pb_replay.specs.meaning.Answer.{Answer, gives, need, found}
-use Rattle.pb_replay.specs.meaning.Replay.{Logged, IsLive, Shown, normal_form, added}
-use Rattle.pb_sums.specs.declared.Term.{Term}
-use Rattle.pb_text.specs.meaning.Limits.{largest, top_of}
+use Rattle.{pb_sums.specs.declared.Term.Term, pb_text.specs.meaning.Limits.largest, pb_text.specs.meaning.Limits.top_of}
 use Rattle.std.specs.Prelude.{◌≡◌, ℕ, ℤ, ◌≤ℤ◌, ◌⊎◌, pos, ◌-ℤ◌, ◌∷◌, ◌++◌, List, [], Contains, Option, Some, None, Result, Ok, Err}
 
 -- the form of one side of the objective, compared with a degree

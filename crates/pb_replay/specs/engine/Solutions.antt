@@ -1,8 +1,7 @@
 -- What values of the names are a solution, as the code tests it
 use Rattle.pb_normal.specs.meaning.{Form.Form, Form.Holds, Rules.assignment}
-use Rattle.pb_replay.specs.declared.fault.Fault.TheVariants.{NotTotal, Violates}
-use Rattle.pb_replay.specs.meaning.{Answer.Answer, Answer.gives, Answer.each_below, Answer.some, Answer.after, Problem.Problem}
-use Rattle.pb_replay.specs.meaning.Replay.{Logged, no_form, logged_of}
+use Rattle.pb_replay.specs.{declared.fault.Fault.TheVariants.NotTotal, declared.fault.Fault.TheVariants.Violates, meaning.Problem.Problem}
+use Rattle.pb_replay.specs.meaning.{Answer.Answer, Answer.gives, Answer.each_below, Answer.some, Answer.after, Replay.Logged, Replay.no_form, Replay.logged_of}
 use Rattle.std.specs.Prelude.{◌≡◌, ℕ, ◌+◌, ◌<◌, Bool, false, List, length, get_or, Option, Some, None, IsSome}
 
 -- each of this many names has this value

@@ -1,8 +1,7 @@
 -- The words of an expression on a stack of forms, the last one first. Their result is that of the expression.
 use Rattle.pb_normal.specs.meaning.{Form.Form, Names.number_in, Rules.IsSum, Rules.multiplied, Rules.divided, Rules.saturated, Rules.weakened, Rules.axiom_on}
-use Rattle.pb_proof.specs.declared.PolWord.{PolWord}
+use Rattle.{pb_proof.specs.declared.PolWord.PolWord, pb_replay.specs.declared.fault.Fault.TheVariants.NoSuchId}
 use Rattle.pb_proof.specs.declared.PolWord.TheVariants.{Id, Axiom, Add, Multiply, Divide, Saturate, Weaken}
-use Rattle.pb_replay.specs.declared.fault.Fault.TheVariants.{NoSuchId}
 use Rattle.pb_replay.specs.meaning.{Answer.Answer, Answer.gives, Answer.found, Answer.some, Answer.after, Replay.IsLive, Replay.limited}
 use Rattle.std.specs.Prelude.{ℕ, unsigned_abs, List, [], ◌∷◌, Option}
 

@@ -1,16 +1,14 @@
 -- Which conclusions are accepted
-use Rattle.pb_normal.specs.{declared.Side.TheVariants.AtLeast as least, meaning.Form.Form}
-use Rattle.pb_normal.specs.meaning.Rules.{negation_of, IsContradiction, SumIsContradiction}
-use Rattle.pb_proof.specs.declared.{Bound.Bound, Bound.TheVariants.Finite, Bound.TheVariants.Infinite, Conclusion.Conclusion}
-use Rattle.pb_proof.specs.declared.Conclusion.TheVariants.{NoClaim, Unsat, Sat, Bounds}
+use Rattle.{pb_normal.specs.declared.Side.TheVariants.AtLeast as least, pb_proof.specs.declared.Bound.Bound, pb_proof.specs.declared.Bound.TheVariants.Infinite}
+use Rattle.pb_normal.specs.meaning.{Form.Form, Rules.negation_of, Rules.IsContradiction, Rules.SumIsContradiction}
+use Rattle.{pb_proof.specs.declared.Bound.TheVariants.Finite, pb_propagate.specs.meaning.Propagation.IsRup, pb_propagate.specs.meaning.Propagation.Live}
+use Rattle.pb_proof.specs.declared.Conclusion.{Conclusion, TheVariants.NoClaim, TheVariants.Unsat, TheVariants.Sat, TheVariants.Bounds}
 use Rattle.pb_replay.specs.declared.fault.Fault.TheVariants.{NoSuchId, NoObjective, NotContradiction, SolutionLogged, NoSolution, NotBound}
-use Rattle.pb_replay.specs.declared.verdict.Verdict.{Verdict}
+use Rattle.pb_replay.specs.{declared.verdict.Verdict.Verdict, meaning.Answer.Answer, meaning.Answer.gives, meaning.Answer.need, meaning.Answer.found}
 use Rattle.pb_sums.specs.declared.{Linear.Linear, Literal.Literal, Relation.TheVariants.AtLeast, Term.Term}
 use Rattle.std.specs.Prelude.{◌≡◌, ℕ, ℤ, ◌≤ℤ◌, List, [], Contains, Option, Some, None}
+use Rattle.pb_replay.specs.meaning.{Problem.Problem, Replay.State, Replay.Logged, Replay.IsLive, Replay.Shown, Replay.normal_form, Replay.numbered}
 use Rattle.pb_replay.specs.declared.verdict.Verdict.TheVariants as verdict
-use Rattle.pb_propagate.specs.meaning.Propagation.{IsRup, Live}
-use Rattle.pb_replay.specs.meaning.{Answer.Answer, Answer.gives, Answer.need, Answer.found, Problem.Problem}
-use Rattle.pb_replay.specs.meaning.Replay.{State, Logged, IsLive, Shown, normal_form, numbered}
 
 -- the verdict of a conclusion, without its justification
 abbrev pub verdict_of : Conclusion → Verdict

@@ -1,12 +1,10 @@
 -- What a verdict means, and what is true of every state
 use Rattle.pb_normal.specs.meaning.{Names.AreDistinct, Names.HasNames, Rules.assignment, Written.names_of, Written.by_number}
-use Rattle.pb_opb.specs.declared.Instance.{Instance}
+use Rattle.{pb_opb.specs.declared.Instance.Instance, pb_propagate.specs.meaning.Propagation.HoldAll, pb_propagate.specs.meaning.Propagation.Live}
 use Rattle.pb_proof.specs.declared.Bound.{Bound, TheVariants.Finite, TheVariants.Infinite}
-use Rattle.pb_propagate.specs.meaning.Propagation.{HoldAll, Live}
 use Rattle.pb_replay.specs.declared.verdict.Verdict.{Verdict, TheVariants.NoClaim, TheVariants.Unsat, TheVariants.Sat, TheVariants.Bounds}
-use Rattle.pb_replay.specs.meaning.{Problem.Problem, Problem.objective_of, Problem.Solves, Problem.written_value, Replay.Logged}
-use Rattle.pb_replay.specs.meaning.Replay.{State, value, by_name}
-use Rattle.pb_sums.specs.declared.Term.{Term}
+use Rattle.pb_replay.specs.meaning.{Problem.Problem, Problem.objective_of, Problem.Solves, Problem.written_value, Replay.State, Replay.value}
+use Rattle.{pb_replay.specs.meaning.Replay.Logged, pb_replay.specs.meaning.Replay.by_name, pb_sums.specs.declared.Term.Term}
 use Rattle.std.specs.Prelude.{◌≡◌, ℕ, ◌<◌, ℤ, ◌≤ℤ◌, Bool, List, ◌++◌, length, Contains, Some}
 
 -- what a verdict means for solutions S and their values w

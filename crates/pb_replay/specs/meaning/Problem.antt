@@ -1,9 +1,8 @@
 -- An instance as forms: what its constraints load as, and what it means as written.
-use Rattle.pb_normal.specs.meaning.{Constraints.AreFormsOf, Constraints.Fits, Constraints.constraint_names, Constraints.sides_in, Form.Form}
-use Rattle.pb_normal.specs.meaning.{Names.with_names, Written.names_of, Written.magnitude, Written.true_sum, Written.HoldsWritten}
-use Rattle.pb_opb.specs.declared.Instance.{Instance}
+use Rattle.pb_normal.specs.meaning.{Constraints.AreFormsOf, Constraints.Fits, Constraints.constraint_names, Constraints.sides_in, Form.Form, Names.with_names}
+use Rattle.pb_normal.specs.meaning.Written.{names_of, magnitude, true_sum, HoldsWritten}
+use Rattle.{pb_opb.specs.declared.Instance.Instance, pb_sums.specs.declared.Linear.Linear, pb_sums.specs.declared.Term.Term}
 use Rattle.pb_replay.specs.{declared.fault.Fault.TheVariants.Overflow, meaning.Answer.Answer, meaning.Answer.gives, meaning.Answer.need, meaning.Answer.some}
-use Rattle.pb_sums.specs.declared.{Linear.Linear, Term.Term}
 use Rattle.std.specs.Prelude.{ℕ, ◌≤◌, ℤ, Bool, List, [], ◌++◌, Option, Some, None, Contains}
 
 -- the terms of the objective, or none if there is no objective

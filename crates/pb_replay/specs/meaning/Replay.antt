@@ -1,17 +1,15 @@
 -- The state of a replay, and parts of what statements do
-use Rattle.pb_normal.specs.{declared.Side.Side, declared.numbered.NumberedLiteral.NumberedLiteral, meaning.Constraints.Fits}
-use Rattle.pb_normal.specs.meaning.{Form.Form, Form.Holds, Form.IsWithin, Names.number_in}
+use Rattle.{pb_normal.specs.declared.Side.Side, pb_normal.specs.declared.numbered.NumberedLiteral.NumberedLiteral, pb_sums.specs.declared.Literal.Literal}
+use Rattle.pb_normal.specs.meaning.{Constraints.Fits, Form.Form, Form.Holds, Form.IsWithin, Names.number_in, Written.true_sum, Written.IsSideOf}
 use Rattle.pb_normal.specs.meaning.Rules.{IsSum, IsCountOf, multiplied, divided, saturated, weakened, axiom_on, assignment, negation, on}
-use Rattle.pb_normal.specs.meaning.Written.{true_sum, IsSideOf}
-use Rattle.pb_proof.specs.declared.Stage.{Stage, TheVariants.Opening}
+use Rattle.{pb_proof.specs.declared.Stage.Stage, pb_proof.specs.declared.Stage.TheVariants.Opening, pb_sums.specs.declared.Linear.Linear}
 use Rattle.pb_proof.specs.meaning.Postfix.{Tree, Constraint, LiteralAxiom, Sum, Product, Quotient, Saturation, Weakening}
 use Rattle.pb_propagate.specs.meaning.Propagation.{MeetsConflict, IsCompletion}
 use Rattle.pb_replay.specs.declared.fault.Fault.TheVariants.{Overflow, NoSuchId, Conflict, NotTotal, Violates, IdsSpent}
-use Rattle.pb_replay.specs.declared.verdict.Verdict.{Verdict}
+use Rattle.pb_replay.specs.{declared.verdict.Verdict.Verdict, meaning.Problem.Problem, meaning.Problem.objective_of}
 use Rattle.pb_replay.specs.meaning.Answer.{Answer, gives, need, each_below, found, some, after}
-use Rattle.pb_replay.specs.meaning.Problem.{Problem, objective_of}
-use Rattle.pb_sums.specs.declared.{Linear.Linear, Literal.Literal}
-use Rattle.std.specs.Prelude.{◌≡◌, ℕ, zero, suc, ◌+◌, ◌-◌, ◌<◌, nat_lt, ℤ, pos, negsuc, unsigned_abs, Bool, true, false, ◌⊎◌, if◌then◌else◌, List, [], ◌∷◌, ◌++◌, length, map, get_or, set, Contains, Option, Some, None, Ok}
+use Rattle.std.specs.Prelude.{◌≡◌, ℕ, zero, suc, ◌+◌, ◌-◌, ◌<◌, nat_lt, ℤ, pos, negsuc, unsigned_abs, Bool, true, false, ◌⊎◌, if◌then◌else◌, List, [], ◌∷◌}
+use Rattle.std.specs.Prelude.{◌++◌, length, map, get_or, set, Contains, Option, Some, None, Ok}
 
 -- a solution: its values by the numbers of names, and the value of the objective
 pub record Logged : Type 0 where

@@ -1,18 +1,16 @@
 -- What each statement of a proof does to the state of a replay, or why it is rejected
-use Rattle.pb_normal.specs.{declared.Side.TheVariants.AtLeast as least, declared.Side.TheVariants.AtMost as most, meaning.Constraints.Fits}
-use Rattle.pb_normal.specs.meaning.{Names.with_names, Written.names_of}
-use Rattle.pb_proof.specs.declared.{PolWord.PolWord, PolWord.TheVariants.Axiom, PolWord.TheVariants.Weaken, Stage.Stage}
+use Rattle.pb_normal.specs.declared.Side.TheVariants.{AtLeast as least, AtMost as most}
+use Rattle.pb_normal.specs.meaning.{Constraints.Fits, Names.with_names, Written.names_of}
+use Rattle.pb_proof.specs.declared.{PolWord.PolWord, PolWord.TheVariants.Axiom, PolWord.TheVariants.Weaken, Statement.Statement}
+use Rattle.pb_proof.specs.declared.Stage.{Stage, TheVariants.Formula, TheVariants.Steps, TheVariants.Concluding, TheVariants.Closing, TheVariants.Complete}
 use Rattle.pb_proof.specs.declared.Conclusion.{Conclusion, TheVariants.NoClaim, TheVariants.Unsat, TheVariants.Sat, TheVariants.Bounds}
-use Rattle.pb_proof.specs.declared.Stage.TheVariants.{Formula, Steps, Concluding, Closing, Complete}
-use Rattle.pb_proof.specs.declared.Statement.{Statement}
 use Rattle.pb_proof.specs.declared.Statement.TheVariants.{Header, F, Pol, Rup, Soli, Solx, Delete, Output, Conclude, End}
-use Rattle.pb_proof.specs.meaning.{Order.stage_of, Postfix.words}
-use Rattle.pb_propagate.specs.meaning.Propagation.{IsRup, Live}
+use Rattle.{pb_proof.specs.meaning.Order.stage_of, pb_proof.specs.meaning.Postfix.words, pb_sums.specs.declared.Literal.Literal}
+use Rattle.{pb_propagate.specs.meaning.Propagation.IsRup, pb_propagate.specs.meaning.Propagation.Live, pb_sums.specs.declared.Term.Term}
 use Rattle.pb_replay.specs.declared.fault.Fault.TheVariants.{FormulaCount, NotImplied, NoObjective, IdsSpent, Order}
-use Rattle.pb_replay.specs.meaning.{Conclusions.Concludes, Conclusions.objective_with, Conclusions.verdict_of, Problem.Problem}
-use Rattle.pb_replay.specs.meaning.Answer.{Answer, gives, need, found, some, after}
+use Rattle.pb_replay.specs.meaning.Conclusions.{Concludes, objective_with, verdict_of}
+use Rattle.pb_replay.specs.meaning.{Problem.Problem, Answer.Answer, Answer.gives, Answer.need, Answer.found, Answer.some, Answer.after}
 use Rattle.pb_replay.specs.meaning.Replay.{State, FormOfExpression, normal_form, numbered, Completed, Excludes, Deleted, added}
-use Rattle.pb_sums.specs.declared.{Literal.Literal, Term.Term}
 use Rattle.std.specs.Prelude.{◌≡◌, ℕ, ◌≤◌, pos, ◌-ℤ◌, List, [], ◌∷◌, ◌++◌, length, map, Option, Some, None, Ok}
 
 -- the names in literals, words and conclusions, as often as they are written

@@ -1,8 +1,7 @@
 -- The one text that is written for a value.
-use Rattle.pb_sums.specs.{declared.linear.Term.Term, meaning.Sums.IsName, meaning.Sums.literal_bytes}
+use Rattle.{pb_sums.specs.declared.linear.Term.Term, pb_sums.specs.meaning.Sums.IsName, pb_sums.specs.meaning.Sums.literal_bytes, std.specs.Fmt.signed_decimal}
 use Rattle.pb_sums.specs.declared.linear.{Linear.Linear, Literal.Literal, Relation.Relation, Relation.TheVariants.AtLeast, Relation.TheVariants.Equal}
 use Rattle.pb_text.specs.{declared.Place.Place, meaning.Languages.unmarked, meaning.Spelling.Letter, meaning.Spelling.plain, meaning.Spelling.digits_of}
-use Rattle.std.specs.Fmt.{signed_decimal}
 use Rattle.std.specs.Prelude.{ℕ, suc, ◌≤◌, List, [], ◌∷◌, ◌++◌, ℤ, pos, negsuc, nat_abs, decimal, codes}
 
 -- The value rules: magnitudes within the limit, and names of the grammar.

@@ -1,6 +1,5 @@
 -- What a machine stores.
-use Rattle.pb_sums.specs.{declared.machine.SumMachine.TheInside.Inside, engine.State.SumState}
-use Rattle.std.specs.Prelude.{◌≡◌}
+use Rattle.{pb_sums.specs.declared.machine.SumMachine.TheInside.Inside, pb_sums.specs.engine.State.SumState, std.specs.Prelude.◌≡◌}
 
 -- the state that its fields give
 abbrev pub state_of : Inside → SumState

@@ -1,9 +1,7 @@
 -- The machine of a sum: what it does with one byte.
-use Rattle.pb_sums.specs.declared.{phase.Phase.Phase, sum_kind.Part.Part, sum_kind.Spaces.Spaces}
+use Rattle.pb_sums.specs.declared.{phase.Phase.Phase, sum_kind.Part.Part, sum_kind.Spaces.Spaces, phase.Action.Action, phase.Kind.Kind}
 use Rattle.pb_sums.specs.declared.linear.{Relation.Relation, Relation.TheVariants.AtLeast, Relation.TheVariants.Equal, SumEvent.SumEvent, Term.Term}
-use Rattle.pb_sums.specs.declared.phase.Action.{Action}
 use Rattle.pb_sums.specs.declared.phase.Action.TheVariants.{To, Begin, Add, EndSum, EndLinear, Stop}
-use Rattle.pb_sums.specs.declared.phase.Kind.{Kind}
 use Rattle.pb_sums.specs.declared.phase.Kind.TheVariants.{Space, Digit, Start, Inner, Tilde, Plus, Minus, Greater, Equals, Semicolon, Other}
 use Rattle.pb_sums.specs.meaning.Sums.{is_space, reads_sums, allows}
 use Rattle.pb_text.specs.contract.Automaton.{Next, Go, End, Refuse}

@@ -1,8 +1,7 @@
 -- Parts of a term at the start of a text, and what a machine does with them, whatever it reads.
 use Rattle.pb_sums.specs.declared.{linear.Linear.Linear, linear.Literal.Literal, linear.Relation.Relation, linear.Term.Term, phase.Phase.Phase}
-use Rattle.pb_sums.specs.declared.sum_kind.{Part.Part, Spaces.Spaces}
+use Rattle.{pb_sums.specs.declared.sum_kind.Part.Part, pb_sums.specs.declared.sum_kind.Spaces.Spaces, pb_text.specs.contract.Automaton.Runs}
 use Rattle.pb_sums.specs.engine.{Prefix.role, Prefix.after_number, State.SumState, State.sums, State.first}
-use Rattle.pb_text.specs.contract.Automaton.{Runs}
 use Rattle.std.specs.Prelude.{◌≡◌, ℕ, ℤ, Bool, true, false, List, [], ◌∷◌, ◌++◌, None}
 
 -- the states in which a term may begin, or the digits of its coefficient

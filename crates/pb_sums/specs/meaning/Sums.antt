@@ -1,11 +1,10 @@
 -- Names, terms, sums and linear texts.
 use Rattle.pb_sums.specs.declared.linear.{Linear.Linear, Literal.Literal, Relation.Relation, Relation.TheVariants.AtLeast, Relation.TheVariants.Equal}
-use Rattle.pb_sums.specs.declared.linear.Term.{Term}
+use Rattle.pb_sums.specs.declared.{linear.Term.Term, sum_kind.Spaces.Spaces, sum_kind.Spaces.TheVariants.White, sum_kind.Spaces.TheVariants.Blank}
 use Rattle.pb_text.specs.meaning.{Numbers.Number, Spelling.Item, Classes.is_blank, Classes.is_letter, Classes.is_name_byte}
 use Rattle.pb_text.specs.meaning.Languages.{Language, ◌⋅◌, Empty, Byte, Bytes, Each, Many, Some}
 use Rattle.std.specs.Prelude.{◌≡◌, ℕ, Bool, true, false, List, [], ◌∷◌, IsTrue, ◌&&◌, ◌||◌, nat_eq, codes}
 use Rattle.pb_sums.specs.declared.linear.SumEvent as event
-use Rattle.pb_sums.specs.declared.sum_kind.Spaces.{Spaces, TheVariants.White, TheVariants.Blank}
 use Rattle.pb_sums.specs.declared.sum_kind.Part as part
 
 abbrev pub takes_line_feeds : Spaces → Bool

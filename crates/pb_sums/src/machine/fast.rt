@@ -26,7 +26,7 @@ impl SumMachine {
     /// If a term may begin, takes a whole term and a space after it. After the sign of a term,
     /// takes the rest and the space.
     #[inline(always)]
-    #[tactic(auto, using(crate::proofs::Rules::terms))]
+    #[tactic(auto, using(crate::proofs::Rulesets::terms))]
     fn take_term(&mut self, text: &[u8]) -> usize
         ensures bound { result ≤ length text.now }
         ensures runs { Runs sums self.old (take result text.now) self.new }
@@ -111,7 +111,7 @@ impl SumMachine {
 
     /// Takes a small number and a space after it, if a number may begin.
     #[inline(always)]
-    #[tactic(auto, using(crate::proofs::Rules::terms))]
+    #[tactic(auto, using(crate::proofs::Rulesets::terms))]
     fn take_spaced_number(&mut self, text: &[u8]) -> usize
         ensures bound { result ≤ length text.now }
         ensures runs { Runs sums self.old (take result text.now) self.new }
@@ -134,7 +134,7 @@ impl SumMachine {
 
     /// Takes a small number, if one may begin.
     #[inline(always)]
-    #[tactic(auto, using(crate::proofs::Rules::numbers))]
+    #[tactic(auto, using(crate::proofs::Rulesets::numbers))]
     fn take_number(&mut self, text: &[u8]) -> usize
         ensures bound { result ≤ length text.now }
         ensures runs { Runs sums self.old (take result text.now) self.new }

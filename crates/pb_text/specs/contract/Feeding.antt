@@ -1,8 +1,7 @@
 -- What a feed says about the whole input.
-use Rattle.pb_text.specs.contract.{Automaton.AcceptsItems, Standing.Stands, Standing.IsOpen, Standing.IsUnread}
-use Rattle.pb_text.specs.declared.{feeder.Fed.Fed, feeder.Feeder.Feeder, machine.Machine.Ghosts, place.Place.Place, place.Spanned.Spanned}
-use Rattle.pb_text.specs.declared.place.{Stop.Stop, Why.TheVariants.Memory}
-use Rattle.pb_text.specs.meaning.{Reading.IsPrefix, Reading.HasOpen, Spelling.place_after}
+use Rattle.pb_text.specs.{contract.Automaton.AcceptsItems, contract.Standing.IsUnread, declared.feeder.Fed.Fed, declared.feeder.Feeder.Feeder}
+use Rattle.pb_text.specs.{contract.Standing.Stands, contract.Standing.IsOpen, meaning.Reading.IsPrefix, meaning.Reading.HasOpen, meaning.Spelling.place_after}
+use Rattle.pb_text.specs.declared.{machine.Machine.Ghosts, place.Place.Place, place.Spanned.Spanned, place.Stop.Stop, place.Why.TheVariants.Memory}
 use Rattle.std.specs.Prelude.{◌≡◌, ℕ, ◌+◌, ◌-◌, ◌<◌, ◌≤◌, List, [], ◌∷◌, ◌++◌, length, slice_get, take, Bool, IsTrue, Option, Some, None, Result, Ok, Err}
 
 -- the state of a feeder's machine

@@ -1,6 +1,5 @@
 -- What a source or sink over a reader or a writer stores.
-use Rattle.pb_text.specs.declared.over.Over.{Over}
-use Rattle.std.specs.Prelude.{ℕ, List, Bool, Option}
+use Rattle.{pb_text.specs.declared.over.Over.Over, std.specs.Prelude.ℕ, std.specs.Prelude.List, std.specs.Prelude.Bool, std.specs.Prelude.Option}
 
 abbrev pub inner_of : {T : Type 0} → Over T → T
 inner_of o = o.inner

@@ -1,6 +1,5 @@
 -- What a feeder stores.
-use Rattle.pb_text.specs.declared.{feeder.Feeder.Feeder, machine.Machine.Ghosts}
-use Rattle.std.specs.Prelude.{◌≡◌}
+use Rattle.{pb_text.specs.declared.feeder.Feeder.Feeder, pb_text.specs.declared.machine.Machine.Ghosts, std.specs.Prelude.◌≡◌}
 
 -- Two feeders have the same machine, limit, stop, position and start of the current statement.
 pub record AreAlike {M E : Type 0} {g : Ghosts M E} (a b : Feeder M E g) : Type 0 where

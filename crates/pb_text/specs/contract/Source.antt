@@ -1,6 +1,5 @@
 -- What a source shows, and what is taken from it.
-use Rattle.pb_text.specs.{declared.source.Failed.Failed, meaning.Writing.one_more}
-use Rattle.std.specs.Io.KnownBytes.{Keeps}
+use Rattle.{pb_text.specs.declared.source.Failed.Failed, pb_text.specs.meaning.Writing.one_more, std.specs.Io.KnownBytes.Keeps}
 use Rattle.std.specs.Prelude.{◌≡◌, ℕ, List, [], ◌∷◌, ◌++◌, Bool, true, false, Option, Some, None, Result, Ok, Err}
 
 -- the bytes that are known, if any are, begin with this one

@@ -1,9 +1,8 @@
 -- How the state of a machine relates to the text that it has taken.
 use Rattle.pb_text.specs.contract.Automaton.{Automaton, Refuse, AcceptsItems, Admits, Leads, IsState, is_large}
-use Rattle.pb_text.specs.declared.place.{Place.Place, Spanned.Spanned, Stop.Stop, Why.Why}
+use Rattle.pb_text.specs.{declared.place.Place.Place, declared.place.Spanned.Spanned, engine.SpentBytes.end_of, engine.SpentBytes.SpentSince}
+use Rattle.pb_text.specs.{declared.place.Stop.Stop, declared.place.Why.Why, meaning.Reading.IsPrefix, meaning.Reading.last_numeral, meaning.Reading.AreShort}
 use Rattle.pb_text.specs.declared.place.Why.TheVariants.{Byte, TooLarge, Ended, TooLong, Read, Memory}
-use Rattle.pb_text.specs.engine.SpentBytes.{end_of, SpentSince}
-use Rattle.pb_text.specs.meaning.Reading.{IsPrefix, last_numeral, AreShort}
 use Rattle.pb_text.specs.meaning.Spelling.{Letter, Item, bytes, letters_of, bytes_of, spans_since, spans_of, place_after}
 use Rattle.std.specs.Prelude.{◌≡◌, ◌≢◌, ◌⊎◌, ℕ, ◌≤◌, ◌<◌, List, [], ◌∷◌, ◌++◌, length, take, Bool, true, false, IsTrue, Option, None, Some, is_some}
 

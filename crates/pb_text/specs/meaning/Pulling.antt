@@ -1,7 +1,6 @@
 -- What a pull takes from a source.
-use Rattle.pb_text.specs.{contract.Feeding.StandsAt, contract.Feeding.spans_taken, declared.feeder.Feeder.Feeder, declared.machine.Machine.Ghosts}
-use Rattle.pb_text.specs.declared.place.{Spanned.Spanned, Stop.Stop, Why.Why, Why.TheVariants.Read}
-use Rattle.pb_text.specs.meaning.Writing.{one_more}
+use Rattle.pb_text.specs.{contract.Feeding.StandsAt, contract.Feeding.spans_taken, declared.feeder.Feeder.Feeder, meaning.Writing.one_more}
+use Rattle.pb_text.specs.declared.{machine.Machine.Ghosts, place.Spanned.Spanned, place.Stop.Stop, place.Why.Why, place.Why.TheVariants.Read}
 use Rattle.std.specs.Prelude.{◌≡◌, ◌+◌, ℕ, List, ◌++◌, length, Option, Some, None, Result, Ok, Err}
 
 -- the input that a pull has processed: after an event what it took, and otherwise also what it saw

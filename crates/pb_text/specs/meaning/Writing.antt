@@ -1,6 +1,5 @@
 -- What a write leaves in its sink: the whole text, or after a fault a prefix of it.
-use Rattle.pb_text.specs.declared.source.Failed.{Failed}
-use Rattle.std.specs.Io.KnownBytes.{Appends, Keeps}
+use Rattle.{pb_text.specs.declared.source.Failed.Failed, std.specs.Io.KnownBytes.Appends, std.specs.Io.KnownBytes.Keeps}
 use Rattle.std.specs.Prelude.{◌≡◌, ℕ, ◌+◌, ◌-◌, ◌^◌, ◌<◌, ◌≤◌, min, List, ◌++◌, length, take, Option, Result, Ok, Err}
 
 -- the count of faults after one more: the count saturates

@@ -1,14 +1,12 @@
 -- How a checker relates to the text that it was fed.
 use Rattle.pb_proof.specs.{declared.Statement.Statement, engine.machine.State.ProofState, engine.machine.State.begin, engine.machine.State.proofs}
-use Rattle.pb_proof.specs.meaning.Proofs.{IsProof}
-use Rattle.pb_replay.specs.{contract.ReplayModel.Replaying, contract.ReplayModel.StandsFor, declared.fault.Fault.Fault, meaning.Problem.Problem}
-use Rattle.pb_replay.specs.meaning.Replay.{State}
+use Rattle.{pb_proof.specs.meaning.Proofs.IsProof, pb_replay.specs.declared.fault.Fault.Fault, pb_tool.specs.meaning.Files.AsksInProofText}
+use Rattle.pb_replay.specs.{contract.ReplayModel.Replaying, contract.ReplayModel.StandsFor, meaning.Problem.Problem, meaning.Replay.State}
 use Rattle.pb_text.specs.contract.{Automaton.MayAsk, Feeding.StandsAt, Feeding.place_of, Feeding.halt_of, Feeding.is_complete}
 use Rattle.pb_text.specs.declared.{Feeder.Feeder, Limits.Limits, Spanned.Spanned}
 use Rattle.pb_text.specs.meaning.{Limits.largest, Limits.top_of, Reading.Reads, Whole.events_at}
 use Rattle.pb_tool.specs.contract.Checks.{Checks, IsRefusedAt, KeepsNamesOf, LeadsTo, StepsTo, Rejects}
 use Rattle.pb_tool.specs.declared.commands.check.checker.CheckFault.{CheckFault, TheVariants.Text, TheVariants.Step}
-use Rattle.pb_tool.specs.meaning.Files.{AsksInProofText}
 use Rattle.std.specs.Prelude.{◌≡◌, ℕ, List, length, false, Option, Some, None, Result, Ok, Err}
 
 -- a feeder of the machine of proofs

@@ -1,13 +1,12 @@
 -- What a check says of the text of a proof: how far its statements were accepted, and why not further.
 use Rattle.pb_proof.specs.{declared.Statement.Statement, meaning.Proofs.IsProof}
-use Rattle.pb_replay.specs.{contract.ReplayModel.verdict_at, declared.fault.Fault.Fault, meaning.Meaning.IsNamePrefix, meaning.Problem.Problem}
-use Rattle.pb_replay.specs.meaning.{Replay.State, Statements.Outcome, Statements.Accepts, Statements.MayWantAt}
+use Rattle.pb_replay.specs.{contract.ReplayModel.verdict_at, declared.fault.Fault.Fault, declared.verdict.Verdict.Verdict}
+use Rattle.pb_replay.specs.meaning.{Meaning.IsNamePrefix, Problem.Problem, Replay.State, Statements.Outcome, Statements.Accepts, Statements.MayWantAt}
 use Rattle.pb_text.specs.declared.{Limits.Limits, Place.Place, Spanned.Spanned, Stop.Stop}
 use Rattle.pb_text.specs.meaning.{Limits.largest, Limits.top_of, Reading.Reads, Whole.events_at}
 use Rattle.std.specs.Prelude.{◌≡◌, ◌⊎◌, ◌<◌, ℕ, List, [], ◌∷◌, ◌++◌, length, Bool, true, false, Option, Some, None, Result, Ok, Err}
-use Rattle.pb_replay.specs.declared.fault.Fault.TheVariants as fault
-use Rattle.pb_replay.specs.declared.verdict.Verdict.{Verdict}
 use Rattle.pb_tool.specs.declared.commands.check.checker.CheckFault.{CheckFault, TheVariants.Text, TheVariants.Step}
+use Rattle.pb_replay.specs.declared.fault.Fault.TheVariants as fault
 
 -- The old names are a prefix of the new ones. A name that the fault gives by its number is among the old ones.
 abbrev pub KeepsNames : List (List ℕ) → List (List ℕ) → Fault → Type 0

@@ -1,14 +1,12 @@
 -- The line and the exit status of a fault, and what it says of the source.
-use Rattle.pb_text.specs.{declared.place.Why.Why, meaning.Pulling.faults_with}
-use Rattle.pb_text.specs.contract.Reasons.{place_text, reason_of, stop_text}
+use Rattle.{pb_text.specs.declared.place.Why.Why, pb_replay.specs.contract.Faults.fault_text}
+use Rattle.pb_text.specs.{meaning.Pulling.faults_with, contract.Reasons.place_text, contract.Reasons.reason_of, contract.Reasons.stop_text}
 use Rattle.std.specs.Prelude.{ℕ, List, [], ◌∷◌, ◌++◌, codes, string_bytes, Result, Ok, Err}
-use Rattle.pb_text.specs.declared.place.Why.TheVariants as why
-use Rattle.pb_replay.specs.contract.Faults.{fault_text}
-use Rattle.pb_tool.specs.declared.commands.check.checker.CheckFault.{CheckFault}
-use Rattle.pb_tool.specs.declared.commands.check.checker.CheckFault.TheVariants as check
+use Rattle.pb_tool.specs.{declared.commands.check.checker.CheckFault.CheckFault, contract.Refusals.refusal_text, contract.Refusals.refusal_status}
 use Rattle.pb_tool.specs.declared.fault.{Input.Input, Input.TheVariants.File, Input.TheVariants.Instance, Input.TheVariants.Proof, ToolFault.ToolFault}
+use Rattle.pb_text.specs.declared.place.Why.TheVariants as why
+use Rattle.pb_tool.specs.declared.commands.check.checker.CheckFault.TheVariants as check
 use Rattle.pb_tool.specs.declared.fault.ToolFault.TheVariants as fault
-use Rattle.pb_tool.specs.contract.Refusals.{refusal_text, refusal_status}
 
 -- the name of the input in a fault line
 abbrev pub prefix_of : Input → List ℕ

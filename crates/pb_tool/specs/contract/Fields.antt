@@ -1,6 +1,5 @@
 -- What a checker consists of.
-use Rattle.pb_tool.specs.declared.commands.check.checker.Checker.TheInside.{Inside}
-use Rattle.std.specs.Prelude.{◌≡◌}
+use Rattle.{pb_tool.specs.declared.commands.check.checker.Checker.TheInside.Inside, std.specs.Prelude.◌≡◌}
 
 -- It has nothing beside its feeder, its replay and its fault, as contracts see these.
 abbrev pub KeepsItsParts : Type 0

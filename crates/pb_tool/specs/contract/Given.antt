@@ -1,11 +1,9 @@
 -- What is ensured for any source, files included. It is what is ensured for a source whose bytes are known, with the
 -- bytes that the calls have given.
-use Rattle.pb_opb.specs.contract.Canonical.{event_bytes}
-use Rattle.pb_proof.specs.meaning.Canonical.{statement_bytes}
-use Rattle.pb_text.specs.{declared.Limits.Limits, meaning.Pulling.OfGiven}
-use Rattle.pb_tool.specs.{contract.Show.ShowsLines, contract.Tidy.TidiesProof, contract.Tidy.Tidies, declared.fault.ToolFault.ToolFault}
-use Rattle.pb_tool.specs.meaning.Files.{AsksInProofText, IsProofText, AsksInInstanceText, IsInstanceText}
-use Rattle.pb_tool.specs.meaning.Verified.{called, CheckCall, ChecksFiles}
+use Rattle.{pb_opb.specs.contract.Canonical.event_bytes, pb_tool.specs.meaning.Files.AsksInProofText, pb_tool.specs.meaning.Files.AsksInInstanceText}
+use Rattle.{pb_proof.specs.meaning.Canonical.statement_bytes, pb_text.specs.declared.Limits.Limits, pb_text.specs.meaning.Pulling.OfGiven}
+use Rattle.pb_tool.specs.{contract.Show.ShowsLines, contract.Tidy.TidiesProof, contract.Tidy.Tidies, meaning.Files.IsProofText, meaning.Files.IsInstanceText}
+use Rattle.pb_tool.specs.{declared.fault.ToolFault.ToolFault, meaning.Verified.called, meaning.Verified.CheckCall, meaning.Verified.ChecksFiles}
 use Rattle.std.specs.Prelude.{◌⊎◌, ℕ, Bool, true, false, List, Option, Result}
 
 module _ (limits : Limits) (longest : ℕ) {W : Type 0} (contents : W → Option (List ℕ)) (faults : W → ℕ) where

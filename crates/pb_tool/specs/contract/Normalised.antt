@@ -1,9 +1,7 @@
 -- The normal form of an instance: its constraints are the forms that they load as.
 use Rattle.pb_normal.specs.declared.Side.{Side}
 use Rattle.pb_normal.specs.meaning.{Constraints.AreFormsOf, Constraints.Fits, Constraints.sides_in, Form.Form, Written.linear_of}
-use Rattle.pb_opb.specs.declared.Instance.{Instance}
-use Rattle.pb_replay.specs.meaning.Problem.{names_in}
-use Rattle.pb_sums.specs.declared.Linear.{Linear}
+use Rattle.{pb_opb.specs.declared.Instance.Instance, pb_replay.specs.meaning.Problem.names_in, pb_sums.specs.declared.Linear.Linear}
 use Rattle.std.specs.Prelude.{◌≡◌, ℕ, List, [], map, Contains}
 
 -- the constraints are the forms of these sides, written out with the names

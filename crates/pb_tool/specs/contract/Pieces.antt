@@ -1,14 +1,12 @@
 -- What a feed says of a checker.
 use Rattle.pb_proof.specs.{declared.Statement.Statement, engine.machine.State.proofs, meaning.Proofs.IsProof}
 use Rattle.pb_replay.specs.declared.{fault.Fault.Fault, fault.Fault.TheVariants.NotTotal, verdict.Verdict.Verdict}
-use Rattle.pb_replay.specs.meaning.{Problem.Problem, Replay.State}
+use Rattle.{pb_replay.specs.meaning.Problem.Problem, pb_replay.specs.meaning.Replay.State, pb_tool.specs.meaning.Files.AsksInProofText, std.specs.List.flat_map}
 use Rattle.pb_text.specs.contract.{Feeding.place_of, Feeding.state_of, Feeding.is_complete, Standing.Counts}
 use Rattle.pb_text.specs.declared.{Limits.Limits, Place.Place, place.Why.TheVariants.Read, place.Why.TheVariants.Memory}
 use Rattle.pb_text.specs.meaning.{Limits.largest, Limits.top_of, Reading.HasOpen, Reading.IsPrefix, Spelling.Item, Spelling.bytes_of, Spelling.place_after}
 use Rattle.pb_tool.specs.contract.{Checker.Checking, Checker.ChecksSoFar, Checker.CountsSoFar, Checks.Checks, Checks.EndsAfter}
 use Rattle.pb_tool.specs.declared.commands.check.checker.{CheckFault.CheckFault, CheckFault.TheVariants.Text, CheckFault.TheVariants.Step, Went.Went}
-use Rattle.pb_tool.specs.meaning.Files.{AsksInProofText}
-use Rattle.std.specs.List.{flat_map}
 use Rattle.std.specs.Prelude.{◌≡◌, ◌≢◌, ◌<◌, ◌≤◌, ℕ, List, [], ◌∷◌, ◌+◌, ◌++◌, cond, length, take, Bool, true, false, Option, Some, None, Result, Ok, Err}
 
 -- why it stopped, if it did

@@ -1,20 +1,17 @@
 -- What the parts of a check ensure: the replay of an instance, and its run through a proof.
-use Rattle.pb_opb.specs.declared.Instance.{Instance}
+use Rattle.{pb_opb.specs.declared.Instance.Instance, pb_tool.specs.declared.fault.Input.TheVariants.Instance as of_instance}
 use Rattle.pb_proof.specs.{declared.Proof.Proof, declared.Statement.Statement, meaning.Proofs.statements_of}
-use Rattle.pb_replay.specs.{contract.ReplayModel.Replaying, contract.ReplayModel.StandsFor, declared.fault.Fault.Fault}
-use Rattle.pb_replay.specs.declared.fault.Fault.TheVariants.{Memory as no_memory, Overflow as over, NotTotal}
-use Rattle.pb_replay.specs.declared.verdict.Verdict.{Verdict}
-use Rattle.pb_replay.specs.meaning.{Problem.FitsAll, Problem.Problem, Problem.Opened, Replay.State, Replay.first_state}
-use Rattle.pb_replay.specs.meaning.Statements.{Outcome, Accepts, MayWantAt}
-use Rattle.pb_text.specs.{declared.Limits.Limits, declared.Place.Place, meaning.Limits.largest, meaning.Limits.top_of, meaning.Pulling.faults_with}
-use Rattle.pb_text.specs.meaning.Stopping.{IsAsking}
-use Rattle.pb_tool.specs.{contract.Checks.KeepsNames, declared.commands.check.checker.CheckFault.CheckFault}
+use Rattle.pb_replay.specs.{contract.ReplayModel.Replaying, contract.ReplayModel.StandsFor, meaning.Replay.State, meaning.Replay.first_state}
+use Rattle.pb_replay.specs.declared.fault.Fault.{Fault, TheVariants.Memory as no_memory, TheVariants.Overflow as over, TheVariants.NotTotal}
+use Rattle.{pb_replay.specs.declared.verdict.Verdict.Verdict, pb_text.specs.declared.Limits.Limits, pb_text.specs.declared.Place.Place}
+use Rattle.pb_replay.specs.meaning.{Problem.FitsAll, Problem.Problem, Problem.Opened, Statements.Outcome, Statements.Accepts, Statements.MayWantAt}
+use Rattle.pb_text.specs.meaning.{Limits.largest, Limits.top_of, Pulling.faults_with, Stopping.IsAsking}
+use Rattle.pb_tool.specs.{contract.Checks.KeepsNames, declared.commands.check.checker.CheckFault.CheckFault, declared.fault.Input.TheVariants.Proof as of_proof}
 use Rattle.pb_tool.specs.meaning.Files.{AsksInProofText, IsProofFile, IsInstanceFile, IsNoInstanceFile}
 use Rattle.pb_tool.specs.meaning.Verified.{ComesTo, IsAccepted, IsRefusedStep, IsRefusedText, IsReported}
 use Rattle.std.specs.Prelude.{◌≡◌, ◌⊎◌, ℕ, List, string_bytes, true, false, Option, Some, None, Result, Ok, Err}
+use Rattle.pb_tool.specs.declared.fault.ToolFault.{ToolFault, TheVariants.Text, TheVariants.Overflow, TheVariants.Memory, TheVariants.Step}
 use Rattle.pb_tool.specs.declared.commands.check.checker.CheckFault.TheVariants as check
-use Rattle.pb_tool.specs.declared.fault.{Input.TheVariants.Instance as of_instance, Input.TheVariants.Proof as of_proof, ToolFault.ToolFault}
-use Rattle.pb_tool.specs.declared.fault.ToolFault.TheVariants.{Text, Overflow, Memory, Step}
 
 -- how often a source has failed after a check with this result: once more for a read fault of that source
 abbrev pub faults_of_instance : {A : Type 0} → Result A ToolFault → ℕ → ℕ

@@ -1,10 +1,9 @@
 -- What the last peek at a source has shown: its end, if it was read to the end, and else what stopped its reader.
-use Rattle.pb_text.specs.meaning.Stopping.{IsShown}
-use Rattle.pb_tool.specs.declared.commands.check.checker.CheckFault.{CheckFault}
+use Rattle.{pb_text.specs.meaning.Stopping.IsShown, pb_tool.specs.declared.commands.check.checker.CheckFault.CheckFault}
 use Rattle.std.specs.Prelude.{◌≡◌, ℕ, Bool, true, Option, Result, Ok, Err}
+use Rattle.pb_tool.specs.declared.fault.Input.TheVariants.{Instance as of_instance, Proof as of_proof}
+use Rattle.pb_tool.specs.declared.fault.ToolFault.{ToolFault, TheVariants.Text, TheVariants.Write}
 use Rattle.pb_tool.specs.declared.commands.check.checker.CheckFault.TheVariants as check
-use Rattle.pb_tool.specs.declared.fault.{Input.TheVariants.Instance as of_instance, Input.TheVariants.Proof as of_proof, ToolFault.ToolFault}
-use Rattle.pb_tool.specs.declared.fault.ToolFault.TheVariants.{Text, Write}
 
 module _ (shown : Option ℕ) (ended : Bool) where
   -- For a file that is read to its end before anything is written. Each fault but that of its text comes after the end

@@ -1,13 +1,11 @@
 -- What `pb show` writes: a line for each statement that was read.
-use Rattle.pb_opb.specs.contract.Canonical.{event_bytes}
-use Rattle.pb_proof.specs.meaning.Canonical.{statement_bytes}
+use Rattle.{pb_opb.specs.contract.Canonical.event_bytes, pb_proof.specs.meaning.Canonical.statement_bytes, std.specs.List.flat_map}
 use Rattle.pb_text.specs.declared.{Limits.Limits, Place.Place, Spanned.Spanned, Stop.Stop}
-use Rattle.pb_text.specs.meaning.{Blank.IsBlank, Blank.ReadsBlank, Pulling.Took, PullsInARow.TookAll, PullsInARow.TookSoFar}
-use Rattle.pb_text.specs.meaning.{Reading.IsSpelled, Reading.byte_limit, Spelling.Item, Spelling.place_after, Stopping.IsAsking, Writing.Wrote, Writing.Broke}
+use Rattle.pb_text.specs.meaning.{Blank.IsBlank, Blank.ReadsBlank, Pulling.Took, Stopping.IsAsking, Writing.Wrote, Writing.Broke}
+use Rattle.pb_text.specs.meaning.{PullsInARow.TookAll, PullsInARow.TookSoFar, Reading.IsSpelled, Reading.byte_limit, Spelling.Item, Spelling.place_after}
 use Rattle.pb_tool.specs.declared.fault.{Input.TheVariants.File, Input.TheVariants.Instance, Input.TheVariants.Proof, ToolFault.ToolFault}
 use Rattle.pb_tool.specs.declared.fault.ToolFault.TheVariants.{Text, Open, Overflow, Memory, Write, Step}
 use Rattle.pb_tool.specs.meaning.Files.{AsksInInstanceText, AsksInProofText, IsInstanceText, IsProofText, MayBeInstance, MayBeProof}
-use Rattle.std.specs.List.{flat_map}
 use Rattle.std.specs.Prelude.{ℕ, ◌≤◌, ◌⊎◌, List, [], ◌∷◌, ◌++◌, length, decimal, false, Option, Some, Result, Ok, Err}
 
 module _ {E : Type 0} (text : E → List ℕ) where

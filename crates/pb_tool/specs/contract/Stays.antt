@@ -1,9 +1,8 @@
 -- What `pb tidy` reads of a text that it wrote.
-use Rattle.pb_opb.specs.{declared.Instance.Instance, meaning.Values.IsInstanceValue}
+use Rattle.{pb_opb.specs.declared.Instance.Instance, pb_opb.specs.meaning.Values.IsInstanceValue, pb_text.specs.declared.Stop.Stop}
 use Rattle.pb_proof.specs.{contract.Values.IsProofValue, declared.Proof.Proof}
-use Rattle.pb_text.specs.declared.{Limits.Limits, Stop.Stop, Why.Why}
+use Rattle.pb_text.specs.{declared.Limits.Limits, declared.Why.Why, meaning.Limits.largest, meaning.Limits.top_of, meaning.Writing.Wrote, meaning.Writing.Broke}
 use Rattle.pb_text.specs.declared.Why.TheVariants.{Byte, TooLarge, Ended, TooLong, Read, Memory}
-use Rattle.pb_text.specs.meaning.{Limits.largest, Limits.top_of, Writing.Wrote, Writing.Broke}
 use Rattle.pb_tool.specs.contract.Tidy.{tidied_proof, TidiesFile, tidied}
 use Rattle.pb_tool.specs.declared.fault.{Input.TheVariants.File, ToolFault.ToolFault, ToolFault.TheVariants.Text, ToolFault.TheVariants.Write}
 use Rattle.pb_tool.specs.meaning.Files.{BeginsWithP, IsProofFile, IsNoProofFile, IsInstanceFile, IsNoInstanceFile}

@@ -1,17 +1,15 @@
 -- What a check shows a watch: a call for each statement of the proof, in order.
-use Rattle.pb_opb.specs.declared.Instance.{Instance}
-use Rattle.pb_proof.specs.declared.Statement.{Statement}
-use Rattle.pb_replay.specs.{contract.ReplayModel.Replaying, contract.ReplayModel.StandsFor, declared.fault.Fault.Fault}
-use Rattle.pb_replay.specs.declared.{fault.Fault.TheVariants.Memory as no_memory, fault.Fault.TheVariants.NotTotal, verdict.Verdict.Verdict}
+use Rattle.{pb_opb.specs.declared.Instance.Instance, pb_tool.specs.contract.Checks.KeepsNames}
+use Rattle.{pb_proof.specs.declared.Statement.Statement, pb_replay.specs.contract.ReplayModel.Replaying, pb_replay.specs.contract.ReplayModel.StandsFor}
+use Rattle.pb_replay.specs.declared.{fault.Fault.Fault, fault.Fault.TheVariants.Memory as no_memory, fault.Fault.TheVariants.NotTotal, verdict.Verdict.Verdict}
 use Rattle.pb_replay.specs.meaning.{Problem.Problem, Problem.Opened, Replay.State, Replay.first_state, Statements.Outcome}
 use Rattle.pb_text.specs.declared.{Limits.Limits, Place.Place, Spanned.Spanned, Stop.Stop}
 use Rattle.pb_text.specs.meaning.{Limits.largest, Limits.top_of, Pulling.OfGiven, PullsInARow.TookAll, PullsInARow.TookSoFar}
-use Rattle.pb_tool.specs.{contract.Checks.KeepsNames, declared.commands.check.checker.CheckFault.CheckFault}
-use Rattle.pb_tool.specs.meaning.Files.{IsProofText, IsInstanceFile}
+use Rattle.pb_tool.specs.{declared.commands.check.checker.CheckFault.CheckFault, meaning.Files.IsProofText, meaning.Files.IsInstanceFile}
 use Rattle.std.specs.Prelude.{◌≡◌, ◌⊎◌, ℕ, List, [], ◌∷◌, ◌++◌, Bool, true, false, Option, Some, None, Result, Ok, Err}
+use Rattle.pb_tool.specs.declared.fault.Input.TheVariants.{Instance as of_instance, Proof as of_proof}
+use Rattle.pb_tool.specs.declared.fault.ToolFault.{ToolFault, TheVariants.Text, TheVariants.Overflow, TheVariants.Memory, TheVariants.Write, TheVariants.Step}
 use Rattle.pb_tool.specs.declared.commands.check.checker.CheckFault.TheVariants as check
-use Rattle.pb_tool.specs.declared.fault.{Input.TheVariants.Instance as of_instance, Input.TheVariants.Proof as of_proof, ToolFault.ToolFault}
-use Rattle.pb_tool.specs.declared.fault.ToolFault.TheVariants.{Text, Overflow, Memory, Write, Step}
 
 -- A call of a watch: a statement with its span, and the replay after it. A rejected one comes with its fault.
 pub data Call : Type 0 where

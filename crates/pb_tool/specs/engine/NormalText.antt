@@ -1,17 +1,12 @@
 -- The normal form of an instance, built as its statements come.
-use Rattle.pb_normal.specs.meaning.{Constraints.AreFormsOf, Constraints.constraint_names, Constraints.sides_in, Form.Form}
-use Rattle.pb_normal.specs.meaning.{Names.HasNames, Names.with_names, Written.linear_of, Written.names_of}
-use Rattle.pb_opb.specs.declared.{Instance.Instance, OpbEvent.OpbEvent}
-use Rattle.pb_opb.specs.declared.OpbEvent.TheVariants.{Header, Comment, Objective, Constraint}
+use Rattle.pb_normal.specs.meaning.{Constraints.AreFormsOf, Constraints.constraint_names, Constraints.sides_in, Form.Form, Written.linear_of, Written.names_of}
+use Rattle.{pb_normal.specs.meaning.Names.HasNames, pb_normal.specs.meaning.Names.with_names, pb_replay.specs.meaning.Problem.objective_of}
+use Rattle.{pb_opb.specs.declared.Instance.Instance, pb_tool.specs.engine.InstanceText.line, std.specs.List.flat_map}
+use Rattle.pb_opb.specs.declared.OpbEvent.{OpbEvent, TheVariants.Header, TheVariants.Comment, TheVariants.Objective, TheVariants.Constraint}
 use Rattle.pb_opb.specs.meaning.Values.{IsValueOf, last_or, variables_in, objectives_in, constraints_in}
-use Rattle.pb_replay.specs.meaning.Problem.{objective_of}
-use Rattle.pb_sums.specs.declared.{Linear.Linear, Term.Term}
-use Rattle.pb_text.specs.{declared.Limits.Limits, meaning.Limits.largest}
-use Rattle.pb_tool.specs.{contract.Normalised.SomePasses, declared.commands.tidy.form_lines.FormLines.FormLines}
-use Rattle.pb_tool.specs.declared.commands.tidy.normal_text.{Forms.Forms, Standing.Standing}
-use Rattle.pb_tool.specs.declared.commands.tidy.normal_text.Standing.TheVariants.{Stored, Lost, Overflows}
-use Rattle.pb_tool.specs.engine.InstanceText.{line}
-use Rattle.std.specs.List.{flat_map}
+use Rattle.{pb_sums.specs.declared.Linear.Linear, pb_sums.specs.declared.Term.Term, pb_text.specs.declared.Limits.Limits, pb_text.specs.meaning.Limits.largest}
+use Rattle.pb_tool.specs.{contract.Normalised.SomePasses, declared.commands.tidy.form_lines.FormLines.FormLines, declared.commands.tidy.normal_text.Forms.Forms}
+use Rattle.pb_tool.specs.declared.commands.tidy.normal_text.Standing.{Standing, TheVariants.Stored, TheVariants.Lost, TheVariants.Overflows}
 use Rattle.std.specs.Prelude.{◌≡◌, ℕ, List, [], ◌∷◌, ◌++◌, length, Option, Some, None}
 
 -- the lines of forms, written out with the names

@@ -1,7 +1,6 @@
 -- The text of a proof, built as its statements come.
-use Rattle.pb_proof.specs.declared.{proof.Proof.Proof, statement.Statement.Statement}
-use Rattle.pb_proof.specs.declared.statement.Statement.TheVariants.{Header, F, Output, Conclude, End}
-use Rattle.pb_proof.specs.meaning.{Canonical.statement_bytes, Proofs.IsProofOf}
+use Rattle.pb_proof.specs.{declared.proof.Proof.Proof, meaning.Canonical.statement_bytes, meaning.Proofs.IsProofOf}
+use Rattle.pb_proof.specs.declared.statement.Statement.{Statement, TheVariants.Header, TheVariants.F, TheVariants.Output, TheVariants.Conclude, TheVariants.End}
 use Rattle.pb_tool.specs.{contract.Show.line_of, contract.Tidy.tidied_proof, declared.commands.tidy.proof_text.ProofText.ProofText}
 use Rattle.std.specs.Prelude.{◌≡◌, ℕ, List, ◌++◌}
 

@@ -1,14 +1,12 @@
 -- A checker that runs through the proof of a source: what held when it began, what holds after each statement, and what
 -- the run comes to.
-use Rattle.pb_proof.specs.{declared.Statement.Statement, engine.machine.State.begin}
-use Rattle.pb_replay.specs.{contract.ReplayModel.Replaying, contract.ReplayModel.StandsFor, declared.verdict.Verdict.Verdict, meaning.Replay.State}
-use Rattle.pb_replay.specs.meaning.Statements.{Accepts}
+use Rattle.{pb_proof.specs.declared.Statement.Statement, pb_proof.specs.engine.machine.State.begin, pb_replay.specs.declared.verdict.Verdict.Verdict}
+use Rattle.pb_replay.specs.{contract.ReplayModel.Replaying, contract.ReplayModel.StandsFor, meaning.Replay.State, meaning.Statements.Accepts}
 use Rattle.pb_text.specs.contract.Feeding.{StandsAt, place_of, halt_of}
 use Rattle.pb_text.specs.declared.{Feeder.Feeder, Machine.Ghosts, Place.Place, Spanned.Spanned}
 use Rattle.pb_text.specs.meaning.{Limits.largest, Limits.top_of, Pulling.OfGiven, PullsInARow.HasPulled, Whole.events_at}
-use Rattle.pb_tool.specs.contract.{Checker.Checking, Runs.Replays, Runs.RunsProof}
-use Rattle.pb_tool.specs.contract.Watched.{Call, GotEach, ShowsEach, ShowsProof, ShowsRun}
-use Rattle.pb_tool.specs.declared.{commands.check.checker.CheckFault.CheckFault, fault.ToolFault.ToolFault}
+use Rattle.pb_tool.specs.{contract.Checker.Checking, declared.commands.check.checker.CheckFault.CheckFault, declared.fault.ToolFault.ToolFault}
+use Rattle.pb_tool.specs.contract.{Runs.Replays, Runs.RunsProof, Watched.Call, Watched.GotEach, Watched.ShowsEach, Watched.ShowsProof, Watched.ShowsRun}
 use Rattle.std.specs.Prelude.{◌≡◌, ℕ, List, [], ◌++◌, length, Option, Some, None, Result, Ok, Err}
 
 -- The feeder began with this machine and has not stopped. It was fed what the calls have given since a history.

@@ -1,8 +1,7 @@
 -- What is unique in a check.
 use Rattle.pb_opb.specs.contract.Formats as opb_laws
 use Rattle.pb_proof.specs.contract.Formats as veri_laws
-use Rattle.pb_proof.specs.contract.ValueLaws.{OneValue}
-use Rattle.pb_replay.specs.contract.Laws.{OpeningsAreSingle, OutcomesAreSingle}
+use Rattle.{pb_proof.specs.contract.ValueLaws.OneValue, pb_replay.specs.contract.Laws.OpeningsAreSingle, pb_replay.specs.contract.Laws.OutcomesAreSingle}
 
 -- A text is one instance and one proof at most, and none is a prefix of another. The statements of a prefix of a proof
 -- are the same in each proof that it begins. A proof has one value. A replay opens and continues in one way.

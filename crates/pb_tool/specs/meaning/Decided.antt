@@ -1,14 +1,11 @@
 -- Which results of a check the bytes alone decide.
-use Rattle.pb_text.specs.declared.{Limits.Limits, place.Why.Why}
+use Rattle.{pb_text.specs.declared.Limits.Limits, pb_text.specs.declared.place.Why.Why, pb_tool.specs.declared.fault.ToolFault.ToolFault}
 use Rattle.std.specs.Prelude.{◌≡◌, ◌≢◌, ◌↔◌, ℕ, List, [], Option, Some, String, string_bytes, Result, Ok, Err}
-use Rattle.std.specs.declared.alloc.Global.{Global}
-use Rattle.pb_text.specs.declared.place.Why.TheVariants as why
-use Rattle.pb_opb.specs.declared.Instance.{Instance}
-use Rattle.pb_proof.specs.declared.Proof.{Proof}
+use Rattle.{std.specs.declared.alloc.Global.Global, pb_opb.specs.declared.Instance.Instance, pb_proof.specs.declared.Proof.Proof}
 use Rattle.pb_replay.specs.declared.{fault.Fault.TheVariants.Memory as no_memory, verdict.Verdict.Verdict}
-use Rattle.pb_tool.specs.declared.fault.ToolFault.{ToolFault}
 use Rattle.pb_tool.specs.declared.fault.ToolFault.TheVariants.{Text, Open, Overflow, Memory, Write, Step}
 use Rattle.pb_tool.specs.meaning.{Files.IsProofFile, Files.IsInstanceFile, Verified.CheckCall, Verified.ChecksFiles, Verified.IsVerified}
+use Rattle.pb_text.specs.declared.place.Why.TheVariants as why
 
 -- The text decides the stop, and not its reader or the memory.
 abbrev pub IsOfText : Why → Type 0

@@ -1,11 +1,9 @@
 -- What a source is read as: an instance or a proof, and a blank rest.
-use Rattle.pb_opb.specs.{declared.Instance.Instance, declared.OpbEvent.OpbEvent, meaning.Instances.IsInstance}
-use Rattle.pb_opb.specs.meaning.{Reading.AsksInInstance, Reading.ReadsInstance, Values.IsValueOf}
-use Rattle.pb_proof.specs.{declared.Proof.Proof, declared.Statement.Statement, meaning.Proofs.IsProof, meaning.Proofs.IsProofOf}
-use Rattle.pb_proof.specs.meaning.Reading.{AsksInProof, ReadsProof}
+use Rattle.{pb_opb.specs.declared.Instance.Instance, pb_opb.specs.declared.OpbEvent.OpbEvent, pb_proof.specs.declared.Statement.Statement}
+use Rattle.pb_opb.specs.meaning.{Instances.IsInstance, Reading.AsksInInstance, Reading.ReadsInstance, Values.IsValueOf}
+use Rattle.pb_proof.specs.{declared.Proof.Proof, meaning.Proofs.IsProof, meaning.Proofs.IsProofOf, meaning.Reading.AsksInProof, meaning.Reading.ReadsProof}
 use Rattle.pb_text.specs.declared.{Limits.Limits, Spanned.Spanned, Stop.Stop}
-use Rattle.pb_text.specs.meaning.{Blank.IsBlank, Blank.ReadsBlank, Limits.largest, Limits.top_of, Pulling.Took, Reading.byte_limit, Spelling.Item}
-use Rattle.pb_text.specs.meaning.Whole.{IsRead}
+use Rattle.pb_text.specs.meaning.{Blank.IsBlank, Blank.ReadsBlank, Limits.largest, Limits.top_of, Pulling.Took, Reading.byte_limit, Spelling.Item, Whole.IsRead}
 use Rattle.std.specs.Prelude.{◌≡◌, ◌≤◌, ℕ, List, [], ◌∷◌, ◌++◌, length, Option, Result, Ok, Err, IfSome}
 
 -- the first byte of the text is `p`

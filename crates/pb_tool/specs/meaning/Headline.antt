@@ -1,11 +1,9 @@
 -- What an accepted check means.
-use Rattle.pb_opb.specs.declared.Instance.{Instance}
+use Rattle.{pb_opb.specs.declared.Instance.Instance, pb_tool.specs.meaning.Files.IsProofFile, pb_tool.specs.meaning.Files.IsInstanceFile}
 use Rattle.pb_proof.specs.declared.Proof.{Proof}
-use Rattle.pb_replay.specs.{declared.verdict.Verdict.Verdict, declared.verdict.Verdict.TheVariants.Unsat, meaning.Meaning.MeansWritten}
-use Rattle.pb_replay.specs.meaning.Problem.{Solves}
+use Rattle.pb_replay.specs.{declared.verdict.Verdict.Verdict, declared.verdict.Verdict.TheVariants.Unsat, meaning.Meaning.MeansWritten, meaning.Problem.Solves}
 use Rattle.pb_text.specs.{declared.Limits.Limits, meaning.Limits.bits_of, meaning.Limits.top_of, meaning.Reading.byte_limit}
-use Rattle.pb_tool.specs.meaning.{Decided.AreVerified, Decided.IsDecided, Decided.IsOfTexts, Files.IsProofFile, Files.IsInstanceFile}
-use Rattle.pb_tool.specs.meaning.Verified.{CheckCall, ChecksFiles, IsVerified}
+use Rattle.pb_tool.specs.meaning.{Decided.AreVerified, Decided.IsDecided, Decided.IsOfTexts, Verified.CheckCall, Verified.ChecksFiles, Verified.IsVerified}
 use Rattle.std.specs.Prelude.{◌≡◌, ◌↔◌, ℕ, ◌-◌, ◌^◌, List, [], Bool, Option, Some, Ok}
 
 -- What a proof that was read shows of an instance is true of the instance as it is written.

@@ -2,19 +2,16 @@
 use Rattle.pb_opb.specs.declared.Instance.{Instance}
 use Rattle.pb_proof.specs.{declared.Proof.Proof, declared.Statement.Statement, meaning.Canonical.bound_bytes, meaning.Proofs.statements_of}
 use Rattle.pb_replay.specs.declared.fault.Fault.{Fault, TheVariants.Memory as no_memory, TheVariants.Overflow as over, TheVariants.NotTotal}
-use Rattle.pb_replay.specs.declared.verdict.Verdict.{Verdict}
-use Rattle.pb_replay.specs.meaning.{Problem.FitsAll, Problem.Problem, Problem.Opened, Replay.State, Replay.first_state}
-use Rattle.pb_replay.specs.meaning.Statements.{Outcome, Accepts, MayWantAt}
+use Rattle.pb_replay.specs.{declared.verdict.Verdict.Verdict, meaning.Replay.State, meaning.Replay.first_state}
+use Rattle.pb_replay.specs.meaning.{Problem.FitsAll, Problem.Problem, Problem.Opened, Statements.Outcome, Statements.Accepts, Statements.MayWantAt}
 use Rattle.pb_text.specs.declared.{Limits.Limits, Place.Place, Spanned.Spanned, Stop.Stop}
-use Rattle.pb_text.specs.meaning.{Blank.ReadsBlank, Limits.largest, Limits.top_of, PullsInARow.TookAll, PullsInARow.TookSoFar, Stopping.IsAsking}
-use Rattle.pb_text.specs.meaning.Writing.{Wrote, Broke}
+use Rattle.{pb_text.specs.meaning.Blank.ReadsBlank, pb_text.specs.meaning.Whole.events_at, pb_tool.specs.declared.fault.ToolFault.ToolFault}
+use Rattle.pb_text.specs.meaning.{Limits.largest, Limits.top_of, PullsInARow.TookAll, PullsInARow.TookSoFar, Stopping.IsAsking, Writing.Wrote, Writing.Broke}
 use Rattle.std.specs.Prelude.{◌≡◌, ◌⊎◌, ℕ, List, [], ◌∷◌, ◌++◌, codes, get_or, string_bytes, Bool, true, false, Option, Some, None, Result, Ok, Err}
-use Rattle.pb_replay.specs.declared.verdict.Verdict.TheVariants as verdict
-use Rattle.pb_text.specs.meaning.Whole.{events_at}
 use Rattle.pb_tool.specs.declared.fault.Input.TheVariants.{File, Instance as of_instance, Proof as of_proof}
-use Rattle.pb_tool.specs.declared.fault.ToolFault.{ToolFault}
 use Rattle.pb_tool.specs.declared.fault.ToolFault.TheVariants.{Text, Open, Overflow, Memory, Write, Step}
 use Rattle.pb_tool.specs.meaning.Files.{AsksInProofText, IsProofText, IsProofFile, IsInstanceFile, IsNoInstanceFile}
+use Rattle.pb_replay.specs.declared.verdict.Verdict.TheVariants as verdict
 
 -- the line of a verdict, with its line feed
 abbrev pub verdict_line : Verdict → List ℕ

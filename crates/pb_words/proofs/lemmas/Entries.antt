@@ -1,8 +1,7 @@
 -- The number of a flag, from its text.
-use Rattle.pb_words.proofs.Common.{◌≡◌, ◌↔◌, ℕ, Bool, true, false, List, Option, Some, None, IsTrue, codes, ap, sym, ◌∙◌, subst, refl, inl, inr, IsSomeAnd}
-use Rattle.pb_words.proofs.Common.{bytes_eq, bytes_eq-Decides, IsUnsignedIn, Row, WordsFault, IsChecker, IsEntryFault, IsFlag, IsInstanceFault, IsNumberFault}
-use Rattle.pb_words.proofs.Common.{IsSelectionFault, IsSwitch}
-use Rattle.std.specs.Str.Parse.{digits_value, without_leading_plus}
+use Rattle.pb_words.proofs.Common.{◌≡◌, ◌↔◌, ℕ, Bool, true, false, List, Option, Some, None, IsTrue, codes, ap, sym, ◌∙◌, subst, refl, inl, inr, IsSomeAnd, Row}
+use Rattle.{pb_words.proofs.Common.bytes_eq, pb_words.proofs.Common.IsChecker, std.specs.Str.Parse.digits_value, std.specs.Str.Parse.without_leading_plus}
+use Rattle.pb_words.proofs.Common.{bytes_eq-Decides, IsUnsignedIn, WordsFault, IsEntryFault, IsFlag, IsInstanceFault, IsNumberFault, IsSelectionFault, IsSwitch}
 
 pub absent : (low high : ℕ) (found : Option (List ℕ)) → None ≡ found → IsFlag low high found None
 absent low high found e = subst (λ (t : Option (List ℕ)). IsFlag low high t None) e refl

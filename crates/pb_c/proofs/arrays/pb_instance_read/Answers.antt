@@ -1,7 +1,6 @@
-use Rattle.pb_c.proofs.Claims.{whole}
+use Rattle.{pb_c.proofs.Claims.whole, pb_pieces.specs.Reading.IsFlatBy, pb_pieces.specs.Reading.IsNotFlat, pb_pieces.specs.declared.instance.Flat.Flat}
 use Rattle.pb_c.proofs.Common.{ℕ, ◌^◌, ◌≡◌, inl, inr, List, Option, refl, rules, Some, subst, unwrap_or, Stop}
 use Rattle.pb_opb.specs.{declared.OpbEvent.OpbEvent, meaning.Instances.IsInstance}
-use Rattle.pb_pieces.specs.{Reading.IsFlatBy, Reading.IsNotFlat, declared.instance.Flat.Flat}
 use Rattle.pb_text.specs.meaning.{Limits.largest, Limits.top_of, Spelling.Item}
 use Rattle.pb_c.proofs.arrays.pb_instance_read.Goals as goal
 
@@ -13,16 +12,14 @@ moved_not format within longest text s {before} {after} is same h = subst (λ (x
 
 pub returns-in-Ok-new : goal.returns-in-Ok-new
 returns-in-Ok-new c =
-    let limits = c.in-Some.asked.limits in
-    let longest = c.in-Some.asked.longest in
+    let limits = c.in-Some.asked.limits in let longest = c.in-Some.asked.longest in
     let from = whole c.new-source.result c.args.text c.new-source.ensures.inner c.new-source.ensures.shown in
     let read = moved (IsInstance (largest limits) (top_of limits)) c.unwrap_or-within.result (unwrap_or longest (2 ^ 40)) c.args.text.now c.in-Ok.flat from c.unwrap_or-within.ensures c.in-Ok.ensures.read in
     inl (c.in-Ok.flat, search rules, (limits, longest, c.in-Some.ensures.asked, (_, read)), refl, c.of_instance.ensures)
 
 pub returns : goal.returns
 returns c =
-    let limits = c.in-Some.asked.limits in
-    let longest = c.in-Some.asked.longest in
+    let limits = c.in-Some.asked.limits in let longest = c.in-Some.asked.longest in
     let from = whole c.new-source.result c.args.text c.new-source.ensures.inner c.new-source.ensures.shown in
     let read = moved_not (IsInstance (largest limits) (top_of limits)) c.unwrap_or-within.result (unwrap_or longest (2 ^ 40)) c.args.text.now c.in-Err.stop from c.unwrap_or-within.ensures c.in-Err.ensures.refused in
     inr (c.take.ensures.left, inr (inr (c.in-Err.stop, (limits, longest, c.in-Some.ensures.asked, (_, read)), c.why_status.ensures, c.of_stop.ensures)))

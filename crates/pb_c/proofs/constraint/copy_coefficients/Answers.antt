@@ -4,8 +4,7 @@ use Rattle.pb_pieces.specs.Words.{high_word, low_word}
 
 pub terms-preserved : goal
 terms-preserved c =
-    let terms = c.args.form.now.terms in
-    let inv = c.terms.invariant in
+    let terms = c.args.form.now.terms in let inv = c.terms.invariant in
     let first : c.terms.at < length c.terms.lows = omega (arith, c.terms-test.true, c.len-at-end.ensures.length, c.terms.auto.lows, c.requires.lows) in
     let second : c.terms.at < length c.terms.highs = omega (arith, c.terms-test.true, c.len-at-end.ensures.length, c.terms.auto.highs, c.requires.highs) in
     let value = positive_is c.term-coefficient.result.2 c.term-coefficient.ensures.positive in

@@ -3,8 +3,7 @@ use Rattle.pb_c.proofs.constraint.copy_literals.Goals as goal
 
 pub terms-preserved : goal.terms-preserved
 terms-preserved c =
-    let terms = c.args.form.now.terms in
-    let inv = c.terms.invariant in
+    let terms = c.args.form.now.terms in let inv = c.terms.invariant in
     let first : c.terms.at < length c.terms.numbers = omega (arith, c.terms-test.true, c.len-at-end.ensures.length, c.terms.auto.numbers, c.requires.numbers) in
     let second : c.terms.at < length c.terms.negated = omega (arith, c.terms-test.true, c.len-at-end.ensures.length, c.terms.auto.negated, c.requires.negated) in
     record {

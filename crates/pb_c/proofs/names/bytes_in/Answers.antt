@@ -3,8 +3,7 @@ use Rattle.pb_c.proofs.{Copied.counted_next, Copied.length_next, names.bytes_in.
 
 pub names-preserved : goal
 names-preserved c =
-    let names = c.args.names.now in
-    let n = c.names.number in
+    let names = c.args.names.now in let n = c.names.number in
     let at : slice_get c.args.names.now c.names.number ≡ Some c.in-Some.name.now = search rules in
     let grown : c.saturating_add-count.result ≡ min (c.names.count + length c.in-Some.name.now) (2 ^ 64 - 1) = search rules in
     grown

@@ -18,9 +18,7 @@ unreachable-requires c =
 
 pub names-preserved : goal.names-preserved
 names-preserved c =
-    let names = c.args.names.now in
-    let n = c.names.number in
-    let inv = c.names.invariant in
+    let names = c.args.names.now in let n = c.names.number in let inv = c.names.invariant in
     let at : slice_get c.args.names.now c.names.number ≡ Some c.in-Some.name.now = search rules in
     let text : c.as_bytes-text.result.now ≡ c.in-Some.name.now = search rules in
     let copied : c.copy_from_slice.new.self ≡ c.as_bytes-text.result.now = search rules in

@@ -9,8 +9,7 @@ returns-clause-fed c options i fed h =
 
 pub returns-clause-answers : goal.returns-clause-answers
 returns-clause-answers c =
-    let kept : c.of.result.value ≡ Some c.step_session-status.new.session = search rules in
-    rw kept c.step_session-status.ensures.answers
+    let kept : c.of.result.value ≡ Some c.step_session-status.new.session = search rules in rw kept c.step_session-status.ensures.answers
 
 pub returns-clause-used : goal.returns-clause-used
 returns-clause-used c =

@@ -1,8 +1,7 @@
 use Rattle.pb_examples.{proofs.Sound.true_of, specs.Fed.ReportsUnsat, specs.Fed.Verifies}
-use Rattle.pb_replay.specs.declared.verdict.Verdict.{Verdict, TheVariants.Unsat}
+use Rattle.{pb_replay.specs.declared.verdict.Verdict.Verdict, pb_replay.specs.declared.verdict.Verdict.TheVariants.Unsat, std.specs.List.flat_map}
 use Rattle.pb_tool.specs.declared.commands.check.checker.CheckFault.{CheckFault}
 use Rattle.std.proofs.Common.{ℕ, List, Result, Ok, Err, Bool, IfOk, Bor, refl, subst}
-use Rattle.std.specs.List.{flat_map}
 use Rattle.pb_examples.proofs.fed.is_refuted_in_pieces.Goals as goal
 
 abbrev joined : List (Bor (List ℕ)) → List ℕ

@@ -1,19 +1,17 @@
 -- `into_box` makes the box again.
-use Rattle.core.proofs.alloc.Shapes.{after}
+use Rattle.{core.proofs.alloc.Shapes.after, std_alloc.proofs.boxed.Box.from_raw.Met.met}
 use Rattle.pb_loose.proofs.Machine.{◌≡◌, List, [], ◌∷◌, ◌++◌, refl, sym, ap, subst, a_type, dcons, dnil, Val, vptr, SProp, ent, id⊢, ‵, raw, ◌⊛◌, some, later}
 use Rattle.pb_loose.proofs.Machine.{at_ret, ◌$◌, ◌∵◌, !, qed, by, move, keep, drop, split, split3, join, fsplit, fjoin, pick, suffices, use1, await, rewrite}
 use Rattle.pb_loose.proofs.Machine.{feq_i, RattleType, owns, block_ptr, nothing, only, param, layout, bounded, param_laws, Goes-blank, Good, inst_fn, ftrue}
 use Rattle.pb_loose.proofs.Machine.{flft, WpFn, stop, fld, of_opd, no_more, and_then, first, blocks, exec, returns, enter, alloc_all, pass_all, free_all}
-use Rattle.pb_loose.proofs.Machine.{look_at, get, get_in, sets, lands_last, env, sub, whole, fact, tables, no, types_at, plain, triple_of, calls_at_last}
-use Rattle.pb_loose.proofs.Machine.{Stays, stay_dropped, walk_of, fm, box_out, box_in, proved_at, leaves}
+use Rattle.pb_loose.proofs.Machine.{look_at, get, get_in, sets, lands_last, env, sub, whole, fact, tables, no, types_at, plain, triple_of, calls_at_last, Stays}
+use Rattle.pb_loose.proofs.Machine.{stay_dropped, walk_of, fm, box_out, box_in, proved_at, leaves}
 use contract.BorrowLft.{◌⊑◌}
 use denote.Triple.Clauses.{Lasts, lasts}
-use Rattle.std_alloc.proofs.BoxSteps.Form as box
-use Rattle.pb_loose.proofs.Values.{both, Loose, loose_good, loose_out}
-use Rattle.std_alloc.specs.contracts.boxed.Box.from_raw as callee
-use Rattle.pb_loose.proofs.Loose.into_box.Statement.{statement}
+use Rattle.pb_loose.proofs.{Values.both, Values.Loose, Values.loose_good, Values.loose_out, Loose.into_box.Statement.statement}
 use Rattle.pb_loose.specs.contracts.Loose.into_box.{ended, clauses, Key.name as #self}
-use Rattle.std_alloc.proofs.boxed.Box.from_raw.Met.{met}
+use Rattle.std_alloc.proofs.BoxSteps.Form as box
+use Rattle.std_alloc.specs.contracts.boxed.Box.from_raw as callee
 use Rattle.pb_loose.proofs.Loose.into_box.Code as code
 
 pub into_box_spec : {M : Type 1} → statement M

@@ -6,12 +6,11 @@ use Rattle.pb_loose.proofs.Machine.{ptr_val, in_a_block, nothing, only, heard, p
 use Rattle.pb_loose.proofs.Machine.{inst_fn, ftrue, fsep, flft, WpFn, stop, fld, of_opd, no_more, and_then, returns, enter, alloc_all, pass_all, free_all}
 use Rattle.pb_loose.proofs.Machine.{look_at, get, get_in, sets, lands_as, agg, sub, whole, fact, fact_i, tables, no, types_at, plain, triple_of, calls_at}
 use Rattle.pb_loose.proofs.Machine.{Stays, stay_dropped, walk_of, fm, box_out, box_in, proved_at, leaves}
-use Rattle.std_alloc.proofs.BoxSteps.Form as box
-use Rattle.pb_loose.proofs.Values.{both, loose_good, loose_in}
-use Rattle.std_alloc.specs.contracts.boxed.Box.into_raw_with_allocator as callee
-use Rattle.pb_loose.proofs.Loose.of.Statement.{statement}
+use Rattle.pb_loose.proofs.{Values.both, Values.loose_good, Values.loose_in, Loose.of.Statement.statement}
 use Rattle.pb_loose.specs.contracts.Loose.of.{ended, clauses, Key.name as #self}
 use Rattle.std_alloc.proofs.boxed.Box.into_raw_with_allocator.Met.{met}
+use Rattle.std_alloc.proofs.BoxSteps.Form as box
+use Rattle.std_alloc.specs.contracts.boxed.Box.into_raw_with_allocator as callee
 use Rattle.pb_loose.proofs.Loose.of.Code as code
 
 pub of_spec : {M : Type 1} → statement M

@@ -1,9 +1,8 @@
 -- Names that appear one after another. Offered to other crates.
 use Rattle.pb_normal.proofs.Common.{cond_both, ℕ, ◌++◌, ◌<◌, ◌∙◌, ◌∷◌, ◌≡◌, [], ap, append-nil, append_assoc, length, List, map, pos, refl, sym}
 use Rattle.pb_normal.proofs.Common.{get_or_append_left, All-head, All-tail, All, Term, Entry, Form, AreDistinct, has_name, HasNames, with_name, with_names}
-use Rattle.pb_normal.proofs.Common.{linear_of, term_of}
+use Rattle.{pb_normal.proofs.Common.linear_of, pb_normal.proofs.Common.term_of, pb_sums.specs.declared.linear.Relation.TheVariants.AtLeast}
 use Rattle.pb_normal.proofs.lemmas.names.Numbering.{has_name-append, with_name-has, AreDistinct-with}
-use Rattle.pb_sums.specs.declared.linear.Relation.TheVariants.{AtLeast}
 
 pub in_turn : (names others further : List (List ℕ)) → with_names names (others ++ further) ≡ with_names (with_names names others) further
 in_turn names [] further = refl

@@ -2,9 +2,8 @@
 use Rattle.pb_normal.proofs.Common.{take-append-add, ℕ, ◌++◌, ◌+◌, ◌<◌, ◌∙◌, ◌∷◌, ◌≡◌, [], ap, append-nil, append_assoc, arith, Err, get_or, length, List, Ok}
 use Rattle.pb_normal.proofs.Common.{OnErr, take_all, OnOk, refl, Result, subst, suc, sym, take, zero, flat_map-append, All, AllByRecursion, Linear, take_read}
 use Rattle.pb_normal.proofs.Common.{NormalFault, Memory, Overflow, Side, AreFormsOf, constraint_names, sides_in, with_sides, Form, AfterPrefix, AreDistinct}
-use Rattle.pb_normal.proofs.Common.{HasNames, with_names, names_of}
+use Rattle.pb_normal.proofs.{Common.HasNames, Common.with_names, Common.names_of, lemmas.names.WrittenForms.IsSideOf-append}
 use Rattle.pb_normal.proofs.lemmas.names.Appearing.{prefix, named, names_split, distinct, present, in_turn}
-use Rattle.pb_normal.proofs.lemmas.names.WrittenForms.{IsSideOf-append}
 use Rattle.pb_normal.specs.declared.side.Side.TheVariants.{AtLeast as least, AtMost as most}
 use Rattle.pb_sums.specs.declared.linear.Relation.{Relation, TheVariants.AtLeast, TheVariants.Equal}
 

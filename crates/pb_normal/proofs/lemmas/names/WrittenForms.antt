@@ -1,15 +1,14 @@
 -- The form of a written constraint. Offered to other crates.
 use Rattle.pb_normal.proofs.Common.{ℕ, ℤ, ◌&&◌, ◌*◌, ◌++◌, ◌+ℤ◌, ◌+◌, ◌-ℤ◌, ◌-◌, ◌<◌, ◌^◌, ◌↔◌, ◌∙◌, ◌∷◌, ◌≡◌, ◌≤ℤ◌, ◌≤◌, [], ap, arith, Bool, cond, drop, eqb}
-use Rattle.pb_normal.proofs.Common.{FitsSigned, get_or, inl, inr, length, List, map, neg_ℤ, not, of_z, pos, refl, slice_get, Some, sym, take, to_z, true}
-use Rattle.pb_normal.proofs.Common.{unsigned_abs, cases_lt, nat_tests, ints, to_z-of_z, length-append, take-append-drop, All-cons, All-nil}
+use Rattle.pb_normal.proofs.Common.{FitsSigned, get_or, inl, inr, length, List, map, neg_ℤ, not, of_z, pos, refl, slice_get, Some, sym, take, to_z, true, ints}
+use Rattle.pb_normal.proofs.Common.{unsigned_abs, cases_lt, nat_tests, to_z-of_z, length-append, take-append-drop, true_sum, written_on, map-append, take_more}
+use Rattle.pb_normal.proofs.{Common.All-cons, Common.All-nil, lemmas.terms.Totals.size-Adds, lemmas.rules.Sums.at_least_0-is, lemmas.rules.Sums.turned}
 use Rattle.pb_normal.proofs.Common.{get_or_from_slice_get, slice_get-get_or, bytes_eq-Decides, w128, All, bytes_eq, Linear, Term, drop_read, Entry, Side}
 use Rattle.pb_normal.proofs.Common.{AtLeast, AtMost, Adds, is_below_0, raw_of, shift, AreFormsOf, at_least_0, each, Form, Holds, IsNormal, IsRising, IsWithin}
 use Rattle.pb_normal.proofs.Common.{negated_of, negative, plain_of, total, true_at, AreDistinct, has_name, HasNames, number_in, by_number, IsFormOf, IsSideOf}
 use Rattle.pb_normal.proofs.Common.{linear_of, magnitude, names_of, on_negations, SameAsForm, SameAsForms, SameSolutions, side_number, side_terms, term_of}
-use Rattle.pb_normal.proofs.Common.{true_sum, written_on, map-append, take_more}
-use Rattle.pb_normal.proofs.lemmas.{rules.Unique.Balanced, rules.Unique.IsRising-same, rules.Unique.same_form, terms.Totals.size-Adds}
+use Rattle.pb_normal.proofs.lemmas.rules.{Unique.Balanced, Unique.IsRising-same, Unique.same_form, Keeps.total-balanced, Keeps.total-past, Keeps.All-below}
 use Rattle.pb_normal.proofs.lemmas.names.Numbering.{slice_get-number, number_in-below, number_in-get, number_in-append, has_name-append, AreDistinct-prefix}
-use Rattle.pb_normal.proofs.lemmas.rules.{Keeps.total-balanced, Keeps.total-past, Keeps.All-below, Sums.at_least_0-is, Sums.turned}
 use Rattle.pb_sums.specs.declared.linear.Relation.TheVariants.{AtLeast as relation_least, Equal as relation_equal}
 
 pub total-raw : (names : List (List ℕ)) (ts : List Term) → total each (map (raw_of names) ts) ≡ magnitude ts

@@ -1,10 +1,9 @@
 -- The result of a rule has no other variables than its operands. Whether a form holds depends on the values of its
 -- variables only. Offered to other crates.
-use Rattle.pb_normal.proofs.{Common.negative, Common.filter, lemmas.rules.Sums.total-sum}
-use Rattle.pb_normal.proofs.Common.{nat_tests, ℕ, ◌&&◌, ◌+◌, ◌<◌, ◌↔◌, ◌∷◌, ◌≡◌, [], ap, arith, Bool, cond, eqb, false, List, map, nat_lt, not, refl, true}
-use Rattle.pb_normal.proofs.Common.{lt-ltb, ltb-true, ints, All-cons, All-filter, All-head, All-map, All-nil, All-tail, Entry, AgreeOn, counted, Form, Holds}
-use Rattle.pb_normal.proofs.Common.{IsOver, IsRising, negated_of, plain_of, total, true_at, IsSum, opposite, with_coefficient, ◌≤◌, le-ltb, ltb-false, All}
-use Rattle.pb_normal.proofs.lemmas.rules.Unique.{none_below, Balanced}
+use Rattle.pb_normal.proofs.Common.{negative, filter, nat_tests, ℕ, ◌&&◌, ◌+◌, ◌<◌, ◌↔◌, ◌∷◌, ◌≡◌, [], ap, arith, Bool, cond, eqb, false, List, map, nat_lt}
+use Rattle.pb_normal.proofs.{Common.ltb-false, lemmas.rules.Sums.total-sum, lemmas.rules.Unique.none_below, lemmas.rules.Unique.Balanced}
+use Rattle.pb_normal.proofs.Common.{not, refl, true, lt-ltb, ltb-true, ints, All-cons, All-filter, All-head, All-map, All-nil, All-tail, Entry, AgreeOn, le-ltb}
+use Rattle.pb_normal.proofs.Common.{counted, Form, Holds, IsOver, IsRising, negated_of, plain_of, total, true_at, IsSum, opposite, with_coefficient, ◌≤◌, All}
 
 abbrev pub AreIn : (ℕ → Bool) → List Entry → Type 0
 AreIn p ts = All (λ t. p t.variable ≡ true) ts

@@ -1,9 +1,8 @@
 -- What the merge of two lists preserves, and its steps. Offered to other crates.
 use Rattle.pb_normal.proofs.Common.{ℕ, ◌++◌, ◌+◌, ◌<◌, ◌∷◌, ◌≡◌, ◌≤◌, ◌⊎◌, [], add-zero, append-nil, append_assoc, arith, drop, false, get_or, IfSome, ap, Bool}
 use Rattle.pb_normal.proofs.Common.{length, List, None, Option, Some, take, drop_all, take-append-drop, option_to_list, drop_read, take_read, Entry, Adds, each}
-use Rattle.pb_normal.proofs.Common.{IsRising, total, counted}
+use Rattle.pb_normal.proofs.{Common.IsRising, Common.total, Common.counted, lemmas.terms.Totals.total-prefix}
 use Rattle.pb_normal.proofs.lemmas.terms.Totals.{Adds-append, Adds-apart, IsRising-between, IsRising-without, IsRising-instead, size-Adds, IsRising-positive}
-use Rattle.pb_normal.proofs.lemmas.terms.Totals.{total-prefix}
 
 pub record Merging (left right : List Entry) (i j : ℕ) (out : List Entry) (c : ℕ) : Type 0 where
   pub in_left : i ≤ length left

@@ -5,9 +5,8 @@ use Rattle.pb_opb.proofs.Common.{Comment, Constraint, Objective, AreComments, co
 use Rattle.pb_opb.proofs.Common.{append-nil, append_assoc, IsTrue, subst, sym, Spanned, Item, gathered, IsRead, IsWhole, MayHold, StopsIn, Instance}
 use Rattle.pb_opb.proofs.Common.{counted_statements, ended_with, MayKeep, nothing, with, IsValueOf}
 use Rattle.pb_opb.proofs.lemmas.instances.Spelled.{spelled, IsMain, AreMain, AreInLines}
-use Rattle.pb_opb.specs.{declared.gather.InstanceSoFar.InstanceSoFar, meaning.Gather.asks}
+use Rattle.{pb_opb.specs.declared.gather.InstanceSoFar.InstanceSoFar, pb_opb.specs.meaning.Gather.asks, std.proofs.lemmas.Bool.Decides.nat_tests}
 use Rattle.pb_text.specs.declared.Stop.{Stop}
-use Rattle.std.proofs.lemmas.Bool.Decides.{nat_tests}
 use Rattle.pb_opb.specs.declared.instance.Comment as comment
 use Rattle.pb_text.proofs.lemmas.source.Unkept as stopped
 

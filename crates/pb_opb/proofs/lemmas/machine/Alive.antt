@@ -1,10 +1,9 @@
 -- Each state that a machine of instances can be in accepts some text; and what holds for each.
 use Rattle.pb_opb.proofs.Common.{Part, Spaces, ℕ, ◌+◌, ◌-◌, ◌<◌, ◌≡◌, [], ap, arith, Bool, cond, false, le-leb, length, List, nat_eq, refl, subst, suc, sym}
-use Rattle.pb_opb.proofs.Common.{true, zero, slice_index, eq-eqb, ne_eqb, reads_something, SumEvent, sums, SumState, accepted, before, final, IsAlive}
-use Rattle.pb_opb.proofs.Common.{AcceptsItems, ReadsStatement, Item, Letter, OpbEvent, Stop, To, Field, Constraints, Variables, Phase, count, transition}
+use Rattle.pb_opb.proofs.Common.{true, zero, slice_index, eq-eqb, ne_eqb, reads_something, SumEvent, sums, SumState, accepted, before, final, IsAlive, End}
+use Rattle.pb_opb.proofs.Common.{AcceptsItems, ReadsStatement, Item, Letter, OpbEvent, Stop, To, Field, Constraints, Variables, Phase, count, transition, Go}
 use Rattle.pb_opb.proofs.Common.{word_of, Holds, IsIdle, IsInOrder, PhaseFits, act, after, between, giving, is_done, objectives, opb, OpbState, remaining_after}
-use Rattle.pb_opb.proofs.Common.{statement_of, ◌≤◌, length-append, End, Go, IsState, Next, Refuse, Action, Give, Keep, is_in_number, is_within, over}
-use Rattle.pb_opb.proofs.Common.{phase_owing}
+use Rattle.pb_opb.proofs.Common.{statement_of, ◌≤◌, length-append, IsState, Next, Refuse, Action, Give, Keep, is_in_number, is_within, over, phase_owing}
 use Rattle.pb_opb.proofs.lemmas.machine.Stands.{Gives, gives_objective, gives_constraint, within_reads, stands}
 use Rattle.pb_sums.specs.declared.phase.Phase as sum_phase
 

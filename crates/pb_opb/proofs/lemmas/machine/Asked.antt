@@ -8,9 +8,8 @@ use Rattle.pb_opb.proofs.Common.{Constraints, Variables, Phase, transition, act,
 use Rattle.pb_opb.proofs.Common.{constraint_word, IsInstance, IsTail, Option, AcceptsItems, Spanned, Item, IsRead, StopsIn, Instance, MayKeep, IsValueOf}
 use Rattle.pb_opb.proofs.lemmas.machine.Bodies.{InGap, gap_given, nothing_read, instance_each, instance_only}
 use Rattle.pb_opb.proofs.lemmas.machine.Stands.{line_grown, tail_grown, idle, Gives, gives_objective, gives_constraint, given_step}
-use Rattle.pb_opb.specs.meaning.{Asking.MinLead, Asking.Asks, Reading.AsksInInstance}
-use Rattle.pb_sums.proofs.lemmas.machine.Asked.{sums_asked, first_asks_nothing}
-use Rattle.pb_text.proofs.lemmas.source.Unkept.{stops_in}
+use Rattle.{pb_opb.specs.meaning.Asking.MinLead, pb_opb.specs.meaning.Reading.AsksInInstance, pb_text.proofs.lemmas.source.Unkept.stops_in}
+use Rattle.{pb_opb.specs.meaning.Asking.Asks, pb_sums.proofs.lemmas.machine.Asked.sums_asked, pb_sums.proofs.lemmas.machine.Asked.first_asks_nothing}
 use Rattle.pb_text.specs.{meaning.Asking.AsksOnly, meaning.Reading.Reads, declared.Place.Place, declared.Stop.Stop}
 use Rattle.pb_text.proofs.lemmas.machine.Asked as asked
 use Rattle.pb_opb.proofs.lemmas.machine.EntryPrefix as entry

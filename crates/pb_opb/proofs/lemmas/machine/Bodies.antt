@@ -2,10 +2,9 @@
 use Rattle.pb_opb.proofs.Common.{Phase, ℕ, ◌&&◌, ◌↔◌, ◌∙◌, ◌∷◌, ◌≡◌, [], ap, arith, Bool, false, IsTrue, List, nat_eq, refl, subst, suc, sym, true, zero}
 use Rattle.pb_opb.proofs.Common.{cond_both, SumEvent, sums, SumState, refuse_or_end, refuse_or_go, never, AcceptsItems, End, Go, Next, ReadsStatement, Refuse}
 use Rattle.pb_opb.proofs.Common.{SkipsGap, is_white, Each, Item, Letter, OpbEvent, Header, Action, act, begin, linears, opb, OpbState, over, IsBegun}
-use Rattle.pb_opb.proofs.Common.{IsInstance}
+use Rattle.pb_opb.proofs.{Common.IsInstance, lemmas.machine.EntryPrefix.entry_only, lemmas.machine.Stands.idle}
 use Rattle.pb_opb.proofs.lemmas.instances.{Counted.IsEntry, Counted.IsCounted, Counted.counted, Counted.body_of, Larger.entry_grows}
-use Rattle.pb_opb.proofs.lemmas.machine.{EntryPrefix.entry_only, HeaderWalk.entry_reads, HeaderWalk.header_reads, HeaderPrefix.IsHeader}
-use Rattle.pb_opb.proofs.lemmas.machine.{HeaderPrefix.header_only, Stands.idle, Alive.done_stops}
+use Rattle.pb_opb.proofs.lemmas.machine.{HeaderWalk.entry_reads, HeaderWalk.header_reads, HeaderPrefix.IsHeader, HeaderPrefix.header_only, Alive.done_stops}
 
 -- what a byte of the white space before a statement may lead to
 abbrev pub InGap : (OpbState → Type 0) → Next OpbState OpbEvent → Type 0

@@ -1,12 +1,11 @@
 -- What the machine reads after a header is a comment, an objective or a constraint.
-use Rattle.pb_opb.proofs.Common.{Part, ℕ, ◌&&◌, ◌++◌, ◌+◌, ◌<◌, ◌∙◌, ◌∷◌, ◌≡◌, [], ap, arith, Bool, false, IsTrue, length, List, nat_eq, refl, subst, suc}
-use Rattle.pb_opb.proofs.Common.{sym, take, true, slice_index, and_parts, cond_both, eqb-true, reads_grammar, continues-midway, SumEvent, White, sums, SumState}
+use Rattle.pb_opb.proofs.Common.{Part, ℕ, ◌&&◌, ◌++◌, ◌+◌, ◌<◌, ◌∙◌, ◌∷◌, ◌≡◌, [], ap, arith, Bool, false, IsTrue, length, List, nat_eq, refl, subst, suc, sym}
+use Rattle.pb_opb.proofs.Common.{take, true, slice_index, and_parts, cond_both, eqb-true, reads_grammar, continues-midway, SumEvent, White, sums, SumState}
 use Rattle.pb_opb.proofs.Common.{Spells, ends_walk, Keeps, On, reported, Walks, walks_more, never, grown, many-grown, next, none_yet, as_unmarked, bytes_grown}
-use Rattle.pb_opb.proofs.Common.{further, word_grown, word_whole, End, Go, Next, ReadsStatement, Refuse, IsInLine, is_white, ◌⋅◌, Byte, Bytes, Language}
+use Rattle.pb_opb.proofs.Common.{further, word_grown, word_whole, End, Go, Next, ReadsStatement, Refuse, IsInLine, is_white, ◌⋅◌, Byte, Bytes, Language, over}
 use Rattle.pb_opb.proofs.Common.{unmarked, Letter, plain, OpbEvent, Action, BeginSum, To, Phase, transition, act, after, is_in_number, linears, objectives, opb}
-use Rattle.pb_opb.proofs.Common.{OpbState, over, statement_of, min_word, SpellsObjective, Whites0}
-use Rattle.pb_opb.proofs.lemmas.{instances.Counted.IsEntry, machine.Objectives.MinPrefix, machine.Objectives.objective_of}
-use Rattle.pb_opb.proofs.lemmas.machine.Stands.{one_byte, line_grown, idle}
+use Rattle.pb_opb.proofs.{Common.OpbState, Common.statement_of, Common.min_word, Common.SpellsObjective, Common.Whites0, lemmas.instances.Counted.IsEntry}
+use Rattle.pb_opb.proofs.lemmas.machine.{Objectives.MinPrefix, Objectives.objective_of, Stands.one_byte, Stands.line_grown, Stands.idle}
 
 abbrev IsWhite : ℕ → Type 0
 IsWhite b = IsTrue (is_white b)

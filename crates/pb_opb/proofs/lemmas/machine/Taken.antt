@@ -4,11 +4,10 @@ use Rattle.pb_opb.proofs.Common.{ℕ, ◌++◌, ◌∷◌, ◌≡◌, [], ap, ap
 use Rattle.pb_opb.proofs.Common.{not-true, Go, Runs, IsInLine, IsInOrder, keeps_line, opb, OpbState, ◌∙◌, refl, sym, sums, SumState, giving, over, OpbEvent}
 use Rattle.pb_opb.proofs.Common.{Part, SumEvent, ◌<◌, Bool, get_or, inl, length, Some, suc, zero, first_is_state, Linear, White, last, begins, begins_with, End}
 use Rattle.pb_opb.proofs.Common.{TakesStatement, Give, Phase, transition, Holds, act, is_within, linears, phase_owing, remaining_after}
-use Rattle.pb_opb.proofs.lemmas.machine.{Stands.IsGiving, Stands.gives_at, Stands.given_step, Pushed.goes_order, Pushed.give_order, Pushed.end_order}
-use Rattle.pb_opb.proofs.lemmas.machine.{Pushed.end_step, Alive.is_state}
+use Rattle.pb_opb.proofs.lemmas.machine.Stands.{IsGiving, gives_at, given_step}
+use Rattle.pb_opb.proofs.lemmas.machine.{Pushed.goes_order, Pushed.give_order, Pushed.end_order, Pushed.end_step, Alive.is_state}
 use Rattle.pb_sums.proofs.lemmas.machine.WholeTexts.{before_semicolon, linear_ends, linear_some}
-use Rattle.pb_sums.specs.engine.TermParts.{LeadsToLinear}
-use Rattle.std.specs.Option.{unwrap_or}
+use Rattle.{pb_sums.specs.engine.TermParts.LeadsToLinear, std.specs.Option.unwrap_or}
 
 abbrev pub keeping : OpbState → List ℕ → OpbState
 keeping s text = record s { text = text }

@@ -1,20 +1,19 @@
 -- What the conclusion machine has read in each of its states.
 use Rattle.pb_proof.proofs.Common.{ℕ, conclusion_at, SolutionState, showing_value, solution_first, ℤ, ◌≡◌, ◌≤◌, sym, End, To, ◌∙◌, ◌∷◌, [], ap, ◌⋅◌, ◌*◌, inl}
-use Rattle.pb_proof.proofs.Common.{inr, ◌-◌, On, ◌+◌, nat_le, Refuse, digits, signed, IdShown, LineEnd, regroup, ◌<◌, cond, List, refl, true}
-use Rattle.pb_proof.proofs.Common.{Next, Stop, Side, Word, ◌++◌, Some, take, None, Byte, ◌&&◌, next, Sign, arith, false, Letter, Finite, Digits, inside}
-use Rattle.pb_proof.proofs.Common.{Option, Bool, subst, Bound, Owner, spell, Walks, Bytes, plain, rules, Empty, Keeps, grown, digit, colon}
-use Rattle.pb_proof.proofs.Common.{length, conclusion_automaton, conclusion_act as act, conclusion_over as over, ConclusionPhase as Phase}
-use Rattle.pb_proof.proofs.Common.{SpellsConclusionLine, nat_eq, slice_index, after_bound, SpellsBound, bounds_word, SpellsShown, and_parts, id_digits}
-use Rattle.pb_proof.proofs.Common.{PhaseFits, word_whole, unsat_word, walks_more, digits-one, some_digit, Literal, phase_after_bound, phase_after_word}
-use Rattle.pb_proof.proofs.Common.{solution_automaton, Showing, between, word_of, SpellsId, Blanks0, Blanks1, sat_word, eqb-true, after_it, none_yet, Go}
-use Rattle.pb_proof.proofs.Common.{ConclusionState, conclusion_value, SpellsConclusion, is_blank, Infinite, after_id, is_digit, Language, unmarked, inf_word}
-use Rattle.pb_proof.proofs.Common.{none_word, cond_both, ends_walk, Conclusion, append_assoc, is_in_number, SpellsJoined, digits-grown, Concluding}
-use Rattle.pb_proof.proofs.Common.{word_grown, as_unmarked, begin_bound, conclusion_next as next_action, conclusion_transition as transition}
-use Rattle.pb_proof.proofs.Common.{conclusion_giving as giving, ConclusionAction as Action}
+use Rattle.pb_proof.proofs.Common.{inr, ◌-◌, On, ◌+◌, nat_le, Refuse, digits, signed, IdShown, LineEnd, regroup, ◌<◌, cond, List, refl, true, Next, Stop, Side}
+use Rattle.pb_proof.proofs.Common.{Word, ◌++◌, Some, take, None, Byte, ◌&&◌, next, Sign, arith, false, Letter, Finite, Digits, inside, Option, Bool, subst}
+use Rattle.pb_proof.proofs.Common.{Bound, Owner, spell, Walks, Bytes, plain, rules, Empty, Keeps, grown, digit, colon, length, conclusion_automaton}
+use Rattle.pb_proof.proofs.Common.{conclusion_act as act, conclusion_over as over, ConclusionPhase as Phase, SpellsConclusionLine, nat_eq, slice_index}
+use Rattle.pb_proof.proofs.Common.{after_bound, SpellsBound, bounds_word, SpellsShown, and_parts, id_digits, PhaseFits, word_whole, unsat_word, walks_more}
+use Rattle.pb_proof.proofs.Common.{digits-one, some_digit, Literal, phase_after_bound, phase_after_word, solution_automaton, Showing, between, word_of}
+use Rattle.pb_proof.proofs.Common.{SpellsId, Blanks0, Blanks1, sat_word, eqb-true, after_it, none_yet, Go, ConclusionState, conclusion_value, SpellsConclusion}
+use Rattle.pb_proof.proofs.Common.{is_blank, Infinite, after_id, is_digit, Language, unmarked, inf_word, none_word, cond_both, ends_walk, Conclusion}
+use Rattle.pb_proof.proofs.Common.{append_assoc, is_in_number, SpellsJoined, digits-grown, Concluding, word_grown, as_unmarked, begin_bound}
+use Rattle.pb_proof.proofs.Common.{conclusion_next as next_action, conclusion_transition as transition, conclusion_giving as giving, ConclusionAction as Action}
 use Rattle.pb_proof.proofs.lemmas.{Solution.solution_of_one, Solution.solution_reads, conclusion.Steps.continues, conclusion.Steps.at}
 use Rattle.pb_proof.proofs.lemmas.line.Ends.{blank_closing, semicolon_after_blanks, line_after_blanks, further_blank, Gapped, Closing, blank_more, gapped}
 use Rattle.pb_proof.proofs.lemmas.line.Ends.{positive, gapped_some, first_blank, line_closing, blanks_begin, blanks_go_on}
-use Rattle.pb_proof.specs.{meaning.Lines.Minus}
+use Rattle.pb_proof.specs.meaning.Lines.{Minus}
 
 -- What the machine has read in each of its states.
 

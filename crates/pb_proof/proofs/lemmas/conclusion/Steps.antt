@@ -2,15 +2,14 @@
 use Rattle.pb_proof.proofs.Common.{ℕ, conclusion_at, SolutionState, length-append, ℤ, ◌^◌, ◌≡◌, ◌≤◌, sym, End, To, ◌∙◌, ◌∷◌, [], ap, ◌⋅◌, ◌*◌, inl, inr, ◌+◌}
 use Rattle.pb_proof.proofs.Common.{nat_le, Refuse, digits, eq-eqb, signed, ◌<◌, cond, List, refl, true, Next, Side, Word, ◌++◌, drop, Some, take, None, next}
 use Rattle.pb_proof.proofs.Common.{arith, false, Letter, Finite, le-leb, Digits, Number, Bool, subst, Bound, Owner, spell, spent, Leads, Walks, Bytes, plain}
-use Rattle.pb_proof.proofs.Common.{length, conclusion_automaton, conclusion_act as act, conclusion_over as over, ConclusionPhase as Phase, nat_eq}
-use Rattle.pb_proof.proofs.Common.{slice_index, blank_digit, digits_lead, digit_blank, SpellsBound, and_parts, leb-true, id_digits, is_within, PhaseFits}
-use Rattle.pb_proof.proofs.Common.{Literal, phase_after_bound, phase_after_word, IsConclusionInOrder, solution_automaton, get_or-append_seam, further}
-use Rattle.pb_proof.proofs.Common.{Showing, between, word_of, SpellsId, Go, conclusion_last, ConclusionState, take-append-drop, length-take-le}
-use Rattle.pb_proof.proofs.Common.{conclusion_value, Infinite, after_id, nat_tests, is_digit, Language, unmarked, inf_word, Conclusion, append_assoc}
-use Rattle.pb_proof.proofs.Common.{Concluding, first_word, append-nil, walks_then, digit_byte, conclusion_next as next_action}
-use Rattle.pb_proof.proofs.Common.{conclusion_transition as transition, conclusion_giving as giving, ConclusionAction as Action}
+use Rattle.pb_proof.proofs.Common.{length, conclusion_automaton, conclusion_act as act, conclusion_over as over, ConclusionPhase as Phase, nat_eq, slice_index}
+use Rattle.pb_proof.proofs.Common.{blank_digit, digits_lead, digit_blank, SpellsBound, and_parts, leb-true, id_digits, is_within, PhaseFits, Literal}
+use Rattle.pb_proof.proofs.Common.{phase_after_bound, phase_after_word, IsConclusionInOrder, solution_automaton, get_or-append_seam, further, Showing, between}
+use Rattle.pb_proof.proofs.Common.{word_of, SpellsId, Go, conclusion_last, ConclusionState, take-append-drop, length-take-le, conclusion_value, Infinite}
+use Rattle.pb_proof.proofs.Common.{after_id, nat_tests, is_digit, Language, unmarked, inf_word, Conclusion, append_assoc, Concluding, first_word, append-nil}
+use Rattle.pb_proof.proofs.Common.{walks_then, digit_byte, conclusion_next as next_action, conclusion_transition as transition, conclusion_giving as giving}
+use Rattle.pb_proof.{proofs.Common.ConclusionAction as Action, specs.engine.line.ConclusionState.Holds}
 use Rattle.pb_proof.proofs.lemmas.{Solution.solution_of_one, line.Ends.TakesBlanks, line.Ends.closing_feeds, line.Ends.MayEnd, line.Ends.not_zero}
-use Rattle.pb_proof.specs.{engine.line.ConclusionState.Holds}
 
 -- What a byte preserves, and how the machine walks through the parts of a conclusion.
 

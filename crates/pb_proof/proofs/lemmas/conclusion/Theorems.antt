@@ -2,25 +2,22 @@
 use Rattle.pb_proof.proofs.Common.{ℕ, conclusion_at, SolutionState, showing_value, solution_first, end_or_refuse, ReadsStatement, AsksConclusion, ℤ, ◌≡◌, sym}
 use Rattle.pb_proof.proofs.Common.{End, ◌∙◌, ◌∷◌, [], ap, ◌⋅◌, inl, inr, suc, Sat, ◌↔◌, ◌⊎◌, Refuse, signed, IdShown, LineEnd, NoClaim, ReadsOn, IsOfOne}
 use Rattle.pb_proof.proofs.Common.{IsState, refuses, largest, ◌<◌, List, refl, true, Next, Side, Word, ◌++◌, drop, Some, None, Byte, ◌&&◌, next, zero, asks}
-use Rattle.pb_proof.proofs.Common.{arith, false, Letter, inside, Option, Limits, top_of, longer, Bounds, IsTrue, admits, Admits, Bool, subst, Bound}
-use Rattle.pb_proof.proofs.Common.{Owner, Walks, Bytes, plain, rules, Empty, colon, Unsat, bytes, conclusion_automaton, conclusion_act as act}
-use Rattle.pb_proof.proofs.Common.{conclusion_over as over, ConclusionPhase as Phase, SpellsConclusionLine, blank_digit, SpellsBound, bounds_word}
-use Rattle.pb_proof.proofs.Common.{SpellsShown, bytes-append, is_within, PhaseFits, unsat_word, false≢true, Literal, phase_after_bound, phase_after_word}
-use Rattle.pb_proof.proofs.Common.{IsConclusionInOrder, solution_automaton, IsSolutionInOrder, Showing, word_of, SpellsId, Blanks0, Blanks1, after_it}
-use Rattle.pb_proof.proofs.Common.{is_state, is_large, Go, conclusion_last, ConclusionState, conclusion_value, conclusion_first, Infinite, is_digit, Language}
-use Rattle.pb_proof.proofs.Common.{unmarked, inf_word, none_word, AsksShown, Conclusion, append_assoc, is_in_number, SpellsJoined, reads_before, go_or_refuse}
-use Rattle.pb_proof.proofs.Common.{solution_last, LiteralsShown, Concluding, reads_after, prefixes_of, conclusion_transition as transition}
-use Rattle.pb_proof.proofs.Common.{conclusion_giving as giving, ConclusionAction as Action}
-use Rattle.pb_proof.proofs.lemmas.{Solution.solution_of_one, Solution.solution_reads, line.Asks.solution_asked}
-use Rattle.pb_proof.proofs.lemmas.Carried.{Nests, reads_in, reads_out}
-use Rattle.pb_proof.proofs.lemmas.conclusion.Prefix.{Body, prefix, Reported, Known, keeps}
-use Rattle.pb_proof.proofs.lemmas.conclusion.Steps.{OnAction, on_transition, idle_order, continues, ends, give_phase, at, Carries, carries_then, Is}
-use Rattle.pb_proof.proofs.lemmas.conclusion.Steps.{leads_carry, word_left, word_leads, Follows, follows_blanks, after_blanks_of, may_end, id_steps}
-use Rattle.pb_proof.proofs.lemmas.conclusion.Steps.{id_follows, Opens, before_opens, spaced_opens, signed_step, infinity_left, infinity_leads, bound_carries}
-use Rattle.pb_proof.proofs.lemmas.conclusion.Steps.{id_step, first_id_step, signed_id_step, AtId, id_carries}
+use Rattle.pb_proof.proofs.Common.{arith, false, Letter, inside, Option, Limits, top_of, longer, Bounds, IsTrue, admits, Admits, Bool, subst, Bound, Owner}
+use Rattle.pb_proof.proofs.Common.{Walks, Bytes, plain, rules, Empty, colon, Unsat, bytes, conclusion_automaton, conclusion_act as act, conclusion_over as over}
+use Rattle.pb_proof.proofs.Common.{ConclusionPhase as Phase, SpellsConclusionLine, blank_digit, SpellsBound, bounds_word, SpellsShown, bytes-append, is_within}
+use Rattle.pb_proof.proofs.Common.{PhaseFits, unsat_word, false≢true, Literal, phase_after_bound, phase_after_word, IsConclusionInOrder, solution_automaton}
+use Rattle.pb_proof.proofs.Common.{IsSolutionInOrder, Showing, word_of, SpellsId, Blanks0, Blanks1, after_it, is_state, is_large, Go, conclusion_last}
+use Rattle.pb_proof.proofs.Common.{ConclusionState, conclusion_value, conclusion_first, Infinite, is_digit, Language, unmarked, inf_word, none_word, AsksShown}
+use Rattle.pb_proof.proofs.Common.{Conclusion, append_assoc, is_in_number, SpellsJoined, reads_before, go_or_refuse, solution_last, LiteralsShown, Concluding}
+use Rattle.pb_proof.proofs.Common.{reads_after, prefixes_of, conclusion_transition as transition, conclusion_giving as giving, ConclusionAction as Action}
+use Rattle.pb_proof.proofs.lemmas.{Solution.solution_of_one, Solution.solution_reads, Carried.Nests, Carried.reads_in, Carried.reads_out}
+use Rattle.pb_proof.{proofs.lemmas.line.Asks.solution_asked, specs.engine.line.ConclusionState.Holds, specs.engine.line.Conclusion.is_done}
+use Rattle.pb_proof.proofs.lemmas.conclusion.{Prefix.Body, Prefix.prefix, Prefix.Reported, Prefix.Known, Prefix.keeps, Steps.signed_id_step}
+use Rattle.pb_proof.proofs.lemmas.conclusion.Steps.{OnAction, on_transition, idle_order, continues, ends, give_phase, at, Carries, carries_then, Is, id_carries}
+use Rattle.pb_proof.proofs.lemmas.conclusion.Steps.{leads_carry, word_left, word_leads, Follows, follows_blanks, after_blanks_of, may_end, id_steps, id_follows}
+use Rattle.pb_proof.proofs.lemmas.conclusion.Steps.{Opens, before_opens, spaced_opens, signed_step, infinity_left, infinity_leads, bound_carries, id_step, AtId}
+use Rattle.{pb_proof.proofs.lemmas.conclusion.Steps.first_id_step, std.proofs.Math.Pow.pow_mono}
 use Rattle.pb_proof.proofs.lemmas.line.Ends.{TakesBlanks, reads_exactly, line_reads, nil_last, blanks1_lead, blanks0_lead, after_blanks}
-use Rattle.pb_proof.specs.{engine.line.ConclusionState.Holds, engine.line.Conclusion.is_done}
-use Rattle.std.proofs.Math.Pow.{pow_mono}
 
 -- The machine reads each conclusion.
 

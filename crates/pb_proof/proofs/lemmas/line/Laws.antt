@@ -1,16 +1,15 @@
 -- What holds of the machines that read the text after the first word of a statement.
-use Rattle.pb_proof.proofs.Common.{ℕ, ◌<◌, ◌^◌, ◌≡◌, false, Blank, IsState, Letter, arith, rules, rup_last, Part, List, LineKind}
-use Rattle.pb_proof.proofs.Common.{refl, pol_last, LineMachine, Statement, formula_last, delete_first, delete_last, pol_first, rup_first, Automaton, line_first}
-use Rattle.pb_proof.proofs.Common.{SpellsRest, conclusion_automaton, conclusion_first, conclusion_last, formula_automaton, delete_automaton, solution_automaton}
+use Rattle.pb_proof.proofs.Common.{ℕ, ◌<◌, ◌^◌, ◌≡◌, false, Blank, IsState, Letter, arith, rules, rup_last, Part, List, LineKind, refl, pol_last, LineMachine}
+use Rattle.pb_proof.proofs.Common.{Statement, formula_last, delete_first, delete_last, pol_first, rup_first, Automaton, line_first, SpellsRest}
+use Rattle.pb_proof.proofs.Common.{conclusion_automaton, conclusion_first, conclusion_last, formula_automaton, delete_automaton, solution_automaton}
 use Rattle.pb_proof.proofs.Common.{first_is_state, ReadsStatement, formula_first, solution_first, solution_last, line_automaton, pol_automaton, rup_automaton}
-use Rattle.pb_proof.proofs.lemmas.{Carried.Carries, Carried.reads_out, Delete.delete_of_one, Delete.delete_reads, Formula.formula_reads, Formula.formula_of_one}
-use Rattle.pb_proof.proofs.lemmas.{Carried.reads_in, Carried.state_in, Carried.begins_in, Rup.rup_is_state, Rup.rup_begins, Rup.rup_reads}
-use Rattle.pb_proof.proofs.lemmas.{Delete.delete_is_state, Solution.solution_of_one, Solution.solution_reads, Formula.formula_is_state}
-use Rattle.pb_proof.proofs.lemmas.{Solution.solution_is_state}
+use Rattle.pb_proof.proofs.lemmas.Carried.{Carries, reads_out, reads_in, state_in, begins_in}
+use Rattle.pb_proof.proofs.lemmas.{Delete.delete_of_one, Delete.delete_is_state, Solution.solution_of_one, Solution.solution_reads, Solution.solution_is_state}
+use Rattle.{pb_proof.proofs.lemmas.Delete.delete_reads, pb_text.proofs.lemmas.machine.Living.BeginsAtOnce}
+use Rattle.pb_proof.proofs.lemmas.{Formula.formula_reads, Formula.formula_of_one, Formula.formula_is_state, Rup.rup_is_state, Rup.rup_begins, Rup.rup_reads}
 use Rattle.pb_proof.proofs.lemmas.conclusion.Theorems.{conclusion_of_one, conclusion_reads, conclusion_is_state}
 use Rattle.pb_proof.proofs.lemmas.pol.Theorems.{pol_reads, of_one, pol_is_state, pol_first_in_order}
 use Rattle.pb_proof.specs.declared.machine.phase.LineKind.TheVariants.{Formula, Pol, Rup, Soli, Solx, Delete, Conclusion}
-use Rattle.pb_text.proofs.lemmas.machine.Living.{BeginsAtOnce}
 
 pub formula_carries : Carries formula_automaton line_automaton LineMachine.Formula Statement.F
 formula_carries = search (rules, formula_of_one.begins)

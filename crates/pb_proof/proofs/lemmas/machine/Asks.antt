@@ -1,15 +1,14 @@
 -- If the proof machine may allocate at a byte, that byte is at a position of its statement that may allocate.
-use Rattle.pb_proof.proofs.Common.{ℕ, ◌++◌, List, None, refl, Some, sym, true, at, idle, Asks, ◌∙◌, [], ◌∷◌, ap, bytes}
-use Rattle.pb_proof.proofs.Common.{◌≡◌, conclusion_first, proof_transition as transition, proof_within as is_within, ProofAction as Action, ProofPhase as Phase}
-use Rattle.pb_proof.proofs.Common.{Go, Stage, begin, false, subst, arith, Walks, never, Letter, LineKind, proofs, IsTrue, MayAsk, Statement, pol_first, IsProof}
-use Rattle.pb_proof.proofs.Common.{rup_first, AsksAfter, FirstWord, Automaton, false≢true, line_first, SpellsRest, ProofState, LineMachine, stage_after}
-use Rattle.pb_proof.proofs.Common.{Opening, prefixes_of, reads_after, bytes-append, ReadsStatement, formula_first, delete_first, solution_first, line_automaton}
-use Rattle.pb_proof.proofs.lemmas.{Carried.Carries, Carried.walks_out, Carried.reads_out, line.Laws.line_only, conclusion.Theorems.conclusion_asked}
-use Rattle.pb_proof.proofs.lemmas.line.Asks.{delete_asked, solution_asked, rup_asked}
-use Rattle.pb_proof.proofs.lemmas.line.Laws.{formula_carries, pol_carries, rup_carries, soli_carries, solx_carries, delete_carries, conclusion_carries}
+use Rattle.pb_proof.proofs.Common.{ℕ, ◌++◌, List, None, refl, Some, sym, true, at, idle, Asks, ◌∙◌, [], ◌∷◌, ap, bytes, ◌≡◌, conclusion_first}
+use Rattle.pb_proof.proofs.Common.{proof_transition as transition, proof_within as is_within, ProofAction as Action, ProofPhase as Phase, Go, Stage, begin}
+use Rattle.pb_proof.proofs.Common.{false, subst, arith, Walks, never, Letter, LineKind, proofs, IsTrue, MayAsk, Statement, pol_first, IsProof, rup_first}
+use Rattle.pb_proof.proofs.Common.{AsksAfter, FirstWord, Automaton, false≢true, line_first, SpellsRest, ProofState, LineMachine, stage_after, Opening}
+use Rattle.pb_proof.proofs.Common.{prefixes_of, reads_after, bytes-append, ReadsStatement, formula_first, delete_first, solution_first, line_automaton}
+use Rattle.pb_proof.proofs.lemmas.{Carried.Carries, Carried.walks_out, Carried.reads_out, conclusion.Theorems.conclusion_asked}
+use Rattle.pb_proof.proofs.lemmas.line.Laws.{line_only, formula_carries, pol_carries, rup_carries, soli_carries, solx_carries, delete_carries}
+use Rattle.pb_proof.proofs.lemmas.{line.Laws.conclusion_carries, line.Asks.delete_asked, line.Asks.solution_asked, line.Asks.rup_asked, pol.Sound.pol_asked}
 use Rattle.pb_proof.proofs.lemmas.machine.{Complete.line_nests, Complete.is_giving, Exact.reads_proofs, Exact.comment_reads}
-use Rattle.pb_proof.{proofs.lemmas.pol.Sound.pol_asked, specs.engine.machine.State.asks}
-use Rattle.pb_text.specs.meaning.Asking.{AsksOnly}
+use Rattle.{pb_proof.specs.engine.machine.State.asks, pb_text.specs.meaning.Asking.AsksOnly}
 use Rattle.pb_text.proofs.lemmas.machine.Asked as asked
 use Rattle.pb_proof.specs.engine.machine.State as state
 use Rattle.pb_proof.proofs.lemmas.machine.Sound as sound

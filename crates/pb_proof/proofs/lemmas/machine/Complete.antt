@@ -1,14 +1,12 @@
 -- The proof machine reads each statement from its stage.
-use Rattle.pb_proof.{proofs.lemmas.Carried.Nests, proofs.lemmas.Carried.reads_in}
-use Rattle.pb_proof.proofs.Common.{ℕ, and_parts, ends_walk, Statement, nat_tests, ◌&&◌, walks_more, line_first, SpellsRest, next_stage}
-use Rattle.pb_proof.proofs.Common.{ProofState, append-nil, same_first, walks_then, ◌++◌, stage_of, or-false, not-true, unmarked, ◌+◌, ◌-◌, ◌∙◌, ◌∷◌, ◌≡◌}
-use Rattle.pb_proof.proofs.Common.{refl, Some, sym, true, idle, ◌||◌, cond, Byte, Each, Feed, [], eqb-true, is_blank, Language, LineKind, Complete, sol_word}
-use Rattle.pb_proof.proofs.Common.{words_of, line_automaton, append_assoc, length-append, ap, Go, ◌⋅◌, act, ap₂, not, at, arith, slice_index}
-use Rattle.pb_proof.proofs.Common.{LineMachine, next_action, stage_after, reads_after, Bool, false, nat_eq, Letter, proofs, eq-eqb, longer, giving, IsTrue}
-use Rattle.pb_proof.proofs.Common.{length, Keyword, Closing, Formula, Opening, LineEnd, Blanks1, List, subst, Walks, Bytes, Stage}
-use Rattle.pb_proof.proofs.Common.{Steps, meets, plain, ReadsStatement, SpellsStatement, proof_spell as spell, ProofPhase as Phase, get_or-append_seam}
-use Rattle.pb_proof.proofs.Common.{proof_transition as transition, ProofAction as Action}
-use Rattle.pb_proof.proofs.lemmas.Spaced.{Spaced, KeywordWords, One, chooses, keyword_each}
+use Rattle.pb_proof.proofs.lemmas.{Carried.Nests, Carried.reads_in, Spaced.Spaced, Spaced.KeywordWords, Spaced.One, Spaced.chooses, Spaced.keyword_each}
+use Rattle.pb_proof.proofs.Common.{ℕ, and_parts, ends_walk, Statement, nat_tests, ◌&&◌, walks_more, line_first, SpellsRest, next_stage, ProofState, append-nil}
+use Rattle.pb_proof.proofs.Common.{same_first, walks_then, ◌++◌, stage_of, or-false, not-true, unmarked, ◌+◌, ◌-◌, ◌∙◌, ◌∷◌, ◌≡◌, refl, Some, sym, true, idle}
+use Rattle.pb_proof.proofs.Common.{◌||◌, cond, Byte, Each, Feed, [], eqb-true, is_blank, Language, LineKind, Complete, sol_word, words_of, line_automaton}
+use Rattle.pb_proof.proofs.Common.{append_assoc, length-append, ap, Go, ◌⋅◌, act, ap₂, not, at, arith, slice_index, LineMachine, next_action, stage_after}
+use Rattle.pb_proof.proofs.Common.{reads_after, Bool, false, nat_eq, Letter, proofs, eq-eqb, longer, giving, IsTrue, length, Keyword, Closing, Formula, Opening}
+use Rattle.pb_proof.proofs.Common.{LineEnd, Blanks1, List, subst, Walks, Bytes, Stage, Steps, meets, plain, ReadsStatement, SpellsStatement}
+use Rattle.pb_proof.proofs.Common.{proof_spell as spell, ProofPhase as Phase, get_or-append_seam, proof_transition as transition, ProofAction as Action}
 use Rattle.pb_proof.proofs.lemmas.line.{Ends.Feeds, Ends.feed_reads, Ends.MayEnd, Ends.line_reads, Laws.line_begins, Laws.line_fresh, Laws.line_each}
 use Rattle.pb_proof.proofs.lemmas.machine.Sound.{stage_keyword}
 

@@ -85,8 +85,7 @@ module _ (limit top : ℕ) (s : Stage) (gaps : HasGaps s) where
   pub gap_before : (gap : List ℕ) (mid after : ProofState) (t : List Letter) (e : Statement) → SkipsGap proofs (idle limit top s) gap mid → ReadsStatement proofs mid t e after
       → IsGap gap × (mid ≡ idle limit top s)
   gap_before gap mid after t e h r =
-      let k = gap_only gap [] mid h Nothing in
-      by_mode (in_comment gap) refl k
+      let k = gap_only gap [] mid h Nothing in by_mode (in_comment gap) refl k
     where
       by_mode : (x : Bool) → in_comment gap ≡ x → IsBlank gap × (mid ≡ gap_state (in_comment gap)) → IsGap gap × (mid ≡ idle limit top s)
       by_mode true c k = absurd (comment_reads limit top s t e after (subst (λ y. ReadsStatement proofs y t e after) (k.1 ∙ ap gap_state c) r))

@@ -1,20 +1,19 @@
 -- Runs of the machine, and what is taken in one call.
 use Rattle.pb_proof.proofs.Common.{◌==◌, ℕ, LineKind, words_of, runs_more, rup_first, IsInOrder, sum_first, next_action, line_first, text_after, length-drop}
-use Rattle.pb_proof.proofs.Common.{take-length, pol_first, IsClosing, Statement, drop-cons, pointwise, LacksRest, take_more, ◌≤◌, ProofPhase as Phase}
-use Rattle.pb_proof.proofs.Common.{proof_over as over, ProofAction as Action, take-append-drop, Go, ◌≡◌, suc, sym, act, at, ◌-◌, [], ap, ap₂, idle, Some}
-use Rattle.pb_proof.proofs.Common.{Next, ◌+◌, ◌<◌, length, giving, proofs, rup_act, PolWord, IsState, Keyword, ◌∙◌, Holds, never, Blank, arith}
-use Rattle.pb_proof.proofs.Common.{Option, Linear, IsRest, Inside, get_or, ◌∷◌, zero, sums, Runs, Give, Part, ◌++◌, drop, List, None, refl, take, false}
-use Rattle.pb_proof.proofs.Common.{subst, Stage, LineMachine, append_assoc, prefix_parts, IsExpression, IsRupInOrder, bytes_decides}
-use Rattle.pb_proof.proofs.Common.{rup_automaton, length-append, line_automaton, length-take-le, rup_transition, first_is_state, TakesStatement, ProofState}
-use Rattle.pb_proof.proofs.Common.{ProofPhaseFits as PhaseFits, is_blank, SumEvent, SumState, rup_over, RupState, RupPhase, all_rest, sum_last, PolState}
-use Rattle.pb_proof.proofs.lemmas.{Carried.runs_in, Rup.rup_is_state, Rup.tail_order, line.Laws.pol_carries, line.Laws.rup_carries, machine.Complete.spelt}
-use Rattle.pb_proof.proofs.lemmas.machine.Complete.{step_on, step_last, meets_any}
+use Rattle.pb_proof.proofs.Common.{take-length, pol_first, IsClosing, Statement, drop-cons, pointwise, LacksRest, take_more, ◌≤◌, ProofPhase as Phase, ◌≡◌, ap₂}
+use Rattle.{pb_proof.proofs.Common.proof_over as over, pb_proof.proofs.Common.ProofAction as Action, pb_sums.specs.engine.TermParts.LeadsToLinear}
+use Rattle.pb_proof.proofs.Common.{take-append-drop, ◌-◌, idle, Next, is_blank, SumEvent, SumState, rup_over, RupState, RupPhase, all_rest, sum_last, PolState}
+use Rattle.pb_proof.proofs.Common.{Go, suc, IsRest, Inside, get_or, ◌∷◌, zero, sums, Runs, Give, Part, ◌++◌, drop, List, None, refl, take, false, subst, Stage}
+use Rattle.pb_proof.proofs.Common.{sym, ◌+◌, ◌<◌, length, giving, proofs, rup_act, PolWord, IsState, Keyword, ◌∙◌, Holds, never, Blank, arith, Option, Linear}
+use Rattle.pb_proof.proofs.Common.{act, Some, LineMachine, append_assoc, prefix_parts, IsExpression, IsRupInOrder, bytes_decides, rup_automaton, length-append}
+use Rattle.pb_proof.proofs.Common.{at, line_automaton, length-take-le, rup_transition, first_is_state, TakesStatement, ProofState, ProofPhaseFits as PhaseFits}
+use Rattle.pb_proof.proofs.{Common.[], Common.ap, lemmas.Rup.rup_is_state, lemmas.Rup.tail_order, lemmas.line.Laws.pol_carries, lemmas.line.Laws.rup_carries}
+use Rattle.pb_proof.proofs.lemmas.{Carried.runs_in, machine.Complete.spelt, machine.Complete.step_on, machine.Complete.step_last, machine.Complete.meets_any}
 use Rattle.pb_proof.specs.engine.{line.Carried.carried, machine.Whole.LeadsToPol, machine.Whole.LeadsToRup, machine.Whole.rup_read, machine.Whole.with_rup}
 use Rattle.pb_sums.proofs.lemmas.machine.WholeTexts.{linear_ends, last_is_state, before_semicolon, linear_some}
-use Rattle.pb_sums.specs.engine.TermParts.{LeadsToLinear}
+use Rattle.pb_proof.proofs.lemmas.machine.States.{OnAction, on_after, plain_holds, continues, is_state, at_order, begin_order, give_order}
 use Rattle.pb_proof.proofs.lemmas.Rup as rup_states
 use Rattle.pb_proof.proofs.lemmas.pol.Theorems as pol
-use Rattle.pb_proof.proofs.lemmas.machine.States.{OnAction, on_after, plain_holds, continues, is_state, at_order, begin_order, give_order}
 
 -- Runs of the machine.
 

@@ -1,20 +1,17 @@
 -- What holds of each state that the proof machine can be in.
-use Rattle.pb_proof.proofs.Common.{ℕ, split_at, eqb-true, accepted, reads_on, unmarked, LineKind, Complete, words_of, IsStaged, IsInOrder, next_action}
+use Rattle.pb_proof.proofs.Common.{ℕ, split_at, eqb-true, accepted, reads_on, unmarked, LineKind, Complete, words_of, IsStaged, IsInOrder, next_action, Closing}
 use Rattle.pb_proof.proofs.Common.{admitted_on, is_complete, slice_index, line_first, next_stage, End, none_word, cond_both, same_Some, Statement, step_line}
 use Rattle.pb_proof.proofs.Common.{◌≤◌, conclusion_word, ProofPhase as Phase, proof_spell as spell, proof_over as over, ProofAction as Action, Go, ◌≡◌, suc}
-use Rattle.pb_proof.proofs.Common.{sym, act, at, ◌-◌, [], ap, true, Item, idle, ◌&&◌, Some, Next, Bool, ◌+◌, ◌<◌, ◌^◌, length, Letter, giving, proofs}
-use Rattle.pb_proof.proofs.Common.{refuses, further, IsAlive, f_word, ReadsOn, IsState, NoClaim, Keyword, ◌∙◌, Holds, never, asked, enter, meets, arith}
-use Rattle.pb_proof.proofs.Common.{IsTrue, nat_eq, Option, Admits, Refuse, ◌∷◌, ◌++◌, drop, List, None, refl, take, false, subst, final, plain}
-use Rattle.pb_proof.proofs.Common.{Stage, Steps, rules, LineMachine, append_assoc, AcceptsItems, admits_final, length-append, line_automaton, admits_before}
-use Rattle.pb_proof.proofs.Common.{length-take-le, ProofState, ProofPhaseFits as PhaseFits, proof_between as between, proof_transition as transition}
-use Rattle.pb_proof.proofs.Common.{proof_within as is_within, Closing, Formula, Opening, HasGaps, is_blank}
-use Rattle.pb_proof.proofs.lemmas.{Carried.reads_in, line.Ends.fed, line.Ends.ended}
+use Rattle.pb_proof.proofs.Common.{sym, act, at, ◌-◌, [], ap, true, Item, idle, ◌&&◌, Some, Next, Bool, ◌+◌, ◌<◌, ◌^◌, length, Letter, giving, proofs, refuses}
+use Rattle.pb_proof.proofs.Common.{further, IsAlive, f_word, ReadsOn, IsState, NoClaim, Keyword, ◌∙◌, Holds, never, asked, enter, meets, arith, IsTrue, nat_eq}
+use Rattle.pb_proof.proofs.Common.{Option, Admits, Refuse, ◌∷◌, ◌++◌, drop, List, None, refl, take, false, subst, final, plain, Stage, Steps, rules, is_blank}
+use Rattle.pb_proof.proofs.Common.{LineMachine, append_assoc, AcceptsItems, admits_final, length-append, line_automaton, admits_before, length-take-le, Formula}
+use Rattle.pb_proof.proofs.Common.{ProofState, ProofPhaseFits as PhaseFits, proof_between as between, proof_transition as transition, proof_within as is_within}
+use Rattle.pb_proof.proofs.{Common.Opening, Common.HasGaps, lemmas.machine.Exact.no_gap, lemmas.machine.Exact.finishes, lemmas.machine.Exact.ordered_each}
+use Rattle.pb_proof.proofs.lemmas.{Carried.reads_in, line.Ends.fed, line.Ends.ended, line.Laws.line_begins, line.Laws.line_fresh, line.Laws.line_first_state}
 use Rattle.pb_proof.proofs.lemmas.Spaced.{Spaced, chooses, KeywordWords, keyword_only, some_byte}
-use Rattle.pb_proof.proofs.lemmas.{line.Laws.line_begins, line.Laws.line_fresh, line.Laws.line_first_state, machine.Complete.spelt}
-use Rattle.pb_proof.proofs.lemmas.machine.Complete.{header_end, output_end, step_on, step_last, line_nests, is_giving, meets_any}
-use Rattle.pb_proof.proofs.lemmas.machine.Exact.{no_gap, finishes, ordered_each}
-use Rattle.pb_proof.specs.engine.machine.{State.asks, State.is_done}
-use Rattle.pb_text.proofs.lemmas.machine.Living.{before}
+use Rattle.pb_proof.proofs.lemmas.machine.Complete.{spelt, header_end, output_end, step_on, step_last, line_nests, is_giving, meets_any}
+use Rattle.{pb_proof.specs.engine.machine.State.asks, pb_proof.specs.engine.machine.State.is_done, pb_text.proofs.lemmas.machine.Living.before}
 
 plain_spaced : (w : List ℕ) → Spaced w (plain w)
 plain_spaced [] = refl

@@ -1,12 +1,11 @@
 -- What the transition of the `pol` machine for a phase and a kind of byte leads to.
-use Rattle.pb_proof.{specs.engine.line.Pol.adds}
+use Rattle.pb_proof.{specs.engine.line.Pol.adds, proofs.Common.letter_name, proofs.Common.held_number, proofs.Common.refuse_or_go, proofs.Common.le-max_right}
 use Rattle.pb_proof.proofs.Common.{ℕ, false≢true, true≢false, transition, word_units, may_be_name, le-max_left, Bool, Action, Change, number, Refuse, Letter}
-use Rattle.pb_proof.proofs.Common.{IsFree, kind_of, one_end, PolWord, changed, counted, is_done, in_hand, cond, List, None, refl, Some, feed, read, Work}
-use Rattle.pb_proof.proofs.Common.{work, Next, arith, rules, subst, Phase, blank, Held, Role, over, Kind, ◌++◌, ◌<◌, ◌≡◌, ◌*◌, ◌∷◌, ◌≤◌, End, sym, suc, true}
-use Rattle.pb_proof.proofs.Common.{bound, close, ready, units, false, IsTrue, length, nat_eq, [], eqb-true, go_or_end, nat_le, digit_of, is_blank, finished}
-use Rattle.pb_proof.proofs.Common.{PolState, one_state, is_midway, semicolon, with_last, all_units, Automaton, held_name, nat_tests, is_letter, end_or_go}
-use Rattle.pb_proof.proofs.Common.{◌+◌, letter_name, held_number, is_name_byte, is_name_kind, refuse_or_go, ap, le-max_right, Go, is_letter_kind}
-use Rattle.pb_proof.proofs.Common.{length-append, refuse_or_end, pol_act as act, ReadsStatement, pol_automaton}
+use Rattle.pb_proof.proofs.Common.{IsFree, kind_of, one_end, PolWord, changed, counted, is_done, in_hand, cond, List, None, refl, Some, feed, read, Work, work}
+use Rattle.pb_proof.proofs.Common.{Next, arith, rules, subst, Phase, blank, Held, Role, over, Kind, ◌++◌, ◌<◌, ◌≡◌, ◌*◌, ◌∷◌, ◌≤◌, End, sym, suc, true, bound}
+use Rattle.pb_proof.proofs.Common.{close, ready, units, false, IsTrue, length, nat_eq, [], eqb-true, go_or_end, nat_le, digit_of, is_blank, finished, PolState}
+use Rattle.pb_proof.proofs.Common.{one_state, is_midway, semicolon, with_last, all_units, Automaton, held_name, nat_tests, is_letter, end_or_go, ◌+◌, ap, Go}
+use Rattle.pb_proof.proofs.Common.{is_name_byte, is_name_kind, is_letter_kind, length-append, refuse_or_end, pol_act as act, ReadsStatement, pol_automaton}
 use Rattle.pb_proof.specs.declared.line.pol.phase.Kind.TheVariants.{Digit, D, S, W, Mark, Blank, Feed, Semicolon, Plus, Star, Minus, Tilde, Other}
 use Rattle.pb_proof.specs.engine.line.Pol as pol
 

@@ -1,12 +1,11 @@
 -- Prefixes of a `pol` line, and the steps that continue them.
-use Rattle.pb_proof.{proofs.lemmas.pol.Postfix.Counts}
-use Rattle.pb_proof.proofs.Common.{ℕ, SpellsWord, close_lone, held_number, LiteralOf, with_last, nat_tests, held_name, ◌++◌, regroup3, SpellsWords}
-use Rattle.pb_proof.proofs.Common.{as_unmarked, append_assoc, close_number, List, plain, arith, Change, IsName, Digits, Letter, Listed, IsFree, nat_eq, refl}
-use Rattle.pb_proof.proofs.Common.{true, Byte, Held, Role, false, subst, Bytes, Phase, Axiom, bound, close, neg_ℤ, Bool, cond, None, nat_le, Language}
-use Rattle.pb_proof.proofs.Common.{Multiply, PolState, leb-true, is_blank, FirstOf, Blanks1, IsTrue, turned, ◌<◌, PolWord, regroup, Blanks0, changed, counted}
-use Rattle.pb_proof.proofs.Common.{◌-◌, ◌∙◌, ◌∷◌, ◌≡◌, ◌≤◌, pos, suc, sym, ◌⋅◌, Some, zero, [], ap, Id}
+use Rattle.pb_proof.proofs.lemmas.pol.{Postfix.Counts, Moves.with_last_append}
+use Rattle.pb_proof.proofs.Common.{ℕ, SpellsWord, close_lone, held_number, LiteralOf, with_last, nat_tests, held_name, ◌++◌, regroup3, SpellsWords, as_unmarked}
+use Rattle.pb_proof.proofs.Common.{append_assoc, close_number, List, plain, arith, Change, IsName, Digits, Letter, Listed, IsFree, nat_eq, refl, true, Byte}
+use Rattle.pb_proof.proofs.Common.{Held, Role, false, subst, Bytes, Phase, Axiom, bound, close, neg_ℤ, Bool, cond, None, nat_le, Language, Multiply, PolState}
+use Rattle.pb_proof.proofs.Common.{leb-true, is_blank, FirstOf, Blanks1, IsTrue, turned, ◌<◌, PolWord, regroup, Blanks0, changed, counted, ◌-◌, ◌∙◌, ◌∷◌, ◌≡◌}
+use Rattle.pb_proof.proofs.Common.{◌≤◌, pos, suc, sym, ◌⋅◌, Some, zero, [], ap, Id}
 use Rattle.pb_proof.proofs.lemmas.line.Ends.{Closing, gapped, positive, gapped_some, first_blank, listed_append, further_blank}
-use Rattle.pb_proof.proofs.lemmas.pol.Moves.{with_last_append}
 use Rattle.pb_proof.specs.engine.line.Pol as pol
 
 -- after these words there are `d` expressions

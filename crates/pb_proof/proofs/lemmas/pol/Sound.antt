@@ -1,19 +1,18 @@
 -- What the `pol` machine has read in each of its states, and where it may allocate.
-use Rattle.pb_proof.{proofs.lemmas.pol.Postfix.Counts, proofs.lemmas.pol.Postfix.counts_postfix, specs.engine.line.Pol.adds}
-use Rattle.pb_proof.proofs.{Common.On, lemmas.line.Asks.number_end, lemmas.line.Asks.literal_end, lemmas.Solution.first_grown, lemmas.Solution.more_grown}
-use Rattle.pb_proof.proofs.Common.{ℕ, next_large, transition, append-nil, false≢true, SpellsWord, digits-one, may_be_name, prefixes_of, LiteralOf, cond_both}
-use Rattle.pb_proof.proofs.Common.{and_parts, nat_tests, next_word, semicolon, pol_first, ◌++◌, is_letter, SpellsWords, as_unmarked, digits-grown}
-use Rattle.pb_proof.proofs.Common.{is_name_byte, is_name_kind, ends_nothing, name_further, List, Keeps, grown, plain, blank, Walks, bytes, wants, arith}
-use Rattle.pb_proof.proofs.Common.{Change, EndsIn, Digits, Letter, IsFree, nat_eq, refl, true, Byte, Held, Role, false, subst, Phase, close, rules, over}
-use Rattle.pb_proof.proofs.Common.{◌&&◌, Bool, cond, None, nat_le, Language, PolState, eqb-true, leb-true, as_digit, is_blank, unmarked, is_digit}
-use Rattle.pb_proof.proofs.Common.{AsksWord, FirstOf, Blanks1, inside, IsTrue, Action, turned, ◌<◌, PolWord, Blanks0, changed, counted, kind_of, role_of}
-use Rattle.pb_proof.proofs.Common.{LineEnd, at_name, ◌-◌, is_letter_kind, pol_automaton, next as next_part, pol_act as act, pol_next as next, first_further}
-use Rattle.pb_proof.proofs.Common.{◌∙◌, ◌∷◌, ◌≡◌, ◌≤◌, pos, ◌⋅◌, Some, Next, Kind, feed, late, read, star, work, [], ap, inr, inl}
+use Rattle.pb_proof.proofs.lemmas.pol.{Postfix.Counts, Postfix.counts_postfix, Moves.Says, Moves.kind_says, Moves.letter_kind, Moves.name_kind}
+use Rattle.pb_proof.{specs.engine.line.Pol.adds, proofs.lemmas.Solution.first_grown, proofs.lemmas.Solution.more_grown}
+use Rattle.pb_proof.proofs.Common.{On, ℕ, next_large, transition, append-nil, false≢true, SpellsWord, digits-one, may_be_name, prefixes_of, LiteralOf}
+use Rattle.pb_proof.proofs.lemmas.{line.Asks.number_end, line.Asks.literal_end, pol.Prefixes.Closed, pol.Prefixes.finishes}
+use Rattle.pb_proof.proofs.Common.{cond_both, and_parts, nat_tests, next_word, semicolon, pol_first, ◌++◌, is_letter, SpellsWords, as_unmarked, digits-grown}
+use Rattle.pb_proof.proofs.Common.{is_name_byte, is_name_kind, ends_nothing, name_further, List, Keeps, grown, plain, blank, Walks, bytes, wants, arith, Change}
+use Rattle.pb_proof.proofs.Common.{EndsIn, Digits, Letter, IsFree, nat_eq, refl, true, Byte, Held, Role, false, subst, Phase, close, rules, over, ◌&&◌, Bool}
+use Rattle.pb_proof.proofs.Common.{cond, None, nat_le, Language, PolState, eqb-true, leb-true, as_digit, is_blank, unmarked, is_digit, AsksWord, FirstOf}
+use Rattle.pb_proof.proofs.Common.{Blanks1, inside, IsTrue, Action, turned, ◌<◌, PolWord, Blanks0, changed, counted, kind_of, role_of, LineEnd, at_name, ◌-◌}
+use Rattle.pb_proof.proofs.Common.{is_letter_kind, pol_automaton, next as next_part, pol_act as act, pol_next as next, first_further, ◌∙◌, ◌∷◌, ◌≡◌, ◌≤◌, pos}
+use Rattle.pb_proof.proofs.Common.{◌⋅◌, Some, Next, Kind, feed, late, read, star, work, [], ap, inr, inl}
 use Rattle.pb_proof.proofs.lemmas.line.Ends.{semicolon_after_blanks, blank_closing, line_after_blanks, line_closing}
-use Rattle.pb_proof.proofs.lemmas.pol.Moves.{Says, kind_says, letter_kind, name_kind}
+use Rattle.pb_proof.proofs.lemmas.pol.Prefixes.{Settled, settle, Holds, released, whole, takes_number, IsRole, Before, prefix, Prefix, Whole, one, blanks_more}
 use Rattle.pb_proof.specs.engine.line.Pol as pol
-use Rattle.pb_proof.proofs.lemmas.pol.Prefixes.{Settled, settle, Holds, released, whole, takes_number, IsRole, Before, prefix, Prefix, Whole, one}
-use Rattle.pb_proof.proofs.lemmas.pol.Prefixes.{blanks_more, Closed, finishes}
 
 -- What one byte adds.
 module _ (limit top : ℕ) (ws : List PolWord) (d : ℕ) (name : List ℕ) (l : Letter) (p : List Letter) where

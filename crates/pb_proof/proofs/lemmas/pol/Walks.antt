@@ -1,15 +1,14 @@
 -- How the `pol` machine reads words, and what it reads from each of its states.
-use Rattle.pb_proof.{proofs.lemmas.pol.Postfix.Counts, proofs.lemmas.pol.Postfix.postfix_counts}
+use Rattle.pb_proof.proofs.lemmas.pol.{Postfix.Counts, Postfix.postfix_counts, Moves.state, Moves.as_gap, Moves.as_after}
 use Rattle.pb_proof.proofs.Common.{ℕ, false≢true, true≢false, transition, append-nil, walks_then, SpellsWord, may_be_name, digits_lead, Bool, Action, Change}
-use Rattle.pb_proof.proofs.Common.{Letter, IsFree, Blanks1, kind_of, PolWord, changed, counted, is_done, cond, List, refl, Some, plain, neg_ℤ}
-use Rattle.pb_proof.proofs.Common.{Bytes, arith, rules, subst, Phase, ℤ, Held, Role, over, Each, Kind, ◌++◌, ◌<◌, ◌≡◌, ◌*◌, ◌∷◌, ◌≤◌, End, sym, ◌∙◌, ◌-◌, pos}
-use Rattle.pb_proof.proofs.Common.{suc, zero, Byte, ◌⋅◌, true, bound, close, false, Walks, le-leb, IsName, Digits, longer, turned, Factor, Listed, IsTrue, []}
-use Rattle.pb_proof.proofs.Common.{nat_le, role_of, ReadsOn, LineEnd, PolState, unmarked, pol_last, SpellsId, with_last, held_name, pol_first, ◌+◌}
-use Rattle.pb_proof.proofs.Common.{reads_after, SpellsWords, held_number, reads_before, is_name_byte, is_name_kind, ap, append_assoc, Go, is_letter_kind}
-use Rattle.pb_proof.proofs.Common.{pol_act as act, ReadsStatement, pol_automaton, SpellsLiteral}
+use Rattle.pb_proof.proofs.Common.{Letter, IsFree, Blanks1, kind_of, PolWord, changed, counted, is_done, cond, List, refl, Some, plain, neg_ℤ, Bytes, arith}
+use Rattle.pb_proof.proofs.Common.{rules, subst, Phase, ℤ, Held, Role, over, Each, Kind, ◌++◌, ◌<◌, ◌≡◌, ◌*◌, ◌∷◌, ◌≤◌, End, sym, ◌∙◌, ◌-◌, pos, suc, zero}
+use Rattle.pb_proof.proofs.Common.{Byte, ◌⋅◌, true, bound, close, false, Walks, le-leb, IsName, Digits, longer, turned, Factor, Listed, IsTrue, [], nat_le}
+use Rattle.pb_proof.proofs.Common.{role_of, ReadsOn, LineEnd, PolState, unmarked, pol_last, SpellsId, with_last, held_name, pol_first, ◌+◌, reads_after}
+use Rattle.pb_proof.proofs.Common.{SpellsWords, held_number, reads_before, is_name_byte, is_name_kind, ap, append_assoc, Go, is_letter_kind, pol_act as act}
+use Rattle.pb_proof.proofs.Common.{ReadsStatement, pol_automaton, SpellsLiteral}
 use Rattle.pb_proof.proofs.lemmas.line.Ends.{TakesBlanks, not_zero, MayEnd, blanks1_lead, line_reads}
-use Rattle.pb_proof.proofs.lemmas.pol.Moves.{of_digit, of_blank, of_letter, of_name, bound_of_id, bound_of_factor, with_last_append, free_number}
-use Rattle.pb_proof.proofs.lemmas.pol.Moves.{free_name, state, as_gap, as_after}
+use Rattle.pb_proof.proofs.lemmas.pol.Moves.{of_digit, of_blank, of_letter, of_name, bound_of_id, bound_of_factor, with_last_append, free_number, free_name}
 
 -- How the `pol` machine reads digits, names and blanks.
 

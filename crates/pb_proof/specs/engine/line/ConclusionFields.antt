@@ -1,7 +1,6 @@
 -- What the machine for conclusions stores.
 use Rattle.pb_proof.specs.{declared.line.conclusion.ConclusionMachine.TheInside.Inside, engine.line.ConclusionState.ConclusionState}
-use Rattle.pb_text.specs.meaning.Limits.{largest, top_of}
-use Rattle.std.specs.Prelude.{◌≡◌}
+use Rattle.{pb_text.specs.meaning.Limits.largest, pb_text.specs.meaning.Limits.top_of, std.specs.Prelude.◌≡◌}
 
 -- the state that its fields make up
 abbrev pub conclusion_state : Inside → ConclusionState

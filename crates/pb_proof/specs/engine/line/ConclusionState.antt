@@ -1,9 +1,8 @@
 -- The states of the machine for conclusions, and its automaton.
-use Rattle.pb_proof.specs.{declared.conclusion.Conclusion.Conclusion, engine.line.Carried.carried}
+use Rattle.{pb_proof.specs.declared.conclusion.Conclusion.Conclusion, pb_proof.specs.engine.line.Carried.carried, pb_sums.specs.declared.Literal.Literal}
 use Rattle.pb_proof.specs.declared.line.conclusion.phase.{Action.Action, Concluding.Concluding, Phase.Phase, Showing.Showing}
 use Rattle.pb_proof.specs.engine.line.Conclusion.{transition, is_within, is_done, is_in_digits, PhaseFits}
 use Rattle.pb_proof.specs.engine.line.Solution.{SolutionState, solution_automaton, solution_first, IsSolutionInOrder}
-use Rattle.pb_sums.specs.declared.Literal.{Literal}
 use Rattle.pb_text.specs.contract.Automaton.{Automaton, Next, Go, End, Refuse}
 use Rattle.std.specs.Prelude.{◌≡◌, ℕ, ◌<◌, ◌^◌, Bool, true, false, Option, Some, None, List}
 

@@ -1,8 +1,7 @@
 -- The machine for the ids after `del id`, through the line feed.
-use Rattle.pb_proof.specs.{declared.line.delete.phase.DeletePhase.DeletePhase, engine.line.ByteKind.number_byte}
-use Rattle.pb_proof.specs.declared.line.{byte_kind.NumberByte.NumberByte, delete.phase.DeleteAction.DeleteAction}
+use Rattle.pb_proof.specs.declared.line.{delete.phase.DeletePhase.DeletePhase, byte_kind.NumberByte.NumberByte, delete.phase.DeleteAction.DeleteAction}
+use Rattle.{pb_proof.specs.engine.line.ByteKind.number_byte, pb_text.specs.meaning.Numbers.signed}
 use Rattle.pb_text.specs.contract.Automaton.{Automaton, Next, Go, End, Refuse}
-use Rattle.pb_text.specs.meaning.Numbers.{signed}
 use Rattle.std.specs.Prelude.{◌≡◌, ℕ, ◌+◌, ◌*◌, ◌-◌, ◌^◌, ◌≤◌, ◌<◌, min, ℤ, Bool, true, false, cond, nat_eq, nat_le, List, [], ◌∷◌, ◌++◌, length}
 
 -- the largest magnitude of an id, the ids that are complete, and what was read last

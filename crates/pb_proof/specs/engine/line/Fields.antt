@@ -1,9 +1,8 @@
 -- What the machines for the rest of a line store, but for that of conclusions.
-use Rattle.pb_proof.specs.declared.line.{formula.FormulaMachine.TheInside.Inside as FormulaFields, pol.PolMachine.TheInside.Inside as PolFields}
-use Rattle.pb_proof.specs.declared.line.{rup.RupMachine.TheInside.Inside as RupFields, solution.SolutionMachine.TheInside.Inside as SolutionFields}
-use Rattle.pb_proof.specs.declared.line.delete.DeleteMachine.TheInside.{Inside as DeleteFields}
+use Rattle.pb_proof.specs.declared.line.{formula.FormulaMachine.TheInside.Inside as FormulaFields, solution.SolutionMachine.TheInside.Inside as SolutionFields}
+use Rattle.pb_proof.specs.declared.line.{pol.PolMachine.TheInside.Inside as PolFields, delete.DeleteMachine.TheInside.Inside as DeleteFields}
+use Rattle.{pb_proof.specs.declared.line.rup.RupMachine.TheInside.Inside as RupFields, std.specs.Prelude.◌≡◌}
 use Rattle.pb_proof.specs.engine.line.{Delete.DeleteState, Formula.FormulaState, PolState.PolState, Rup.RupState, Solution.SolutionState}
-use Rattle.std.specs.Prelude.{◌≡◌}
 
 -- the states that their fields make up
 abbrev pub formula_state : FormulaFields → FormulaState

@@ -1,9 +1,8 @@
 -- Whole lines of a proof.
 use Rattle.pb_proof.specs.{engine.line.Rup.RupState, engine.line.Rup.sum_last, declared.line.rup.phase.RupPhase.TheVariants.Tail, declared.word.PolWord.PolWord}
 use Rattle.pb_proof.specs.engine.machine.State.{ProofState, proofs, idle, giving, IsInOrder}
-use Rattle.pb_sums.specs.declared.Linear.{Linear}
+use Rattle.{pb_sums.specs.declared.Linear.Linear, std.specs.Prelude.◌≡◌, std.specs.Prelude.ℕ, std.specs.Prelude.List, std.specs.Prelude.Some}
 use Rattle.pb_text.specs.contract.Automaton.{Runs, End}
-use Rattle.std.specs.Prelude.{◌≡◌, ℕ, List, Some}
 use Rattle.pb_proof.specs.declared.line.LineMachine.TheVariants as line
 use Rattle.pb_proof.specs.declared.machine.phase.LineKind.TheVariants as kind
 use Rattle.pb_proof.specs.declared.machine.phase.Stage.TheVariants as stage

@@ -1,5 +1,4 @@
-use Rattle.pb_propagate.proofs.Common.{◌≡◌, ◌++◌}
-use Rattle.std.proofs.Math.ListN.{replicate}
+use Rattle.{pb_propagate.proofs.Common.◌≡◌, pb_propagate.proofs.Common.◌++◌, std.proofs.Math.ListN.replicate}
 use Rattle.pb_propagate.proofs.heads.mark.Given as goal
 
 abbrev pub invariant-literals : goal.invariant-literals

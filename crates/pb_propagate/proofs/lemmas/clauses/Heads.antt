@@ -8,16 +8,15 @@ use Rattle.pb_propagate.proofs.Common.{falsified_code, heads_at, reached_codes, 
 use Rattle.pb_propagate.proofs.Common.{sum, sum_by, map-append, take_more, Contains-append_left, Contains-append_right, Search, watch_lists, AreReady, Grows}
 use Rattle.pb_propagate.proofs.Common.{IsRunning, passed_of, clause_shape, clauses_of, code_in, false_at, flip, AreSingle, more, none, IsSettled, same}
 use Rattle.pb_propagate.proofs.Common.{Contains-permutation, get_or_default, HasTrue}
-use Rattle.pb_propagate.proofs.lemmas.{engine.Literals.says-inside, store.Gets.get-take_less, store.Gets.last-is}
+use Rattle.pb_propagate.proofs.lemmas.engine.Literals.{says-inside, has-get, negation-negation, same-true}
+use Rattle.pb_propagate.proofs.lemmas.{store.Gets.get-take_less, store.Gets.last-is, engine.Advances.extends-within, engine.Advances.extends-none}
 use Rattle.pb_propagate.proofs.lemmas.clauses.{Shapes.served-settled, Visited.ready-round, Visited.passed-at, Walks.running-grow, Walks.walked-grow}
 use Rattle.pb_propagate.proofs.lemmas.clauses.Counts.{killed-more, occurs, list-short, passed-most, stands-fresh}
 use Rattle.pb_propagate.proofs.lemmas.clauses.Literals.{Agree, true-listed, false-listed, code-back, flip-half, false-code, code-injective, code-of}
-use Rattle.pb_propagate.proofs.lemmas.engine.{Advances.extends-within, Advances.extends-none, Literals.has-get, Literals.negation-negation, Literals.same-true}
-use Rattle.pb_propagate.specs.{declared.heads.Ahead.Ahead, engine.clauses.Runs.AreRound}
+use Rattle.pb_propagate.specs.{declared.heads.Ahead.Ahead, engine.clauses.Runs.AreRound, engine.engine.Lists.has, engine.engine.Progress.HasWalked}
 use Rattle.pb_propagate.specs.engine.clauses.Walked.{has as stands, falsified_code, heads_at, reached_codes, reached, head, advanced}
-use Rattle.pb_propagate.specs.engine.engine.{Lists.has, Progress.HasWalked}
-use Rattle.std.proofs.{Math.ListN.replicate, lemmas.List.get_or-replicate, lemmas.List.length-replicate}
-use Rattle.std.proofs.lemmas.List.{take-take, get_or-append_right, Folds.Any-from_list_any, Sorted.IsPermutation-append_comm, Sorted.IsPermutation-append_right}
+use Rattle.std.proofs.{Math.ListN.replicate, lemmas.List.get_or-replicate, lemmas.List.length-replicate, lemmas.List.take-take, lemmas.List.get_or-append_right}
+use Rattle.std.proofs.lemmas.List.{Folds.Any-from_list_any, Sorted.IsPermutation-append_comm, Sorted.IsPermutation-append_right}
 
 -- heads with the same numbers
 pub heads-is : (h : Heads) (n : ℕ) → h.short ≡ n → h.long ≡ n → h ≡ heads_at n

@@ -5,9 +5,8 @@ use Rattle.pb_propagate.proofs.Common.{list_at, Remains, Sits, watch_at, ◌==�
 use Rattle.pb_propagate.proofs.Common.{Vec, zero, Contains, cases_eq, cases_lt, get_or-map, length-map, map-set, set-get_or, get_or_from_slice_get, none-some}
 use Rattle.pb_propagate.proofs.Common.{slice_get-map, Listed, AreBlocked, AreFewer, AreMore, entries_at, IsListed, watch_lists}
 use Rattle.pb_propagate.proofs.lemmas.store.Gets.{get-push_other, get-push_same, swap-other, swap-here, swap-past, get-take_less, get-set_at, get-set_other}
-use Rattle.pb_propagate.proofs.lemmas.store.Gets.{swap-map}
-use Rattle.std.proofs.lemmas.{Grind.get_or-set_at, Map.Keys.IsDistinct-from_apart, Map.Steps.length-le_from_distinct_below, Map.Views.Contains-from_any}
-use Rattle.std.proofs.lemmas.Option.{slice_get_read}
+use Rattle.{pb_propagate.proofs.lemmas.store.Gets.swap-map, std.proofs.lemmas.Grind.get_or-set_at}
+use Rattle.std.proofs.lemmas.{Map.Keys.IsDistinct-from_apart, Map.Steps.length-le_from_distinct_below, Map.Views.Contains-from_any, Option.slice_get_read}
 
 -- a live watch is one of the stored ones
 pub sits-within : (ws : List Watch) (e l i : ℕ) → Sits (watch_at ws e) l i → e < length ws

@@ -1,13 +1,12 @@
 -- Clauses are added and removed.
-use Rattle.pb_propagate.proofs.Common.{ℕ, ◌*◌, ◌++◌, ◌+◌, ◌/◌, ◌<◌, ◌∙◌, ◌∷◌, ◌≡◌, ◌≤◌, ◌⊎◌, [], ap, arith, Bool, false, get_or, get_or-set_other}
-use Rattle.pb_propagate.proofs.Common.{Global, length, length-set, List, map, refl, set, sym, true, Vec, All, Contains, Option, nat_tests, set-get_or}
-use Rattle.pb_propagate.proofs.Common.{both_ways, cases_Bool, cases_eq, get_or_past, map-append, Contains-get_or, Clauses, Listed, Watch, Pair}
-use Rattle.pb_propagate.proofs.Common.{Search, begun, Contents, AreBlocked, AreFewer, AreLinked, AreMore, entries_at, list_at, IsRenewed, IsSameWatch}
-use Rattle.pb_propagate.proofs.Common.{watch_at, watch_lists, AreReady, AreStored, IsPair, IsRunning, search_at, length-map}
+use Rattle.pb_propagate.proofs.Common.{ℕ, ◌*◌, ◌++◌, ◌+◌, ◌/◌, ◌<◌, ◌∙◌, ◌∷◌, ◌≡◌, ◌≤◌, ◌⊎◌, [], ap, arith, Bool, false, get_or, get_or-set_other, Global}
+use Rattle.pb_propagate.proofs.Common.{length, length-set, List, map, refl, set, sym, true, Vec, All, Contains, Option, nat_tests, set-get_or, both_ways}
+use Rattle.pb_propagate.proofs.Common.{cases_Bool, cases_eq, get_or_past, map-append, Contains-get_or, Clauses, Listed, Watch, Pair, Search, begun, Contents}
+use Rattle.pb_propagate.proofs.Common.{AreBlocked, AreFewer, AreLinked, AreMore, entries_at, list_at, IsRenewed, IsSameWatch, watch_at, watch_lists, AreReady}
+use Rattle.pb_propagate.proofs.Common.{AreStored, IsPair, IsRunning, search_at, length-map}
 use Rattle.pb_propagate.proofs.lemmas.{clauses.Literals.flip-half, clauses.Visited.passed-at, clauses.Visited.round-inside, store.Gets.push-default}
 use Rattle.pb_propagate.proofs.lemmas.clauses.Listed.{lists-length, watch-entries, listed-live, blocked-set, blocked-more}
-use Rattle.pb_propagate.specs.engine.clauses.Truths.{flip}
-use Rattle.std.proofs.lemmas.Grind.{get_or-set_at}
+use Rattle.{pb_propagate.specs.engine.clauses.Truths.flip, std.proofs.lemmas.Grind.get_or-set_at}
 
 -- what is known of clauses depends only on the element at each position
 stored-same : {clauses clauses' : List (List ℕ)} {ws ws' : List Watch} {ls ls' : List (List ℕ)} → ((s : ℕ) → list_at clauses' s ≡ list_at clauses s) →

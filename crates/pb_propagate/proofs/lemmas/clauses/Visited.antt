@@ -1,16 +1,15 @@
 -- Searches go round their clauses: where one stands, what it has found, and what it leaves.
 use Rattle.pb_propagate.proofs.Common.{ℕ, ◌*◌, ◌+◌, ◌/◌, ◌<◌, ◌≡◌, ◌≤◌, ap, arith, Bool, drop, get_or, inl, inr, length, List, length-append, length-drop, map}
-use Rattle.pb_propagate.proofs.Common.{subst, sym, take, take-append-drop, true, Option, nat_tests, All, All-contains, Contains, Contains-append_cases}
+use Rattle.pb_propagate.proofs.Common.{subst, sym, take, take-append-drop, true, Option, nat_tests, All, All-contains, Contains, Contains-append_cases, true_at}
 use Rattle.pb_propagate.proofs.Common.{Contains-append_left, Contains-append_right, get_or-append_right, get_or-drop, get_or-take, get_or_append_left, Clauses}
 use Rattle.pb_propagate.proofs.Common.{Search, Watch, AreStored, around, flip, IsRound, IsRunning, list_at, passed_of, search_at, turned, watch_at, watch_lists}
 use Rattle.pb_propagate.proofs.Common.{AreWithin, map-set, set, sum, rules, ◌∙◌, ◌⊎◌, sum_by-set, both_ways, cases_eq, cases_lt, false, get_or_default, Global}
 use Rattle.pb_propagate.proofs.Common.{get_or-set_other, get_or-set_same, length-map, length-set, min, refl, Vec, Contains-get_or, slice_get, Some, Listed}
-use Rattle.pb_propagate.proofs.Common.{Falsified, Forces, Leaves, Stays, rewatched, searched, AreLinked, AreMore, Remains, Sits, AreBlocked, HasVisited}
-use Rattle.pb_propagate.proofs.Common.{IsBroken, IsUnit, false_at, true_at}
-use Rattle.pb_propagate.proofs.lemmas.clauses.{Literals.flip-half, Literals.flip-apart, Literals.flip-flip, Walks.served-true}
-use Rattle.pb_propagate.proofs.lemmas.clauses.Listed.{sits-within, lists-length, blocked-more}
+use Rattle.pb_propagate.proofs.Common.{Falsified, Forces, Leaves, Stays, rewatched, searched, AreLinked, AreMore, Remains, Sits, AreBlocked, HasVisited, IsUnit}
+use Rattle.{pb_propagate.proofs.Common.IsBroken, pb_propagate.proofs.Common.false_at, std.proofs.Math.ListN.get_or-map, std.proofs.lemmas.Grind.get_or-set_at}
+use Rattle.pb_propagate.proofs.lemmas.clauses.Literals.{flip-half, flip-apart, flip-flip}
+use Rattle.pb_propagate.proofs.lemmas.clauses.{Walks.served-true, Listed.sits-within, Listed.lists-length, Listed.blocked-more}
 use Rattle.pb_propagate.specs.engine.clauses.{Runs.IsPassed, Runs.ArePassed, Runs.AreRound, Truths.flip}
-use Rattle.std.proofs.{Math.ListN.get_or-map, lemmas.Grind.get_or-set_at}
 
 pub turned-length : (start : ℕ) (xs : List ℕ) → length (turned start xs) ≡ length xs
 turned-length start xs = omega (arith, length-append (drop start xs) (take start xs), length-append (take start xs) (drop start xs), ap length (take-append-drop start xs))

@@ -1,17 +1,16 @@
 -- The engine's lists and forms are those of the definitions.
-use Rattle.pb_propagate.proofs.{Common.IsRefuted, Common.IsCompletion, Common.MeetsConflict, lemmas.engine.Choices.total-has}
-use Rattle.pb_propagate.proofs.Common.{ℕ, ◌++◌, ◌+◌, ◌<◌, ◌∙◌, ◌∷◌, ◌≡◌, ◌⊎◌, [], ap, arith, Bool, false, inl, inr, length, length-append, List, map, refl, suc}
-use Rattle.pb_propagate.proofs.Common.{sym, true, Contains, sum_by, both_ways, cases_Bool, get_or-map, length-map, Contains-permutation, IsPermutation-sym}
-use Rattle.pb_propagate.proofs.Common.{sum_by-IsPermutation, sum_by-cons, Entry, NumberedLiteral, counted, Form, IsRising, total, negation, on, only, Term}
-use Rattle.pb_propagate.proofs.Common.{entry_of, IsStoredAs, Conflicts, Derives, IsSettled, open_sum, Puts, Shape, Derivation, HasConflict, MayPropagate}
-use Rattle.pb_propagate.proofs.Common.{opened, get_or, cases_eq, eq-eqb, ne_eqb, take, Option, take_more, Adopted, IsWithin, Gives, HasClash, IsFrom, IsEnded}
-use Rattle.pb_propagate.proofs.lemmas.engine.{Choices.total-sum, Choices.rising-positive, Choices.only-true, Choices.only-self, Completing.closed-none}
+use Rattle.pb_propagate.proofs.Common.{IsRefuted, IsCompletion, MeetsConflict, ℕ, ◌++◌, ◌+◌, ◌<◌, ◌∙◌, ◌∷◌, ◌≡◌, ◌⊎◌, [], ap, arith, Bool, false, inl, inr}
+use Rattle.pb_propagate.proofs.lemmas.engine.Choices.{total-has, total-sum, rising-positive, only-true, only-self}
+use Rattle.pb_propagate.proofs.Common.{length, length-append, List, map, refl, suc, sym, true, Contains, sum_by, both_ways, cases_Bool, get_or-map, length-map}
+use Rattle.pb_propagate.proofs.Common.{Contains-permutation, IsPermutation-sym, sum_by-IsPermutation, sum_by-cons, Entry, NumberedLiteral, counted, Form, Gives}
+use Rattle.pb_propagate.proofs.Common.{IsRising, total, negation, on, only, Term, entry_of, IsStoredAs, Conflicts, Derives, IsSettled, open_sum, Puts, Shape}
+use Rattle.pb_propagate.proofs.Common.{Derivation, HasConflict, MayPropagate, opened, get_or, cases_eq, eq-eqb, ne_eqb, take, Option, take_more, Adopted}
+use Rattle.{pb_propagate.proofs.Common.IsWithin, pb_propagate.proofs.Common.HasClash, std.specs.Cmp.both_ways as same_answers}
+use Rattle.pb_propagate.{proofs.Common.IsFrom, proofs.Common.IsEnded, specs.engine.engine.Rest.opposite as opposites, specs.engine.engine.Rest.derived as from}
+use Rattle.pb_propagate.proofs.lemmas.engine.{Completing.closed-none, Literals.literal_ext, Literals.has-none as on-none, Literals.Agree, Literals.opposite}
 use Rattle.pb_propagate.proofs.lemmas.engine.Literals.{literal, one_itself, has-push, has-get, has-push_old, has-push_new, has-push_cases, push-within}
-use Rattle.pb_propagate.proofs.lemmas.engine.Literals.{literal_ext, has-none as on-none, Agree, opposite}
 use Rattle.pb_propagate.specs.engine.engine.Lists.{open_part, begin as start_there, put as more, opposed as both, broken as low, has, same, says}
-use Rattle.pb_propagate.specs.engine.engine.Rest.{opposite as opposites, derived as from}
 use Rattle.pb_propagate.specs.meaning.Propagation.{begin, put, opposed, broken}
-use Rattle.std.specs.Cmp.{both_ways as same_answers}
 
 -- the first list has the literals of the second
 abbrev pub Matches : List NumberedLiteral → List NumberedLiteral → Type 0
@@ -113,8 +112,7 @@ conflicts F shapes new old a m (low x among less) =
 pub is-closed : (F : Form → Type 0) (shapes : List Shape) (new old : List NumberedLiteral) → AreKept F shapes → Matches new old → ((x : Shape) → Contains shapes x → IsSettled x old) → (l : NumberedLiteral) → MayPropagate F new l → ⊥
 is-closed F shapes new old a m settled l p =
     let found = a.back p.form p.among in
-    let x = found.0 in
-    let k = found.2 in
+    let x = found.0 in let k = found.2 in
     let c = total (only l.variable l.negated) p.form.terms in
     let entry = rising-only 0 l.variable l.negated p.form.terms k.normal.ordered p.stands in
     let back = Contains-permutation p.form.terms (map entry_of x.terms) (record { variable = l.variable; negated = l.negated; coefficient = c }) (IsPermutation-sym (map entry_of x.terms) p.form.terms k.terms) entry in

@@ -10,11 +10,10 @@ use Rattle.pb_propagate.proofs.Common.{spent, Extends, IsSettled, Costs, queued,
 use Rattle.pb_propagate.proofs.lemmas.clauses.Heads.{IsWatching, cost, cost-broken, cost-most}
 use Rattle.pb_propagate.proofs.lemmas.engine.{Literals.has-push_new, Literals.one_itself, Literals.spent-le, Literals.sum-bounded, Reasoned.reasons-keep}
 use Rattle.pb_propagate.proofs.lemmas.engine.Advances.{advances-then, advances-as, advances-visit, advances-counted, size_at, costs-none, extends-none}
-use Rattle.pb_propagate.proofs.lemmas.engine.Advances.{extends-then, spent-extends, reached-extends}
+use Rattle.pb_propagate.proofs.lemmas.{engine.Advances.extends-then, engine.Advances.spent-extends, engine.Advances.reached-extends, store.Stored.stored-sum}
 use Rattle.pb_propagate.proofs.lemmas.engine.Runs.{Tidy-pass, absent-from, grown-still, grown-absent, grown-new, calm-settled, absent-cons}
-use Rattle.pb_propagate.proofs.lemmas.store.Stored.{stored-sum, stored-idle, stored-falling}
+use Rattle.{pb_propagate.proofs.lemmas.store.Stored.stored-idle, pb_propagate.proofs.lemmas.store.Stored.stored-falling, std.proofs.lemmas.Grind.get_or-set_at}
 use Rattle.pb_propagate.specs.declared.{heads.Ahead.Ahead, store.stored_form.StoredForm.TheVariants.Vacant}
-use Rattle.std.proofs.lemmas.Grind.{get_or-set_at}
 
 -- a form's terms are being passed
 pub record IsVisiting (d : Database) (aside : List ℕ) (form : ℕ) (start now : Progress) : Type 0 where

@@ -1,12 +1,11 @@
 -- Lists of literals with their reasons, among the stored forms and among all constraints.
-use Rattle.pb_propagate.proofs.Common.{ℕ, ◌<◌, ◌∙◌, ◌∷◌, ◌≡◌, [], ap, arith, false, inl, inr, length, List, set, subst, true, rules, Contains}
-use Rattle.pb_propagate.proofs.Common.{slice_get, Some, both_ways, get_or_from_slice_get, slice_get_within, NumberedLiteral, negation, Run, begin}
-use Rattle.pb_propagate.proofs.Common.{by_reason, Derives, from_given, has, HaveReasons, IsDue, IsWithin, KeepsReasons, put, Puts, Shape, list_of}
-use Rattle.pb_propagate.proofs.Common.{reasons_of, RunReasons, RunRecords, values_of, ◌++◌, sym, slice_get-get_or, list_at, IsUnit, AreJoined}
-use Rattle.pb_propagate.proofs.Common.{clause_shape, joined, literal_at, RunKeepsReasons}
-use Rattle.pb_propagate.proofs.lemmas.{engine.Literals.has-push_cases, engine.Literals.has-neither, store.Gets.get-set_same, store.Gets.get-set_other}
+use Rattle.pb_propagate.proofs.Common.{ℕ, ◌<◌, ◌∙◌, ◌∷◌, ◌≡◌, [], ap, arith, false, inl, inr, length, List, set, subst, true, rules, Contains, slice_get, Some}
+use Rattle.pb_propagate.proofs.Common.{both_ways, get_or_from_slice_get, slice_get_within, NumberedLiteral, negation, Run, begin, by_reason, Derives}
+use Rattle.pb_propagate.proofs.Common.{from_given, has, HaveReasons, IsDue, IsWithin, KeepsReasons, put, Puts, Shape, list_of, reasons_of, RunReasons}
+use Rattle.pb_propagate.proofs.Common.{RunRecords, values_of, ◌++◌, sym, slice_get-get_or, list_at, IsUnit, AreJoined, clause_shape, joined, literal_at}
+use Rattle.pb_propagate.proofs.{Common.RunKeepsReasons, lemmas.engine.Literals.has-push_new, lemmas.store.Gets.get-set_same, lemmas.store.Gets.get-set_other}
+use Rattle.pb_propagate.proofs.lemmas.engine.Literals.{has-push_cases, has-neither, only-itself, puts-other, derivation-keeps, has-none, has-push_old}
 use Rattle.pb_propagate.proofs.lemmas.clauses.Shapes.{clause-stored, joined-at, joined-length, unit-puts}
-use Rattle.pb_propagate.proofs.lemmas.engine.Literals.{only-itself, puts-other, derivation-keeps, has-none, has-push_old, has-push_new}
 
 puts-among : (forms : List Shape) (s : ℕ) (x : Shape) (list : List NumberedLiteral) (l : NumberedLiteral) → slice_get forms s ≡ Some x → Puts (x ∷ []) list l → Puts forms list l
 puts-among forms s x list l at m = puts-other (x ∷ []) forms list l m (subst (Contains forms) (only-itself x m.form m.among) (s, slice_get_within forms s x at, get_or_from_slice_get forms s x x at))

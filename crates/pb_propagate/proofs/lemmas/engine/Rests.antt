@@ -1,14 +1,13 @@
 -- The engine between two calls: what a call finds, and what it leaves.
-use Rattle.pb_propagate.proofs.{Common.one_in, Common.terms_in, Common.form_at, Common.IsAbsent, lemmas.clauses.Shapes.AreJoined-push}
-use Rattle.pb_propagate.proofs.Common.{ℕ, ◌++◌, ◌-◌, ◌<◌, ◌∙◌, ◌∷◌, ◌≡◌, ◌⊎◌, [], ap, arith, false, get_or, inl, inr, length, length-append, List, map, None, refl, set}
-use Rattle.pb_propagate.proofs.Common.{subst, suc, sym, take, true, zero, Contains, Option, slice_get, Some, take-append_seam, length-map, map-append}
-use Rattle.pb_propagate.proofs.Common.{Contains-append_left, Contains-push_cases, Form, StoredForm, AreJoined, shapes_of, stored_shape, IsStoredAs}
-use Rattle.pb_propagate.proofs.Common.{Shape, Live, AreSlots, IsSlot, With, ◌*◌, ◌/◌, Global, rules, Vec, sum_by_push, Occurrence, entries_of, AreCrossed, Cross}
-use Rattle.pb_propagate.proofs.Common.{IsLinked, IsStored, Weighted, ◌+◌, ◌≤◌, eqb, eqb-true, list_any, ne_eqb, slice_get-get_or, slice_get_within, length-set}
-use Rattle.pb_propagate.proofs.Common.{get_or-set_other, Contains-push, length_permutation, sum_by, sum_by-cons, sum_by-set, joined, one_term, slot_shape, entry_of}
-use Rattle.pb_propagate.proofs.lemmas.{engine.Bridge.AreKept, engine.Literals.get_or-push_default, store.Placed.at-inside, store.Placed.kept-same}
-use Rattle.pb_propagate.proofs.lemmas.store.Positions.{ArePositioned, positioned-put}
-use Rattle.pb_propagate.specs.engine.engine.Rest.{no_slots, add_slot}
+use Rattle.pb_propagate.proofs.Common.{one_in, terms_in, form_at, IsAbsent, ℕ, ◌++◌, ◌-◌, ◌<◌, ◌∙◌, ◌∷◌, ◌≡◌, ◌⊎◌, [], ap, arith, false, get_or, inl, inr, ◌+◌}
+use Rattle.pb_propagate.proofs.{Common.eqb-true, lemmas.clauses.Shapes.AreJoined-push, lemmas.engine.Bridge.AreKept, lemmas.engine.Literals.get_or-push_default}
+use Rattle.pb_propagate.proofs.Common.{length, length-append, List, map, None, refl, set, subst, suc, sym, take, true, zero, Contains, Option, slice_get, Some}
+use Rattle.pb_propagate.proofs.Common.{take-append_seam, length-map, map-append, Contains-append_left, Contains-push_cases, Form, StoredForm, AreJoined, ne_eqb}
+use Rattle.pb_propagate.proofs.Common.{shapes_of, stored_shape, IsStoredAs, Shape, Live, AreSlots, IsSlot, With, ◌*◌, ◌/◌, Global, rules, Vec, sum_by_push, ◌≤◌}
+use Rattle.pb_propagate.proofs.Common.{Occurrence, entries_of, AreCrossed, IsLinked, IsStored, Weighted, sum_by-set, joined, one_term, slot_shape, entry_of}
+use Rattle.pb_propagate.{proofs.Common.Cross, proofs.Common.eqb, proofs.Common.list_any, specs.engine.engine.Rest.no_slots, specs.engine.engine.Rest.add_slot}
+use Rattle.pb_propagate.proofs.Common.{slice_get-get_or, slice_get_within, length-set, get_or-set_other, Contains-push, length_permutation, sum_by, sum_by-cons}
+use Rattle.pb_propagate.proofs.lemmas.store.{Placed.at-inside, Placed.kept-same, Positions.ArePositioned, Positions.positioned-put}
 use Rattle.std.proofs.lemmas.Map.{Keys.IsDistinct-from_apart, Steps.length-le_from_distinct_below, Views.Contains-from_any}
 
 pub slots-more : (os : List (Option Form)) (xs : List Shape) (p : Option Form) (x : Shape) → AreSlots os xs → IsSlot p x → AreSlots (os ++ (p ∷ [])) (xs ++ (x ∷ []))

@@ -1,18 +1,17 @@
 -- A form comes to the root, or goes, and the root stays.
-use Rattle.pb_propagate.proofs.{Common.pushed, Common.get_or_default, lemmas.clauses.Heads.KeepsFallen, lemmas.clauses.Heads.walks-kept}
-use Rattle.pb_propagate.proofs.Common.{All-push, stored_form, ℕ, ◌/◌, ◌<◌, ◌∙◌, ◌∷◌, ◌≡◌, [], ap, arith, Bool, get_or, get_or-set_other, length, length-append}
-use Rattle.pb_propagate.proofs.Common.{List, set, subst, sym, true, both_ways, Option, slice_get, Some, cases_eq, get_or_append_left, get_or_push, length-map}
-use Rattle.pb_propagate.proofs.Common.{get_or_from_slice_get, slice_get-get_or, slice_get_within, NumberedLiteral, Clauses, Watch, Waiting, Rests, Run, Store}
-use Rattle.pb_propagate.proofs.Common.{StoredForm, list_at, watch_at, AreStored, all_of, clauses_of, joined, one_term, slot_shape, Walked, beside, Grown}
-use Rattle.pb_propagate.proofs.Common.{IsCalm, IsCounted, IsTidy, shapes_of, stored_shape, HaveReasons, open_sum, Shape, HasForm, HasGained, RunIsWidened}
-use Rattle.pb_propagate.proofs.Common.{IsRooted, AreFree, AreSet, IsFreePair, None, Pair, map, slice_get-map, length-set, IsAbsent, ◌*◌, ◌+◌, ◌⊎◌}
-use Rattle.pb_propagate.proofs.Common.{get_or-set_same, get_or_past, Form, forms_of, HasWidened, form_at, map-set, Assignment, AreReady, HasCleared, IsNeedless}
-use Rattle.pb_propagate.proofs.lemmas.{engine.Runs.grown-new, engine.Runs.grown-still, root.Ready.IsTidyRoot}
+use Rattle.pb_propagate.proofs.Common.{pushed, get_or_default, All-push, stored_form, ℕ, ◌/◌, ◌<◌, ◌∙◌, ◌∷◌, ◌≡◌, [], ap, arith, Bool, get_or, get_or-set_other}
+use Rattle.pb_propagate.proofs.lemmas.{clauses.Heads.KeepsFallen, clauses.Heads.walks-kept, root.Ready.IsTidyRoot, engine.Literals.get_or-push_default}
+use Rattle.pb_propagate.proofs.Common.{length, length-append, List, set, subst, sym, true, both_ways, Option, slice_get, Some, cases_eq, get_or_append_left}
+use Rattle.pb_propagate.proofs.Common.{get_or_push, length-map, get_or_from_slice_get, slice_get-get_or, slice_get_within, NumberedLiteral, Clauses, Watch, ◌+◌}
+use Rattle.pb_propagate.proofs.Common.{Waiting, Rests, Run, Store, StoredForm, list_at, watch_at, AreStored, all_of, clauses_of, joined, one_term, slot_shape}
+use Rattle.pb_propagate.proofs.Common.{Walked, beside, Grown, IsCalm, IsCounted, IsTidy, shapes_of, stored_shape, HaveReasons, open_sum, Shape, HasForm, Form}
+use Rattle.pb_propagate.proofs.Common.{HasGained, RunIsWidened, IsRooted, AreFree, AreSet, IsFreePair, None, Pair, map, slice_get-map, length-set, IsAbsent}
+use Rattle.pb_propagate.proofs.Common.{◌*◌, get_or-set_same, get_or_past, forms_of, HasWidened, form_at, map-set, Assignment, AreReady, HasCleared, IsNeedless}
+use Rattle.{pb_propagate.proofs.Common.◌⊎◌, std.proofs.lemmas.Grind.get_or-set_at, std.proofs.lemmas.Option.unwrap_or-slice_get}
+use Rattle.pb_propagate.proofs.lemmas.engine.{Runs.grown-new, Runs.grown-still, Runs.Tidy-rest, Runs.grown-all, Reasoned.moved-same, Reasoned.reasons-moved}
 use Rattle.pb_propagate.proofs.lemmas.clauses.{Literals.false-listed, Shapes.IsVacant, Shapes.joined-at, Shapes.joined-length, Shapes.joined-cleared}
-use Rattle.pb_propagate.proofs.lemmas.engine.{Literals.get_or-push_default, Reasoned.moved-same, Reasoned.reasons-moved, Runs.Tidy-rest, Runs.grown-all}
 use Rattle.pb_propagate.proofs.lemmas.store.{Changes.forms-filled, Changes.forms-length, Gets.get-set_other, Gets.get-push_other}
 use Rattle.pb_propagate.specs.{declared.engine.root.Root.Root, engine.engine.Root.WasRootOf, engine.engine.Root.HasRemoved, engine.engine.Root.IsRootOf}
-use Rattle.std.proofs.lemmas.{Grind.get_or-set_at, Option.unwrap_or-slice_get}
 
 -- the same element in both
 same-at : {X Y : Type 0} (f : X → Y) (xs ys : List X) (s : ℕ) (d : Y) → slice_get xs s ≡ slice_get ys s → get_or (map f xs) s d ≡ get_or (map f ys) s d
@@ -151,9 +150,7 @@ lost-reasons before store old clauses slot a g n =
 -- the root stays
 pub lost-rooted : (before store : Store) (old clauses : Clauses) (slot : ℕ) (root : Root) → slot < length before.stored.items → slot < length old.blocks.literals → AreReady clauses → HasCleared before old store clauses slot → HasRemoved before old slot root → IsRootOf store clauses root
 lost-rooted before store old clauses slot root inside room ready g l =
-    let k = g.kept.0 in
-    let r = l.rooted in
-    let mid = l.mid in
+    let k = g.kept.0 in let r = l.rooted in let mid = l.mid in
     let long = length-map store.stored.items stored_shape in
     let was_long = length-map before.stored.items stored_shape in
     let longer : length store.stored.items ≡ length before.stored.items = ap length g.kept.2 ∙ length-set before.stored.items slot k in

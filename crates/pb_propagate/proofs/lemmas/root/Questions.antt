@@ -1,5 +1,5 @@
 -- Questions that continue from the root, about a constraint or about a clause by its literals.
-use Rattle.pb_normal.proofs.lemmas.terms.Maps.{IsNormal-negation}
+use Rattle.{pb_normal.proofs.lemmas.terms.Maps.IsNormal-negation, pb_propagate.proofs.Common.RunVisitsEach, pb_propagate.proofs.Common.sum_by-le-sum_by}
 use Rattle.pb_propagate.proofs.Common.{ℕ, ◌++◌, ◌+◌, ◌-◌, ◌<◌, ◌^◌, ◌∙◌, ◌∷◌, ◌≡◌, ◌≤◌, [], ap, arith, false, get_or, inl, inr, length, length-append, List}
 use Rattle.pb_propagate.proofs.Common.{map, min, rules, refl, suc, true, zero, All, Contains, both_ways, get_or-map, length-map, Contains-append_left}
 use Rattle.pb_propagate.proofs.Common.{Contains-push, Contains-push_cases, IsPermutation-refl, sum_by-cons, Entry, NumberedLiteral, each, Form, IsNormal, total}
@@ -9,14 +9,12 @@ use Rattle.pb_propagate.proofs.Common.{open_sum, opposed, put, Shape, AreSettled
 use Rattle.pb_propagate.proofs.Common.{get_or_append_left, get_or_default, get_or_past, get_or_push, length-take, map-append, take_all, sum_by-append, Long}
 use Rattle.pb_propagate.proofs.Common.{Short, Clauses, Heads, heads_at, Rests, Run, Occurrence, Store, StoredForm, clauses_of, code_in, fallen, AreSingle}
 use Rattle.pb_propagate.proofs.Common.{beside, IsTidy, IsUndone, place, spent, AreLonger, entries_of, IsSound, shapes_of, spots_of, stored_shape, Extends, size}
-use Rattle.pb_propagate.proofs.Common.{RunSpends, UpdateCosts, list_of, values_of, Assignment, Bool, HaveReasons, IsAnswered, RunGains, RunRefutes}
-use Rattle.pb_propagate.proofs.Common.{RunVisitsEach, all_of, sum_by-le-sum_by}
+use Rattle.pb_propagate.proofs.Common.{RunSpends, UpdateCosts, list_of, values_of, Assignment, Bool, HaveReasons, IsAnswered, RunGains, RunRefutes, all_of}
 use Rattle.pb_propagate.proofs.lemmas.{root.Rooted.derives-within, root.Rooted.owned, root.Rooted.root-short, root.Rooted.both-le, store.Stored.entries-size}
 use Rattle.pb_propagate.proofs.lemmas.clauses.{Counts.IsOneSided, Counts.killed-both, Shapes.conflicts-joined, Shapes.joined-push}
-use Rattle.pb_propagate.proofs.lemmas.engine.{Literals.derivation-single, Reasoned.reasons-derive, Rests.joined-terms}
-use Rattle.pb_propagate.proofs.lemmas.engine.Advances.{killed-longer, extends-then}
-use Rattle.pb_propagate.proofs.lemmas.engine.Literals.{one_itself, settled-of_terms, derivation-then, negation-negation, open_part-falsified, open_part-open}
-use Rattle.pb_propagate.proofs.lemmas.engine.Literals.{open_sum-lower, has-none, has-push_old, has-push_new, only-itself, opposite as one_sided}
+use Rattle.pb_propagate.proofs.lemmas.engine.Literals.{derivation-single, one_itself, settled-of_terms, derivation-then, negation-negation, open_part-falsified}
+use Rattle.pb_propagate.proofs.lemmas.engine.{Reasoned.reasons-derive, Rests.joined-terms, Advances.killed-longer, Advances.extends-then}
+use Rattle.pb_propagate.proofs.lemmas.engine.Literals.{open_part-open, open_sum-lower, has-none, has-push_old, has-push_new, only-itself, opposite as one_sided}
 use Rattle.pb_propagate.specs.{declared.engine.root.Root.Root, engine.engine.Root.HasUpdated, engine.engine.Root.IsStanding, engine.engine.Root.terms_of_all}
 
 abbrev literal_of : Entry → NumberedLiteral
@@ -182,8 +180,7 @@ spent-longer forms forms' occ occ' list h = sum_by-le-sum_by (λ l. length (get_
 -- the number of visits, if only the forms that wait were visited
 pub updated-most : {store : Store} {clauses : Clauses} {old new : Root} → IsStanding store clauses old → old.run.visits ≡ length (list_of old.run) → UpdateCosts store clauses old new → new.run.visits ≤ 3 * terms_of_all store clauses + length old.waiting.list.items
 updated-most {store} {clauses} {old} {new} s visits costs =
-    let done = costs.ended in
-    let u = costs.spends in
+    let done = costs.ended in let u = costs.spends in
     let most = question-most store (clauses_of clauses) (list_of old.run) (list_of done) done.visits (length old.waiting.list.items) (sum done.candidates.items) s.sound s.joined u.single (λ l on. one_sided (values_of done) (list_of done) l done.assignment.agrees on) u.extends (reasons-derive s.rooted.reasoned) u.bounded (omega (arith, u.upper, visits, ap length s.rooted.work)) in
     omega (arith, most, costs.visits)
 

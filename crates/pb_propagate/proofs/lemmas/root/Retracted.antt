@@ -5,20 +5,19 @@ use Rattle.pb_propagate.proofs.Common.{slice_get, Some, cases_lt, get_or_default
 use Rattle.pb_propagate.proofs.Common.{take_all, take-append-le, get_or-map, map, Occurrence, weighted, NumberedLiteral, negation, Form, Assignment, Clauses}
 use Rattle.pb_propagate.proofs.Common.{Store, Term, all_of, clauses_of, place, entries_of, forms_of, IsSound, shapes_of, spots_of, stored_shape, terms_at}
 use Rattle.pb_propagate.proofs.Common.{HaveReasons, open_sum, Shape, size, Weighted, AreSlots, HasForm, IsWalkedTo, from_given, by_reason, Walked, same_Some}
-use Rattle.pb_propagate.proofs.Common.{form_at, slot_shape, list_at, cases_Bool, get_or_append_left, get_or_push, take-append_seam, suc, zero}
-use Rattle.pb_propagate.proofs.Common.{stored_terms, true, Contains, cases_eq, StoredForm, AreInside, AreJoined, joined, literal_at, one_term, has, IsDue}
-use Rattle.pb_propagate.proofs.Common.{HasOtherReasons, IsNeedless, IsOtherUnit, get_or_from_slice_get, both_ways, list_of, Puts}
-use Rattle.pb_propagate.proofs.lemmas.{clauses.Shapes.joined-at, clauses.Shapes.joined-length, clauses.Shapes.shape-some, engine.Advances.extends-none}
-use Rattle.pb_propagate.proofs.lemmas.engine.{Advances.extends-then, Advances.extends-within, Literals.literal_ext, Literals.has-elsewhere}
-use Rattle.pb_propagate.proofs.lemmas.engine.{Literals.one-literal, Literals.open_part-open, Literals.has-none, Literals.one_itself, Propagated.shape-at}
+use Rattle.pb_propagate.proofs.Common.{form_at, slot_shape, list_at, cases_Bool, get_or_append_left, get_or_push, take-append_seam, suc, zero, stored_terms}
+use Rattle.pb_propagate.proofs.Common.{true, Contains, cases_eq, StoredForm, AreInside, AreJoined, joined, literal_at, one_term, has, IsDue, HasOtherReasons}
+use Rattle.pb_propagate.proofs.Common.{IsNeedless, IsOtherUnit, get_or_from_slice_get, both_ways, list_of, Puts}
+use Rattle.pb_propagate.proofs.lemmas.clauses.Shapes.{joined-at, joined-length, shape-some}
+use Rattle.pb_propagate.proofs.lemmas.engine.{Advances.extends-none, Advances.extends-then, Advances.extends-within, Propagated.shape-at}
+use Rattle.pb_propagate.proofs.lemmas.engine.Literals.{literal_ext, has-elsewhere, one-literal, open_part-open, has-none, one_itself}
 use Rattle.pb_propagate.proofs.lemmas.engine.Reasoned.{IsMoved, moved-same, reasons-moved, due-term, stored-joined}
 use Rattle.pb_propagate.proofs.lemmas.engine.Runs.{Tidy-rest, entry_weight-other, entry_weight-same, open_sum-push, entries-at, form-within, place-inside}
 use Rattle.pb_propagate.proofs.lemmas.root.{Ready.IsTidyRoot, Ready.reasoned-rooted, Rooted.term-entry, Rooted.last-split}
 use Rattle.pb_propagate.proofs.lemmas.store.{Gets.get-map, Gets.get-set_same, Gets.get-set_other, Stored.index-within}
-use Rattle.pb_propagate.specs.{declared.engine.root.Root.Root, engine.engine.Lists.has, engine.engine.Lists.open_part}
-use Rattle.pb_propagate.specs.engine.engine.{Rest.no_slots, Rest.add_slot, Root.IsRootOf, Root.IsSized}
+use Rattle.{pb_propagate.specs.declared.engine.root.Root.Root, std.proofs.lemmas.Grind.get_or-set_at}
+use Rattle.pb_propagate.specs.engine.engine.{Lists.has, Lists.open_part, Rest.no_slots, Rest.add_slot, Root.IsRootOf, Root.IsSized}
 use Rattle.pb_propagate.specs.engine.engine.Refreshed.{AreRefreshed, IsRefreshed, Lacks, IsUntouched, IsReleased, IsShortened, IsSomeRoot}
-use Rattle.std.proofs.lemmas.Grind.{get_or-set_at}
 
 pub refreshed-stays : (store : Store) (b c : Root) (s : ℕ) → AreRefreshed store b c → IsRefreshed store b s → IsRefreshed store c s
 refreshed-stays store b c s next r = elim (next.each s) [

@@ -1,19 +1,18 @@
 -- Literals that forms force with nothing assumed: the last one is removed, or they are derived again from given literals.
-use Rattle.pb_propagate.{proofs.lemmas.store.Stored.entry-back, specs.engine.engine.Lists.has, specs.engine.engine.Reached.IsReached}
-use Rattle.pb_propagate.proofs.Common.{ℕ, ◌++◌, ◌+◌, ◌<◌, ◌∷◌, ◌≡◌, ◌≤◌, [], arith, Bool, false, get_or, length, length-append, length-set, List, min}
-use Rattle.pb_propagate.proofs.Common.{None, set, subst, take, Option, sum_by, cases_Bool, length-take-le, set_past, take_all, take_more, sum_by-set}
-use Rattle.pb_propagate.proofs.Common.{NumberedLiteral, has, vacancy, sym, negation, says, true, ◌∙◌, ap, get_or-set_other, inl, inr, map, refl}
-use Rattle.pb_propagate.proofs.Common.{Contains, slice_get, slice_index_or, Some, get_or-map, get_or_default, length-map, sum_by_push}
-use Rattle.pb_propagate.proofs.Common.{slice_get-get_or, slice_get_within, Long, Short, Term, list_at, code_in, joined, one_term, AreSingle, more}
-use Rattle.pb_propagate.proofs.Common.{none, place, spent, IsStored, terms_at, begin, Derives, put, Puts, Shape, Weighted, rules, IfNone, both_ways}
-use Rattle.pb_propagate.proofs.Common.{AreJoined, broken, Conflicts, IsSettled, IsWithin, opposed, HasClash, HasEnded, IsMade, derived, IsRefuted}
-use Rattle.pb_propagate.proofs.lemmas.clauses.{Literals.code-of, Shapes.joined-source, Shapes.derives-joined, Shapes.conflicts-joined}
-use Rattle.pb_propagate.proofs.lemmas.clauses.Counts.{IsOneSided, occurs, risen, risen-push, occurs-some}
-use Rattle.pb_propagate.proofs.lemmas.engine.Literals.{has-push_old, has-push_new, has-push_cases, Agree, Forgotten, has-elsewhere, has-neither}
-use Rattle.pb_propagate.proofs.lemmas.engine.Literals.{says-apart, says-none, says-inside, opposite, forget-next, forget-none, vacancy-none, has-get}
-use Rattle.pb_propagate.proofs.lemmas.engine.Literals.{lists-clear, place-injective, negation-negation, puts-other, sum_by-agree, derivation-then}
-use Rattle.pb_propagate.proofs.lemmas.engine.Literals.{derivation-keeps, has-none, push-within, open_sum-within, open_sum-lower}
-use Rattle.std.{proofs.lemmas.Grind.get_or-set_at, proofs.lemmas.List.take-take, specs.Cmp.both_ways as same_answers}
+use Rattle.pb_propagate.proofs.lemmas.{store.Stored.entry-back, clauses.Shapes.joined-source, clauses.Shapes.derives-joined, clauses.Shapes.conflicts-joined}
+use Rattle.pb_propagate.{specs.engine.engine.Lists.has, specs.engine.engine.Reached.IsReached, proofs.Common.Shape, proofs.Common.rules, proofs.Common.broken}
+use Rattle.pb_propagate.proofs.Common.{ℕ, ◌++◌, ◌+◌, ◌<◌, ◌∷◌, ◌≡◌, ◌≤◌, [], arith, Bool, false, get_or, length, length-append, length-set, List, min, None}
+use Rattle.pb_propagate.proofs.Common.{set, subst, take, Option, sum_by, cases_Bool, length-take-le, set_past, take_all, take_more, sum_by-set, NumberedLiteral}
+use Rattle.pb_propagate.proofs.Common.{has, vacancy, sym, negation, says, true, ◌∙◌, ap, get_or-set_other, inl, inr, map, refl, Contains, slice_get, opposed}
+use Rattle.pb_propagate.proofs.Common.{slice_index_or, Some, get_or-map, get_or_default, length-map, sum_by_push, slice_get-get_or, slice_get_within, Long, put}
+use Rattle.pb_propagate.proofs.Common.{Short, Term, list_at, code_in, joined, one_term, AreSingle, more, none, place, spent, IsStored, terms_at, begin, Derives}
+use Rattle.{pb_propagate.proofs.Common.Puts, std.proofs.lemmas.Grind.get_or-set_at, std.proofs.lemmas.List.take-take, std.specs.Cmp.both_ways as same_answers}
+use Rattle.pb_propagate.proofs.Common.{Weighted, IfNone, both_ways, AreJoined, Conflicts, IsSettled, IsWithin, HasClash, HasEnded, IsMade, derived, IsRefuted}
+use Rattle.pb_propagate.proofs.lemmas.clauses.{Literals.code-of, Counts.IsOneSided, Counts.occurs, Counts.risen, Counts.risen-push, Counts.occurs-some}
+use Rattle.pb_propagate.proofs.lemmas.engine.Literals.{has-push_old, has-push_new, has-push_cases, Agree, Forgotten, has-elsewhere, has-neither, says-apart}
+use Rattle.pb_propagate.proofs.lemmas.engine.Literals.{says-none, says-inside, opposite, forget-next, forget-none, vacancy-none, has-get, lists-clear}
+use Rattle.pb_propagate.proofs.lemmas.engine.Literals.{place-injective, negation-negation, puts-other, sum_by-agree, derivation-then, derivation-keeps}
+use Rattle.pb_propagate.proofs.lemmas.engine.Literals.{has-none, push-within, open_sum-within, open_sum-lower}
 
 -- a list has a literal for each variable with a value, so it is at least as long
 pub long-enough : (values : List (Option Bool)) (list : List NumberedLiteral) → Forgotten values list → length values ≤ length list + sum_by vacancy values

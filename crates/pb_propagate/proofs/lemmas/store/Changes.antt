@@ -1,5 +1,5 @@
 -- The store after a form was added, removed or emptied, and slots that forms take and leave.
-use Rattle.pb_normal.specs.declared.entry.Entry.{Entry as Given}
+use Rattle.{pb_normal.specs.declared.entry.Entry.Entry as Given, pb_propagate.specs.declared.store.stored_form.StoredForm.TheVariants.Vacant}
 use Rattle.pb_propagate.proofs.Common.{slice_get_past, stored_form, stored_terms, ℕ, ◌⊎◌, ◌++◌, ◌+◌, ◌<◌, ◌∙◌, ◌∷◌, ◌≡◌, [], All, All-permutation, All-set, ap}
 use Rattle.pb_propagate.proofs.Common.{arith, get_or, get_or-set_other, get_or-set_same, Global, inl, inr, IsPermutation, IsPermutation-sym, length}
 use Rattle.pb_propagate.proofs.Common.{length-append, length-set, List, map, None, NumberedLiteral, place, refl, set, set-get_or, set_past, slice_get}
@@ -12,9 +12,8 @@ use Rattle.pb_propagate.proofs.Common.{clauses_of, codes_of_terms, group_by, IsC
 use Rattle.pb_propagate.proofs.lemmas.clauses.Shapes.{joined-length, IsVacant, slots-vacant, joined-widen, AreJoined-widen, joined-set, AreJoined-set}
 use Rattle.pb_propagate.proofs.lemmas.clauses.Shapes.{joined-clause, AreJoined-clause, joined-cleared, AreJoined-cleared, clause-kept, rising-different}
 use Rattle.pb_propagate.proofs.lemmas.engine.{Rests.slots-set, Rests.slots-more, Rests.slots-length, Runs.entry_weight-other}
-use Rattle.pb_propagate.proofs.lemmas.store.{Gets.push-default, Links.cut-length, Placed.agree-sum}
-use Rattle.pb_propagate.proofs.lemmas.store.Stored.{named-term, entries-length, entry-weighted, map-agree}
-use Rattle.pb_propagate.specs.declared.store.{spots.Spots.TheVariants.Empty, stored_form.StoredForm.TheVariants.Vacant}
+use Rattle.pb_propagate.proofs.lemmas.store.{Gets.push-default, Stored.named-term, Stored.entries-length, Stored.entry-weighted, Stored.map-agree}
+use Rattle.pb_propagate.{proofs.lemmas.store.Links.cut-length, proofs.lemmas.store.Placed.agree-sum, specs.declared.store.spots.Spots.TheVariants.Empty}
 use Rattle.std.proofs.{Math.ListN.get_or-map as get_or-map_all, lemmas.Grind.get_or-set_at, lemmas.List.get_or-map, lemmas.List.Sums.sum_by-le}
 
 pub kept-inside : (ts : List Term) (es : List Given) (n : ℕ) → IsPermutation (map entry_of ts) es → All (λ e. e.variable < n) es → AreInside n ts

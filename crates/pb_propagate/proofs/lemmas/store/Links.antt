@@ -1,20 +1,18 @@
 -- Terms are added to the lists and removed, in the terms of the store and of what the program reads.
-use Rattle.pb_propagate.proofs.Common.{ℕ, ◌++◌, ◌+◌, ◌-◌, ◌<◌, ◌∙◌, ◌∷◌, ◌≡◌, ◌≤◌, ◌⊎◌, [], ap, arith, get_or, get_or-set_other, Global, length}
-use Rattle.pb_propagate.proofs.Common.{length-append, length-set, lists_of, List, None, Occurrence, refl, set, sym, take, slice_get, Some, sum_by}
-use Rattle.pb_propagate.proofs.Common.{swap_remove, cases_Bool, cases_eq, false, inl, inr, get_or_default, get_or_from_slice_get, last}
-use Rattle.pb_propagate.proofs.Common.{length-take-le, Moved, sum_by-set, sum_by-swap_remove, sum_by_more, sum_by_push, slice_get-get_or}
-use Rattle.pb_propagate.proofs.Common.{slice_get_past, slice_get_within, Vec, weighted, NumberedLiteral, Term, entries_of, entry_weight, place}
-use Rattle.pb_propagate.proofs.Common.{term_weight, weight_in, weight_on, cut, degree_at, entry_at, entry_cross, IsLinked, Option, term_at}
-use Rattle.pb_propagate.proofs.Common.{term_cross, terms_at, cases_lt, same, Shape, Weighted, AreLonger, IsSound, Store, stored_terms, subst}
-use Rattle.pb_propagate.proofs.Common.{get_or-map, length-map, map-set, set_past, StoredForm, Spots, spots_in, shapes_of, spots_of, stored_shape}
+use Rattle.pb_propagate.proofs.Common.{ℕ, ◌++◌, ◌+◌, ◌-◌, ◌<◌, ◌∙◌, ◌∷◌, ◌≡◌, ◌≤◌, ◌⊎◌, [], ap, arith, get_or, get_or-set_other, Global, length, length-append}
+use Rattle.pb_propagate.proofs.Common.{length-set, lists_of, List, None, Occurrence, refl, set, sym, take, slice_get, Some, sum_by, swap_remove, cases_Bool}
+use Rattle.pb_propagate.proofs.Common.{cases_eq, false, inl, inr, get_or_default, get_or_from_slice_get, last, length-take-le, Moved, sum_by-set, stored_shape}
+use Rattle.pb_propagate.proofs.Common.{sum_by-swap_remove, sum_by_more, sum_by_push, slice_get-get_or, slice_get_past, slice_get_within, Vec, weighted}
+use Rattle.pb_propagate.proofs.Common.{NumberedLiteral, Term, entries_of, entry_weight, place, term_weight, weight_in, weight_on, cut, degree_at, entry_at}
+use Rattle.pb_propagate.proofs.Common.{entry_cross, IsLinked, Option, term_at, term_cross, terms_at, cases_lt, same, Shape, Weighted, AreLonger, IsSound, Store}
+use Rattle.pb_propagate.proofs.Common.{stored_terms, subst, get_or-map, length-map, map-set, set_past, StoredForm, Spots, spots_in, shapes_of, spots_of}
 use Rattle.pb_propagate.proofs.lemmas.engine.{Literals.same-true, Literals.same-refl, Literals.place-injective, Propagated.shape-at, Propagated.term-inside}
 use Rattle.pb_propagate.proofs.lemmas.engine.Runs.{entry_weight-same, entry_weight-other, term_weight-same, term_weight-other, lists-at, place-inside}
-use Rattle.pb_propagate.proofs.lemmas.store.{Gets.swap-past, Gets.swap-here, Gets.swap-length, Positions.taken-is}
-use Rattle.pb_propagate.proofs.lemmas.store.Gets.{get-take_less, get-take_past, get-push_same, get-push_other, get-set_at, get-set_other, swap-other}
-use Rattle.pb_propagate.proofs.lemmas.store.Stored.{to, Same, crossed-add, crossed-drop, crossed-move, entry-back, named-term, named-spot}
-use Rattle.pb_propagate.proofs.lemmas.store.Stored.{entries-length, entries-size, entries-pushed, entries-taken, entry-weighted, item-taken}
-use Rattle.pb_propagate.specs.engine.engine.Links.{none}
-use Rattle.std.proofs.lemmas.Grind.{get_or-set_at}
+use Rattle.pb_propagate.proofs.lemmas.store.Gets.{swap-past, swap-here, swap-length, get-take_less, get-take_past, get-push_same, get-push_other, get-set_at}
+use Rattle.pb_propagate.proofs.lemmas.store.{Gets.get-set_other, Gets.swap-other, Positions.taken-is}
+use Rattle.pb_propagate.proofs.lemmas.store.Stored.{to, Same, crossed-add, crossed-drop, crossed-move, entry-back, named-term, named-spot, entries-length}
+use Rattle.pb_propagate.proofs.lemmas.store.Stored.{entries-size, entries-pushed, entries-taken, entry-weighted, item-taken}
+use Rattle.{pb_propagate.specs.engine.engine.Links.none, std.proofs.lemmas.Grind.get_or-set_at}
 pub use Rattle.pb_propagate.proofs.lemmas.store.Stored.{entries-length, lists-length}
 
 -- how many forms there are when one is cut

@@ -1,11 +1,10 @@
 -- The forms by number, which are stored by slot.
 use Rattle.pb_propagate.proofs.Common.{ℕ, ◌++◌, ◌-◌, ◌<◌, ◌^◌, ◌∙◌, ◌∷◌, ◌≡◌, ◌≤◌, [], ap, arith, get_or, get_or-set_other, get_or-set_same, inl, inr, length}
 use Rattle.pb_propagate.proofs.Common.{length-append, length-set, List, None, refl, set, suc, sym, zero, Option, slice_get, Some, sum_by, cases_eq, get_or-map}
-use Rattle.pb_propagate.proofs.Common.{get_or_append_left, get_or_past, length-map, map-append, set-get_or, sum_by-cons, sum_by-set, sum_by_push, get_or_from_slice_get}
-use Rattle.pb_propagate.proofs.Common.{slice_get-get_or, slice_get_within, Form, StoredForm, forms_of, Shape, Live, ArePlaced, form_at, numbered, With}
-use Rattle.pb_propagate.proofs.lemmas.engine.Bridge.{AreKept}
+use Rattle.pb_propagate.proofs.Common.{get_or_append_left, get_or_past, length-map, map-append, set-get_or, sum_by-cons, sum_by-set, sum_by_push, numbered}
+use Rattle.pb_propagate.proofs.Common.{get_or_from_slice_get, slice_get-get_or, slice_get_within, Form, StoredForm, forms_of, Shape, Live, ArePlaced, form_at}
+use Rattle.{pb_propagate.proofs.Common.With, pb_propagate.proofs.lemmas.engine.Bridge.AreKept, std.proofs.lemmas.Grind.get_or-set_at}
 use Rattle.pb_propagate.proofs.lemmas.store.Gets.{get-set_at, get-set_other, get-push_less, get-push_other, get-push_same}
-use Rattle.std.proofs.lemmas.Grind.{get_or-set_at}
 
 pub at-inside : (forms : List (Option Form)) (s : ℕ) (f : Form) → form_at forms s ≡ Some f → s < length forms
 at-inside forms s f h = grind (arith, get_or_past)

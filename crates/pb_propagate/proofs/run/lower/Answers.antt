@@ -4,11 +4,8 @@ use Rattle.pb_propagate.proofs.run.lower.Goals as goal
 
 pub returns-clause-lowers : goal.returns-clause-lowers
 returns-clause-lowers c =
-    let keep = c.args.store.now.stored.items in
-    let run = c.args.run.now in
-    let opens = run.opens.items in
-    let e = c.args.entry in
-    let k = c.index-kept.result.now in
+    let keep = c.args.store.now.stored.items in let run = c.args.run.now in let opens = run.opens.items in
+    let e = c.args.entry in let k = c.index-kept.result.now in
     let weight = weight-read keep e.form e.index k c.weight_of.result c.requires.form c.index-kept.ensures c.weight_of.ensures in
     let lower : get_or opens e.form 0 ≡ c.index-opened.result.now = sym (get_or_read opens e.form c.index-opened.result.now c.requires.inside c.index-opened.ensures 0) in
     let work = grown-by e.form run.work.items _ (λ low d i. subst (λ (w : ℕ). IsCalm (get_or (shapes_of keep) e.form d) (get_or run.opens.items e.form 0 - w) i) weight

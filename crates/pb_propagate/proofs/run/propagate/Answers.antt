@@ -1,21 +1,18 @@
 use Rattle.pb_propagate.proofs.Common.{rules, ◌≡◌, AreSettled, ℕ, ◌+◌, ◌<◌, ◌∙◌, ◌≤◌, ap, arith, drop, get_or, Global, inl, inr, length, refl, subst, Vec, sum}
 use Rattle.pb_propagate.proofs.Common.{drop_all, get_or_default, length-map, take_rest, passed_of, all_of, clauses_of, heads_at, IsAhead, shapes_in}
-use Rattle.pb_propagate.proofs.Common.{stored_shape, database, progress, list_of, values_of}
-use Rattle.pb_propagate.proofs.lemmas.{clauses.Walks.running-grow, engine.Advances.extends-none, engine.Advances.extends-then, engine.Literals.opposite}
-use Rattle.pb_propagate.proofs.lemmas.clauses.{Shapes.conflicts-joined, Shapes.joined-source, Walks.grows-refl, Walks.grows-trans, Walks.kept-then, Walks.never}
+use Rattle.pb_propagate.proofs.{Common.stored_shape, Common.database, Common.progress, Common.list_of, Common.values_of, lemmas.root.Ready.gains-then}
+use Rattle.pb_propagate.proofs.lemmas.clauses.{Walks.running-grow, Walks.grows-refl, Walks.grows-trans, Walks.kept-then, Walks.never, Shapes.joined-source}
+use Rattle.pb_propagate.proofs.lemmas.{engine.Advances.extends-none, engine.Advances.extends-then, clauses.Shapes.conflicts-joined, root.Ready.assigned-grow}
+use Rattle.pb_propagate.proofs.lemmas.engine.{Literals.opposite, Reasoned.run-reasons-none, Reasoned.run-reasons-then, Reasoned.run-reasons-joined}
 use Rattle.pb_propagate.proofs.lemmas.clauses.Heads.{mark-walked, walked-mark, marking-start, marking-grow, marking-found, marking-next, cost, next-of}
 use Rattle.pb_propagate.proofs.lemmas.clauses.Heads.{ahead-within, walked-whole, watching-grow, watching-next, watching-settled, same-reached, reached-ahead}
-use Rattle.pb_propagate.proofs.lemmas.engine.{Propagated.walk-stopped, Reasoned.run-reasons-none, Reasoned.run-reasons-then, Reasoned.run-reasons-joined}
-use Rattle.pb_propagate.proofs.lemmas.engine.Propagated.{propagating-start, propagating-visit, propagating-next, propagating-bound, propagating-take}
-use Rattle.pb_propagate.proofs.lemmas.engine.Propagated.{propagating-settled, propagating-spends, forms-falling, candidates-bounded, stopped, form-stopped}
-use Rattle.pb_propagate.proofs.lemmas.root.Ready.{gains-then, assigned-grow}
+use Rattle.pb_propagate.proofs.lemmas.engine.Propagated.{walk-stopped, propagating-start, propagating-visit, propagating-next, propagating-bound, form-stopped}
+use Rattle.pb_propagate.proofs.lemmas.engine.Propagated.{propagating-take, propagating-settled, propagating-spends, forms-falling, candidates-bounded, stopped}
 use Rattle.pb_propagate.proofs.run.propagate.Goals as goal
 
 pub work-init : goal.work-init
 work-init c =
-    let store = c.args.store.now in
-    let run = c.args.run.now in
-    let ready = c.requires.ready in
+    let store = c.args.store.now in let run = c.args.run.now in let ready = c.requires.ready in
     let marking = marking-start c.args.clauses.now (list_of run) c.args.marks.now.items c.len-marked.result c.args.from
     (omega (arith, c.len-marked.ensures, run.assignment.list.ok.0)) ready.walked in
     let served = mark-walked (values_of run) c.args.clauses.now.blocks.literals c.args.clauses.now.blocks.watches (list_of run) c.args.from run.assignment.agrees
@@ -35,12 +32,9 @@ work-smaller-in-Some c =
 
 pub work-preserved-in-Some : goal.work-preserved-in-Some
 work-preserved-in-Some c =
-    let i = c.work.invariant in
-    let w = i.watching in
-    let done = c.walk.new.run in
+    let i = c.work.invariant in let w = i.watching in let done = c.walk.new.run in
     let ahead : IsAhead c.work.heads (list_of c.work.run) c.in-Some.ahead = rw c.as_slice.ensures.value at c.in-Some.ensures.some in
-    let reported = c.in_ok-walk.ensures in
-    let walks = reported.walks in
+    let reported = c.in_ok-walk.ensures in let walks = reported.walks in
     let walked = reported.walked c.if-branch-2.false in
     let more = walks.advances.costs.extends in
     let same = ap (λ (v : Vec ℕ Global). v.items) c.walk.ensures.candidates in
@@ -67,11 +61,8 @@ work-smaller-else-branch c = let bound = propagating-bound c.work.invariant.stat
 
 pub work-preserved-else-branch : goal.work-preserved-else-branch
 work-preserved-else-branch c =
-    let store = c.args.store.now in
-    let run = c.work.run in
-    let state = c.work.invariant.state in
-    let w = c.work.invariant.watching in
-    let done = c.visit_form.new.run in
+    let store = c.args.store.now in let run = c.work.run in let state = c.work.invariant.state in
+    let w = c.work.invariant.watching in let done = c.visit_form.new.run in
     let inside : run.next + 1 ≤ length run.work.items = omega (arith, c.if-run-len.true, c.len.ensures, run.work.ok.0) in
     let reported = c.in_ok-visit_form.ensures in
     let grows = assigned-grow run.assignment done.assignment reported.visits.advances.costs.extends in
@@ -120,13 +111,8 @@ returns-in_err-mark-clause-costs c =
 -- a form that is visited is falsified
 pub returns-then-branch : goal.returns-then-branch
 returns-then-branch c =
-    let run = c.work.run in
-    let done = c.visit_form.new.run in
-    let i = c.work.invariant in
-    let s = i.state in
-    let before = s.costs.extends in
-    let visits = c.in_ok-visit_form.ensures.visits in
-    let a = visits.advances in
+    let run = c.work.run in let done = c.visit_form.new.run in let i = c.work.invariant in let s = i.state in
+    let before = s.costs.extends in let visits = c.in_ok-visit_form.ensures.visits in let a = visits.advances in
     let more = a.costs.extends in
     let reasons = run-reasons-then i.reasons (run-reasons-joined _ _ run done c.requires.ready.joined visits.reasons.kept visits.reasons.added) in
     let running = running-grow _ _ _ a.values (assigned-grow run.assignment done.assignment more) i.watching.running in
@@ -145,10 +131,7 @@ returns-then-branch c =
 -- a clause is falsified on the way
 pub returns-then-branch-2 : goal.returns-then-branch-2
 returns-then-branch-2 c =
-    let i = c.work.invariant in
-    let s = i.state in
-    let walks = c.in_ok-walk.ensures.walks in
-    let a = walks.advances in
+    let i = c.work.invariant in let s = i.state in let walks = c.in_ok-walk.ensures.walks in let a = walks.advances in
     let more = a.costs.extends in
     let next = rw c.as_slice.ensures.value at c.in-Some.ensures.some in
     let same = ap (λ (v : Vec ℕ Global). v.items) c.walk.ensures.candidates in
@@ -170,9 +153,7 @@ returns-then-branch-2 c =
 -- no conflict was met
 pub returns-else-taken-waiting-clause-settled : goal.returns-else-taken-waiting-clause-settled
 returns-else-taken-waiting-clause-settled c = λ found.
-    let store = c.args.store.now in
-    let run = c.work.run in
-    let state = c.work.invariant.state in
+    let store = c.args.store.now in let run = c.work.run in let state = c.work.invariant.state in
     let w = c.work.invariant.watching in
     let all : length run.work.items ≤ run.next = omega (arith, c.if-run-len.false, c.len.ensures, run.work.ok.0) in
     let none_waits : length c.args.waiting.now ≤ c.work.taken = omega (arith, c.if-taken-waiting.false) in

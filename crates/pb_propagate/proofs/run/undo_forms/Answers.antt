@@ -4,9 +4,7 @@ use Rattle.pb_propagate.proofs.run.undo_forms.Goals as goal
 
 pub forms-preserved : goal.forms-preserved
 forms-preserved c =
-    let keep = c.args.store.now.stored.items in
-    let run = c.forms.run in
-    let start = c.args.run.now in
+    let keep = c.args.store.now.stored.items in let run = c.forms.run in let start = c.args.run.now in
     let same : run.trail.items ≡ start.trail.items = ap (λ (v : Vec ℕ Global). v.items) c.forms.invariant.trail in
     let inside : c.forms.i < length start.trail.items = omega (arith, c.forms-test.true, c.len-i-end.ensures, start.trail.ok.0) in
     let is : c.index-form.result.now ≡ get_or start.trail.items c.forms.i c.index-form.result.now = rw (← same) c.index-form.ensures in

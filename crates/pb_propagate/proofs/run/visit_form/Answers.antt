@@ -1,12 +1,11 @@
-use Rattle.pb_propagate.proofs.{Common.IsTidyAt, Common.RunReasons, Common.Conflicts, Common.shapes_in, lemmas.clauses.Walks.never}
-use Rattle.pb_propagate.proofs.{rules.Engine.run, run.visit_form.Goals.After-index-candidate, run.visit_form.Goals.In_ok-found}
-use Rattle.pb_propagate.proofs.Common.{[], stored_degree, stored_terms, ℕ, ◌+◌, ◌<◌, ap, arith, get_or, Global, length, refl, set, Vec, get_or_read}
-use Rattle.pb_propagate.proofs.Common.{get_or_default, rules, length-map, get_or-le-sum_by, Term, stored_shape, database, list_of, progress, reasons_of, ◌≤◌}
-use Rattle.pb_propagate.proofs.lemmas.{engine.Runs.counted-conflict, root.Ready.visiting-visits, store.Stored.stored-small, store.Stored.stored-low}
-use Rattle.pb_propagate.proofs.lemmas.engine.{Literals.sum-bounded, Propagated.IsVisiting}
+use Rattle.pb_propagate.proofs.Common.{IsTidyAt, RunReasons, Conflicts, shapes_in, [], stored_degree, stored_terms, ℕ, ◌+◌, ◌<◌, ap, arith, get_or, Global}
+use Rattle.pb_propagate.proofs.{Common.list_of, Common.progress, Common.reasons_of, Common.◌≤◌, lemmas.clauses.Walks.never, lemmas.root.Ready.visiting-visits}
+use Rattle.pb_propagate.proofs.{rulesets.Engine.run, run.visit_form.Goals.After-index-candidate, run.visit_form.Goals.In_ok-found}
+use Rattle.pb_propagate.proofs.Common.{length, refl, set, Vec, get_or_read, get_or_default, rules, length-map, get_or-le-sum_by, Term, stored_shape, database}
+use Rattle.pb_propagate.proofs.lemmas.engine.{Runs.counted-conflict, Reasoned.run-reasons-none, Reasoned.keeps-then, Reasoned.reasons-within}
+use Rattle.pb_propagate.proofs.lemmas.{store.Stored.stored-small, store.Stored.stored-low, engine.Literals.sum-bounded, engine.Propagated.IsForced}
+use Rattle.pb_propagate.proofs.lemmas.engine.Propagated.{IsVisiting, visiting-next, visiting-reasons, forced-read, visiting-settled, shape-at, term-inside}
 use Rattle.pb_propagate.proofs.lemmas.engine.Advances.{advances-refl, advances-visit, advances-then, costs-then, on-err}
-use Rattle.pb_propagate.proofs.lemmas.engine.Propagated.{visiting-next, visiting-reasons, forced-read, visiting-settled, shape-at, term-inside, IsForced}
-use Rattle.pb_propagate.proofs.lemmas.engine.Reasoned.{run-reasons-none, keeps-then, reasons-within}
 use Rattle.std.proofs.lemmas.Grind.{common_steps}
 use Rattle.pb_propagate.proofs.run.visit_form.Goals as goal
 
@@ -33,8 +32,7 @@ passed c =
 -- the literal has the form as its reason
 reasoned : (c : In_ok-found) → RunReasons (shapes_in c.args.store.now) c.args.run.now c.try_put.new.run
 reasoned c =
-    let reported = c.in_ok-found.ensures in
-    let reasons = c.terms.invariant.reasons in
+    let reported = c.in_ok-found.ensures in let reasons = c.terms.invariant.reasons in
     record {
       kept = keeps-then (list_of c.args.run.now) (list_of c.terms.run) (reasons_of c.args.run.now) (reasons_of c.terms.run) (reasons_of c.try_put.new.run)
           (reasons-within (list_of c.args.run.now) (list_of c.terms.run) reasons.added) reasons.kept reported.puts.kept;
@@ -49,8 +47,7 @@ terms-preserved c =
 
 pub overflow_add-degree : goal.overflow_add-degree
 overflow_add-degree c =
-    let k = c.index-kept.result.now in
-    let t = c.visit_term-term.result in
+    let k = c.index-kept.result.now in let t = c.visit_term-term.result in
     let top = get_or-le-sum_by (λ (x : Term). x.coefficient) (stored_terms k) c.index-candidate.result.now t (omega (arith, c.if-candidate-len.false, c.len.ensures)) in
     omega (arith, ap (λ (x : Term). x.coefficient) (c.visit_term-term.ensures.item t), top, stored-small k, stored-low k, c.degree-degree.ensures)
 
@@ -62,9 +59,7 @@ try_put-requires-clause-inside c =
 
 pub returns-then-falsified : goal.returns-then-falsified
 returns-then-falsified c =
-    let store = c.args.store.now in
-    let run = c.terms.run in
-    let v = c.terms.invariant.in_visit in
+    let store = c.args.store.now in let run = c.terms.run in let v = c.terms.invariant.in_visit in
     let inside : c.args.form < length (shapes_in store) = omega (arith, length-map store.stored.items stored_shape, c.requires.form) in
     let read = get_or_read run.opens.items c.args.form c.index-opened.result.now (omega (arith, v.opens, inside)) c.index-opened.ensures 0 in
     let low : get_or run.opens.items c.args.form 0 < stored_degree c.index-kept.result.now = omega (arith, read, c.degree-degree.ensures, c.is_below-falsified.ensures.below c.if-falsified.true) in
@@ -102,8 +97,7 @@ returns-then-candidate-len c =
 
 pub returns-then-not-demands : goal.returns-then-not-demands
 returns-then-not-demands c =
-    let v = c.terms.invariant.in_visit in
-    let visit = c.visit_term-term.ensures in
+    let v = c.terms.invariant.in_visit in let visit = c.visit_term-term.ensures in
     let tidy = settled (goal.at.returns-then-not-demands c).After-index-candidate (λ d less. grind (arith, get_or_default, visit.item c.visit_term-term.result, rw c.degree-degree.ensures at (c.is_below-demands.ensures.above c.if-not-demands.true))) in
     let reasons = c.terms.invariant.reasons in
     search (rules, tidy, sum-bounded, v.candidates, v.tidy.bounded, v, visit, advances-then, advances-visit, reasons.kept, reasons.added)

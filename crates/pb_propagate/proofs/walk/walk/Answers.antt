@@ -1,11 +1,10 @@
 use Rattle.pb_propagate.proofs.Common.{rules, ◌++◌, ◌+◌, ◌<◌, ◌∙◌, ◌∷◌, [], ap, arith, length, Leaves, Stays, list_at, watch_lists, IsUnit, all_of, clauses_of}
-use Rattle.pb_propagate.proofs.Common.{database, progress, RunReasons, shapes_in, list_of, values_of}
-use Rattle.pb_propagate.proofs.lemmas.{engine.Reasoned.run-reasons-none, engine.Reasoned.unit-reasons, root.Ready.open-later}
+use Rattle.pb_propagate.proofs.{Common.database, Common.shapes_in, Common.values_of, walk.walk.Goals.After-visit_clause, walk.walk.Goals.In_ok-put-in-Forces}
+use Rattle.{pb_propagate.proofs.Common.progress, pb_propagate.proofs.Common.list_of, std.proofs.lemmas.Grind.common_steps}
+use Rattle.pb_propagate.proofs.{Common.RunReasons, lemmas.engine.Reasoned.run-reasons-none, lemmas.engine.Reasoned.unit-reasons, lemmas.root.Ready.open-later}
 use Rattle.pb_propagate.proofs.lemmas.clauses.{Literals.false-listed, Literals.true-listed, Shapes.broken-conflicts, Shapes.conflicts-joined}
 use Rattle.pb_propagate.proofs.lemmas.clauses.Walks.{IsWalking, kept-then, walking-start, walking-next, walking-pass, walking-forces, walked-end}
 use Rattle.pb_propagate.proofs.lemmas.engine.Advances.{on-err, WalkIsDone, walk-ends, walk-then, walk-costs}
-use Rattle.pb_propagate.proofs.walk.walk.Goals.{After-visit_clause, In_ok-put-in-Forces}
-use Rattle.std.proofs.lemmas.Grind.{common_steps}
 use Rattle.pb_propagate.proofs.walk.walk.Goals as goal
 
 -- the watch that is visited is one of the list
@@ -20,9 +19,7 @@ ends c = walk-ends (database c.args.store.now c.args.rests.now) c.args.clauses.n
 forced : (c : In_ok-put-in-Forces) → RunReasons (all_of c.args.store.now c.args.clauses.now) c.args.run.now c.put.new.run × IsWalking (database c.args.store.now c.args.rests.now) c.args.clauses.now c.visit_clause.new.clauses c.args.literal (c.watches.index + 1) (progress c.args.run.now) (progress c.put.new.run)
 forced c =
     let v = rw c.in-Forces.is at c.in_ok-visit_clause.ensures.watch in
-    let i = c.watches.invariant in
-    let run = c.watches.run in
-    let f = c.in-Forces.forced in
+    let i = c.watches.invariant in let run = c.watches.run in let f = c.in-Forces.forced in
     let clauses = clauses_of c.args.clauses.now in
     let unit : IsUnit (values_of run) clauses f.slot f.code = rw (c.visit_clause.ensures.literals, i.walking.literals) at v.found.1 in
     let reported = c.in_ok-put-in-Forces.ensures in (
@@ -38,8 +35,7 @@ watches-init c = search (rules, run-reasons-none, walking-start, c.requires.runn
 
 pub watches-preserved-in-Stays : goal.watches-preserved-in-Stays
 watches-preserved-in-Stays c =
-    let i = c.watches.invariant in
-    let visit = c.visit_clause.ensures in
+    let i = c.watches.invariant in let visit = c.visit_clause.ensures in
     let within = inside (goal.at.watches-preserved-in-Stays c).After-visit_clause in
     let v = rw c.in-Stays.is at c.in_ok-visit_clause.ensures.watch in
     let passed = c.pass_true-index.ensures in
@@ -49,8 +45,7 @@ watches-preserved-in-Stays c =
 
 pub watches-preserved-in-Leaves : goal.watches-preserved-in-Leaves
 watches-preserved-in-Leaves c =
-    let i = c.watches.invariant in
-    let visit = c.visit_clause.ensures in
+    let i = c.watches.invariant in let visit = c.visit_clause.ensures in
     let within = inside (goal.at.watches-preserved-in-Leaves c).After-visit_clause in
     let v = rw c.in-Leaves.is at c.in_ok-visit_clause.ensures.watch in
     let now = walking-next i.walking c.visit_clause.new.clauses Leaves c.visit_clause.new.visits v visit.literals within (omega (arith, v.found)) visit.covered visit.counted visit.rising in
@@ -59,9 +54,7 @@ watches-preserved-in-Leaves c =
 pub watches-preserved : goal.watches-preserved
 watches-preserved c =
     let f = forced (goal.at.watches-preserved c).In_ok-put-in-Forces in
-    let i = c.watches.invariant in
-    let reported = c.in_ok-put-in-Forces.ensures in
-    let puts = reported.puts in
+    let i = c.watches.invariant in let reported = c.in_ok-put-in-Forces.ensures in let puts = reported.puts in
     search (rules, f.0.kept, f.0.added, f.1, reported.candidates ∙ i.candidates, open-later, i.sums, reported.counted c.if-branch.false, puts.advances, puts.tidy, i.tidy)
 
 pub returns-then-branch-clause-conflict : goal.returns-then-branch-clause-conflict

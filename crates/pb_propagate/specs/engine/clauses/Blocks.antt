@@ -1,8 +1,7 @@
 -- Clauses, searches and watches in blocks of words.
-use Rattle.pb_propagate.specs.declared.clauses.{lists.Watch.Watch, search.Search.Search}
-use Rattle.pb_propagate.specs.engine.clauses.Links.{idle, list_at}
-use Rattle.std.specs.List.{range_with_len}
-use Rattle.std.specs.Prelude.{◌≡◌, ℕ, ◌+◌, ◌-◌, ◌*◌, ◌/◌, ◌%◌, ◌^◌, ◌<◌, ◌≤◌, ◌⊎◌, ◌==◌, if◌then◌else◌, true, List, map, length, take, drop, slice_index_or, slice_set}
+use Rattle.{pb_propagate.specs.declared.clauses.lists.Watch.Watch, pb_propagate.specs.declared.clauses.search.Search.Search, std.specs.List.range_with_len}
+use Rattle.{pb_propagate.specs.engine.clauses.Links.idle, pb_propagate.specs.engine.clauses.Links.list_at, std.specs.Prelude.slice_set}
+use Rattle.std.specs.Prelude.{◌≡◌, ℕ, ◌+◌, ◌-◌, ◌*◌, ◌/◌, ◌%◌, ◌^◌, ◌<◌, ◌≤◌, ◌⊎◌, ◌==◌, if◌then◌else◌, true, List, map, length, take, drop, slice_index_or}
 
 -- what blocks store: for each slot a clause, its search, how many literals its block has room for, and two watches
 pub record Contents : Type 0 where

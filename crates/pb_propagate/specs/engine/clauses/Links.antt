@@ -1,6 +1,5 @@
 -- Watches, and the lists that contain them.
-use Rattle.pb_propagate.specs.declared.clauses.lists.{Listed.Listed, Watch.Watch}
-use Rattle.std.specs.Global.{Global}
+use Rattle.{pb_propagate.specs.declared.clauses.lists.Listed.Listed, pb_propagate.specs.declared.clauses.lists.Watch.Watch, std.specs.Global.Global}
 use Rattle.std.specs.Prelude.{◌≡◌, ℕ, ◌-◌, ◌/◌, ◌^◌, ◌<◌, ◌⊎◌, true, false, Contains, List, [], map, Some, slice_get, slice_index_or, Vec}
 
 -- the watches on each literal

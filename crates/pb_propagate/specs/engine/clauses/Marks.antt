@@ -1,8 +1,7 @@
 -- How far the literals of a list are walked, and how far they were when each of them was put.
 use Rattle.pb_normal.specs.declared.numbered.NumberedLiteral.{NumberedLiteral}
 use Rattle.pb_propagate.specs.declared.{clauses.Clauses.Clauses, clauses.lists.Watch.Watch, heads.Heads.Heads, heads.Walked.Walked}
-use Rattle.pb_propagate.specs.engine.clauses.{Links.list_at, Links.watch_at, Shapes.literal_at, Walked.reached_codes}
-use Rattle.pb_propagate.specs.engine.engine.Lists.{has}
+use Rattle.pb_propagate.specs.engine.{clauses.Links.list_at, clauses.Links.watch_at, clauses.Shapes.literal_at, clauses.Walked.reached_codes, engine.Lists.has}
 use Rattle.std.specs.Prelude.{◌≡◌, ℕ, ◌/◌, ◌<◌, ◌≤◌, true, Contains, List, length, take, Some, slice_get}
 
 -- the heads are walked: if the negation of one of their literals is watched, its clause has a literal of the list

@@ -1,10 +1,9 @@
 -- A clause that is asked about, and what follows if all its literals are false.
-use Rattle.pb_normal.specs.{declared.entry.Entry.Entry, declared.numbered.NumberedLiteral.NumberedLiteral, meaning.Form.Form}
-use Rattle.pb_normal.specs.meaning.Rules.{negation, opposite}
+use Rattle.pb_normal.specs.declared.{entry.Entry.Entry, numbered.NumberedLiteral.NumberedLiteral}
+use Rattle.pb_normal.specs.meaning.{Form.Form, Rules.negation, Rules.opposite}
 use Rattle.pb_propagate.specs.declared.{clauses.Clauses.Clauses, rests.Rests.Rests, run.Run.Run, store.Store.Store}
-use Rattle.pb_propagate.specs.engine.{clauses.Runs.passed_of, clauses.Shapes.clauses_of, engine.Forms.as_term}
-use Rattle.pb_propagate.specs.engine.engine.Lists.{Shape, has, Conflicts}
-use Rattle.pb_propagate.specs.engine.engine.Progress.{Spends, seen, progress, database, list_of}
+use Rattle.pb_propagate.specs.engine.{clauses.Runs.passed_of, clauses.Shapes.clauses_of, engine.Lists.Shape, engine.Lists.has, engine.Lists.Conflicts}
+use Rattle.pb_propagate.specs.engine.engine.{Forms.as_term, Progress.Spends, Progress.seen, Progress.progress, Progress.database, Progress.list_of}
 use Rattle.std.specs.Prelude.{◌≡◌, ℕ, ◌+◌, ◌<◌, ◌⊎◌, true, All, List, map, length, sum, sum_by, slice_index_or}
 
 abbrev pub IsOne : Entry → Type 0

@@ -1,10 +1,8 @@
 -- The engine's fields as lists.
-use Rattle.pb_normal.specs.meaning.Form.{Form}
-use Rattle.pb_propagate.specs.{declared.store.stored_form.StoredForm.StoredForm, engine.engine.Forms.IsStoredAs}
-use Rattle.pb_propagate.specs.declared.store.{Occurrence.Occurrence, Store.Store, Visited.Visited, spots.Spots.Spots}
-use Rattle.pb_propagate.specs.engine.engine.{Links.IsStored, Links.weighted, Lists.Shape, Lists.Weighted, Spots.spots_in}
-use Rattle.pb_propagate.specs.engine.engine.Stored.{stored_form, stored_terms, stored_degree, stored_total}
-use Rattle.std.specs.Global.{Global}
+use Rattle.{pb_normal.specs.meaning.Form.Form, std.specs.Global.Global}
+use Rattle.pb_propagate.specs.declared.store.{stored_form.StoredForm.StoredForm, Occurrence.Occurrence, Store.Store, Visited.Visited, spots.Spots.Spots}
+use Rattle.pb_propagate.specs.engine.engine.{Forms.IsStoredAs, Lists.Shape, Lists.Weighted, Spots.spots_in}
+use Rattle.pb_propagate.specs.engine.engine.{Links.IsStored, Links.weighted, Stored.stored_form, Stored.stored_terms, Stored.stored_degree, Stored.stored_total}
 use Rattle.std.specs.Prelude.{◌≡◌, ℕ, ◌≤◌, [], ◌∷◌, ◌++◌, List, Option, Some, None, map, length, slice_index_or, slice_set, Vec}
 
 abbrev pub stored_shape : StoredForm → Shape

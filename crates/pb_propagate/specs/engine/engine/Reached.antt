@@ -1,7 +1,6 @@
 -- A propagation that begins from literals that are forced already, and from given ones.
-use Rattle.pb_normal.specs.declared.numbered.NumberedLiteral.{NumberedLiteral}
-use Rattle.pb_propagate.specs.engine.engine.Lists.{Shape, has, says, IsWithin, Derives, Conflicts, IsSettled}
-use Rattle.pb_propagate.specs.engine.engine.Rest.{IsRefuted, IsEnded}
+use Rattle.{pb_normal.specs.declared.numbered.NumberedLiteral.NumberedLiteral, pb_propagate.specs.engine.engine.Rest.IsRefuted}
+use Rattle.pb_propagate.specs.engine.engine.{Lists.Shape, Lists.has, Lists.says, Lists.IsWithin, Lists.Derives, Lists.Conflicts, Lists.IsSettled, Rest.IsEnded}
 use Rattle.std.specs.Prelude.{◌≡◌, ◌⊎◌, true, Contains, List, Bool, Option}
 
 -- each literal of the list is on one of the others

@@ -1,10 +1,9 @@
 -- Forms of the root after literals lost their values.
 use Rattle.pb_normal.specs.declared.numbered.NumberedLiteral.{NumberedLiteral}
 use Rattle.pb_propagate.specs.declared.{clauses.Clauses.Clauses, engine.root.Root.Root, store.Store.Store}
-use Rattle.pb_propagate.specs.engine.clauses.Shapes.{AreJoined, all_of, clauses_of}
-use Rattle.pb_propagate.specs.engine.engine.{Counts.IsAbsent, Counts.IsCalm, Counts.weight_in, Fields.forms_of, Fields.shapes_of, Links.terms_at}
-use Rattle.pb_propagate.specs.engine.engine.{Progress.list_of, Progress.reasons_of, Rest.AreSlots, Root.IsRootOf, Root.IsSized}
-use Rattle.pb_propagate.specs.engine.engine.Lists.{Extends, IsDue, Shape, Weighted, open_sum}
+use Rattle.pb_propagate.specs.engine.{clauses.Shapes.AreJoined, clauses.Shapes.all_of, clauses.Shapes.clauses_of, engine.Links.terms_at, engine.Rest.AreSlots}
+use Rattle.pb_propagate.specs.engine.engine.{Counts.IsAbsent, Counts.IsCalm, Counts.weight_in, Fields.forms_of, Fields.shapes_of, Root.IsRootOf, Root.IsSized}
+use Rattle.pb_propagate.specs.engine.engine.{Progress.list_of, Progress.reasons_of, Lists.Extends, Lists.IsDue, Lists.Shape, Lists.Weighted, Lists.open_sum}
 use Rattle.std.specs.Prelude.{◌≡◌, ℕ, ◌+◌, ◌<◌, ◌⊎◌, List, length, Some, slice_get, slice_index, slice_index_or}
 
 -- the form has its first term as candidate; it waits, or is calm

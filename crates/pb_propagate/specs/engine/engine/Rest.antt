@@ -1,9 +1,8 @@
 -- The engine between two calls.
 use Rattle.pb_normal.specs.{declared.numbered.NumberedLiteral.NumberedLiteral, meaning.Form.Form, meaning.Rules.negation}
-use Rattle.pb_propagate.specs.{declared.clauses.Clauses.Clauses, declared.store.Store.Store, engine.clauses.Runs.AreReady}
-use Rattle.pb_propagate.specs.engine.clauses.Shapes.{AreJoined, clauses_of, all_of}
-use Rattle.pb_propagate.specs.engine.engine.{Fields.shapes_of, Fields.IsSound, Forms.IsStoredAs}
-use Rattle.pb_propagate.specs.engine.engine.Lists.{Shape, has, IsWithin, Derives, Conflicts, IsSettled}
+use Rattle.pb_propagate.specs.{declared.clauses.Clauses.Clauses, declared.store.Store.Store, engine.engine.Fields.shapes_of, engine.engine.Fields.IsSound}
+use Rattle.pb_propagate.specs.engine.clauses.{Runs.AreReady, Shapes.AreJoined, Shapes.clauses_of, Shapes.all_of}
+use Rattle.pb_propagate.specs.engine.engine.{Forms.IsStoredAs, Lists.Shape, Lists.has, Lists.IsWithin, Lists.Derives, Lists.Conflicts, Lists.IsSettled}
 use Rattle.std.specs.Prelude.{◌≡◌, ◌*◌, List, [], ◌∷◌, length, Contains, Option, Some, None, true}
 
 -- a form as it is stored; the slot of a removed form has an empty one

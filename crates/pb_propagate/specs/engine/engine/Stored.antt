@@ -1,7 +1,6 @@
 -- What is stored in a slot.
-use Rattle.pb_normal.specs.meaning.Form.{Form}
-use Rattle.pb_propagate.specs.{declared.term.Term.Term, engine.engine.Terms.terms_of, engine.engine.Terms.unit_terms}
-use Rattle.pb_propagate.specs.declared.store.stored_form.StoredForm.{StoredForm}
+use Rattle.{pb_normal.specs.meaning.Form.Form, pb_propagate.specs.declared.term.Term.Term, pb_propagate.specs.declared.store.stored_form.StoredForm.StoredForm}
+use Rattle.pb_propagate.specs.engine.engine.Terms.{terms_of, unit_terms}
 use Rattle.pb_propagate.specs.declared.store.stored_form.StoredForm.TheVariants.{Vacant, Watched, Single, Counted}
 use Rattle.std.specs.Prelude.{ℕ, ◌+◌, sum_by, List, [], Option, Some, None}
 

@@ -1,7 +1,6 @@
 -- The terms of a stored form in their order.
 use Rattle.pb_propagate.specs.declared.{store.sorted_form.SortedForm.SortedForm, store.unit_form.UnitForm.UnitForm, term.Term.Term}
-use Rattle.pb_propagate.specs.engine.engine.Forms.{as_term, in_order}
-use Rattle.std.specs.Prelude.{List, map}
+use Rattle.{pb_propagate.specs.engine.engine.Forms.as_term, pb_propagate.specs.engine.engine.Forms.in_order, std.specs.Prelude.List, std.specs.Prelude.map}
 
 -- the term of a form that has one
 abbrev pub unit_terms : UnitForm → List Term

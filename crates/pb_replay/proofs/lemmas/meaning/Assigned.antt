@@ -1,5 +1,5 @@
 -- Names and their numbers, assignments of both, and sums of the terms that are true
-use Rattle.pb_normal.proofs.lemmas.names.Appearing.{named}
+use Rattle.{pb_normal.proofs.lemmas.names.Appearing.named, pb_text.proofs.lemmas.numbers.Numbers.largest_small, std.proofs.lemmas.List.length-take}
 use Rattle.pb_replay.proofs.Common.{ℕ, ℤ, ◌++◌, ◌<◌, ◌∙◌, ◌∷◌, ◌≡◌, ◌≤◌, [], All, ap, append_assoc, arith, Bool, cond, get_or, length, length-append, List, not}
 use Rattle.pb_replay.proofs.Common.{pos, refl, Some, sym, true, ◌↔◌, All-head, All-tail, slice_get-get_or, prefix, number_in-append, number_in-below}
 use Rattle.pb_replay.proofs.Common.{number_in-get, SameSolutions-side, Side, Entry, Form, Holds, total, true_at, AreDistinct, has_name, HasNames, number_in}
@@ -8,8 +8,6 @@ use Rattle.pb_replay.proofs.Common.{Problem, by_name, value, ◌+◌, subst, suc
 use Rattle.pb_replay.proofs.Common.{take_read, numbered, numbered_one, literal_names, word_names, None, Option, ◌+ℤ◌, ◌^◌, drop, FitsSigned, unsigned_abs}
 use Rattle.pb_replay.proofs.Common.{option_map, fits_signed_from_abs, ints, take-append-drop, w128, HasNames-append, magnitude-append, magnitude, IsProper}
 use Rattle.pb_replay.proofs.Common.{problem_of, Running, inl, Ok, present, IsFormOf, side_number, side_terms, largest, IsInside, HasObjective}
-use Rattle.pb_text.proofs.lemmas.numbers.Numbers.{largest_small}
-use Rattle.std.proofs.lemmas.List.{length-take}
 
 -- a prefix of the names stays one when more appear
 pub IsNamePrefix-more : (names all others : List (List ℕ)) → IsNamePrefix names all

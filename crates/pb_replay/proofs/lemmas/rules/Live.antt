@@ -3,8 +3,7 @@ use Rattle.pb_replay.proofs.Common.{ℕ, ℤ, ◌++◌, ◌<◌, ◌∙◌, ◌�
 use Rattle.pb_replay.proofs.Common.{Option, cases_eq, cases_lt, get_or-map, get_or-set_other, get_or-set_same, length-map, length-set, Contains-get_or}
 use Rattle.pb_replay.proofs.Common.{Contains-push_cases, none-some, same_Some, Form, Holds, HoldAll, Live, IsLive, place, ◌≤◌, ap, false, length-append, subst}
 use Rattle.pb_replay.proofs.Common.{prefix, with_names, IsInside, IsLinked, Running, ◌+◌, drop, drop-cons, Err, pos, refl, Result, drop_more, get_or_past}
-use Rattle.pb_replay.proofs.Common.{Fault, NoSuchId, Deleted}
-use Rattle.std.proofs.Math.ListN.{get_or-eq_default}
+use Rattle.{pb_replay.proofs.Common.Fault, pb_replay.proofs.Common.NoSuchId, pb_replay.proofs.Common.Deleted, std.proofs.Math.ListN.get_or-eq_default}
 
 pub read-live : (live : List (Option Form)) (k : ℕ) (f : Form) → get_or live k None ≡ Some f → Live live f
 read-live live k f e =

@@ -13,9 +13,8 @@ use Rattle.pb_replay.proofs.Common.{IsReady, problem_of, NotTotal, IsSound, Mean
 use Rattle.pb_replay.proofs.Common.{Logs, Demands, HasObjective, objective_with, normal_form, Does, mentioned}
 use Rattle.pb_replay.proofs.lemmas.meaning.{Accepting.ok-same, Assigned.length-prefix, Relating.unvalued-old, Ruled.deletes-to}
 use Rattle.pb_replay.proofs.lemmas.meaning.Soundness.{problems-proper, loaded-inside, meanings-agree, Deletes-live, first-sound, statements-sound}
-use Rattle.pb_replay.proofs.lemmas.rules.{Live.inside-more, Words.tree-inside}
+use Rattle.{pb_replay.proofs.lemmas.rules.Live.inside-more, pb_replay.proofs.lemmas.rules.Words.tree-inside, std.specs.List.All as AllOf}
 use Rattle.pb_replay.specs.contract.{Faults.fault_of, ReplayModel.Preserves, Visits.RupVisits, Visits.IsFew, Visits.CoversConflict, Visits.CoversCompletion}
-use Rattle.std.specs.List.{All as AllOf}
 
 -- states are equal if their fields are
 pub same-state : {l m : List (Option Form)} {ns ms : List (List ℕ)} {logged : List Logged} {x y : Stage} {c d : Option Verdict} → l ≡ m → ns ≡ ms → x ≡ y → c ≡ d

@@ -9,8 +9,7 @@ each_joined P (x ∷ xs) ys first second = (first.0, each_joined P xs ys first.1
 
 pub loop-chunk-preserved : goal.loop-chunk-preserved
 loop-chunk-preserved c =
-    let text = c.args.text.now in
-    let i = c.loop-chunk.searched in
+    let text = c.args.text.now in let i = c.loop-chunk.searched in
     let rest = take (length text - i) (drop i text) in
     let chunk = subst (λ (x : List ℕ). Each (λ b. b ≢ 59) x) c.in-Some.ensures.cases.same (c.has_semicolon.ensures c.if-has_semicolon.false) in
     record {
@@ -20,8 +19,7 @@ loop-chunk-preserved c =
 
 pub returns-else-has_semicolon-2-clause-none : goal.returns-else-has_semicolon-2-clause-none
 returns-else-has_semicolon-2-clause-none c h =
-    let text = c.args.text.now in
-    let i = c.loop-chunk.searched in
+    let text = c.args.text.now in let i = c.loop-chunk.searched in
     let rest = rw (← length-drop i text, take-length) at (c.has_semicolon-2.ensures c.if-has_semicolon-2.false) in
     subst (λ (x : List ℕ). Each (λ b. b ≢ 59) x) (take-append-drop i text) (each_joined (λ b. b ≢ 59) (take i text) (drop i text)
     c.loop-chunk.invariant.none rest)

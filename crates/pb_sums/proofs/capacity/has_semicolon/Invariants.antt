@@ -1,5 +1,4 @@
-use Rattle.pb_sums.proofs.Common.{◌≡◌, false, take, Each}
-use Rattle.std.specs.Prelude.{◌≢◌}
+use Rattle.{pb_sums.proofs.Common.◌≡◌, pb_sums.proofs.Common.false, pb_sums.proofs.Common.take, pb_sums.proofs.Common.Each, std.specs.Prelude.◌≢◌}
 use Rattle.pb_sums.proofs.capacity.has_semicolon.Given as goal
 
 -- no byte so far is a `;`, if none was found

@@ -1,15 +1,13 @@
 -- If a machine of sums may allocate, the next byte is in a name, or ends a literal. Offered to other crates.
-use Rattle.pb_sums.proofs.Common.{ℕ, ◌++◌, ◌||◌, ◌∙◌, ◌∷◌, ◌≡◌, ◌⊎◌, [], ap, append-nil, append_assoc, Bool, false, inl, inr, List, arith, refl, subst}
-use Rattle.pb_sums.proofs.Common.{sym, true, IsTrue, false≢true, never, letter_name, each-append, End, Go, MayAsk, Next, ReadsStatement, Refuse, is_letter}
+use Rattle.pb_sums.proofs.Common.{ℕ, ◌++◌, ◌||◌, ◌∙◌, ◌∷◌, ◌≡◌, ◌⊎◌, [], ap, append-nil, append_assoc, Bool, false, inl, inr, List, arith, refl, subst, sym}
+use Rattle.pb_sums.proofs.Common.{true, IsTrue, false≢true, never, letter_name, each-append, End, Go, MayAsk, Next, ReadsStatement, Refuse, is_letter}
 use Rattle.pb_sums.proofs.Common.{is_name_byte, bytes, Letter, SumEvent, Action, Add, Begin, To, Kind, Phase, Part, Spaces, act, adds, flushed, is_more}
 use Rattle.pb_sums.proofs.Common.{is_numeric, kind, letter_at, transition, asks, first, over, sums, SumState, IsName, IsOneText}
-use Rattle.pb_text.specs.meaning.Asking.{AsksOnly}
-use Rattle.pb_text.proofs.lemmas.machine.Asked as asked
-use Rattle.pb_sums.proofs.lemmas.machine.LetterKinds.{Means, kind-means}
-use Rattle.pb_sums.proofs.lemmas.machine.LiteralPrefixes.{IsFirst, name-append, first-append}
-use Rattle.pb_sums.proofs.lemmas.machine.States.{accepts_one, ended-last, continues-midway, nothing-after}
+use Rattle.pb_text.{specs.meaning.Asking.AsksOnly, proofs.lemmas.machine.Walking.Walks, proofs.lemmas.machine.Walking.reads_after}
+use Rattle.pb_sums.proofs.lemmas.machine.{LetterKinds.Means, LiteralPrefixes.IsFirst, LiteralPrefixes.name-append, LiteralPrefixes.first-append}
+use Rattle.pb_sums.proofs.lemmas.machine.{LetterKinds.kind-means, States.accepts_one, States.ended-last, States.continues-midway, States.nothing-after}
 use Rattle.pb_sums.specs.meaning.Asking.{EndsIn, IsNameStart, InName, AsksLiteral}
-use Rattle.pb_text.proofs.lemmas.machine.Walking.{Walks, reads_after}
+use Rattle.pb_text.proofs.lemmas.machine.Asked as asked
 
 abbrev IsNameByte : ℕ → Type 0
 IsNameByte e = IsTrue (is_name_byte e)

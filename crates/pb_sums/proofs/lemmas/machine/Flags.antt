@@ -3,9 +3,8 @@ use Rattle.pb_sums.proofs.Common.{ℕ, ◌&&◌, ◌+◌, ◌-◌, ◌∙◌, �
 use Rattle.pb_sums.proofs.Common.{go_or_end, one_end, one_state, refuse_or_end, refuse_or_go, End, Go, is_digit, is_letter, is_name_byte, unmarked, Letter}
 use Rattle.pb_sums.proofs.Common.{SumEvent, Term, Action, Add, Begin, EndLinear, EndSum, Stop, To, Kind, Digit, Inner, Other, Semicolon, Phase, Part, Spaces}
 use Rattle.pb_sums.proofs.Common.{act, finished, flushed, is_in_number, is_midway, is_numeric, kind, kind_of_numeral, kind_of_plain, letter_at, transition}
-use Rattle.pb_sums.proofs.Common.{Work, in_hand, ready, is_space}
-use Rattle.pb_sums.proofs.lemmas.machine.LetterKinds.{on_letter, Means, kind-means}
-use Rattle.std.proofs.Math.Bool.{and-false}
+use Rattle.pb_sums.proofs.{Common.Work, lemmas.machine.LetterKinds.on_letter, lemmas.machine.LetterKinds.Means, lemmas.machine.LetterKinds.kind-means}
+use Rattle.{pb_sums.proofs.Common.in_hand, pb_sums.proofs.Common.ready, pb_sums.proofs.Common.is_space, std.proofs.Math.Bool.and-false}
 
 -- What the transition of a phase at a kind says about the next state. The byte was a digit of a number if and only if
 -- the state is in a number. The text has begun. If a name has begun, a literal is being read. Only `;` ends a text.
@@ -41,8 +40,7 @@ module _ (want : Part) (limit : ℕ) where
   digit-inner s b e =
       let i : is_space s b ≡ false = space-no s b e in
       let j : is_letter b ≡ false = grind (arith, nat_tests) in
-      let k : is_name_byte b ≡ true = grind (arith, nat_tests) in
-      rw (i, k, j) refl
+      let k : is_name_byte b ≡ true = grind (arith, nat_tests) in rw (i, k, j) refl
     where
       space-no : (s : Spaces) (b : ℕ) → is_digit b ≡ true → is_space s b ≡ false
       space-no s b e = grind (arith, nat_tests)

@@ -5,10 +5,9 @@ use Rattle.pb_sums.proofs.Common.{next, none_yet, regroup, some-grown, some-many
 use Rattle.pb_sums.proofs.Common.{Digits, Number, Sign, signed, Letter, Relation, AtLeast, Equal, SumEvent, Term, Action, Stop, To, Kind, Digit, Equals}
 use Rattle.pb_sums.proofs.Common.{Greater, Inner, Minus, Plus, Semicolon, Space, Start, Tilde, Phase, Part, Spaces, act, action, digits, finished, fresh, kind}
 use Rattle.pb_sums.proofs.Common.{next_action, number, term, Work, allows, Head, is_space, reads_sums, Spaces0, Spaces1, Spells, SpellsRelation, SpellsSum}
-use Rattle.pb_sums.proofs.lemmas.machine.LetterKinds.{on_letter, Means, kind-means}
+use Rattle.{pb_sums.proofs.lemmas.machine.LetterKinds.on_letter, pb_sums.proofs.lemmas.machine.LetterKinds.Means, pb_text.proofs.lemmas.text.Languages.grown}
+use Rattle.pb_sums.proofs.lemmas.machine.{LetterKinds.kind-means, Prefixes.IsCons, Prefixes.cons-append, Prefixes.Before, Prefixes.sum-append}
 use Rattle.pb_sums.proofs.lemmas.machine.LiteralPrefixes.{first-append, name-append, FirstOf, LiteralOf, name-bytes}
-use Rattle.pb_sums.proofs.lemmas.machine.Prefixes.{IsCons, cons-append, Before, sum-append}
-use Rattle.pb_text.proofs.lemmas.text.Languages.{grown}
 
 module _ (spaces : Spaces) (want : Part) (limit : ℕ) where
   abbrev S0 : Language

@@ -1,9 +1,8 @@
 -- Laws of the grammar and of the machine.
-use Rattle.pb_sums.proofs.{Common.to, Common.Work, Common.Spells, lemmas.machine.Complete.reads_each, lemmas.machine.LetterKinds.on_letter}
-use Rattle.pb_sums.proofs.Common.{ℕ, ℤ, ◌++◌, ◌↔◌, ◌∙◌, ◌∷◌, ◌≡◌, [], ap, arith, Bool, cond, false, List, None, Option, refl, Some, sym, true, le-leb}
-use Rattle.pb_sums.proofs.Common.{false≢true, one_end, run, run-append, End, Go, Next, digit, Language, unmarked, signed, Letter, Relation, AtLeast, SumEvent}
-use Rattle.pb_sums.proofs.Common.{Term, Stop, To, Greater, Semicolon, Phase, Part, Spaces, act, at_name, digits, finished, fresh, is_done, next_action, term}
-use Rattle.pb_sums.proofs.lemmas.machine.Sound.{reads_only}
+use Rattle.pb_sums.proofs.Common.{to, Work, Spells, ℕ, ℤ, ◌++◌, ◌↔◌, ◌∙◌, ◌∷◌, ◌≡◌, [], ap, arith, Bool, cond, false, List, None, Option, refl, Some, sym, true}
+use Rattle.pb_sums.proofs.{Common.next_action, lemmas.machine.Complete.reads_each, lemmas.machine.LetterKinds.on_letter, lemmas.machine.Sound.reads_only}
+use Rattle.pb_sums.proofs.Common.{le-leb, false≢true, one_end, run, run-append, End, Go, Next, digit, Language, unmarked, signed, Letter, Relation, AtLeast}
+use Rattle.pb_sums.proofs.Common.{SumEvent, Term, Stop, To, Greater, Semicolon, Phase, Part, Spaces, act, at_name, digits, finished, fresh, is_done, term}
 
 module _ (spaces : Spaces) (want : Part) (limit : ℕ) where
   abbrev G : SumEvent → Language

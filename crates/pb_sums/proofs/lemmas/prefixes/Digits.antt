@@ -2,9 +2,8 @@
 use Rattle.pb_sums.proofs.Common.{ℕ, ◌*◌, ◌++◌, ◌+◌, ◌-◌, ◌<◌, ◌==◌, ◌∙◌, ◌∷◌, ◌≡◌, ◌≤◌, [], ap, arith, Bool, drop, false, length, List, Option, refl, subst}
 use Rattle.pb_sums.proofs.Common.{sym, take, true, IsTrue, eqb-true, le-leb, length-take-le, prefix_parts, Runs, value_from, is_digit, Relation, Term, To, Kind}
 use Rattle.pb_sums.proofs.Common.{Digit, Minus, Plus, Phase, Part, Spaces, digits, flushed, is_numeric, kind, letter_at, transition, begins_number, HasSign}
-use Rattle.pb_sums.proofs.Common.{IsSign, role, sign_read, sums, SumState}
-use Rattle.pb_sums.proofs.lemmas.machine.{Pushes.goes_to, States.midway_state}
-use Rattle.pb_text.proofs.lemmas.numbers.DigitValues.{AreDigits, value-grows}
+use Rattle.pb_sums.proofs.{Common.IsSign, Common.role, Common.sign_read, Common.SumState, lemmas.machine.Pushes.goes_to, lemmas.machine.States.midway_state}
+use Rattle.{pb_sums.proofs.Common.sums, pb_text.proofs.lemmas.numbers.DigitValues.AreDigits, pb_text.proofs.lemmas.numbers.DigitValues.value-grows}
 
 pub none_there : (name : List ℕ) → (length name == 0) ≡ true → name ≡ []
 none_there [] e = refl

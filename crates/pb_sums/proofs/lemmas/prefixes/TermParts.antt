@@ -3,9 +3,8 @@ use Rattle.pb_sums.proofs.Common.{arith, ℕ, ℤ, ◌++◌, ◌+◌, ◌<◌, �
 use Rattle.pb_sums.proofs.Common.{true, if◌then◌else◌, is_err, is_ok, IsTrue, Result, runs_further, Go, IsState, Runs, value_from, is_digit, is_letter}
 use Rattle.pb_sums.proofs.Common.{is_name_byte, Each, signed, relation_bytes, Relation, AtLeast, Equal, Term, Phase, Part, Spaces, after_name, after_number}
 use Rattle.pb_sums.proofs.Common.{begins_number, begins_relation, HasSign, role, sign_read, text_after, sums, SumState, begins_term, IsLiteral, IsSpacedLiteral}
-use Rattle.pb_sums.proofs.Common.{IsSpacedNumber, IsTilde, standing, allows}
+use Rattle.pb_sums.{proofs.Common.IsSpacedNumber, proofs.Common.IsTilde, proofs.Common.standing, proofs.Common.allows, specs.declared.linear.Literal.Literal}
 use Rattle.pb_sums.proofs.lemmas.{machine.States.goes_then, machine.States.midway_state, prefixes.Digits.number_runs, prefixes.Names.name_runs}
-use Rattle.pb_sums.specs.declared.linear.Literal.{Literal}
 use Rattle.pb_text.proofs.lemmas.machine.Running.{runs_on}
 
 pub grown : {A T E : Type 0} (r : Result T E) (new more old : List A) → new ≡ (if is_ok r then more else old) → is_err r ≡ false → new ≡ more

@@ -4,8 +4,7 @@ use Rattle.pb_sums.proofs.Common.{nat_abs, negsuc, pos, decimal-digits, bytes-ap
 use Rattle.pb_sums.proofs.Common.{AreTerms, degree_text, further_text, head_bytes, head_text, IsLinear, IsTerm, linear_bytes, linear_text, literal_text}
 use Rattle.pb_sums.proofs.Common.{relation_text, space, sum_bytes, sum_text, term_bytes, term_text, weight_bytes, weight_text, Linear, Relation, Term, Spaces}
 use Rattle.pb_sums.proofs.Common.{Head, Spaces0, Spaces1, SpellsFurther, SpellsLinear, SpellsRelation, SpellsSum, SpellsTerm}
-use Rattle.pb_sums.specs.contract.Canonical.{further_bytes}
-use Rattle.std.specs.Fmt.{signed_decimal}
+use Rattle.{pb_sums.specs.contract.Canonical.further_bytes, std.specs.Fmt.signed_decimal}
 
 module _ (limit : ℕ) (small : limit < 10 ^ 64) where
   weight : (z : ℤ) → nat_abs z ≤ limit → Number limit z (weight_text z)

@@ -1,7 +1,6 @@
 -- Texts that are stored inline.
 use Rattle.pb_sums.proofs.Common.{ℕ, ◌+◌, ◌<◌, ◌∷◌, [], arith, get_or, length, List, set, subst, suc, sym, take, zero, IsTrue, get_or_past, take_more_set}
-use Rattle.pb_sums.proofs.Common.{IsUtf8, is_name_byte, Each}
-use Rattle.pb_text.proofs.lemmas.text.NameBytes.{name_ascii}
+use Rattle.{pb_sums.proofs.Common.IsUtf8, pb_sums.proofs.Common.is_name_byte, pb_sums.proofs.Common.Each, pb_text.proofs.lemmas.text.NameBytes.name_ascii}
 use Rattle.std.proofs.lemmas.Str.{IsUtf8-nil, IsUtf8-append, IsUtf8-from_ascii}
 
 pub none_utf8 : IsUtf8 []

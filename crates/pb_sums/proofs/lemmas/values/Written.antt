@@ -1,8 +1,7 @@
 -- What is written, in parts.
 use Rattle.pb_sums.proofs.Common.{ℕ, ◌++◌, ◌+◌, ◌-◌, ◌<◌, ◌∙◌, ◌∷◌, ◌≡◌, ◌≤◌, [], ap, append-nil, append_assoc, arith, drop, get_or, length, List, refl, suc}
 use Rattle.pb_sums.proofs.Common.{sym, take, take-append-drop, drop_all, take_more, sum_bytes, term_bytes, Term}
-use Rattle.pb_sums.specs.contract.Canonical.{further_bytes}
-use Rattle.std.proofs.Math.Seq.{drop-cons}
+use Rattle.{pb_sums.specs.contract.Canonical.further_bytes, std.proofs.Math.Seq.drop-cons}
 
 pub further-append : (xs ys : List Term) → further_bytes (xs ++ ys) ≡ further_bytes xs ++ further_bytes ys
 unfolding further_bytes

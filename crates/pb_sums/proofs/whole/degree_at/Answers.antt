@@ -5,10 +5,7 @@ use Rattle.pb_sums.proofs.whole.degree_at.Goals as goal
 
 pub returns-clause-runs : goal.returns-clause-runs
 returns-clause-runs c spaces xs =
-    let limit = c.args.limit in
-    let part = c.args.part in
-    let r = c.in-Some.relation in
-    let i = c.in-Some.length in
+    let limit = c.args.limit in let part = c.args.part in let r = c.in-Some.relation in let i = c.in-Some.length in
     let fits : SFits w128 c.in-Some-spaced_number_prefix.degree = record { sfits = omega (arith, ints) } in
     rw (to_z-of_z w128 c.in-Some-spaced_number_prefix.degree fits) (runs_further sums (standing spaces part limit xs [] Phase.Between) c.args.text.now (i + 1) c.in-Some-spaced_number_prefix.count
     (standing spaces part limit xs [] (Phase.Relation r)) (standing spaces part limit xs [] (Phase.Tail r c.in-Some-spaced_number_prefix.degree))

@@ -4,9 +4,7 @@ use Rattle.pb_sums.proofs.whole.terms_at.Goals as goal
 
 pub loop-length-preserved : goal.loop-length-preserved
 loop-length-preserved c =
-    let text = c.args.text.now in
-    let i = c.loop-length.end in
-    let xs = c.loop-length.terms in
+    let text = c.args.text.now in let i = c.loop-length.end in let xs = c.loop-length.terms in
     let b = c.in-Some-term_at.ensures.bound in
     let more = grown c.push.result c.push.new.self (xs ++ c.in-Some-term_at.term ∷ []) xs c.push.ensures.items (sym c.if-is_err.ensures.value) in
     record {

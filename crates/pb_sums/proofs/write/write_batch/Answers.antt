@@ -8,7 +8,6 @@ returns-in_err-write_each g c =
 
 pub returns : goal.returns
 returns g c =
-    let xs = c.args.terms.now in
-    let n = c.put_further-left.result in
+    let xs = c.args.terms.now in let n = c.put_further-left.result in
     let e : further_bytes xs ≡ further_bytes (take n xs) ++ c.as_bytes.result.now = cc (further_split xs n, append-nil (further_bytes (drop n xs))) in
     part_then g.S.Sink.contents g.S.Sink.faults _ _ _ _ _ _ _ e c.in_ok-write_each.ensures c.write_bytes.ensures

@@ -11,8 +11,7 @@ loop-rest-init g c = (
 
 pub loop-rest-preserved : goal.loop-rest-preserved
 loop-rest-preserved g c =
-    let prefix = c.loop-rest.invariant.0 in
-    let batch = c.split_at.result.0.now in
+    let prefix = c.loop-rest.invariant.0 in let batch = c.split_at.result.0.now in
     let following = c.split_at.result.1.now in (
       prefix ++ batch,
       c.loop-rest.invariant.1 ∙ (ap (λ (z : List Term). prefix ++ z) c.split_at.ensures.by_index.0 ∙ sym (append_assoc prefix batch following)),

@@ -35,8 +35,7 @@ returns-then-not-passes-clause-blank g c =
 
 pub loop-byte-preserved : goal.loop-byte-preserved
 loop-byte-preserved g c =
-    let i = c.loop-byte.invariant.blank in
-    let v = c.loop-byte.invariant in
+    let i = c.loop-byte.invariant.blank in let v = c.loop-byte.invariant in
     let p = rw (c.in-Ok-Some.is, c.in-Ok-Some.field-0-is) at c.peek.ensures in
     let b : ℕ = c.in-Ok-Some.byte in
     let n = next_within c.loop-byte.at b c.after-at.result c.after-at.ensures v.within c.if-at-eq-BYTE_LIMIT.false v.line v.column in

@@ -8,10 +8,9 @@ use Rattle.pb_text.proofs.Common.{place_after, place_or, false, true, false≢tr
 use Rattle.pb_text.proofs.Common.{Memory, Read, TooLarge, TooLong, SpentSince, is_digit, Answers, Explains, Reads, Err, Ok, Result, subst₂, bytes_fed, Feeds}
 use Rattle.pb_text.proofs.Common.{input_fed, is_complete, NoneStopped, spans_answered, spans_fed, StandsAt, used_by, IsOpen, IsUnread, Feeder, Ghosts, is_some}
 use Rattle.pb_text.proofs.lemmas.machine.Residual.{Takes, IsResidual, Refuses, residual, refuses}
-use Rattle.pb_text.proofs.lemmas.text.{Booleans.of_both, Languages.bytes-append, Lists.length-bytes, Lists.Advances}
+use Rattle.pb_text.proofs.lemmas.text.{Booleans.of_both, Languages.bytes-append, Lists.length-bytes, Lists.Advances, Short.begun_bytes, Short.open-ended}
 use Rattle.pb_text.proofs.lemmas.text.Short.{end_limit, place_after-offset, AreShort-append, since_short, Overruns-append, Overruns-split, since_fits}
-use Rattle.pb_text.{proofs.lemmas.text.Short.begun_bytes, proofs.lemmas.text.Short.open-ended, specs.declared.feeder.Fed.Fed}
-use Rattle.std.{proofs.lemmas.List.Elements.filter-append, specs.Cmp.Derive.both_true}
+use Rattle.{pb_text.specs.declared.feeder.Fed.Fed, std.proofs.lemmas.List.Elements.filter-append, std.specs.Cmp.Derive.both_true}
 
 pub EndBy-append : {E : Type 0} (n m : ℕ) (a b : List (Spanned E)) → EndBy n a → n ≤ m → EndBy m b → EndBy m (a ++ b)
 EndBy-append n m [] b h le k = k

@@ -4,11 +4,10 @@ use Rattle.pb_text.proofs.Common.{subst, sym, true, false≢true, Automaton, IsS
 use Rattle.pb_text.proofs.Common.{Spanned, Stop, Why, Byte, Ended, Memory, Read, TooLarge, TooLong, end_of, bytes, Letter, ◌+◌, ◌-◌, drop, get_or, length, take}
 use Rattle.pb_text.proofs.Common.{◌≤◌, ap₂, Bool, IsTrue, length-append, AcceptsItems, Admits, begins, End, Go, is_large, Leads, Refuse, state_after, EndBy}
 use Rattle.pb_text.proofs.Common.{Follows, opened, SpentSince, AreShort, last_numeral, place_after, place_next, place_or, is_some}
-use Rattle.pb_text.proofs.lemmas.{machine.Residual.residual, machine.Residual.takes_go, machine.Residual.takes_last, text.Booleans.never}
+use Rattle.pb_text.proofs.lemmas.{machine.Residual.residual, machine.Residual.takes_go, machine.Residual.takes_last, text.Languages.bytes-append}
+use Rattle.pb_text.proofs.lemmas.text.{Booleans.never, Lists.length-bytes, Lists.put_advances, Lists.last_advances, Spans.one_further, Spans.prefix_parts}
 use Rattle.pb_text.proofs.lemmas.feeder.Reported.{nothing_fed, step}
-use Rattle.pb_text.proofs.lemmas.text.{Languages.bytes-append, Lists.length-bytes, Lists.put_advances, Lists.last_advances}
 use Rattle.pb_text.proofs.lemmas.text.Short.{place_after-snoc, end_limit, place_after-offset, AreShort-append, AreShort-grown}
-use Rattle.pb_text.proofs.lemmas.text.Spans.{one_further, prefix_parts}
 use Rattle.pb_text.specs.{engine.Prefixes.TakesPrefix, meaning.Spelling.place_after}
 
 module _ {S E : Type 0} (m : Automaton S E) (longest : ℕ) (start : S) where

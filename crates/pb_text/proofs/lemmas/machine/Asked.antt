@@ -2,9 +2,8 @@
 -- other crates.
 use Rattle.pb_text.proofs.Common.{ℕ, ◌++◌, ◌∙◌, ◌∷◌, ◌≡◌, ◌⊎◌, [], ap, append-nil, append_assoc, false, inl, inr, IsTrue, List, refl, arith, subst, sym, true}
 use Rattle.pb_text.proofs.Common.{false≢true, AcceptsItems, Automaton, Go, Leads, ReadsStatement, SkipsGap, state_after, bytes, bytes_of, Item, Letter}
-use Rattle.pb_text.proofs.lemmas.{machine.Walking.Walks, machine.Walking.walks_more, text.FirstBytes.head, text.FirstBytes.tail}
-use Rattle.pb_text.{proofs.lemmas.text.Languages.bytes-append, proofs.lemmas.text.Languages.bytes-plain, specs.meaning.Asking.AsksWithin}
-use Rattle.std.proofs.lemmas.Option.{same_Some}
+use Rattle.pb_text.proofs.lemmas.{machine.Walking.Walks, text.FirstBytes.head, text.FirstBytes.tail, text.Languages.bytes-append, text.Languages.bytes-plain}
+use Rattle.{pb_text.proofs.lemmas.machine.Walking.walks_more, pb_text.specs.meaning.Asking.AsksWithin, std.proofs.lemmas.Option.same_Some}
 
 no_byte : {A : Type 0} (used more : List ℕ) (b : ℕ) → [] ≡ used ++ b ∷ more → A
 no_byte [] more b e = cc

@@ -1,7 +1,6 @@
 -- States from which a text can be completed. Offered to other crates.
-use Rattle.pb_text.proofs.{Common.SkipsGap, Common.Item, Common.Letter, lemmas.machine.Residual.after_go, lemmas.machine.Walking.longer}
-use Rattle.pb_text.proofs.Common.{arith, ℕ, ◌∷◌, ◌≡◌, [], false, List, refl, subst, true, AcceptsItems, Admits, Automaton, End, Go, IsState, ReadsStatement}
-use Rattle.pb_text.proofs.lemmas.text.Booleans.{never}
+use Rattle.pb_text.proofs.Common.{SkipsGap, Item, Letter, arith, ℕ, ◌∷◌, ◌≡◌, [], false, List, refl, subst, true, AcceptsItems, Admits, Automaton, End, Go}
+use Rattle.pb_text.proofs.{Common.IsState, Common.ReadsStatement, lemmas.machine.Residual.after_go, lemmas.machine.Walking.longer, lemmas.text.Booleans.never}
 
 module _ {S E : Type 0} (m : Automaton S E) where
   abbrev pub ReadsOn : S → Type 0

@@ -1,9 +1,8 @@
 -- Machines of one text, which begin with its first byte and end with its last one: what holds of their states. Offered to
 -- other crates.
 use Rattle.pb_text.proofs.Common.{arith, ℕ, ◌+◌, ◌∙◌, ◌∷◌, ◌≡◌, ◌≤◌, [], ap, Bool, false, List, refl, true, AcceptsItems, Admits, Automaton, End, Go, IsState}
-use Rattle.pb_text.proofs.Common.{Next, ReadsStatement, Refuse, Item, Letter}
+use Rattle.pb_text.proofs.{Common.Next, Common.ReadsStatement, Common.Refuse, Common.Item, Common.Letter, lemmas.text.Booleans.never}
 use Rattle.pb_text.proofs.lemmas.machine.Living.{ReadsOn, IsAlive, accepted, admits_before, admits_final}
-use Rattle.pb_text.proofs.lemmas.text.Booleans.{never}
 
 -- Good is an invariant of the states of such a machine, and last is the state after the text.
 module _ {S E : Type 0} (m : Automaton S E) (Good : S → Type 0) (last : S → S) where

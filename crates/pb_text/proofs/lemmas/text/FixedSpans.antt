@@ -1,9 +1,8 @@
 -- In all texts that begin with the same prefix, the spans that end within it are the same. Offered to other crates.
-use Rattle.pb_text.proofs.{Common.spans_since, lemmas.feeder.Reported.not_ended}
-use Rattle.pb_text.proofs.Common.{Next, Go, End, Refuse, ℕ, ◌++◌, ◌+◌, ◌∙◌, ◌∷◌, ◌≡◌, [], ap, arith, cond, false, length, length-append, List, nat_le, None}
-use Rattle.pb_text.proofs.Common.{Option, sym, AcceptsItems, Automaton, opened, Place, Spanned, ended_within, HasFixedSpans, bytes_of, Item, place_after}
-use Rattle.pb_text.proofs.lemmas.machine.Residual.{After, letter, moved, has_text}
-use Rattle.pb_text.proofs.lemmas.text.Lists.{span, put_spans, last_advances}
+use Rattle.pb_text.proofs.Common.{spans_since, Next, Go, End, Refuse, ℕ, ◌++◌, ◌+◌, ◌∙◌, ◌∷◌, ◌≡◌, [], ap, arith, cond, false, length, length-append, List}
+use Rattle.pb_text.proofs.lemmas.{feeder.Reported.not_ended, machine.Residual.After, machine.Residual.letter, machine.Residual.moved, machine.Residual.has_text}
+use Rattle.pb_text.proofs.Common.{nat_le, None, Option, sym, AcceptsItems, Automaton, opened, Place, Spanned, ended_within, HasFixedSpans, bytes_of, Item}
+use Rattle.pb_text.proofs.{Common.place_after, lemmas.text.Lists.span, lemmas.text.Lists.put_spans, lemmas.text.Lists.last_advances}
 
 module _ {S E : Type 0} (m : Automaton S E) where
   -- one more span prepended

@@ -1,7 +1,6 @@
 -- The table of name bytes, compared with the definition at each byte by computing. Offered to other crates.
-use Rattle.pb_text.{proofs.lemmas.text.Booleans.of_both, specs.declared.bytes.TheConstants.NAME_BYTES}
+use Rattle.{pb_text.proofs.lemmas.text.Booleans.of_both, pb_text.specs.declared.bytes.TheConstants.NAME_BYTES, std.specs.Bool.beq}
 use Rattle.pb_text.proofs.Common.{ℕ, ◌&&◌, ◌<◌, ◌≡◌, arith, Bool, get_or, inl, inr, List, nat_eq, not, refl, suc, true, zero, cases_eq, nat_tests, is_name_byte}
-use Rattle.std.specs.Bool.{beq}
 
 -- the test is true below n
 unfoldable pub all_below : (ℕ → Bool) → ℕ → Bool

@@ -2,8 +2,7 @@
 use Rattle.pb_text.proofs.Common.{ℕ, ◌++◌, ◌-◌, ◌<◌, ◌∙◌, ◌∷◌, ◌≡◌, ◌≤◌, [], ap, arith, Bool, cond, inl, inr, le-leb, length, length-append, List, None, Option}
 use Rattle.pb_text.proofs.Common.{refl, Some, EndBy, Place, Spanned, end_of, AreShort, byte_limit, open_bytes, Overruns, bytes, Item, spans_since, ◌+◌, ◌==◌}
 use Rattle.pb_text.proofs.Common.{count_by, not, zero-add, reverse-append, place_next}
-use Rattle.pb_text.specs.meaning.Spelling.{place_after}
-use Rattle.std.{proofs.lemmas.List.Sums.sum_by-append, specs.List.suffix_len, specs.List.prefix_len}
+use Rattle.{pb_text.specs.meaning.Spelling.place_after, std.proofs.lemmas.List.Sums.sum_by-append, std.specs.List.suffix_len, std.specs.List.prefix_len}
 
 pub place_after-offset : (text : List ℕ) → (place_after text).offset ≡ length text
 unfolding place_after

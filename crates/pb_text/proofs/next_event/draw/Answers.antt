@@ -1,6 +1,5 @@
 use Rattle.pb_text.proofs.Common.{◌∙◌, ap, append-nil, append_assoc, refl, Place}
-use Rattle.pb_text.proofs.lemmas.feeder.Steps.{running, stands_failed}
-use Rattle.pb_text.proofs.lemmas.source.Drawn.{draws_poured, draws_join, seen_after}
+use Rattle.pb_text.proofs.lemmas.{feeder.Steps.running, feeder.Steps.stands_failed, source.Drawn.draws_poured, source.Drawn.draws_join, source.Drawn.seen_after}
 use Rattle.pb_text.proofs.next_event.draw.Goals as goal
 
 pub returns-in-Ok-Some-clause-draws : goal.returns-in-Ok-Some-clause-draws

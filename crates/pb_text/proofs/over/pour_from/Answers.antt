@@ -1,12 +1,10 @@
-use Rattle.pb_text.proofs.Common.{arith, length-take-le, subst, take}
-use Rattle.pb_text.proofs.lemmas.source.Drawn.{lost_kept, lost_consumed, pours_none}
-use Rattle.std.{proofs.BufReadLemmas.Consumes_shown, specs.Io.BufRead.FillKeeps}
+use Rattle.{pb_text.proofs.Common.arith, pb_text.proofs.Common.length-take-le, std.proofs.BufReadLemmas.Consumes_shown, std.specs.Io.BufRead.FillKeeps}
+use Rattle.pb_text.proofs.{Common.subst, Common.take, lemmas.source.Drawn.lost_kept, lemmas.source.Drawn.lost_consumed, lemmas.source.Drawn.pours_none}
 use Rattle.pb_text.proofs.over.pour_from.Goals as goal
 
 pub returns-in-Ok-clause-pours : goal.returns-in-Ok-clause-pours
 returns-in-Ok-clause-pours g c =
-    let shown = c.in-Ok.bytes.now in
-    let fed = c.feed_statement-used in
+    let shown = c.in-Ok.bytes.now in let fed = c.feed_statement-used in
     let rested = c.fill_buf.follows.lender-at-none in
     let before = g.T.Read.remaining c.args.reader.now in
     let after = g.T.Read.remaining c.consume.new.self in

@@ -1,7 +1,6 @@
-use Rattle.pb_text.specs.declared.source.Failed.{Failed}
+use Rattle.{pb_text.specs.declared.source.Failed.Failed, std.specs.Borrow.Bor}
 use Rattle.pb_tool.proofs.Common.{ℕ, ◌++◌, ◌<◌, ◌∙◌, ◌≡◌, ap, arith, drop, drop-cons, get_or, IsErr, length, List, Option, refl, Result, suc, sym, take}
 use Rattle.pb_tool.proofs.Common.{take-append-drop, flat_map-append, flat_map, part_broke, part_then, Broke, Writes, Wrote}
-use Rattle.std.specs.Borrow.{Bor}
 use Rattle.pb_tool.proofs.fault.write_parts.Goals as goal
 
 module _ {S : Type 0} (contents : S → Option (List ℕ)) (faults : S → ℕ) where

@@ -1,6 +1,5 @@
-use Rattle.pb_tool.proofs.Common.{ℕ, ◌++◌, ◌∙◌, ◌∷◌, ◌≡◌, List, refl, sym, instance_bytes, Instance, IsValueOf, largest_small, largest, top_of, arith}
-use Rattle.pb_tool.proofs.Common.{IsInstanceText, tidied}
-use Rattle.pb_tool.proofs.lemmas.tidy.TidiedAgain.{faultless, read_alone, written}
+use Rattle.pb_tool.proofs.Common.{ℕ, ◌++◌, ◌∙◌, ◌∷◌, ◌≡◌, List, refl, sym, instance_bytes, Instance, IsValueOf, largest_small, largest, top_of, arith, tidied}
+use Rattle.pb_tool.proofs.{Common.IsInstanceText, lemmas.tidy.TidiedAgain.faultless, lemmas.tidy.TidiedAgain.read_alone, lemmas.tidy.TidiedAgain.written}
 use Rattle.pb_tool.proofs.laws.tidied_text_stays.Goals as goal
 
 -- an instance begins with a star

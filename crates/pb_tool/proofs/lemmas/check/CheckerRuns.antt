@@ -1,5 +1,5 @@
 -- A run of a replay and of a checker through the statements of a source: what it ensures, and the calls that a watch gets.
-use Rattle.pb_proof.specs.declared.Stage.TheVariants.{Complete}
+use Rattle.{pb_proof.specs.declared.Stage.TheVariants.Complete, pb_tool.proofs.lemmas.file.GivenBytes.of_both}
 use Rattle.pb_text.specs.contract.{Automaton.AcceptsItems as AcceptsBytes, Standing.IsOpen as IsOpenText}
 use Rattle.pb_tool.proofs.Common.{ℕ, ◌++◌, ◌∙◌, ◌∷◌, ◌≡◌, ◌⊎◌, [], ap, Bool, Err, false, inl, inr, List, None, Ok, Option, refl, rules, Some, subst, sym, true}
 use Rattle.pb_tool.proofs.Common.{ReadsProofs, Stage, Statement, begin, proofs, Replaying, StandsFor, verdict_at, verdict_in, Fault, Verdict, IsNamePrefix}
@@ -10,7 +10,6 @@ use Rattle.pb_tool.proofs.Common.{Result, ReadStatements, IsStatementValue, Proo
 use Rattle.pb_tool.proofs.Common.{is_complete, place_of, StandsAt, stop_of, OfGiven, Pulls, PullsOn, AsksAsText, Checking, ChecksSoFar, IsSomewhere}
 use Rattle.pb_tool.proofs.Common.{ProofFeeder, TextsAreRead, SawText, Begins, HasRun, IsRun, RunsTo}
 use Rattle.pb_tool.proofs.lemmas.check.CheckerSteps.{Answers, ReportsOld, accepts_more, failed, proofs_read, shown_at, running_at}
-use Rattle.pb_tool.proofs.lemmas.file.GivenBytes.{of_both}
 use Rattle.pb_tool.proofs.lemmas.show.ShownStatements.{all_to, so_far_to, given_next, given_row, first_pull}
 use Rattle.pb_tool.proofs.lemmas.check.CheckerSteps as checked
 

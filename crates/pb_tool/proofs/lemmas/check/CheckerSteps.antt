@@ -1,22 +1,20 @@
 -- The state of a checker after a feed and a step. Offered to other crates.
-use Rattle.pb_proof.specs.declared.Statement.TheVariants.{Header}
-use Rattle.pb_replay.specs.declared.fault.Fault.TheVariants.{Memory}
+use Rattle.{pb_proof.specs.declared.Statement.TheVariants.Header, pb_replay.specs.declared.fault.Fault.TheVariants.Memory, pb_text.specs.declared.Fed.Fed}
 use Rattle.pb_text.specs.contract.{Automaton.AcceptsItems as AcceptsBytes, Standing.Counts, Standing.Halts, Standing.Waits, Standing.IsOpen as IsOpenText}
-use Rattle.pb_text.specs.declared.Fed.{Fed}
-use Rattle.pb_tool.{proofs.Common.EndsStatement, proofs.Common.HoldsOpen, proofs.lemmas.check.OneRead.no_prefix, specs.contract.Checks.IsRefusedAt}
-use Rattle.pb_tool.proofs.Common.{ℕ, ◌++◌, ◌+◌, ◌-◌, ◌<◌, ◌∙◌, ◌∷◌, ◌≡◌, ◌⊎◌, [], add-zero, All, ap, append-nil, append_assoc, Bool, drop, Err, false, arith}
-use Rattle.pb_tool.proofs.Common.{inl, inr, length, length-append, List, None, Ok, Option, refl, Result, Some, subst, sym, take, take-append-drop, true, IsSome}
-use Rattle.pb_tool.proofs.Common.{not, All-head, All-tail, ReadsProofs, ReadStatements, IsStatementValue, Proof, Stage, Statement, Conclude, End, F, Output}
-use Rattle.pb_tool.proofs.Common.{begin, proofs, ProofState, IsProof, WholeProofsConclude, Replaying, StandsFor, StepsAs, verdict_at, verdict_in, Fault}
-use Rattle.pb_tool.proofs.Common.{NotTotal, Verdict, IsNamePrefix, IsSound, Problem, State, Accepts, MayWantAt, Outcome, spans_events, all_rest, prefix_parts}
-use Rattle.pb_tool.proofs.Common.{FeedsOnce, halt_of, is_complete, place_of, StandsAt, Limits, Place, Spanned, Stop, Why, end_of, largest, top_of, Explains}
-use Rattle.pb_tool.proofs.Common.{IsSpelled, Reads, bytes, Item, events_at, events_of, accepted_by, AsksAsText, Checking, ChecksSoFar, CountsSoFar, IsAccepting}
-use Rattle.pb_tool.proofs.Common.{IsAt, IsSomewhere, ProofFeeder, StepsFrom, TextsAreRead, Checks, EndsAfter, IsReplayed, KeepsNames, KeepsNamesOf, LeadsTo}
-use Rattle.pb_tool.proofs.Common.{Rejects, StepsTo, AllocatesAt, AnyCutting, bytes_to, ChecksAt, ChecksOnce, CountsAt, CountsOnce, fault_of, FeedsInTurn}
-use Rattle.pb_tool.proofs.Common.{is_whole, joined, MayGoOn, place_in, CheckFault, Begins, ◌≤◌, length-map, PrefixFree, same_prefix, bytes-append, length-bytes}
-use Rattle.pb_tool.proofs.Common.{place_after-offset, HoldsFew, Answers as AnswersText, open_bytes, bytes_of, Letter, letters_of, plain, spans_since}
+use Rattle.pb_tool.proofs.Common.{EndsStatement, HoldsOpen, ℕ, ◌++◌, ◌+◌, ◌-◌, ◌<◌, ◌∙◌, ◌∷◌, ◌≡◌, ◌⊎◌, [], add-zero, All, ap, append-nil, append_assoc, Bool}
+use Rattle.pb_tool.proofs.{Common.letters_of, Common.plain, Common.spans_since, lemmas.check.OneRead.no_prefix}
+use Rattle.{pb_tool.specs.contract.Checks.IsRefusedAt, std.proofs.lemmas.Bool.Decides.nat_tests}
+use Rattle.pb_tool.proofs.Common.{drop, Err, false, arith, inl, inr, length, length-append, List, None, Ok, Option, refl, Result, Some, subst, sym, take}
+use Rattle.pb_tool.proofs.Common.{take-append-drop, true, IsSome, not, All-head, All-tail, ReadsProofs, ReadStatements, IsStatementValue, Proof, Stage}
+use Rattle.pb_tool.proofs.Common.{Statement, Conclude, End, F, Output, begin, proofs, ProofState, IsProof, WholeProofsConclude, Replaying, StandsFor, StepsAs}
+use Rattle.pb_tool.proofs.Common.{verdict_at, verdict_in, Fault, NotTotal, Verdict, IsNamePrefix, IsSound, Problem, State, Accepts, MayWantAt, Outcome}
+use Rattle.pb_tool.proofs.Common.{spans_events, all_rest, prefix_parts, FeedsOnce, halt_of, is_complete, place_of, StandsAt, Limits, Place, Spanned, Stop, Why}
+use Rattle.pb_tool.proofs.Common.{end_of, largest, top_of, Explains, IsSpelled, Reads, bytes, Item, events_at, events_of, accepted_by, AsksAsText, Checking}
+use Rattle.pb_tool.proofs.Common.{ChecksSoFar, CountsSoFar, IsAccepting, IsAt, IsSomewhere, ProofFeeder, StepsFrom, TextsAreRead, Checks, EndsAfter, IsReplayed}
+use Rattle.pb_tool.proofs.Common.{KeepsNames, KeepsNamesOf, LeadsTo, Rejects, StepsTo, AllocatesAt, AnyCutting, bytes_to, ChecksAt, ChecksOnce, CountsAt}
+use Rattle.pb_tool.proofs.Common.{CountsOnce, fault_of, FeedsInTurn, is_whole, joined, MayGoOn, place_in, CheckFault, Begins, ◌≤◌, length-map, PrefixFree}
+use Rattle.pb_tool.proofs.Common.{same_prefix, bytes-append, length-bytes, place_after-offset, HoldsFew, Answers as AnswersText, open_bytes, bytes_of, Letter}
 use Rattle.pb_tool.specs.declared.commands.check.checker.CheckFault.TheVariants.{Text, Step}
-use Rattle.std.proofs.lemmas.Bool.Decides.{nat_tests}
 use Rattle.pb_text.proofs.lemmas.text.Formats as formats
 
 abbrev pub failed : CheckFault → Result Unit CheckFault

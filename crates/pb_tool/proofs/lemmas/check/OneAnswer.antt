@@ -1,7 +1,6 @@
 -- A text, with the rest after it, is rejected in one way or not at all, and a check of two texts has one answer.
-use Rattle.pb_opb.proofs.lemmas.instances.OneValue.{same_value}
+use Rattle.{pb_opb.proofs.lemmas.instances.OneValue.same_value, pb_text.proofs.lemmas.text.Blanks.blank_passes, pb_text.proofs.lemmas.text.Blanks.passes_at}
 use Rattle.pb_replay.specs.declared.fault.Fault.TheVariants.{Memory as no_memory, Overflow as over}
-use Rattle.pb_text.proofs.lemmas.text.Blanks.{blank_passes, passes_at}
 use Rattle.pb_tool.proofs.Common.{ℕ, ◌++◌, ◌+◌, ◌∙◌, ◌∷◌, ◌≡◌, ◌≤◌, [], ap, append-nil, arith, Err, IsTrue, length, length-append, List, Option, refl, Some}
 use Rattle.pb_tool.proofs.Common.{subst, sym, both_ways, place_after-offset, Place, Spanned, Stop, Why, Byte, TooLarge, TooLong, IsBlank, IsStray, passes}
 use Rattle.pb_tool.proofs.Common.{ReadsBlank, Took, byte_limit, Explains, IsSpelled, IsUnderWay, Item, place_after, place_past, IsSpelling, IsOfText, ◌↔◌, ◌≢◌}
@@ -11,11 +10,10 @@ use Rattle.pb_tool.proofs.Common.{same_err, same_ok, Limits, largest, top_of, Ha
 use Rattle.pb_tool.proofs.Common.{Overflow, Step, Text, AnswersExactly, AreVerified, IsDecided, IsOfTexts, IsSame, OneAnswer, IsProofFile, IsProofText, IsFile}
 use Rattle.pb_tool.proofs.Common.{IsInstanceFile, IsInstanceText, IsNoInstanceFile, InRest, InText, AfterProof, CheckCall, ChecksFiles, ComesTo, InProof}
 use Rattle.pb_tool.proofs.Common.{IsRefusedStep, IsRefusedText, IsReported, IsVerified}
-use Rattle.pb_tool.proofs.lemmas.check.{CheckerSteps.spelled_events, OneRead.after_prefix}
-use Rattle.pb_tool.proofs.lemmas.check.OneRead.{one_prefix, same_rest, some_left, NoneGoesOn, OneSpelling, not_both, one_spelled, one_stop, Compared}
-use Rattle.pb_tool.proofs.lemmas.check.OneRead.{two_prefixes, Begins, spans_begin, so_far_reached, reached_before, so_far_before, spelling_reached, way_reached}
+use Rattle.{pb_tool.proofs.lemmas.check.CheckerSteps.spelled_events, pb_tool.proofs.lemmas.check.OneRead.way_reached, std.specs.declared.alloc.Global.Global}
+use Rattle.pb_tool.proofs.lemmas.check.OneRead.{after_prefix, one_prefix, same_rest, some_left, NoneGoesOn, OneSpelling, not_both, one_spelled, one_stop}
+use Rattle.pb_tool.proofs.lemmas.check.OneRead.{Compared, two_prefixes, Begins, spans_begin, so_far_reached, reached_before, so_far_before, spelling_reached}
 use Rattle.pb_tool.specs.{declared.fault.Input.TheVariants.Instance as of_instance, declared.fault.Input.TheVariants.Proof as of_proof, engine.Single.AllSingle}
-use Rattle.std.specs.declared.alloc.Global.{Global}
 
 -- a byte within a blank text passes
 passes_in : (text used more : List ℕ) (b : ℕ) → IsBlank text → text ≡ used ++ b ∷ more → IsTrue (passes used b)

@@ -1,9 +1,8 @@
 -- The same bytes are read in one way. Offered to other crates.
-use Rattle.pb_tool.proofs.Common.{ℕ, ◌++◌, ◌<◌, ◌∙◌, ◌∷◌, ◌≡◌, ◌≢◌, ◌≤◌, ◌⊎◌, [], ap, append-nil, append_assoc, arith, Bool, false, inl, inr, length}
+use Rattle.pb_tool.proofs.Common.{ℕ, ◌++◌, ◌<◌, ◌∙◌, ◌∷◌, ◌≡◌, ◌≢◌, ◌≤◌, ◌⊎◌, [], ap, append-nil, append_assoc, arith, Bool, false, inl, inr, length, IsOfText}
 use Rattle.pb_tool.proofs.Common.{length-append, List, nat_le, None, Option, refl, rules, subst, sym, true, leb_tells, append_cancel_left, bytes-append}
 use Rattle.pb_tool.proofs.Common.{bytes-plain, place_after-offset, Place, Spanned, Why, Byte, TooLarge, TooLong, AreShort, byte_limit, ended_within, Explains}
 use Rattle.pb_tool.proofs.Common.{HasFixedSpans, IsBad, IsFull, IsPrefix, IsSpelled, IsUnderWay, Overruns, Reads, bytes, bytes_of, Item, spans_of, spans_since}
-use Rattle.pb_tool.proofs.Common.{IsOfText}
 use Rattle.std.proofs.lemmas.{Bool.Decides.nat_tests, Grind.common_steps}
 
 pub some_left : (left : List ℕ) → left ≢ [] → 0 < length left

@@ -1,21 +1,18 @@
 -- What a check of two sources ensures, from what its parts ensure. Offered to other crates.
-use Rattle.pb_proof.specs.meaning.Lines.{SpellsStatement}
-use Rattle.pb_replay.specs.declared.fault.Fault.TheVariants.{Memory as no_memory}
-use Rattle.pb_text.specs.declared.{sink.Sink.Ghosts as Sink, source.Source.Ghosts as Source}
-use Rattle.pb_tool.{proofs.lemmas.show.ShownStatements.all_of, specs.contract.Checked.Checked, specs.contract.Watched.IsWatchedGiven}
-use Rattle.pb_tool.proofs.{Common.SawInstance, Common.SawProof, Common.CheckCall, Common.Returns, lemmas.check.CheckerSteps.spelled_events}
-use Rattle.pb_tool.proofs.Common.{ℕ, ◌++◌, ◌<◌, ◌∙◌, ◌≡◌, ◌⊎◌, [], ap, Bool, Err, get_or, inl, inr, length, List, None, Ok, Option, refl, Result, Some}
-use Rattle.pb_tool.proofs.Common.{string_bytes, subst, sym, true, get_or_append_left, Instance, Proof, Statement, IsProofOf, UnvaluedMayWant, Replaying, Fault}
-use Rattle.pb_tool.proofs.Common.{NotTotal, Verdict, Opened, Problem, first_state, State, Accepts, MayWantAt, Outcome, Limits, Place, Spanned, Stop, ReadsBlank}
-use Rattle.pb_tool.proofs.Common.{largest, top_of, place_after, IsRead, Broke, Wrote, KeepsNames, faults_of_instance, faults_of_proof, IsNoReplay, IsReplayOf}
-use Rattle.pb_tool.proofs.Common.{IsReportedAs, Replays, RunsProof, SawNoInstance, SawNoProof, Call, HasSeenUpTo, IsWatched, ShowsProof, ShowsRun, CheckFault}
-use Rattle.pb_tool.proofs.Common.{ToolFault, Memory, Overflow, Step, Text, Write, IsChecked, IsRun, OfBoth, IsProofFile, IsProofText, IsInstanceFile}
-use Rattle.pb_tool.proofs.Common.{AfterProof, ChecksFiles, InProof, IsAccepted, IsReported, IsVerified, verdict_line, ◌∷◌, All, All-cons, All-head, All-nil}
-use Rattle.pb_tool.proofs.Common.{All-tail, StatementValues, IsStatementValue, IsGap, statements_of, VerdictsMean, Unsat, OfGiven, Item, events_of, ChecksGiven}
-use Rattle.pb_tool.proofs.lemmas.file.GivenBytes.{both_then, file_then_blank, given_by}
+use Rattle.{pb_proof.specs.meaning.Lines.SpellsStatement, pb_replay.specs.declared.fault.Fault.TheVariants.Memory as no_memory, pb_tool.proofs.Common.Item}
+use Rattle.{pb_text.specs.declared.sink.Sink.Ghosts as Sink, pb_text.specs.declared.source.Source.Ghosts as Source, std.specs.Prelude.IfOk}
+use Rattle.pb_tool.{proofs.lemmas.show.ShownStatements.all_of, specs.contract.Checked.Checked, specs.contract.Watched.IsWatchedGiven, proofs.Common.ChecksGiven}
+use Rattle.pb_tool.proofs.Common.{SawInstance, SawProof, CheckCall, Returns, ℕ, ◌++◌, ◌<◌, ◌∙◌, ◌≡◌, ◌⊎◌, [], ap, Bool, Err, get_or, inl, inr, length, List}
+use Rattle.pb_tool.proofs.lemmas.{check.CheckerSteps.spelled_events, file.GivenBytes.both_then, file.GivenBytes.file_then_blank, file.GivenBytes.given_by}
+use Rattle.pb_tool.proofs.Common.{None, Ok, Option, refl, Result, Some, string_bytes, subst, sym, true, get_or_append_left, Instance, Proof, Statement, OfGiven}
+use Rattle.pb_tool.proofs.Common.{IsProofOf, UnvaluedMayWant, Replaying, Fault, NotTotal, Verdict, Opened, Problem, first_state, State, Accepts, MayWantAt}
+use Rattle.pb_tool.proofs.Common.{Outcome, Limits, Place, Spanned, Stop, ReadsBlank, largest, top_of, place_after, IsRead, Broke, Wrote, KeepsNames, events_of}
+use Rattle.pb_tool.proofs.Common.{faults_of_instance, faults_of_proof, IsNoReplay, IsReplayOf, IsReportedAs, Replays, RunsProof, SawNoInstance, SawNoProof}
+use Rattle.pb_tool.proofs.Common.{Call, HasSeenUpTo, IsWatched, ShowsProof, ShowsRun, CheckFault, ToolFault, Memory, Overflow, Step, Text, Write, IsChecked}
+use Rattle.pb_tool.proofs.Common.{IsRun, OfBoth, IsProofFile, IsProofText, IsInstanceFile, AfterProof, ChecksFiles, InProof, IsAccepted, IsReported, IsVerified}
+use Rattle.pb_tool.proofs.Common.{verdict_line, ◌∷◌, All, All-cons, All-head, All-nil, All-tail, StatementValues, IsStatementValue, IsGap, statements_of, Unsat}
+use Rattle.pb_tool.{proofs.Common.VerdictsMean, specs.meaning.Headline.TrueOf, specs.meaning.Headline.UnsatIsTrue, specs.meaning.Headline.VerdictsAreTrue}
 use Rattle.pb_tool.specs.{declared.fault.Input.TheVariants.Instance as of_instance, declared.fault.Input.TheVariants.Proof as of_proof, engine.Running.ChecksTo}
-use Rattle.pb_tool.specs.meaning.Headline.{TrueOf, UnsatIsTrue, VerdictsAreTrue}
-use Rattle.std.specs.Prelude.{IfOk}
 
 -- the name is among those from before the statement
 names_prefix : (names all more : List (List ℕ)) (n : ℕ) → all ≡ names ++ more → n < length names → get_or all n [] ≡ get_or names n []

@@ -1,5 +1,5 @@
 -- What is ensured for the bytes that the calls of a source have given. Offered to other crates.
-use Rattle.pb_proof.specs.contract.Gather.{MayKeep}
+use Rattle.{pb_proof.specs.contract.Gather.MayKeep, pb_tool.specs.contract.Show.InText, pb_tool.specs.meaning.Files.IsRefused.InText as in_text}
 use Rattle.pb_tool.proofs.Common.{ℕ, ◌++◌, ◌<◌, ◌^◌, ◌∙◌, ◌∷◌, ◌≡◌, ◌≢◌, ◌⊎◌, [], ap, append-nil, append_assoc, arith, Err, false, IfErr, inl, inr, List, None}
 use Rattle.pb_tool.proofs.Common.{Ok, Option, refl, Result, rules, Some, subst, sym, true, unwrap_or, IfSome, IsErrAnd, eqb_tells, append_cancel_right, Keeps}
 use Rattle.pb_tool.proofs.Common.{event_bytes, IsValueOf, statement_bytes, IsProof, IsProofOf, took_join, given_both, writes_nothing, first_fault, ReadsNothing}
@@ -7,11 +7,10 @@ use Rattle.pb_tool.proofs.Common.{Limits, Place, Spanned, Stop, ReadsBlank, OfGi
 use Rattle.pb_tool.proofs.Common.{Wrote, ShowsGiven, TidiesGiven, EndsAt, shown, ShowsLines, File, ToolFault, Text, Write, OfBoth, AsksInProofText, IsProofText}
 use Rattle.pb_tool.proofs.Common.{MayBeInstance, MayBeProof, ShowsFile, tidied_proof, TidiesFile, TidiesProof, AsksInInstanceText, IsFile, IsInstanceText}
 use Rattle.pb_tool.proofs.Common.{IsRefused, IsStopped, tidied, Tidies, TidiesAs, WritesText, InRest}
-use Rattle.pb_tool.specs.{contract.Show.InText, meaning.Files.IsRefused.InText as in_text}
 use Rattle.std.proofs.Math.Dec.{eqb}
+use Rattle.pb_tool.proofs.lemmas.show.ShownStatements.{all_of, shows_end, shows_to, took_none, rest_within}
 use Rattle.pb_opb.specs.meaning.Gather as opb_keeping
 use Rattle.pb_proof.specs.contract.Gather as veri_keeping
-use Rattle.pb_tool.proofs.lemmas.show.ShownStatements.{all_of, shows_end, shows_to, took_none, rest_within}
 
 -- What is right of a fault is right of the result that has it.
 pub passed_on : {A E : Type 0} (P : E → Type 0) (r : Result A E) (e : E) → IsErrAnd r (λ f. f ≡ e) → P e → IfErr r P

@@ -1,5 +1,5 @@
 -- The text of an instance whose statements are gathered one by one is its canonical text.
-use Rattle.pb_opb.proofs.lemmas.instances.Kept.{reported}
+use Rattle.{pb_opb.proofs.lemmas.instances.Kept.reported, std.proofs.lemmas.Bool.Decides.nat_tests, pb_tool.proofs.lemmas.file.GivenBytes.written_so}
 use Rattle.pb_tool.proofs.Common.{ℕ, ◌++◌, ◌+◌, ◌==◌, ◌↔◌, ◌∙◌, ◌∷◌, ◌≡◌, ◌≤◌, [], ap, append-nil, append_assoc, ap₂, arith, Bool, drop, false, IsTrue, length}
 use Rattle.pb_tool.proofs.Common.{List, None, Option, refl, Result, Some, subst, suc, sym, take, true, zero, both_ways, cond-false, cond-true, AllByRecursion}
 use Rattle.pb_tool.proofs.Common.{flat_map, counted, IsCounted, IsEntry, body_events, comment_events, constraint_events, due, event_bytes, header_bytes}
@@ -9,10 +9,8 @@ use Rattle.pb_tool.proofs.Common.{stops_in, Limits, Spanned, Stop, largest, top_
 use Rattle.pb_tool.proofs.Common.{ReadsWhole, ToolFault, TidiesEach, IsInstanceTextOf, line, line_if, text_of, with, AsksInInstanceText, ends_in_feed, is_bare}
 use Rattle.pb_tool.proofs.Common.{IsFile, IsInstanceText, IsRefused, tidied, Tidies, TidiesAs, InRest, InText}
 use Rattle.pb_tool.specs.{declared.commands.tidy.instance_text.InstanceText.InstanceText, engine.InstanceText.asks}
-use Rattle.std.proofs.lemmas.Bool.Decides.{nat_tests}
 use Rattle.pb_opb.specs.declared.Comment as comment
 use Rattle.pb_text.proofs.lemmas.text.Formats as formats
-use Rattle.pb_tool.proofs.lemmas.file.GivenBytes.{written_so}
 
 -- the text ends with this byte
 abbrev EndsWith : ℕ → List ℕ → Type 0

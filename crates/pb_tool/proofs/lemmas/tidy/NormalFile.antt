@@ -1,6 +1,6 @@
 -- The normal form of a file whose statements come one by one: what is stored of them, its solutions, and that there is one.
-use Rattle.pb_normal.proofs.lemmas.names.Loaded.{are_named, forms_more, forms_then}
-use Rattle.pb_normal.specs.declared.Side.TheVariants.{AtLeast as least, AtMost as most}
+use Rattle.pb_normal.{proofs.lemmas.names.Loaded.are_named, specs.declared.Side.TheVariants.AtLeast as least, specs.declared.Side.TheVariants.AtMost as most}
+use Rattle.{pb_normal.proofs.lemmas.names.Loaded.forms_more, pb_normal.proofs.lemmas.names.Loaded.forms_then, std.proofs.lemmas.List.Folds.flat_map-map}
 use Rattle.pb_sums.specs.declared.Relation.{Relation, TheVariants.AtLeast, TheVariants.Equal}
 use Rattle.pb_tool.proofs.Common.{ℕ, ◌++◌, ◌+◌, ◌<◌, ◌∙◌, ◌∷◌, ◌≡◌, ◌⊎◌, [], ap, append-nil, ap₂, arith, Contains, get_or, inl, inr, length, length-append}
 use Rattle.pb_tool.proofs.Common.{List, None, Option, refl, Some, subst, suc, sym, take, zero, flat_map-append, map-append, Contains-append_cases}
@@ -17,7 +17,6 @@ use Rattle.pb_tool.proofs.Common.{IsNotGathered, line_if, NamesInOrder, noted, A
 use Rattle.pb_tool.proofs.Common.{IsNoInstanceFile, IsNoNormalFile, IsNormalFile, LacksNormalForm, tidied, WritesText}
 use Rattle.pb_tool.proofs.lemmas.tidy.InstanceLines.{tidied_bare, Follows, follows, headed, is_value, mains_in, value_of, file_as, refused_as}
 use Rattle.pb_tool.specs.declared.commands.tidy.{form_lines.FormLines.FormLines, normal_text.Standing.TheVariants.Stored}
-use Rattle.std.proofs.lemmas.List.Folds.{flat_map-map}
 
 -- the names of some terms, and of one more
 pub named_at : (old names new : List (List ℕ)) (ts : List Term) (i : ℕ) (t : Term) → i < length ts → t ≡ get_or ts i t → names ≡ with_names old (names_of (take i ts)) → new ≡ with_name names t.literal.name

@@ -1,6 +1,5 @@
 -- What is read of a canonical text, with or without a line feed after it, and what `tidy` does of a text that it wrote.
-use Rattle.pb_opb.specs.contract.Laws.{InstanceValues}
-use Rattle.pb_proof.specs.meaning.Reading.{ReadsProof}
+use Rattle.{pb_opb.specs.contract.Laws.InstanceValues, pb_proof.specs.meaning.Reading.ReadsProof}
 use Rattle.pb_tool.proofs.Common.{ℕ, ◌++◌, ◌<◌, ◌^◌, ◌∙◌, ◌∷◌, ◌≡◌, ◌≢◌, ◌≤◌, ◌⊎◌, [], ap, append-nil, append_assoc, arith, Bool, cond, Err, false, inl, inr}
 use Rattle.pb_tool.proofs.Common.{length, length-append, List, Ok, Option, refl, Result, rules, Some, subst, sym, true, Appends, instance_bytes, Instance}
 use Rattle.pb_tool.proofs.Common.{ReadsInstance, IsValueOf, ProofValues, Proof, IsProofOf, place_after-offset, Limits, Place, Spanned, Stop, Why, Byte, Ended}

@@ -1,5 +1,4 @@
-use Rattle.pb_words.proofs.Common.{codes, ◌≡◌}
-use Rattle.std.proofs.Common.{rules}
+use Rattle.{pb_words.proofs.Common.codes, pb_words.proofs.Common.◌≡◌, std.proofs.Common.rules}
 use Rattle.pb_words.proofs.words.job_of.Goals as goal
 
 pub returns-in_ok-instance-in_default-clause-ok : goal.returns-in_ok-instance-in_default-clause-ok

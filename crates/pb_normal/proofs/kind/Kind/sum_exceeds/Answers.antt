@@ -1,6 +1,5 @@
-use Rattle.pb_normal.proofs.Common.{arith, inl, kind_form}
+use Rattle.pb_normal.proofs.{Common.arith, Common.inl, Common.kind_form, lemmas.terms.Totals.size-Adds}
 use Rattle.pb_normal.proofs.lemmas.rules.Bounds.{SumPasses-small, SumPasses-measured, SumPasses-by_degree, reports, reports_none, SumMeasures-from}
-use Rattle.pb_normal.proofs.lemmas.terms.Totals.{size-Adds}
 use Rattle.pb_normal.proofs.kind.Kind.sum_exceeds.Goals as goal
 
 pub returns-then-degree-limit : goal.returns-then-degree-limit

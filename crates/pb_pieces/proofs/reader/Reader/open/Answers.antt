@@ -1,6 +1,5 @@
-use Rattle.pb_pieces.proofs.Common.{◌^◌, [], refl, opb, IsInstance, proofs, IsProof, largest, top_of, new_instance, new_proof, opb_statements}
-use Rattle.pb_pieces.proofs.{Common.proof_statements, Giving.giving}
-use Rattle.std.specs.Option.{unwrap_or}
+use Rattle.pb_pieces.proofs.Common.{◌^◌, [], refl, opb, IsInstance, proofs, IsProof, largest, top_of, new_instance, new_proof, opb_statements, proof_statements}
+use Rattle.{pb_pieces.proofs.Giving.giving, std.specs.Option.unwrap_or}
 use Rattle.pb_pieces.proofs.reader.Reader.open.Goals as goal
 
 pub returns-in-Instance-clause-opened : goal.returns-in-Instance-clause-opened

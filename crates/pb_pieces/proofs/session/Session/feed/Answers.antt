@@ -1,6 +1,5 @@
-use Rattle.pb_pieces.proofs.Common.{ℕ, ◌++◌, ◌-◌, ◌∙◌, ap, arith, drop, length, List, subst, take, length-drop, onward_by, to_all, to_end, to_more}
-use Rattle.pb_pieces.proofs.{Common.IsSession, Fed.fed_again}
-use Rattle.pb_text.proofs.lemmas.text.Spans.{all_rest}
+use Rattle.pb_pieces.proofs.Common.{ℕ, ◌++◌, ◌-◌, ◌∙◌, ap, arith, drop, length, List, subst, take, length-drop, onward_by, to_all, to_end, to_more, IsSession}
+use Rattle.{pb_pieces.proofs.Fed.fed_again, pb_text.proofs.lemmas.text.Spans.all_rest}
 use Rattle.pb_pieces.proofs.session.Session.feed.Goals as goal
 
 pub returns-in-Some-clause-fed : goal.returns-in-Some-clause-fed
@@ -9,8 +8,7 @@ returns-in-Some-clause-fed c limits longest i fed s = fed_again limits longest i
 pub returns-then-not-went-clause-fed : goal.returns-then-not-went-clause-fed
 returns-then-not-went-clause-fed c limits longest i fed s =
     let t = rw c.in-Ok.is at c.step.ensures in
-    let piece = c.args.piece.now in
-    let n = c.loop-went.used in
+    let piece = c.args.piece.now in let n = c.loop-went.used in
     subst (λ (x : List ℕ). IsSession limits longest i x c.step.new.self)
     (ap (λ (x : List ℕ). (fed ++ take n piece) ++ x) (to_all c.in-Ok.went.accepted c.in-Ok.went.used (take (length piece - n) (drop n piece)) c.if-not-went.true) ∙ to_end fed piece n)
     (t.fed limits longest i (fed ++ take n piece) (c.loop-went.invariant.stands limits longest i fed s))
@@ -24,8 +22,7 @@ returns-in-Err-clause-fed c limits longest i fed s =
 pub loop-went-preserved : goal.loop-went-preserved
 loop-went-preserved c =
     let t = rw c.in-Ok.is at c.step.ensures in
-    let piece = c.args.piece.now in
-    let n = c.loop-went.used in
+    let piece = c.args.piece.now in let n = c.loop-went.used in
     record {
       running = t.fault;
       bound = omega (arith, t.used.1, length-drop n piece, ap (λ (x : List ℕ). length x) (all_rest piece n), c.loop-went.invariant.bound);

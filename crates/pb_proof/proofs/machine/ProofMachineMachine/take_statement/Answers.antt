@@ -1,6 +1,5 @@
-use Rattle.pb_proof.{specs.contracts.machine.ProofMachine.the_view}
+use Rattle.pb_proof.{specs.contracts.machine.ProofMachine.the_view, proofs.lemmas.machine.Runs.rup_taken}
 use Rattle.pb_proof.proofs.Common.{◌∙◌, ◌≡◌, ap, Some, subst, TakesStatement, idle, IsInOrder, proofs, arith, ProofState, ProofPhase as Phase, Stage, Statement}
-use Rattle.pb_proof.proofs.lemmas.machine.Runs.{rup_taken}
 use Rattle.pb_proof.proofs.machine.ProofMachineMachine.take_statement.Goals as goal
 
 -- between two steps

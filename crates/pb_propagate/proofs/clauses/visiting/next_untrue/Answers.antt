@@ -7,9 +7,7 @@ satisfies-requires c = running-small _ _ c.requires.running (c.requires.running.
 
 pub entries-preserved : goal.entries-preserved
 entries-preserved c =
-    let i = c.entries.invariant in
-    let entry = c.read_entry-entry.result in
-    let at = c.read_entry-entry.ensures in
+    let i = c.entries.invariant in let entry = c.read_entry-entry.result in let at = c.read_entry-entry.ensures in
     let met : HasTrue c.args.assignment.now.values.items c.args.clauses.now.blocks.literals (entry.watch / 2) =
     (entry.blocker, c.requires.running.blocked entry at.listed, sym c.satisfies.ensures ∙ c.if-not-satisfies.false) in
     search (rules, served-true, met, at.item, c.requires.running.stored.linked, i.served, c.watch_count.ensures)

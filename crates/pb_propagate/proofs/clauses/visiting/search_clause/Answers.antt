@@ -1,8 +1,7 @@
-use Rattle.pb_propagate.proofs.Common.{◌<◌, ap, arith, length, rules, sym}
+use Rattle.pb_propagate.proofs.{Common.◌<◌, Common.ap, Common.arith, Common.length, Common.rules, Common.sym, rulesets.Clauses.visiting}
 use Rattle.pb_propagate.proofs.clauses.visiting.search_clause.Goals.{After-advance-stop}
-use Rattle.pb_propagate.proofs.lemmas.clauses.Visited.{entry-slot, other-watched, round-next, running-small, clause_of, start_of, IsSought}
-use Rattle.pb_propagate.proofs.lemmas.clauses.Visited.{sought-left, stopped, visited-falsified, visited-forces, visited-leaves}
-use Rattle.pb_propagate.proofs.rules.Clauses.{visiting}
+use Rattle.pb_propagate.proofs.lemmas.clauses.Visited.{entry-slot, other-watched, round-next, running-small, clause_of, start_of, IsSought, sought-left}
+use Rattle.pb_propagate.proofs.lemmas.clauses.Visited.{stopped, visited-falsified, visited-forces, visited-leaves}
 use Rattle.pb_propagate.proofs.clauses.visiting.search_clause.Goals as goal
 
 pub read-clause-requires : goal.read-clause-requires

@@ -1,7 +1,6 @@
-use Rattle.pb_propagate.proofs.Common.{◌∙◌, ap, Standing}
+use Rattle.{pb_propagate.proofs.Common.◌∙◌, pb_propagate.proofs.Common.ap, pb_propagate.proofs.Common.Standing, std.proofs.lemmas.Option.IfSome_then}
 use Rattle.pb_propagate.proofs.lemmas.engine.{Bridge.refuted-meets, Bridge.ended-completion, Reasoned.reasons-derive}
 use Rattle.pb_propagate.proofs.lemmas.root.{Kept.kept-conflicts, Ready.rest-kept, Rooted.clash-refuted, Rooted.root-clash, Rooted.map-none}
-use Rattle.std.proofs.lemmas.Option.{IfSome_then}
 use Rattle.pb_propagate.proofs.engine.Engine.complete.Goals as goal
 
 pub returns-clause-conflict : goal.returns-clause-conflict

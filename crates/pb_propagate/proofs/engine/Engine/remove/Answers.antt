@@ -1,4 +1,4 @@
-use Rattle.pb_propagate.proofs.{lemmas.store.Placed.placed-left, lemmas.store.Placed.taken-by, rules.Engine.engine}
+use Rattle.pb_propagate.proofs.{lemmas.store.Placed.placed-left, lemmas.store.Placed.taken-by, rulesets.Engine.engine}
 use Rattle.pb_propagate.proofs.Common.{◌<◌, ap, arith, length, forms_of, Standing}
 use Rattle.pb_propagate.proofs.lemmas.{root.Added.lost-rooted, root.Kept.lost-kept, store.Changes.forms-length, store.Placed.numbered-length}
 use Rattle.pb_propagate.proofs.engine.Engine.remove.Goals as goal

@@ -7,8 +7,7 @@ pub invariant_of-self-2 : goal.invariant_of-self-2
 invariant_of-self-2 c = λ ready.
     let e = c.self.inside in
     let both = c.self.invariant (ap (λ (v : Standing). v.spent) c.self.view_is ∙ c.requires.ready) in
-    let r = both.0 in
-    let occ = e.store.occurrences.items in
+    let r = both.0 in let occ = e.store.occurrences.items in
     let lit : clauses_of c.widen-2.new.self ≡ clauses_of e.clauses = (c.widen-2.ensures.literals ∙ c.widen.ensures.literals) in
     let watches = c.widen-2.ensures.watches ∙ c.widen.ensures.watches in
     let count = half c.len.result (length c.push-2.new.self.items) e.store.variables (omega (arith, c.len.ensures, c.push-2.new.self.ok.0)) (grind (arith, c.in_ok-push.ensures.items, c.in_ok-push-2.ensures.items, length-append, entries-length, r.sound.places)) in

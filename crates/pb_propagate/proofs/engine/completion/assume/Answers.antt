@@ -1,5 +1,5 @@
 use Rattle.pb_propagate.proofs.{engine.completion.assume.Goals.In_ok-try_put, lemmas.engine.Bridge.Assumed, lemmas.engine.Bridge.assumed-next}
-use Rattle.pb_propagate.proofs.{lemmas.engine.Bridge.none-assumed, lemmas.root.Ready.puts-none, lemmas.root.Ready.puts-then, rules.Engine.completion}
+use Rattle.pb_propagate.proofs.{lemmas.engine.Bridge.none-assumed, lemmas.root.Ready.puts-none, lemmas.root.Ready.puts-then, rulesets.Engine.completion}
 use Rattle.pb_propagate.proofs.Common.{rules, ◌+◌, false, begin, arith, list_of}
 use Rattle.pb_propagate.proofs.engine.completion.assume.Goals as goal
 

@@ -1,6 +1,6 @@
 use Rattle.pb_propagate.proofs.Common.{rules, arith, inr, or_right, negation, kept, database, progress}
 use Rattle.pb_propagate.proofs.lemmas.{engine.Advances.advances-visit, engine.Literals.negation-negation, root.Questions.adopted-found}
-use Rattle.pb_propagate.proofs.rules.Engine.{denial}
+use Rattle.pb_propagate.proofs.rulesets.Engine.{denial}
 use Rattle.pb_propagate.proofs.engine.denial.deny.Goals as goal
 
 pub returns-then-contains-clause-adopted : goal.returns-then-contains-clause-adopted

@@ -1,7 +1,7 @@
 use Rattle.pb_propagate.proofs.Common.{length, ◌<◌, negation, get_or, get_or_default, rules, ◌∙◌, ap, arith, false, Entry, Term, as_term, begin}
 use Rattle.pb_propagate.proofs.lemmas.{engine.Advances.costs-then, engine.Advances.costs-as, engine.Advances.on-err, root.Questions.adopted-keeps}
 use Rattle.pb_propagate.proofs.lemmas.root.{Questions.denied-next, Questions.hit-conflicts, Ready.puts-as, Ready.puts-none, Ready.puts-then}
-use Rattle.pb_propagate.proofs.rules.Engine.{denial}
+use Rattle.pb_propagate.proofs.rulesets.Engine.{denial}
 use Rattle.pb_propagate.proofs.engine.denial.deny_all.Goals as goal
 
 abbrev bare : Entry
@@ -12,8 +12,7 @@ literals-init c = search (rules, puts-none c.args.store.now c.args.rests.now c.a
 
 pub literals-preserved : goal.literals-preserved
 literals-preserved c =
-    let i = c.literals.invariant in
-    let reported = c.in_ok-deny.ensures in
+    let i = c.literals.invariant in let reported = c.in_ok-deny.ensures in
     let is = ap (λ (t : Term). t.literal) c.term_of-term.ensures ∙ ap (λ (e : Entry). (as_term e).literal) (c.get-entry.ensures.read bare) in
     let inside : c.literals.i < length c.args.goal.now = omega (arith, c.literals-test.true, c.len-i-end.ensures.length) in
     record {

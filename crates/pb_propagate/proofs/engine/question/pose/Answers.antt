@@ -1,15 +1,13 @@
-use Rattle.pb_propagate.{proofs.lemmas.store.Stored.stored-sum, specs.engine.engine.Root.terms_of_all, specs.engine.engine.Root.HasSameForms}
-use Rattle.pb_propagate.proofs.{Common.values_of, Common.◌<◌, engine.question.pose.Goals.After-propagate, engine.question.pose.Goals.In_ok-enter}
-use Rattle.pb_propagate.proofs.Common.{map, length_permutation, entry_of, ℕ, ◌+◌, ◌∙◌, ◌∷◌, ◌≡◌, [], ap, arith, Global, length, length-append, length-set}
-use Rattle.pb_propagate.proofs.Common.{rules, sym, Vec, sum, sum_by, take-append_seam, length-map, sum_by_push, Assignment, all_of, clauses_of, none, shapes_of}
-use Rattle.pb_propagate.proofs.Common.{stored_shape, Derives, Shape, list_of, posed, ◌*◌, ◌≤◌, Contains-append_left, IsTidy, beside, get_or_append_left}
-use Rattle.pb_propagate.proofs.lemmas.{root.Ready.rooted-again, root.Ready.heads-now, root.Rooted.derives-within, store.Placed.numbered-entered}
-use Rattle.pb_propagate.proofs.lemmas.clauses.Heads.{visits-back, walks-kept}
+use Rattle.pb_propagate.proofs.lemmas.{store.Stored.stored-sum, root.Rooted.derives-within, store.Placed.numbered-entered, store.Placed.numbered-same}
+use Rattle.{pb_propagate.specs.engine.engine.Root.terms_of_all, pb_propagate.specs.engine.engine.Root.HasSameForms, std.proofs.lemmas.Grind.common_steps}
+use Rattle.pb_propagate.proofs.Common.{values_of, ◌<◌, map, length_permutation, entry_of, ℕ, ◌+◌, ◌∙◌, ◌∷◌, ◌≡◌, [], ap, arith, Global, length, length-append}
+use Rattle.pb_propagate.proofs.{Common.get_or_append_left, engine.question.pose.Goals.After-propagate, engine.question.pose.Goals.In_ok-enter}
+use Rattle.pb_propagate.proofs.Common.{length-set, rules, sym, Vec, sum, sum_by, take-append_seam, length-map, sum_by_push, Assignment, all_of, clauses_of}
+use Rattle.pb_propagate.proofs.Common.{none, shapes_of, stored_shape, Derives, Shape, list_of, posed, ◌*◌, ◌≤◌, Contains-append_left, IsTidy, beside}
+use Rattle.pb_propagate.proofs.lemmas.root.{Ready.rooted-again, Ready.heads-now, Added.slot-counted, Added.slot-tidy, Kept.met-asked, Questions.spends-refutes}
+use Rattle.{pb_propagate.proofs.lemmas.clauses.Heads.visits-back, pb_propagate.proofs.lemmas.clauses.Heads.walks-kept, std.proofs.lemmas.List.length_push}
 use Rattle.pb_propagate.proofs.lemmas.engine.{Literals.derivation-single, Reasoned.reasons-derive, Rests.joined-entered, Rests.prefix-of, Runs.grown-length}
-use Rattle.pb_propagate.proofs.lemmas.root.{Added.slot-counted, Added.slot-tidy, Kept.met-asked, Questions.entered-shapes}
-use Rattle.pb_propagate.proofs.lemmas.root.Questions.{undone-same, updated-most, all-entered, both-answered, entered-tidy, posed-most, spends-refutes}
-use Rattle.pb_propagate.proofs.lemmas.store.Placed.{numbered-same}
-use Rattle.std.proofs.lemmas.{Grind.common_steps, List.length_push}
+use Rattle.pb_propagate.proofs.lemmas.root.Questions.{entered-shapes, undone-same, updated-most, all-entered, both-answered, entered-tidy, posed-most}
 use Rattle.pb_propagate.proofs.engine.question.pose.Goals as goal
 
 pub returns-then-branch-clause-most : goal.returns-then-branch-clause-most
@@ -38,11 +36,8 @@ returns-then-branch-clause-asked c = met-asked c.requires.visits (c.in_ok-update
 most : (c : After-propagate) → c.propagate.new.run.visits ≤ 3 * (terms_of_all c.args.store.now c.args.clauses.now + length c.args.form.terms) +
     (length c.args.root.now.waiting.list.items + 1)
 most c =
-    let store = c.args.store.now in
-    let run = c.update.new.self.run in
-    let start = c.open_form.new.run in
-    let h = c.in_ok-enter.ensures.entered in
-    let standing = c.requires.standing in
+    let store = c.args.store.now in let run = c.update.new.self.run in let start = c.open_form.new.run in
+    let h = c.in_ok-enter.ensures.entered in let standing = c.requires.standing in
     let same : start.assignment ≡ run.assignment = c.open_form.ensures.assignment ∙ c.enter.ensures.rest.0 in
     let all = all-entered store c.enter.new.store c.args.clauses.now h.kept h.keeps standing.joined in
     let d : Derives (all_of c.enter.new.store c.args.clauses.now) [] (list_of c.args.root.now.run) = rw all (derives-within _ _ _ _ (Contains-append_left _ (stored_shape h.kept ∷ [])) (reasons-derive standing.rooted.reasoned)) in
@@ -63,9 +58,7 @@ returns-clause-most c = let few = most (goal.at.returns-clause-most c).After-pro
 
 pub returns-clause-asked : goal.returns-clause-asked
 returns-clause-asked c =
-    let run = c.update.new.self.run in
-    let h = c.in_ok-enter.ensures.entered in
-    let lit = c.update.ensures.literals in
+    let run = c.update.new.self.run in let h = c.in_ok-enter.ensures.entered in let lit = c.update.ensures.literals in
     let all = all-entered c.args.store.now c.enter.new.store c.args.clauses.now h.kept h.keeps c.requires.standing.joined in
     let reported = c.in_ok-found.ensures in
     let same : c.open_form.new.run.assignment ≡ run.assignment = c.open_form.ensures.assignment ∙ c.enter.ensures.rest.0 in
@@ -77,14 +70,9 @@ returns-clause-asked c =
 
 pub returns-clause-left : goal.returns-clause-left
 returns-clause-left c =
-    let keep = c.args.store.now.stored.items in
-    let root = c.update.new.self in
-    let run = root.run in
-    let r = c.in_ok-update.ensures.rooted in
-    let h = c.in_ok-enter.ensures.entered in
-    let left = c.in_ok-found.ensures.left in
-    let b = c.back.ensures in
-    let l = c.leave.ensures in
+    let keep = c.args.store.now.stored.items in let root = c.update.new.self in let run = root.run in
+    let r = c.in_ok-update.ensures.rooted in let h = c.in_ok-enter.ensures.entered in
+    let left = c.in_ok-found.ensures.left in let b = c.back.ensures in let l = c.leave.ensures in
     let same : c.open_form.new.run.assignment ≡ run.assignment = c.open_form.ensures.assignment ∙ c.enter.ensures.rest.0 in
     let kept_is = l.kept ∙ prefix-of c.enter.new.store.stored.items keep h.kept h.keeps in
     let long : length c.enter.new.store.stored.items ≡ length keep + 1 = grind (arith, h.keeps, length-append) in
@@ -106,16 +94,11 @@ returns-clause-left c =
 
 pub propagate-requires-clause-ready : goal.propagate-requires-clause-ready
 propagate-requires-clause-ready c =
-    let keep = c.args.store.now.stored.items in
-    let root = c.update.new.self in
-    let run = root.run in
+    let keep = c.args.store.now.stored.items in let root = c.update.new.self in let run = root.run in
     let r = c.in_ok-update.ensures.rooted in
     let u = c.in_ok-update.ensures.updated c.if-branch.false in
-    let new = c.enter.new in
-    let h = c.in_ok-enter.ensures.entered in
-    let e = c.enter.ensures in
-    let o = c.in_ok-open_form.ensures in
-    let now = c.open_form.new.run in
+    let new = c.enter.new in let h = c.in_ok-enter.ensures.entered in let e = c.enter.ensures in
+    let o = c.in_ok-open_form.ensures in let now = c.open_form.new.run in
     let shapes = shapes_of new.store.stored.items in
     let n = c.len-number.result in
     let long = length-map keep stored_shape in

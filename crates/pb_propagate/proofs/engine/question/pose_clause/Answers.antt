@@ -1,4 +1,4 @@
-use Rattle.pb_propagate.{proofs.lemmas.root.Ready.undone-left, proofs.rules.Engine.question, specs.engine.engine.Root.terms_of_all}
+use Rattle.pb_propagate.{proofs.lemmas.root.Ready.undone-left, proofs.rulesets.Engine.question, specs.engine.engine.Root.terms_of_all}
 use Rattle.pb_propagate.proofs.{engine.question.pose_clause.Goals.After-refute, lemmas.engine.Reasoned.reasons-derive, lemmas.root.Kept.met-asked}
 use Rattle.pb_propagate.proofs.Common.{◌+◌, ◌≡◌, ap, arith, length, List, refl, Entry, denial_of, posed, ◌*◌, ◌≤◌, list_of, sym}
 use Rattle.pb_propagate.proofs.lemmas.root.Questions.{denial-stored, both-answered, posed-most, updated-most}
@@ -25,9 +25,7 @@ returns-clause-most c = let few = most (goal.at.returns-clause-most c).After-ref
 
 pub returns-clause-asked : goal.returns-clause-asked
 returns-clause-asked c =
-    let lit = c.update.ensures.literals in
-    let same = c.terms.ensures.terms in
-    let reported = c.in_ok-found.ensures in
+    let lit = c.update.ensures.literals in let same = c.terms.ensures.terms in let reported = c.in_ok-found.ensures in
     posed (denial_of c.args.goal.now.terms) (denial-stored c.args.goal.now c.terms.ensures.normal c.requires.clause)
     (both-answered (denial_of c.args.goal.now.terms) c.args.root.now.run c.update.new.self.run c.refute.new.run c.requires.visits
     (c.in_ok-update.ensures.updated c.if-branch.false).found reported.gains (sym c.back.ensures.visits)

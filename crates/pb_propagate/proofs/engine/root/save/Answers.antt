@@ -4,9 +4,7 @@ use Rattle.pb_propagate.proofs.engine.root.save.Goals as goal
 
 pub forms-preserved : goal.forms-preserved
 forms-preserved c =
-    let run = c.args.run.now in
-    let rests = c.forms.rests in
-    let form = c.index-form.result.now in
+    let run = c.args.run.now in let rests = c.forms.rests in let form = c.index-form.result.now in
     let u = c.forms.invariant.undone in
     let inside : c.forms.i < length run.trail.items = omega (arith, c.forms-test.true, c.len-i-end.ensures, run.trail.ok.0) in
     let room : form < length run.opens.items = omega (arith, u.2.named c.forms.i form inside, c.index-form.ensures, u.1) in
@@ -17,7 +15,6 @@ forms-preserved c =
 
 pub returns : goal.returns
 returns c =
-    let run = c.args.run.now in
-    let u = c.forms.invariant.undone in
+    let run = c.args.run.now in let u = c.forms.invariant.undone in
     let all = keep-all c.forms.rests u.0 run.opens.items run.candidates.items run.trail.items c.forms.i in
     grind (arith, all, c.forms-test.false, c.len-i-end.ensures, run.trail.ok.0, u.1, u.2)

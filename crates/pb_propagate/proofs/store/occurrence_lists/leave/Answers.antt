@@ -4,9 +4,7 @@ use Rattle.pb_propagate.proofs.store.occurrence_lists.leave.Goals as goal
 
 pub returns-clause-sound : goal.returns-clause-sound
 returns-clause-sound c =
-    let store = c.args.store.now in
-    let less = c.unlink.new.store in
-    let keep = store.stored.items in
+    let store = c.args.store.now in let less = c.unlink.new.store in let keep = store.stored.items in
     let number = c.len-number.result - 1 in
     let same = ap (λ (v : Vec StoredForm Global). v.items) c.unlink.ensures.kept in
     let linked = rw same at c.unlink.ensures.linked in

@@ -18,9 +18,7 @@ index_mut-requires c = grind (arith, c.requires.inside, c.terms-test.true, c.len
 pub terms-preserved : goal.terms-preserved
 terms-preserved c =
     let ts = stored_terms c.args.kept.now in
-    let t = c.term-term.result in
-    let occ = c.terms.lists.items in
-    let p = c.place_of-place.result in
+    let t = c.term-term.result in let occ = c.terms.lists.items in let p = c.place_of-place.result in
     let at = c.place_of-place.ensures.place in
     let within : c.terms.i < length ts = omega (arith, c.terms-test.true, c.len-i-end.ensures) in
     let room : p < length occ = omega (arith, c.requires.inside c.terms.i t within, at, ap (λ (x : Term). place x.literal) (c.term-term.ensures t), c.terms.invariant.sizes) in

@@ -19,8 +19,7 @@ take_out-requires c =
 
 pub terms-preserved : goal.terms-preserved
 terms-preserved c =
-    let now = c.terms.store in
-    let done = c.take_out.new in
+    let now = c.terms.store in let done = c.take_out.new in
     record {
       stored = c.terms.invariant.stored;
       variables = c.terms.invariant.variables;

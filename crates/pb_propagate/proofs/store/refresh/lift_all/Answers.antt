@@ -46,8 +46,7 @@ overflow_add-opened c =
     let o = read (goal.at.overflow_add-opened c).After-index-entry in
     let store = c.args.store.now in
     let forms = shapes_of store.stored.items in
-    let form = c.index-entry.result.now.form in
-    let k = c.index-kept.result.now in
+    let form = c.index-entry.result.now.form in let k = c.index-kept.result.now in
     let read = get_or_read c.entries.root.run.opens.items form c.index-before.result.now (omega (arith, o.form, c.entries.invariant.each.sized.opens)) c.index-before.ensures 0 in
     let weight = weight-read store.stored.items form c.index-entry.result.now.index k c.term.result.coefficient o.form c.index-kept.ensures (λ d. ap (λ (t : Term). t.coefficient) (c.term.ensures d)) in
     let lacks = subst (Lacks store c.entries.root) (ahead-entry store v.items c.entries.j c.index-entry.result.now o.read o.inside) c.entries.invariant.lacks in

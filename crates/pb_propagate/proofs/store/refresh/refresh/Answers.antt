@@ -4,10 +4,7 @@ use Rattle.pb_propagate.proofs.store.refresh.refresh.Goals as goal
 
 pub returns-clause-form : goal.returns-clause-form
 returns-clause-form c =
-    let me = c.args.root.now in
-    let form = c.args.form in
-    let o = c.args.opened in
-    let z = c.requires.sized in
+    let me = c.args.root.now in let form = c.args.form in let o = c.args.opened in let z = c.requires.sized in
     record {
       passed = grind (arith, get_or-set_same, c.requires.form, z.candidates);
       calm = λ off d i.

@@ -33,9 +33,7 @@ returns-then-position-len-clause-list c =
 
 pub index_mut-requires : goal.index_mut-requires
 index_mut-requires c =
-    let me = c.args.self.now in
-    let now = c.swap_remove.new.self in
-    let m = c.index-moved.result.now in
+    let me = c.args.self.now in let now = c.swap_remove.new.self in let m = c.index-moved.result.now in
     let inside = slice_get_within _ _ _ (found (goal.at.index_mut-requires c).After-index-position) in
     let more : c.index-position.result.now < length now.items = omega (arith, c.len.ensures, now.ok.0, c.if-position-len.false) in
     let last = moved-last me.list.items now.items c.index-position.result.now c.swap_remove.result m inside c.swap_remove.ensures.items more c.index-moved.ensures in

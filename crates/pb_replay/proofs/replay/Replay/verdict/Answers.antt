@@ -1,6 +1,5 @@
-use Rattle.pb_propagate.proofs.lemmas.store.Options.{none_of}
+use Rattle.{pb_propagate.proofs.lemmas.store.Options.none_of, pb_replay.proofs.lemmas.rules.Steps.meant, pb_replay.proofs.lemmas.rules.Steps.meant-written}
 use Rattle.pb_replay.proofs.Common.{◌∙◌, refl, sym, problem_of, state_of}
-use Rattle.pb_replay.proofs.lemmas.rules.Steps.{meant, meant-written}
 use Rattle.pb_replay.proofs.replay.Replay.verdict.Goals as goal
 
 pub returns-in-Complete-clause-written : goal.returns-in-Complete-clause-written

@@ -1,7 +1,6 @@
 use Rattle.pb_sums.proofs.Common.{ℕ, ℤ, ◌||◌, ◌≡◌, ◌⊎◌, inl, inr, refl, true, false, IsTrue, Relation, SumEvent, Action, Phase, To, Begin, Add, EndSum}
-use Rattle.pb_sums.proofs.Common.{EndLinear, arith, adds, is_more, End, SumState}
-use Rattle.pb_sums.proofs.lemmas.machine.Pushes.{IsTaken, wants}
-use Rattle.pb_sums.specs.{contracts.machine.SumMachine.the_view, engine.State.ends, engine.State.outcome}
+use Rattle.pb_sums.proofs.{Common.EndLinear, Common.arith, Common.adds, Common.is_more, Common.End, Common.SumState, lemmas.machine.Pushes.wants}
+use Rattle.pb_sums.{proofs.lemmas.machine.Pushes.IsTaken, specs.contracts.machine.SumMachine.the_view, specs.engine.State.ends, specs.engine.State.outcome}
 use Rattle.pb_sums.proofs.machine.SumMachine.take.Goals as goal
 
 continues : (m : Action) → ((p : Phase) × (m ≡ To p)) ⊎ ((p : Phase) × (b : ℕ) × (m ≡ Begin p b)) ⊎ ((p : Phase) × (b : ℕ) × (m ≡ Add p b)) → IsTaken m × (ends m ≡ false)

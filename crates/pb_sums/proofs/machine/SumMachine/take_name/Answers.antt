@@ -11,9 +11,7 @@ from_prefix-requires-clause-text c = name_utf8 (take c.name_prefix-length.result
 
 pub returns-clause-runs : goal.returns-clause-runs
 returns-clause-runs c =
-    let i = c.self.inside in
-    let n = c.name_prefix-length.result in
-    let text = c.args.text.now in
+    let i = c.self.inside in let n = c.name_prefix-length.result in let text = c.args.text.now in
     let b = begun n text c.if-length-lt2.false c.name_prefix-length.ensures.bound c.if-not-is_letter.ensures in
     rw (← c.self.view_is) (name_runs i.spaces i.part i.limit i.terms i.name c.in-Ok.name i.phase c.in-Some.phase (take n text) c.in-Some.ensures b.0
     b.1 c.name_prefix-length.ensures.name c.in-Ok.ensures.name)

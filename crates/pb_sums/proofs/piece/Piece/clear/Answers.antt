@@ -1,5 +1,4 @@
-use Rattle.pb_sums.proofs.Common.{arith}
-use Rattle.std.proofs.lemmas.List.{drop_all}
+use Rattle.{pb_sums.proofs.Common.arith, std.proofs.lemmas.List.drop_all}
 use Rattle.pb_sums.proofs.piece.Piece.clear.Goals as goal
 
 pub returns : goal.returns

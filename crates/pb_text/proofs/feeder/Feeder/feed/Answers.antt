@@ -1,9 +1,8 @@
 use Rattle.pb_text.proofs.Common.{Ok, Feeder, Ghosts, spans_in, ℕ, ◌++◌, ◌+◌, ◌-◌, ◌<◌, ◌∙◌, ◌∷◌, ◌≡◌, ◌≢◌, ◌≤◌, [], ap, append-nil, append_assoc, arith, drop}
-use Rattle.pb_text.proofs.Common.{get_or, length, length-drop, length-take, List, slice_get, Some, subst, sym, take, take-append-drop, take-length, None, Option}
-use Rattle.pb_text.proofs.Common.{Stop, Stands}
+use Rattle.pb_text.proofs.Common.{get_or, length, length-drop, length-take, List, slice_get, Some, subst, sym, take, take-append-drop, take-length, None, Stop}
+use Rattle.{pb_text.proofs.Common.Option, pb_text.proofs.Common.Stands, pb_text.proofs.lemmas.text.Spans.one_further, std.proofs.lemmas.Option.slice_get-get_or}
 use Rattle.pb_text.proofs.lemmas.feeder.Steps.{passes, Reaches, stands_more, with_byte, with_more}
-use Rattle.pb_text.{proofs.lemmas.text.Spans.one_further, specs.contract.Feeding.bytes_with, specs.contract.Feeding.FeedsOnce, specs.declared.feeder.Fed.Fed}
-use Rattle.std.proofs.lemmas.Option.{slice_get-get_or}
+use Rattle.pb_text.specs.{contract.Feeding.bytes_with, contract.Feeding.FeedsOnce, declared.feeder.Fed.Fed}
 use Rattle.pb_text.proofs.feeder.Feeder.feed.Goals as goal
 
 whole : (input piece : List ℕ) (i : ℕ) → i < length piece → ((input ++ take i piece) ++ get_or piece i 0 ∷ []) ++ drop (i + 1) piece ≡ input ++ piece

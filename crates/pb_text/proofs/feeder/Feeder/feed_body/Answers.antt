@@ -9,8 +9,7 @@ taken_are used room piece h = grind (arith, length-take, take-take, length-take-
 
 pub invariant_of-self : goal.invariant_of-self
 invariant_of-self g c =
-    let f = c.args.self.now in
-    let used = c.take_run-used.result in
+    let f = c.args.self.now in let used = c.take_run-used.result in
     let t = taken_are used (f.end - f.place.offset) c.args.piece.now (rw c.min.ensures at c.take_run-used.ensures.bound) in
     let q = place_fits f.place c.past-self.result (take used c.args.piece.now) used f.end (rw (c.min.ensures, t.0) at c.past-self.ensures) t.1 t.3 f.offset_in_range f.line_in_range f.column_in_range in
     record { some = f.some; end_is = f.end_is; offset_in_range = q.0; line_in_range = q.1; column_in_range = q.2 }
@@ -20,8 +19,7 @@ returns-clause-stands g c longest start input spans s = grind (arith, taken_are,
 
 pub returns-clause-offset : goal.returns-clause-offset
 returns-clause-offset g c =
-    let f = c.args.self.now in
-    let used = c.take_run-used.result in
+    let f = c.args.self.now in let used = c.take_run-used.result in
     let t = taken_are used (f.end - f.place.offset) c.args.piece.now (rw c.min.ensures at c.take_run-used.ensures.bound) in
     let q = place_fits f.place c.past-self.result (take used c.args.piece.now) used f.end (rw (c.min.ensures, t.0) at c.past-self.ensures) t.1 t.3 f.offset_in_range f.line_in_range f.column_in_range in
     q.3

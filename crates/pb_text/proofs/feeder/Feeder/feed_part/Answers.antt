@@ -1,5 +1,4 @@
-use Rattle.pb_text.proofs.Common.{◌∷◌, [], append-nil, arith, refl}
-use Rattle.pb_text.proofs.lemmas.feeder.Steps.{prefix_taken, with_byte}
+use Rattle.pb_text.proofs.{Common.◌∷◌, Common.[], Common.append-nil, Common.arith, Common.refl, lemmas.feeder.Steps.prefix_taken, lemmas.feeder.Steps.with_byte}
 use Rattle.pb_text.proofs.feeder.Feeder.feed_part.Goals as goal
 
 pub returns-then-used-piece : goal.returns-then-used-piece
@@ -22,8 +21,7 @@ returns-in-Some g c =
 
 pub returns-in-None : goal.returns-in-None
 returns-in-None g c =
-    let fast = c.feed_fast-used.ensures in
-    let t = c.in-None.ensures in
+    let fast = c.feed_fast-used.ensures in let t = c.in-None.ensures in
     prefix_taken _ _ _ _ fast.bound
     (λ longest start input spans s. rw (append-nil, append-nil) at (t.stands longest start _ spans (fast.stands longest start input spans s)))
     (omega (arith, t.offset, fast.offset)) t.running (t.unfinished refl) t.state

@@ -1,9 +1,8 @@
 use Rattle.pb_text.proofs.Common.{ℕ, ◌++◌, ◌+◌, ◌-◌, ◌<◌, ◌^◌, ◌∙◌, ◌∷◌, ◌≡◌, ◌≤◌, [], ap, arith, false, get_or, length, length-append, length-take}
 use Rattle.pb_text.proofs.Common.{length-take-le, List, min, None, Option, Some, subst, sym, take, true, take-take, take_more, is_some, begins, IsState, Stands}
 use Rattle.pb_text.proofs.Common.{StandsAt, Feeder, Ghosts, Place, Spanned, end_of, byte_limit, place_next, place_past}
-use Rattle.pb_text.proofs.lemmas.feeder.Steps.{running}
+use Rattle.pb_text.{proofs.lemmas.feeder.Steps.running, specs.contract.Automaton.TakesStatement}
 use Rattle.pb_text.proofs.lemmas.machine.Running.{place_fits, past_more, stands_whole, first_of, span}
-use Rattle.pb_text.specs.contract.Automaton.{TakesStatement}
 use Rattle.pb_text.proofs.feeder.Feeder.feed_rest.Goals as goal
 
 none_of : {A : Type 0} (o : Option A) → is_some o ≡ false → o ≡ None
@@ -68,10 +67,7 @@ invariant_of-self-2 g c =
 
 pub returns : goal.returns
 returns g c =
-    let f = c.args.self.now in
-    let piece = c.args.piece.now in
-    let last = c.in-Some.last in
-    let n = c.min.result in
+    let f = c.args.self.now in let piece = c.args.piece.now in let last = c.in-Some.last in let n = c.min.result in
     let new = c.take_statement.new.self in
     let none : f.first ≡ None = none_of f.first (sym c.is_some.ensures ∙ c.if-is_some.false) in
     let least : n ≡ min (length piece) (end_of f.longest (Some f.place) - f.place.offset) = rw c.end_at.ensures at c.min.ensures in

@@ -11,8 +11,7 @@ first_taken piece h e = grind arith
 
 pub returns-then-try_continue : goal.returns-then-try_continue
 returns-then-try_continue g c =
-    let piece = c.args.piece.now in
-    let t = c.if-try_continue.ensures in
+    let piece = c.args.piece.now in let t = c.if-try_continue.ensures in
     let some : 0 < length piece = has_first piece (sym c.is_empty.ensures ∙ c.if-is_empty.false) in
     prefix_taken c.args.self.now c.try_continue.new.self piece 1 (omega (arith, some))
     (λ longest start input spans s. rw (first_taken piece some c.if-piece-ne10.false) (t.stands longest start input spans s))

@@ -1,5 +1,5 @@
 -- `new` makes a value without bytes, with the empty list as its ghost value.
-use Rattle.pb_text.proofs.Common.{◌∷◌, [], refl, History}
+use Rattle.pb_text.{proofs.Common.◌∷◌, proofs.Common.[], proofs.Common.refl, proofs.Common.History, specs.contracts.history.History.new.Key.name as #it}
 use base.Logic.{SProp}
 use contract.{Monad.Fun, Running.tables, Running.tables_of}
 use denote.{Shadow.pure_i, Steps.nothing}
@@ -8,13 +8,9 @@ use mir.Val.{Val, vstruct, vcons, vnil}
 use prog.{Memory.Memory, Routine.Routine, Wp.WpFn, Wp.Tables}
 use seplogic.Ra.Ura.{Ura}
 use sound.WpLaws.{WpFn-mono}
-use types.ByLocal.{alloc_all, pass_all, free_all, look_at, get, sets}
-use types.Kit.{raw, ◌$◌, ◌∵◌, !, qed, keep, join, suffices, done}
-use types.Logic.{Logic}
-use types.Part.{agg}
-use types.Run.{no_more, and_then, returns, enter}
+use types.{ByLocal.alloc_all, ByLocal.pass_all, ByLocal.free_all, ByLocal.look_at, ByLocal.get, ByLocal.sets, Run.no_more, Run.and_then, Run.returns, Run.enter}
+use types.{Kit.raw, Kit.◌$◌, Kit.◌∵◌, Kit.!, Kit.qed, Kit.keep, Kit.join, Kit.suffices, Kit.done, Logic.Logic, Part.agg}
 use Rattle.pb_text.specs.contracts.history.History as T
-use Rattle.pb_text.specs.contracts.history.History.new.Key.{name as #it}
 use Rattle.pb_text.specs.contracts.history.History.new as it
 use Rattle.pb_text.proofs.history.History.new.Statement as stated
 use Rattle.pb_text.proofs.history.History.new.Code as code

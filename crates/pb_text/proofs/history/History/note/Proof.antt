@@ -3,24 +3,22 @@ use Rattle.pb_text.proofs.Common.{ℕ, ◌++◌, ◌<◌, ◌^◌, ◌∷◌, []
 use base.Fml.{GName, Lft, Share, ftrue, flft, fobs, fbor}
 use base.Logic.{SProp, ent, sep, emp, via, fst∗, id⊢}
 use contract.{Monad.Fun, Running.tables, Running.tables_of}
-use denote.{Builtin.u8, Exit.yes, Memory.mem, RattleType.owns, Ref.Bor, Ref.MutRef, Ref.mut_vals, Ref.mut_Tells, Signature.plain, Steps.opens, Steps.closes}
-use denote.Triple.{Entry.on_entry, Spec.Meets, Spec.triple_of, Table.entered}
+use denote.{Builtin.u8, Ref.Bor, Ref.MutRef, Ref.mut_vals, Ref.mut_Tells, Triple.Entry.on_entry, Triple.Spec.Meets, Triple.Spec.triple_of, Triple.Table.entered}
+use denote.{Exit.yes, RattleType.owns, Signature.plain, Steps.opens, Steps.closes, Slice.ShrSlice, Slice.slice_val, Slice.shr_slice_vals, Slice.shr_slice_Tells}
+use denote.Memory.{mem}
 use denote.Triple.Walked.{says, Stays, stay_ref, stay_none_slice, walk_of, AllGo, Goes-ref, Goes-none_slice, Walks, ends_at, walked, walk_Meets}
-use mir.Syntax.{named}
-use mir.Val.{Val, vunit, vptr}
+use mir.{Syntax.named, Val.Val, Val.vunit, Val.vptr}
 use prog.{Memory.Memory, Routine.Routine, Wp.Calls, Wp.Loops, Wp.WpFn, Wp.Tables}
 use seplogic.Ra.Ura.{Ura}
 use sound.WpLaws.{WpFn-mono}
-use types.{Run.unit_lit, Run.of_opd, Run.returns, Run.enter, SemTy.Body}
-use types.ByLocal.{alloc_all, pass_all, free_all, look_at, sets}
+use types.{Run.unit_lit, Run.of_opd, Run.returns, Run.enter, ByLocal.alloc_all, ByLocal.pass_all, ByLocal.free_all, ByLocal.look_at, ByLocal.sets, Logic.Logic}
+use types.SemTy.{Body}
 use types.Kit.{‵, ◌⊛◌, ◌$◌, ◌∵◌, !, qed, by, move, keep, drop, use1, split, join, fsplit, fsplit3, fjoin, fjoin3, feq_i, suffices, frame, done}
-use types.Logic.{Logic}
-use Rattle.pb_text.specs.contracts.history.History as T
 use Rattle.pb_text.specs.contracts.history.History.note.Key.{name as #it}
+use Rattle.pb_text.specs.contracts.history.History as T
 use Rattle.pb_text.specs.contracts.history.History.note as it
 use Rattle.pb_text.proofs.history.History.note.Statement as stated
 use Rattle.pb_text.proofs.history.History.note.Code as code
-use denote.Slice.{ShrSlice, slice_val, shr_slice_vals, shr_slice_Tells}
 
 abbrev Arg : Type 0
 Arg = MutBor History × (Bor (List ℕ) × Unit {0})

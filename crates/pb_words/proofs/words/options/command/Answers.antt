@@ -1,6 +1,5 @@
-use Rattle.clap.specs.{Words.App, declared.builder.Command.TheViews.out-Command as fields_of}
+use Rattle.{clap.specs.Words.App, clap.specs.declared.builder.Command.TheViews.out-Command as fields_of, pb_words.proofs.Common.trace_command}
 use Rattle.pb_words.proofs.Common.{◌≡◌, ◌∙◌, ap, false, AddsSubcommand, app_of, with_subcommand, Command, check_command, pb_program, show_command, tidy_command}
-use Rattle.pb_words.proofs.Common.{trace_command}
 use Rattle.pb_words.proofs.words.options.command.Goals as goal
 
 added : (old sub new : Command) (above below : App) → AddsSubcommand old sub new → app_of old ≡ above → app_of sub ≡ below → (fields_of sub).has_globals ≡ false

@@ -1,6 +1,5 @@
-use Rattle.pb_proof.{specs.contracts.line.conclusion.ConclusionMachine.the_view}
+use Rattle.pb_proof.{specs.contracts.line.conclusion.ConclusionMachine.the_view, proofs.lemmas.conclusion.Steps.continues}
 use Rattle.pb_proof.proofs.Common.{◌≡◌, ap, rules, sym, Go, conclusion_at, conclusion_automaton, ConclusionState, conclusion_act as act}
-use Rattle.pb_proof.proofs.lemmas.conclusion.Steps.{continues}
 use Rattle.pb_proof.proofs.line.conclusion.ConclusionMachine.take.Goals as goal
 
 pub invariant_of-self : goal.invariant_of-self

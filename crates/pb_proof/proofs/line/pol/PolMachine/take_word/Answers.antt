@@ -4,9 +4,7 @@ use Rattle.pb_proof.proofs.line.pol.PolMachine.take_word.Goals as goal
 
 pub returns-clause-runs : goal.returns-clause-runs
 returns-clause-runs c = rw (← c.self.view_is) (
-    let s = c.self.inside in
-    let text = c.args.text.now in
-    let n = c.in-Some-word_prefix.length in
+    let s = c.self.inside in let text = c.args.text.now in let n = c.in-Some-word_prefix.length in
     let k = when_ok c.turn.result _ c.turn.ensures.ok (sym c.if-is_err.ensures.value) in
     subst (λ (x : PolState). Runs pol_automaton (state s.limit s.top s.words.items s.depth s.name s.phase) (take (n + 1) text) x)
     (same_state s.limit s.top _ _ _ _ _ _ _ _ (sym k.0) (sym k.1) (sym k.2) refl)

@@ -4,8 +4,7 @@ use Rattle.pb_proof.proofs.line.pol.whole.words_at.Goals as goal
 
 pub returns-then-depth-eq1-clause-expression : goal.returns-then-depth-eq1-clause-expression
 returns-then-depth-eq1-clause-expression c =
-    let text = c.args.text.now in
-    let l = c.loop-length in
+    let text = c.args.text.now in let l = c.loop-length in
     let k = when_ok c.turn.result _ c.turn.ensures.ok (sym c.if-is_err.ensures.value) in
     let one : counted c.in-Some.change l.depth ≡ 1 = sym k.1 ∙ c.if-depth-eq1.true in
     subst (λ (ws : List PolWord). IsExpression c.args.limit c.args.top (take (l.end + c.in-Some.length) text) ws) (sym (c.from_vec.ensures ∙ k.0))
@@ -13,8 +12,7 @@ returns-then-depth-eq1-clause-expression c =
 
 pub loop-length-preserved : goal.loop-length-preserved
 loop-length-preserved c =
-    let text = c.args.text.now in
-    let l = c.loop-length in
+    let text = c.args.text.now in let l = c.loop-length in
     let k = when_ok c.turn.result _ c.turn.ensures.ok (sym c.if-is_err.ensures.value) in
     let inside : l.end + c.in-Some.length < length text = omega (arith, c.if-end-text.false) in
     record {

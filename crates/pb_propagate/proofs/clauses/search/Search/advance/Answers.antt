@@ -4,8 +4,7 @@ use Rattle.pb_propagate.proofs.clauses.search.Search.advance.Goals as goal
 
 pub literals-preserved : goal.literals-preserved
 literals-preserved c =
-    let less = c.literals-test.true in
-    let i = c.literals.invariant in
+    let less = c.literals-test.true in let i = c.literals.invariant in
     record {
       position = grind (arith, nat_tests, c.next-at.ensures.position);
       within = omega (arith, less, c.next-at.ensures.passed);

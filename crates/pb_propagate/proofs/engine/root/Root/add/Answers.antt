@@ -15,11 +15,8 @@ added c = gained-rooted c.args.store.now c.args.clauses.now c.args.self.now c.ar
 opened : (c : In_ok-open_form) → IsEnded c.args.store.now c.args.clauses.now c.open_form.new.run c.args.self.now.walked × RunIsCalm c.args.store.now c.widen_run.new.rests
     c.widen_run.new.waiting.list.items c.open_form.new.run
 opened c =
-    let store = c.args.store.now in
-    let slot = c.args.slot in
-    let run = c.widen_run.new.run in
-    let new = c.open_form.new.run in
-    let o = c.in_ok-open_form.ensures in
+    let store = c.args.store.now in let slot = c.args.slot in let run = c.widen_run.new.run in
+    let new = c.open_form.new.run in let o = c.in_ok-open_form.ensures in
     let r = gained-rooted store c.args.clauses.now c.args.self.now slot c.requires.gained c.requires.slot c.in_ok-widen_run.ensures in
     let shapes = shapes_of store.stored.items in
     let long = length-map store.stored.items stored_shape in

@@ -13,17 +13,14 @@ cut c =
 
 pub lift_all-requires : goal.lift_all-requires
 lift_all-requires c =
-    let me = c.args.self.now in
-    let r = c.requires.rooted.3 in
+    let me = c.args.self.now in let r = c.requires.rooted.3 in
     let k = cut (goal.at.lift_all-requires c).After-cut-2 in
     let lacks = cut-lacks c.args.store.now c.requires.rooted.0 me c.cut.new.self c.cut-2.new.self (c.len-count.result - 1) c.index-literal.result.now c.requires.sound r k in
     grind (arith, c.requires.sound, c.len-count.ensures, c.requires.some, listed-small, c.index-literal.ensures, c.negation.ensures, c.cut.ensures.values, r, lacks)
 
 pub returns-clause-shortened : goal.returns-clause-shortened
 returns-clause-shortened c =
-    let store = c.args.store.now in
-    let me = c.args.self.now in
-    let list = me.run.assignment.list.items in
+    let store = c.args.store.now in let me = c.args.self.now in let list = me.run.assignment.list.items in
     let last = c.len-count.result - 1 in
     let k = cut (goal.at.returns-clause-shortened c).After-cut-2 in
     let f = refreshed-then store _ _ _ c.lift_all.ensures.each c.refresh_all.ensures.each in

@@ -17,11 +17,8 @@ returns-then-found-clause-costs c = record { ended = c.propagate.new.run; spends
 
 pub returns-then-found-clause-rooted : goal.returns-then-found-clause-rooted
 returns-then-found-clause-rooted c =
-    let me = c.args.self.now in
-    let run = me.run in
-    let r = c.requires.standing.rooted in
-    let done = c.propagate.new.run in
-    let reported = c.in_ok-found.ensures in
+    let me = c.args.self.now in let run = me.run in let r = c.requires.standing.rooted in
+    let done = c.propagate.new.run in let reported = c.in_ok-found.ensures in
     let count_is : c.len-count.result ≡ length run.assignment.list.items = omega (arith, c.len-count.ensures, run.assignment.list.ok.0) in
     rooted-waiting me.waiting _ refl refl (back-rooted me r reported.left c.back.ensures count_is c.propagate.ensures.literals
     (walks-back c.args.clauses.now c.back.new.clauses run.assignment.list.items done.assignment.list.items me.walked (record { heads = me.walked.heads; marks = c.truncate.new.self }) c.propagate.new.marks.items r.walks c.propagate.ensures.costs.extends (visits-back run.assignment.values.items c.args.clauses.now c.propagate.new.clauses c.back.new.clauses run.assignment.list.items run.assignment.agrees (c.back.ensures.literals ∙ c.propagate.ensures.literals) c.back.ensures.watches reported.left.kept) (λ long old. rw (c.back.ensures.literals, c.back.ensures.watches) (reported.marks long old)) refl (c.truncate.ensures.items ∙ ap (λ n. take n c.propagate.new.marks.items) count_is)))
@@ -29,8 +26,7 @@ returns-then-found-clause-rooted c =
 pub returns-then-found-clause-kept : goal.returns-then-found-clause-kept
 returns-then-found-clause-kept c =
     let forms = all_of c.args.store.now c.args.clauses.now in
-    let done = c.propagate.new.run.assignment in
-    let reported = c.in_ok-found.ensures in
+    let done = c.propagate.new.run.assignment in let reported = c.in_ok-found.ensures in
     let noted = c.in_ok-note.ensures in
     let reasoned = run-reasons-rooted c.requires.standing.rooted.reasoned reported.reasons in
     let holds = conflict-same forms done c.note.new.self.assignment noted.list noted.reasons (conflicts-kept forms done reasoned (reported.conflict c.if-found.true)) in
@@ -42,11 +38,8 @@ returns-clause-costs c = record { ended = c.propagate.new.run; spends = rw c.as_
 
 pub returns-clause-rooted : goal.returns-clause-rooted
 returns-clause-rooted c =
-    let store = c.args.store.now in
-    let me = c.args.self.now in
-    let r = c.requires.standing.rooted in
-    let done = c.propagate.new.run in
-    let reported = c.in_ok-found.ensures in
+    let store = c.args.store.now in let me = c.args.self.now in let r = c.requires.standing.rooted in
+    let done = c.propagate.new.run in let reported = c.in_ok-found.ensures in
     let settled = reported.settled c.if-found.false in
     let whole_is : c.len-whole.result ≡ length done.assignment.list.items = omega (arith, c.len-whole.ensures, done.assignment.list.ok.0, ap (λ (a : Assignment). length a.list.items) c.save.ensures.assignment, c.save.new.run.assignment.list.ok.0) in
     let heads = heads-is c.finish.new.self.heads (length done.assignment.list.items) (c.in_ok-finish.ensures.heads.0 ∙ whole_is) (c.in_ok-finish.ensures.heads.1 ∙ whole_is) in

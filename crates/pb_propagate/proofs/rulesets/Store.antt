@@ -1,17 +1,15 @@
 -- Lemmas that the goals of functions need, by the file or the function.
-use Rattle.pb_propagate.proofs.lemmas.{engine.Runs.place-inside, root.Added.no-watch, root.Added.pair-free}
-use Rattle.pb_propagate.proofs.lemmas.clauses.{Literals.marked-start, Literals.marked-wider, Shapes.slots-vacant}
-use Rattle.pb_propagate.proofs.lemmas.engine.{Completing.completions-exist, Literals.open_part-falsified}
-use Rattle.pb_propagate.proofs.lemmas.engine.Literals.{open_part-open, Agree-cleared, Agree-push, Agree-widen, says-none, vacancy-none, vacancy-push}
+use Rattle.pb_propagate.proofs.lemmas.{engine.Runs.place-inside, root.Added.pair-free, engine.Completing.completions-exist, engine.Literals.vacancy-push}
+use Rattle.pb_propagate.proofs.lemmas.{root.Added.no-watch, clauses.Literals.marked-start, clauses.Literals.marked-wider, clauses.Shapes.slots-vacant}
+use Rattle.pb_propagate.proofs.lemmas.engine.Literals.{open_part-falsified, open_part-open, Agree-cleared, Agree-push, Agree-widen, says-none, vacancy-none}
 use Rattle.pb_propagate.proofs.lemmas.root.Retracted.{needless-terms, other-then, released-same, released-then, same-reasons, some-sized, terms-inside}
-use Rattle.pb_propagate.proofs.lemmas.store.{Changes.forms-filled, Changes.forms-more, Changes.slots-bare, Gets.get-map, Gets.get-set_same}
-use Rattle.pb_propagate.proofs.lemmas.store.{Links.entries-length, Links.taken-last, Positions.chain-push, Positions.free-put, Positions.moved-last}
-use Rattle.pb_propagate.proofs.lemmas.store.Positions.{position-got, positioned-moved, positioned-put, positioned-widened, room-widened, same-without}
+use Rattle.pb_propagate.proofs.lemmas.store.{Changes.forms-filled, Changes.forms-more, Changes.slots-bare, Positions.room-widened, Positions.same-without}
+use Rattle.pb_propagate.proofs.lemmas.store.{Gets.get-map, Gets.get-set_same, Links.entries-length, Links.taken-last}
+use Rattle.pb_propagate.proofs.lemmas.store.Positions.{chain-push, free-put, moved-last, position-got, positioned-moved, positioned-put, positioned-widened}
 use Rattle.pb_propagate.proofs.lemmas.store.Stored.{degree-read, equal-even, even-falls, form-order, kept-size, order-none, order-some, picked-even}
 use Rattle.pb_propagate.proofs.lemmas.store.Stored.{picked-order, placed-inside, ranked-same, standing-all, total-each, unit-size}
-use Rattle.std.proofs.{Common.get_or-set_same, Common.length-append, Common.length-set, lemmas.Bool.cases_eq}
+use Rattle.std.proofs.{Common.get_or-set_same, Common.length-append, Common.length-set, lemmas.Bool.cases_eq, lemmas.Option.slice_get_within}
 use Rattle.std.proofs.lemmas.List.{get_or-map, get_or_default, length-map, Sums.get_or-le-sum_by, Sums.sum_by_more, Sums.sum_by_more_le, Sums.sum_by_push}
-use Rattle.std.proofs.lemmas.Option.{slice_get_within}
 
 pub ruleset clear = (Agree-cleared, vacancy-none)
 
