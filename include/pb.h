@@ -38,7 +38,7 @@ uint32_t pb_version(void);
 ** Each call returns one of these, which are the exit statuses of the command pb.
 **
 ** PB_OK       All was read and accepted. For pb_check(): the proof is verified, and the line has the verdict.
-** PB_REFUSED  A text is refused, and the line says where and why. It is no instance, or no proof, or a statement of the proof
+** PB_REFUSED  A text is rejected, and the line says where and why. It is no instance, or no proof, or a statement of the proof
 **             is wrong, or a number exceeds its limit.
 ** PB_MISUSE   The options are not allowed, or a checker is closed. Nothing was read.
 ** PB_FAILED   Memory ran out. Nothing is known of the text.
@@ -57,13 +57,13 @@ uint32_t pb_version(void);
 ** Set every member, or begin with one of the two values below. Members that are 0 have the meaning given here, so {0} is
 ** allowed: it is the same as PB_OPTIONS_FIXED.
 **
-** longest     The most bytes of one statement, or 0 for no such limit. A text with a longer statement is refused, and so is one
+** longest     The most bytes of one statement, or 0 for no such limit. A text with a longer statement is rejected, and so is one
 **             of more than 2^40 bytes. Memory for a statement is allocated before all of it was read, so set a limit for texts
 **             from untrusted sources.
 ** key0, key1  The keys of the hashes of names. No answer depends on them, but time does: whoever knows them can write an
 **             instance whose names collide. Draw them at random for untrusted texts.
 ** bits        The bits of the magnitude of a coefficient, a degree, a bound or a factor, from 31 to 127, or 0 for 127. A larger
-**             number is refused. The limit on counts and ids is the lesser of 2^63 - 1 and 2^bits - 1.
+**             number is rejected. The limit on counts and ids is the lesser of 2^63 - 1 and 2^bits - 1.
 **
 ** PB_OPTIONS_FIXED has no limit on statements, 127 bits, and keys that are always the same. It is for texts of your own.
 ** pb_options() has the same with keys drawn at random.
@@ -117,7 +117,7 @@ typedef struct pb_options_t {
 **                                solution, and if u is INF there is no claim of an upper bound
 **     verified NONE              the steps are right, and nothing is claimed
 **
-** PB_REFUSED: the line names the refused text, "instance: " or "proof: ", then where and why, as in
+** PB_REFUSED: the line names the rejected text, "instance: " or "proof: ", then where and why, as in
 **
 **     proof: line 4 column 1: not implied
 **
