@@ -98,7 +98,7 @@ impl fmt::Display for Verdict {
 /// Why a call failed.
 #[derive(Clone, Copy, Debug, PartialEq, Eq)]
 pub enum Status {
-    /// A text is rejected, and the text of the error says where and why.
+    /// A text is rejected, and the text of the [`Refusal`] says where and why.
     Refused,
     /// The options are not allowed.
     Misuse,
