@@ -26,15 +26,14 @@ mod watching;
 
 use crate::answers::{USAGE, answer_fault};
 use crate::arguments::{answer_no_words, answer_words, job_of, words_of};
-use crate::asked::{is_quiet, reads_one_input_twice};
+use crate::asked::{asked_of, is_quiet, reads_one_input_twice};
 use crate::checking::check_asked;
-use crate::explaining::{can_repeat, write_reasons};
+use crate::explaining::write_reasons;
 use crate::failure::Failure;
 use crate::hints::{write_hint, write_waiting};
-use crate::inputs::{open_both, opened, path_of, size_of};
+use crate::inputs::{open_both, opened, path_of};
 use crate::texts::{show_over, tidy_over};
 use crate::tracing::trace_asked;
-use crate::watching::Asked;
 use pb_tool::{Input, Job, limits_of};
 use std::io::{self, IsTerminal, Read, Write};
 use std::process::ExitCode;
@@ -70,42 +69,41 @@ where
     O: IsTerminal,
     E: Write + IsTerminal,
 {
-    match words_of(rt) {
-        Ok(words) => match job_of(rt.alloc(), words.as_slice()) {
-            Ok(job) => answer_job(rt, standard, out, &job, errors),
-            Err(fault) => answer_words(rt, words.as_slice(), &fault, errors),
-        },
-        Err(error) => answer_no_words(rt, &error, errors),
+    let words = match words_of(rt) {
+        Ok(words) => words,
+        Err(error) => return answer_no_words(rt, &error, errors),
+    };
+    let job = match job_of(rt.alloc(), words.as_slice()) {
+        Ok(job) => job,
+        Err(fault) => return answer_words(rt, words.as_slice(), &fault, errors),
+    };
+    if reads_one_input_twice(&job) {
+        let _ = errors.write_all(twice_of(&job));
+        return USAGE;
+    }
+    if !is_quiet(&job) && standard.is_terminal() {
+        write_waiting(&job, errors);
+    }
+    match do_job(rt, standard, out, &job, errors) {
+        Ok(()) => 0,
+        Err(failure) => answer_failure(rt, standard, &job, &failure, errors),
     }
 }
 
-/// Runs a job and returns the exit status.
-fn answer_job<R, S, O, E>(rt: &R, standard: S, out: &O, job: &Job, errors: &mut E) -> u8
+/// Writes why a job failed, and what helps then. Returns the exit status.
+fn answer_failure<R, S, E>(rt: &R, standard: S, job: &Job, failure: &Failure, errors: &mut E) -> u8
 where
-    R: Files + Print + RandomSource + Clock + AllocGlobal,
-    S: Read + IsTerminal + Copy,
-    O: IsTerminal,
-    E: Write + IsTerminal,
+    R: Files + RandomSource + AllocGlobal,
+    S: Read + Copy,
+    E: Write,
     requires { HasRanges job.now }
 {
-    if reads_one_input_twice(job) {
-        let _ = errors.write_all(twice_of(job));
-        return USAGE;
+    let status = answer_fault(&failure.fault, errors);
+    write_reasons(rt, standard, job, failure, errors);
+    if !is_quiet(job) {
+        write_hint(rt, job, failure, errors);
     }
-    if !is_quiet(job) && standard.is_terminal() {
-        write_waiting(job, errors);
-    }
-    match do_job(rt, standard, out, job, errors) {
-        Ok(()) => 0,
-        Err(failure) => {
-            let status = answer_fault(&failure.fault, errors);
-            write_reasons(rt, standard, job, &failure, errors);
-            if !is_quiet(job) {
-                write_hint(rt, job, &failure, errors);
-            }
-            status
-        }
-    }
+    status
 }
 
 /// The usage error of a job that reads both its instance and its proof from standard input.
@@ -158,20 +156,11 @@ where
         Job::Check {
             instance,
             proof,
-            stats,
-            progress,
-            explain,
             longest,
             bits,
             ..
         } => {
-            let asked = Asked {
-                stats: *stats,
-                progress: *progress,
-                explain: *explain && !can_repeat(rt, instance.as_str(), proof),
-                is_terminal: errors.is_terminal(),
-                bytes: size_of(rt, path_of(proof)),
-            };
+            let asked = asked_of(rt, job, errors);
             let texts = open_both(rt, standard, instance.as_str(), path_of(proof))?;
             check_asked(rt, texts, *longest, limits_of(*bits), asked, errors)?;
         }
@@ -179,18 +168,11 @@ where
             instance,
             proof,
             selection,
-            progress,
             longest,
             bits,
             ..
         } => {
-            let asked = Asked {
-                stats: false,
-                progress: *progress,
-                explain: false,
-                is_terminal: errors.is_terminal(),
-                bytes: size_of(rt, path_of(proof)),
-            };
+            let asked = asked_of(rt, job, errors);
             let texts = open_both(rt, standard, instance.as_str(), path_of(proof))?;
             let limits = limits_of(*bits);
             trace_asked(rt, texts, *selection, *longest, limits, asked, errors)?;

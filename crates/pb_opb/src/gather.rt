@@ -55,7 +55,7 @@ impl Gather for InstanceSoFar {
 
     ghost asks = { λ b e. asks b.ended e };
 
-    fn add(&mut self, event: OpbEvent) -> Result<(), AllocError> {
+    fn add(&mut self, event: OpbEvent) -> Result<Option<OpbEvent>, AllocError> {
         match event {
             OpbEvent::Header {
                 variables,
@@ -64,12 +64,12 @@ impl Gather for InstanceSoFar {
             } => {
                 self.instance.variables = variables;
                 self.instance.tail = tail;
-                Ok(())
+                Ok(None)
             }
             OpbEvent::Comment(text) => {
                 let before = self.ended;
                 match self.instance.comments.push(Comment { before, text }) {
-                    Ok(()) => Ok(()),
+                    Ok(()) => Ok(None),
                     Err(_) => Err(AllocError),
                 }
             }
@@ -77,7 +77,7 @@ impl Gather for InstanceSoFar {
                 let ended = self.with_one()?;
                 self.instance.objective = Some(terms);
                 self.ended = ended;
-                Ok(())
+                Ok(None)
             }
             OpbEvent::Constraint(linear) => {
                 let ended = self.with_one()?;
@@ -85,7 +85,7 @@ impl Gather for InstanceSoFar {
                     return Err(AllocError);
                 }
                 self.ended = ended;
-                Ok(())
+                Ok(None)
             }
         }
     }

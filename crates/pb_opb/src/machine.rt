@@ -5,15 +5,14 @@ ghost use Rattle.pb_text.specs.meaning.Limits.{largest, top_of};
 ghost use Rattle.pb_opb.specs.engine.State.{phase_owing, remaining_after, statement_of};
 
 mod end;
-mod whole;
 
 use crate::event::OpbEvent;
 use crate::line::line_prefix;
 use crate::phase::{Action, Field, Phase};
 use crate::transition::{is_done, is_within, transition};
-use pb_sums::{Part, Spaces, SumEvent, SumMachine};
+use pb_sums::{Part, Spaces, SumEvent, SumMachine, Term, linear_at};
 use pb_text::bytes::is_digit;
-use pb_text::{Bytes, Limits, Machine, Push};
+use pb_text::{Bytes, Limits, Machine, Push, Spare};
 use std::alloc::Global;
 use std::marker::Model;
 use std::mem;
@@ -29,6 +28,8 @@ pub struct OpbMachine {
     phase: Phase,
     text: Bytes,
     sums: SumMachine,
+    // Memory for the terms of the next constraint.
+    spare: Spare<Term>,
 }
 
 impl Model for OpbMachine {
@@ -83,6 +84,7 @@ impl OpbMachine {
             phase: Phase::Start,
             text: Bytes::new(alloc),
             sums: SumMachine::new(alloc, Spaces::White, Part::Linear, limits),
+            spare: Spare::new(alloc),
         }
     }
 }
@@ -285,10 +287,33 @@ impl Machine for OpbMachine {
         event
     }
 
+    /// Takes a whole constraint at the start of a piece, if one may begin and it is fast to read.
+    #[inline(always)]
     fn take_statement(&mut self, piece: &[u8]) -> Option<(usize, OpbEvent)> {
-        let statement = self.take_constraint(piece);
         let _ = self.is_done();
-        statement
+        let Phase::Between(_) = self.phase else {
+            return None;
+        };
+        if piece.is_empty() {
+            return None;
+        }
+        let Action::Give(phase) = transition(self.limits.top(), self.phase, piece[0]) else {
+            return None;
+        };
+        let Some((last, linear)) = linear_at(
+            self.alloc,
+            self.limits,
+            Part::Linear,
+            piece,
+            &mut self.spare,
+        ) else {
+            return None;
+        };
+        let remaining = remaining_after(phase, self.remaining);
+        self.remaining = remaining;
+        self.phase = phase_owing(false, remaining);
+        let _ = self.is_done();
+        Some((last, OpbEvent::Constraint(linear)))
     }
 
     fn take_run(&mut self, piece: &[u8]) -> usize {
@@ -305,6 +330,13 @@ impl Machine for OpbMachine {
         let answer = self.take(byte);
         let _ = self.is_done();
         answer
+    }
+
+    #[inline(always)]
+    fn reuse(&mut self, event: OpbEvent) {
+        if let OpbEvent::Constraint(linear) = event {
+            self.spare.keep(linear.terms);
+        }
     }
 
     fn is_done(&self) -> bool {

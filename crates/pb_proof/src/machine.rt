@@ -26,7 +26,9 @@ use crate::line::rup::whole::rup_at;
 use crate::machine::phase::{Action, LineKind, Phase, Stage};
 use crate::machine::transition::{is_done, is_within, next_stage, transition, words_prefix};
 use crate::statement::Statement;
-use pb_text::{Limits, Machine, Push};
+use crate::word::PolWord;
+use pb_sums::Term;
+use pb_text::{Limits, Machine, Push, Spare};
 use std::alloc::Global;
 use std::marker::Model;
 
@@ -37,6 +39,9 @@ pub struct ProofMachine {
     limits: Limits,
     phase: Phase,
     line: Option<LineMachine>,
+    // Memory for the constraint of the next `rup`, and for the words of the next `pol`.
+    terms: Spare<Term>,
+    words: Spare<PolWord>,
 }
 
 impl Model for ProofMachine {
@@ -91,6 +96,8 @@ impl ProofMachine {
             limits,
             phase: Phase::Between(Stage::Opening),
             line: None,
+            terms: Spare::new(alloc),
+            words: Spare::new(alloc),
         }
     }
 
@@ -224,10 +231,10 @@ impl Machine for ProofMachine {
         let Stage::Steps = stage else {
             return None;
         };
-        if let Some((last, words)) = pol_at(self.alloc, self.limits, piece) {
+        if let Some((last, words)) = pol_at(self.alloc, self.limits, piece, &mut self.words) {
             return Some((last, Statement::Pol(words)));
         }
-        let Some((last, linear)) = rup_at(self.alloc, self.limits, piece) else {
+        let Some((last, linear)) = rup_at(self.alloc, self.limits, piece, &mut self.terms) else {
             return None;
         };
         Some((last, Statement::Rup(linear)))
@@ -263,6 +270,15 @@ impl Machine for ProofMachine {
         let answer = self.take(byte);
         let _ = self.is_done();
         answer
+    }
+
+    #[inline(always)]
+    fn reuse(&mut self, statement: Statement) {
+        match statement {
+            Statement::Rup(linear) => self.terms.keep(linear.terms),
+            Statement::Pol(words) => self.words.keep(words),
+            _ => {}
+        }
     }
 
     fn is_done(&self) -> bool {

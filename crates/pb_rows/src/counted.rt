@@ -22,13 +22,13 @@ impl Gather for Counted {
     ghost with = { λ s _.
         record { statements = min (s.statements + 1) (2 ^ 64 - 1); room = s.room - 1 } };
 
-    fn add(&mut self, _event: OpbEvent) -> Result<(), AllocError> {
+    fn add(&mut self, event: OpbEvent) -> Result<Option<OpbEvent>, AllocError> {
         if self.room == 0 {
             return Err(AllocError);
         }
         self.room -= 1;
         self.statements = self.statements.saturating_add(1);
-        Ok(())
+        Ok(Some(event))
     }
 }
 

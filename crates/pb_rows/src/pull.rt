@@ -69,6 +69,7 @@ fn pull_events<S: Source, E: Shown + Drop, M: Machine<Event = E>>(
         match pull(source, feeder)? {
             Some(spanned) => {
                 let _ = show_one(&spanned, shape, out);
+                feeder.reuse(spanned.event);
             }
             None => return Ok(()),
         }

@@ -10,19 +10,41 @@ use crate::phase::Phase;
 use crate::prefix::relation_prefix;
 use crate::sum_kind::Part;
 use crate::term_prefix::{spaced_literal_prefix, spaced_number_prefix};
-use pb_text::{Limits, Sequence};
+use pb_text::{Limits, Sequence, Spare};
 use std::alloc::Global;
 
-/// A linear text at the start of a text, and the index of its `;`, if it is fast to read: it has a
-/// term, and one space after each number, literal and relation.
-pub fn linear_at(alloc: Global, limits: Limits, part: Part, text: &[u8]) -> Option<(usize, Linear)>
+/// A linear text at the start of a text, and the index of its `;`, if it is fast to read and memory
+/// suffices: it has a term, and one space after each number, literal and relation. Its terms take
+/// the spare memory.
+pub fn linear_at(
+    alloc: Global,
+    limits: Limits,
+    part: Part,
+    text: &[u8],
+    spare: &mut Spare<Term>,
+) -> Option<(usize, Linear)>
     ensures inside { IfSome result (λ r. r.0 < length text.now) }
     ensures semicolon { IfSome result (λ r. get_or text.now r.0 0 ≡ 59) }
     ensures runs { IfSome result (λ r. LeadsToLinear (largest limits) part
         (take r.0 text.now) r.1) }
 {
     let limit = limits.largest();
-    let Some((head, terms)) = terms_at(alloc, limit, text) else {
+    let Some(capacity) = capacity_for(text) else {
+        return None;
+    };
+    let Ok(mut terms) = spare.list(capacity) else {
+        return None;
+    };
+    let mut phase = Phase::Start;
+    let mut head: usize = 0;
+    while let Some((length, term)) = term_at(alloc, limit, phase, &text[head..]) {
+        if terms.push(term).is_err() {
+            return None;
+        }
+        phase = Phase::Between;
+        head += length;
+    }
+    let Phase::Between = phase else {
         return None;
     };
     let Some((tail, relation, degree)) = degree_at(limit, part, &text[head..]) else {
@@ -32,43 +54,12 @@ pub fn linear_at(alloc: Global, limits: Limits, part: Part, text: &[u8]) -> Opti
     if last >= text.len() || text[last] != b';' {
         return None;
     }
-    Some((
-        last,
-        Linear {
-            terms,
-            relation,
-            degree,
-        },
-    ))
-}
-
-/// Terms with a space after each at the start of a text, and their length, if there is one, the
-/// text has a `;` and memory suffices.
-#[inline(always)]
-fn terms_at(alloc: Global, limit: u128, text: &[u8]) -> Option<(usize, Sequence<Term>)>
-    requires room { limit < 2 ^ 127 }
-    ensures bound { IfSome result (λ r. r.0 ≤ length text.now) }
-    ensures runs { IfSome result (λ r. AreSpacedTerms limit (take r.0 text.now) r.1 Phase.Between) }
-{
-    let Some(capacity) = capacity_for(text) else {
-        return None;
+    let linear = Linear {
+        terms,
+        relation,
+        degree,
     };
-    let Ok(mut terms) = Sequence::with_capacity(alloc, capacity) else {
-        return None;
-    };
-    let mut phase = Phase::Start;
-    let mut end: usize = 0;
-    while let Some((length, term)) = term_at(alloc, limit, phase, &text[end..]) {
-        if terms.push(term).is_err() {
-            return None;
-        }
-        phase = Phase::Between;
-        end += length;
-    }
-    match phase {
-        Phase::Between => Some((end, terms)),
-        _ => None,
-    }
+    Some((last, linear))
 }
 
 /// A term and a space after it at the start of a text, and their length, if they are fast to read.

@@ -123,6 +123,14 @@ impl<M: Machine> Feeder<M> {
         self.machine.held()
     }
 
+    /// Takes an event that is no longer needed, so that its memory may be used for a later one.
+    #[inline(always)]
+    pub fn reuse(&mut self, event: M::Event)
+        ensures { self.new ≡ self.old }
+    {
+        self.machine.reuse(event);
+    }
+
     /// The input has ended: `Ok` if the text is complete, otherwise `Ended`.
     pub fn finish(&mut self) -> Result<(), Stop>
         ensures ends { (longest : ℕ) (start : M) (input : List ℕ) (spans : List (Spanned M.Event))
@@ -182,7 +190,7 @@ impl<M: Machine> Feeder<M> {
         }
         let mut used = self.feed_body(piece);
         while used < piece.len() {
-            let fed = self.feed_statement(&piece[used..]);
+            let fed = self.feed_prefix(&piece[used..]);
             used += fed.used;
             if let Some(event) = fed.event {
                 return Ok(Fed::with_event(used, event));

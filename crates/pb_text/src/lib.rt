@@ -20,6 +20,7 @@ mod reader;
 mod sequence;
 mod sink;
 mod source;
+mod spare;
 mod whole;
 
 pub use blank::rest_is_blank;
@@ -35,4 +36,5 @@ pub use reader::read_from;
 pub use sequence::{Bytes, Sequence};
 pub use sink::{Sink, write_bytes};
 pub use source::{Failed, Source};
+pub use spare::Spare;
 pub use whole::{Gather, read_whole};

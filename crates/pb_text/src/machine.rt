@@ -24,7 +24,7 @@ pub enum Push<E> {
 /// statements that end on the way. A machine stores the statement that it is in, and nothing of
 /// earlier ones.
 pub trait Machine {
-    type Event;
+    type Event: Drop;
 
     ghost automaton: { Automaton Self Self.Event };
 
@@ -97,6 +97,13 @@ pub trait Machine {
         let _ = self.is_done();
         let _ = piece;
         None
+    }
+
+    /// Takes an event that is no longer needed, so that its memory may be used for a later one.
+    fn reuse(&mut self, event: Self::Event)
+        ensures { self.new ≡ self.old }
+    {
+        let _event = event;
     }
 
     /// Whether the text is complete.

@@ -6,7 +6,7 @@ ghost use Rattle.pb_text.specs.contract.Feeding.{state_of, halt_of, is_complete}
 ghost use Rattle.pb_text.specs.contract.Over.{Shows, reported};
 ghost use Rattle.pb_text.specs.contract.Pouring.{Pours, brought};
 
-use crate::feeder::{Fed, Feeder};
+use crate::feeder::Feeder;
 use crate::history::History;
 use crate::machine::Machine;
 use crate::place::Spanned;
@@ -92,11 +92,20 @@ impl<T: BufRead> Source for Over<T> {
         feeder: &mut Feeder<M>,
     ) -> Result<Option<Spanned<M::Event>>, Failed> {
         self.shown = None;
-        let poured = pour_from(&mut self.inner, &mut self.history, feeder);
-        if poured.is_err() {
-            self.failures = self.failures.saturating_add(1);
+        match self.inner.fill_buf() {
+            Ok(bytes) => {
+                let skipped = feeder.skip_line_feed(bytes);
+                let mut used: usize = 0;
+                let event = feeder.feed_statement(&bytes[skipped..], &mut used);
+                self.history.note(&bytes[..skipped + used]);
+                self.inner.consume(skipped + used);
+                Ok(event)
+            }
+            Err(_) => {
+                self.failures = self.failures.saturating_add(1);
+                Err(Failed)
+            }
         }
-        poured
     }
 
     fn failures(&self) -> u64 {
@@ -131,33 +140,6 @@ fn next_of<T: BufRead>(reader: &mut T) -> Result<Option<u8>, Failed>
 {
     match reader.fill_buf() {
         Ok(bytes) => Ok(bytes.first().copied()),
-        Err(_) => Err(Failed),
-    }
-}
-
-/// Feeds the available bytes of a reader to a feeder, at most through the end of a statement, and
-/// takes them.
-fn pour_from<T: BufRead, M: Machine>(
-    reader: &mut T,
-    history: &mut History,
-    feeder: &mut Feeder<M>,
-) -> Result<Option<Spanned<M::Event>>, Failed>
-    requires unfinished { is_complete feeder.old ≡ false }
-    requires running { halt_of feeder.old ≡ None }
-    requires state { IsState M.automaton (state_of feeder.old) }
-    ensures pours { Pours feeder.old (T.remaining reader.old) history.old.bytes
-        (brought result) feeder.new (T.remaining reader.new) history.new.bytes }
-    ensures unfinished { brought result ≡ None → is_complete feeder.new ≡ false }
-    ensures running { halt_of feeder.new ≡ None }
-    ensures state { IsState M.automaton (state_of feeder.new) }
-{
-    match reader.fill_buf() {
-        Ok(bytes) => {
-            let Fed { used, event } = feeder.feed_statement(bytes);
-            history.note(&bytes[..used]);
-            reader.consume(used);
-            Ok(event)
-        }
         Err(_) => Err(Failed),
     }
 }

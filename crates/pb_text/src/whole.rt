@@ -24,8 +24,9 @@ pub trait Gather {
     /// Whether storing the event may allocate.
     ghost asks: { Self → Self.Event → Bool } = { λ value event. true };
 
-    /// Adds an event. If out of memory, the value is unchanged.
-    fn add(&mut self, event: Self::Event) -> Result<(), AllocError>
+    /// Adds an event, and returns it if the value does not store it. If out of memory, the value is
+    /// unchanged.
+    fn add(&mut self, event: Self::Event) -> Result<Option<Self::Event>, AllocError>
         ensures ok { OnOk result (self.new ≡ with self.old event) }
         ensures unchanged { OnErr result (self.new ≡ self.old) }
         ensures asking { OnErr result (IsTrue (asks self.old event)) };
@@ -63,7 +64,7 @@ pub fn read_whole<S: Source, M: Machine + Drop, G: Gather<Event = M::Event> + Dr
     loop {
         match pull(source, &mut feeder) {
             Ok(Some(spanned)) => {
-                if let Err(AllocError) = value.add(spanned.event) {
+                if let Err(AllocError) = collect(&mut value, &mut feeder, spanned.event) {
                     return Err(Stop {
                         place: feeder.place(),
                         why: Why::Memory,
@@ -80,4 +81,22 @@ pub fn read_whole<S: Source, M: Machine + Drop, G: Gather<Event = M::Event> + Dr
             Err(stop) => return Err(stop),
         }
     }
+}
+
+/// Adds an event to a value. The feeder uses its memory again if the value does not store it.
+#[inline(always)]
+fn collect<M: Machine, G: Gather<Event = M::Event>>(
+    value: &mut G,
+    feeder: &mut Feeder<M>,
+    event: M::Event,
+) -> Result<(), AllocError>
+    ensures ok { OnOk result (value.new ≡ G.with value.old event) }
+    ensures unchanged { OnErr result (value.new ≡ value.old) }
+    ensures asking { OnErr result (IsTrue (G.asks value.old event)) }
+    ensures feeder { feeder.new ≡ feeder.old }
+{
+    if let Some(unused) = value.add(event)? {
+        feeder.reuse(unused);
+    }
+    Ok(())
 }

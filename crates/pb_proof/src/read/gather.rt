@@ -37,19 +37,19 @@ impl Gather for ProofSoFar {
 
     ghost asks = { λ b e. asks e };
 
-    fn add(&mut self, statement: Statement) -> Result<(), AllocError> {
+    fn add(&mut self, statement: Statement) -> Result<Option<Statement>, AllocError> {
         match statement {
-            Statement::Header | Statement::Output | Statement::End => Ok(()),
+            Statement::Header | Statement::Output | Statement::End => Ok(None),
             Statement::F(count) => {
                 self.proof.count = count;
-                Ok(())
+                Ok(None)
             }
             Statement::Conclude(conclusion) => {
                 self.proof.conclusion = conclusion;
-                Ok(())
+                Ok(None)
             }
             step => match self.proof.steps.push(step) {
-                Ok(()) => Ok(()),
+                Ok(()) => Ok(None),
                 Err(_) => Err(AllocError),
             },
         }

@@ -54,55 +54,13 @@ pub fn show<S: Source, W: Sink>(
 {
     let longest = longest.unwrap_or(BYTE_LIMIT);
     match format_of(input) {
-        Ok(Format::Proof) => show_proof(alloc, input, out, longest, limits),
-        Ok(Format::Instance) => show_instance(alloc, input, out, longest, limits),
+        Ok(Format::Proof) => show_each(ProofMachine::new(alloc, limits), longest, input, out),
+        Ok(Format::Instance) => show_each(OpbMachine::new(alloc, limits), longest, input, out),
         Err(Failed) => Err(unread_file(alloc, limits)),
     }
 }
 
-/// The same for a proof.
-fn show_proof<S: Source, W: Sink>(
-    alloc: Global,
-    input: &mut S,
-    out: &mut W,
-    longest: u64,
-    limits: Limits,
-) -> Result<(), ToolFault>
-    requires { 0 < longest }
-    ensures shows { ShowsLines (IsProofText limits) longest
-        (AsksInProofText limits) statement_bytes W.contents W.faults
-        (S.left input.old) out.old result (S.left input.new) out.new }
-    ensures given { OfGiven (λ left rest. ShowsLines (IsProofText limits) longest
-        (AsksInProofText limits) statement_bytes W.contents W.faults left out.old result rest
-        out.new) (S.history input.old) (S.history input.new) }
-    ensures seen { SawStatements (S.shown input.new) (S.ended input.new) result }
-    ensures faults { S.faults input.new ≡ faults_reported result (S.faults input.old) }
-{
-    show_each(ProofMachine::new(alloc, limits), longest, input, out)
-}
-
-/// The same for an instance.
-fn show_instance<S: Source, W: Sink>(
-    alloc: Global,
-    input: &mut S,
-    out: &mut W,
-    longest: u64,
-    limits: Limits,
-) -> Result<(), ToolFault>
-    requires { 0 < longest }
-    ensures shows { ShowsLines (IsInstanceText limits) longest
-        (AsksInInstanceText limits) event_bytes W.contents W.faults
-        (S.left input.old) out.old result (S.left input.new) out.new }
-    ensures given { OfGiven (λ left rest. ShowsLines (IsInstanceText limits) longest
-        (AsksInInstanceText limits) event_bytes W.contents W.faults left out.old result rest
-        out.new) (S.history input.old) (S.history input.new) }
-    ensures seen { SawStatements (S.shown input.new) (S.ended input.new) result }
-    ensures faults { S.faults input.new ≡ faults_reported result (S.faults input.old) }
-{
-    show_each(OpbMachine::new(alloc, limits), longest, input, out)
-}
-
-/// The same for any machine.
+/// Writes a line for each statement that a machine reads, as soon as it is complete.
 fn show_each<S: Source, W: Sink, E: Canonical + Drop, M: Machine<Event = E> + Drop>(
     machine: M,
     longest: u64,
@@ -124,7 +82,7 @@ fn show_each<S: Source, W: Sink, E: Canonical + Drop, M: Machine<Event = E> + Dr
     let mut piece = Piece::new();
     loop {
         match pull(input, &mut feeder) {
-            Ok(Some(read)) => match show_statement(read, &mut piece, out) {
+            Ok(Some(read)) => match show_statement(read, &mut feeder, &mut piece, out) {
                 Ok(()) => {}
                 Err(Failed) => return Err(ToolFault::Write),
             },
@@ -150,16 +108,19 @@ fn read_blank_rest<S: Source>(input: &mut S, place: Place) -> Result<(), ToolFau
     }
 }
 
-/// Writes the line of a statement, and drops the statement. A short line is made in the piece,
-/// whose text is replaced.
-fn show_statement<W: Sink, E: Canonical + Drop>(
+/// Writes the line of a statement. The feeder uses the memory of the statement again.
+fn show_statement<W: Sink, E: Canonical + Drop, M: Machine<Event = E>>(
     read: Spanned<E>,
+    feeder: &mut Feeder<M>,
     piece: &mut Piece,
     out: &mut W,
 ) -> Result<(), Failed>
-    ensures { Writes W.contents W.faults out.old (shown_line E.text read) result out.new }
+    ensures writes { Writes W.contents W.faults out.old (shown_line E.text read) result out.new }
+    ensures feeder { feeder.new ≡ feeder.old }
 {
-    write_spanned(&read, piece, out)
+    write_spanned(&read, piece, out)?;
+    feeder.reuse(read.event);
+    Ok(())
 }
 
 /// Writes the line of a statement. A short line is made in the piece, whose text is replaced.

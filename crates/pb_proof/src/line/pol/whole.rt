@@ -10,15 +10,16 @@ use crate::line::pol::phase::Held;
 use crate::line::pol::words::turn;
 use crate::word::PolWord;
 use pb_sums::Name;
-use pb_text::{Limits, Sequence};
+use pb_text::{Limits, Sequence, Spare};
 use std::alloc::Global;
 
 /// The words of a `pol` line at the start of a text, and the index of its line feed, if it is fast
-/// to read.
+/// to read. They take the spare memory.
 pub(crate) fn pol_at(
     alloc: Global,
     limits: Limits,
     text: &[u8],
+    spare: &mut Spare<PolWord>,
 ) -> Option<(usize, Sequence<PolWord>)>
     ensures inside { IfSome result (λ r. r.0 < length text.now) }
     ensures first { IfSome result (λ r. get_or text.now 0 0 ≡ 112) }
@@ -32,7 +33,7 @@ pub(crate) fn pol_at(
     let limit = limits.largest();
     let top = limits.top();
     let rest = &text[4..];
-    let Some((length, words)) = words_at(alloc, limit, top, rest) else {
+    let Some((length, words)) = words_at(alloc, limit, top, rest, spare) else {
         return None;
     };
     let Some(more) = closing_prefix(&rest[length..]) else {
@@ -44,12 +45,21 @@ pub(crate) fn pol_at(
 /// The words of one expression at the start of a text, and their length, if they are fast to read
 /// and memory suffices.
 #[inline(always)]
-fn words_at(alloc: Global, limit: u128, top: u64, text: &[u8]) -> Option<(usize, Sequence<PolWord>)>
+fn words_at(
+    alloc: Global,
+    limit: u128,
+    top: u64,
+    text: &[u8],
+    spare: &mut Spare<PolWord>,
+) -> Option<(usize, Sequence<PolWord>)>
     requires top { top < 2 ^ 63 }
     ensures bound { IfSome result (λ r. r.0 ≤ length text.now) }
     ensures expression { IfSome result (λ r. IsExpression limit top (take r.0 text.now) r.1) }
 {
-    let mut words = Vec::new(alloc);
+    let Ok(list) = spare.list(0) else {
+        return None;
+    };
+    let mut words = list.into_vec();
     let mut name = Name::new(alloc);
     let mut depth: usize = 0;
     let mut held = Held::Nothing;

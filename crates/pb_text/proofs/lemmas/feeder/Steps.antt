@@ -3,7 +3,7 @@ use Rattle.pb_text.proofs.Common.{ℕ, ◌++◌, ◌<◌, ◌∙◌, ◌∷◌, 
 use Rattle.pb_text.proofs.Common.{subst, sym, true, false≢true, Automaton, IsState, StandsAt, Counts, Halts, IsOpen, Stands, Waits, Feeder, Ghosts, Place}
 use Rattle.pb_text.proofs.Common.{Spanned, Stop, Why, Byte, Ended, Memory, Read, TooLarge, TooLong, end_of, bytes, Letter, ◌+◌, ◌-◌, drop, get_or, length, take}
 use Rattle.pb_text.proofs.Common.{◌≤◌, ap₂, Bool, IsTrue, length-append, AcceptsItems, Admits, begins, End, Go, is_large, Leads, Refuse, state_after, EndBy}
-use Rattle.pb_text.proofs.Common.{Follows, opened, SpentSince, AreShort, last_numeral, place_after, place_next, place_or, is_some}
+use Rattle.pb_text.proofs.Common.{Follows, opened, SpentSince, AreShort, last_numeral, place_after, place_next, place_or, is_some, length-drop, length-take, spans_in}
 use Rattle.pb_text.proofs.lemmas.{machine.Residual.residual, machine.Residual.takes_go, machine.Residual.takes_last, text.Languages.bytes-append}
 use Rattle.pb_text.proofs.lemmas.text.{Booleans.never, Lists.length-bytes, Lists.put_advances, Lists.last_advances, Spans.one_further, Spans.prefix_parts}
 use Rattle.pb_text.proofs.lemmas.feeder.Reported.{nothing_fed, step}
@@ -123,6 +123,20 @@ module _ {M E : Type 0} {g : Ghosts M E} where
     pub with_more : (n : ℕ) → Reaches mid (take n (take (length piece - i) (drop i piece))) more new → Reaches old (take (i + n) piece) more new
     with_more n r longest start input spans s =
         rw (prefix_parts piece i n, ← append_assoc input) (r longest start (input ++ take i piece) spans (p longest start input spans s))
+
+  -- a prefix of what is left after one that ended no statement
+  pub prefix_more : (old mid new : Feeder M E g) (piece : List ℕ) (i n : ℕ) (event : Option (Spanned E)) → TakesPrefix old piece (record { used = i; event = None }) mid
+      → TakesPrefix mid (take (length piece - i) (drop i piece)) (record { used = n; event = event }) new → TakesPrefix old piece (record { used = i + n; event = event }) new
+  prefix_more old mid new piece i n event first more = record {
+    bound = omega (arith, first.bound, more.bound, length-take (length piece - i) (drop i piece), length-drop i piece);
+    stands = with_more old mid new piece i (spans_in event) (passes old mid _ first.stands) n more.stands;
+    offset = omega (arith, first.offset, more.offset);
+    some = λ e h. omega (arith, more.some e h);
+    past = more.past;
+    running = more.running;
+    unfinished = more.unfinished;
+    state = more.state;
+  }
 
 last_numeral-snoc : (ls : List Letter) (l : Letter) → last_numeral (ls ++ l ∷ []) ≡ l.numeral
 last_numeral-snoc [] l = refl

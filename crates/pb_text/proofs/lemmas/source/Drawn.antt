@@ -16,6 +16,10 @@ lost_kept before now k = grind arith
 pub lost_consumed : (before after : Option (List ℕ)) (taken : List ℕ) → Consumes before after taken → Lost before taken after
 lost_consumed before after taken c = grind arith
 
+-- so has a source over that reader, whatever byte it has shown
+pub lost_reported : (before : Option (List ℕ)) (limit shown : Option ℕ) (after : Option (List ℕ)) (taken : List ℕ) → Lost before taken after → Lost (reported before limit shown) taken after
+lost_reported before limit shown after taken l = grind arith
+
 -- one more byte is taken
 pub lost_byte : (before : Option (List ℕ)) (taken : List ℕ) (now next last : Option (List ℕ)) (b : ℕ) → Lost before taken now → StartWith now b → Keeps now next → LosesFirst next last → Lost before (taken ++ b ∷ []) last
 lost_byte before taken now next last b l s k f = grind (arith, append_assoc)

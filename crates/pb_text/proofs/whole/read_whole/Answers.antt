@@ -17,27 +17,27 @@ loop-spanned-init g c =
       };
     }
 
-pub returns-in-Err-add-clause-reads : goal.returns-in-Err-add-clause-reads
-returns-in-Err-add-clause-reads g c =
+pub returns-in-Err-collect-clause-reads : goal.returns-in-Err-collect-clause-reads
+returns-in-Err-collect-clause-reads g c =
     let t = rw (c.in-Ok-Some.is, c.in-Ok-Some.field-0-is) at c.pull.ensures in
-    rw c.place.ensures.place (whole_unkept c.loop-spanned.invariant.so_far g.G.Gather.asks c.in-Ok-Some.spanned t.pulls t.stop (t.past c.in-Ok-Some.spanned refl).past c.in-Err-add.ensures.asking).0
+    rw (c.place.ensures.place, c.collect.ensures.feeder) (whole_unkept c.loop-spanned.invariant.so_far g.G.Gather.asks c.in-Ok-Some.spanned t.pulls t.stop (t.past c.in-Ok-Some.spanned refl).past c.in-Err-collect.ensures.asking).0
 
-pub returns-in-Err-add-clause-given : goal.returns-in-Err-add-clause-given
-returns-in-Err-add-clause-given g c =
+pub returns-in-Err-collect-clause-given : goal.returns-in-Err-collect-clause-given
+returns-in-Err-collect-clause-given g c =
     let t = rw (c.in-Ok-Some.is, c.in-Ok-Some.field-0-is) at c.pull.ensures in
-    rw c.place.ensures.place (whole_unkept c.loop-spanned.invariant.so_far g.G.Gather.asks c.in-Ok-Some.spanned t.pulls t.stop (t.past c.in-Ok-Some.spanned refl).past c.in-Err-add.ensures.asking).1
+    rw (c.place.ensures.place, c.collect.ensures.feeder) (whole_unkept c.loop-spanned.invariant.so_far g.G.Gather.asks c.in-Ok-Some.spanned t.pulls t.stop (t.past c.in-Ok-Some.spanned refl).past c.in-Err-collect.ensures.asking).1
 
 pub loop-spanned-smaller : goal.loop-spanned-smaller
 loop-spanned-smaller g c =
     let t = rw (c.in-Ok-Some.is, c.in-Ok-Some.field-0-is) at c.pull.ensures in
     let f = c.pull.new.feeder in
-    omega (arith, (t.past c.in-Ok-Some.spanned refl).onward, f.offset_in_range, f.end_is, end_limit f.longest f.first)
+    rw c.collect.ensures.feeder (omega (arith, (t.past c.in-Ok-Some.spanned refl).onward, f.offset_in_range, f.end_is, end_limit f.longest f.first))
 
 pub loop-spanned-preserved : goal.loop-spanned-preserved
 loop-spanned-preserved g c =
     let i = c.loop-spanned.invariant in
     let t = rw (c.in-Ok-Some.is, c.in-Ok-Some.field-0-is) at c.pull.ensures in
-    record { faults = rw i.so_far.pulled.running at t.faults ∙ i.faults; so_far = so_far i.so_far c.in-Ok-Some.spanned c.add.new.self t.pulls t.stop c.in_default.ensures.ok }
+    record { faults = rw i.so_far.pulled.running at t.faults ∙ i.faults; so_far = rw c.collect.ensures.feeder (so_far i.so_far c.in-Ok-Some.spanned c.collect.new.value t.pulls t.stop c.in_default.ensures.ok) }
 
 pub returns-in-Ok-None-clause-reads : goal.returns-in-Ok-None-clause-reads
 returns-in-Ok-None-clause-reads g c =

@@ -261,7 +261,7 @@ impl Checker {
                 accepted: false,
             });
         };
-        match step_watched(&mut self.replay, read, &mut Unwatched) {
+        match step_watched(&mut self.replay, &mut self.feeder, read, &mut Unwatched) {
             Ok(()) => Ok(Went {
                 used,
                 accepted: true,
@@ -299,7 +299,7 @@ impl Checker {
         reads_are_of_proofs();
         whole_proofs_conclude();
         match pull(input, &mut self.feeder) {
-            Ok(Some(read)) => match step_watched(&mut self.replay, read, watch) {
+            Ok(Some(read)) => match step_watched(&mut self.replay, &mut self.feeder, read, watch) {
                 Ok(()) => Ok(None),
                 Err(rejected) => {
                     self.fault = Some(rejected);

@@ -11,13 +11,15 @@ ghost use Rattle.pb_tool.specs.contract.Watched.{call_for};
 
 use crate::commands::check::checker::CheckFault;
 use crate::commands::check::watch::Watch;
-use pb_proof::Statement;
+use pb_proof::{ProofMachine, Statement};
 use pb_replay::{Fault, Replay};
-use pb_text::{Place, Spanned};
+use pb_text::{Feeder, Place, Spanned};
 
-/// Steps through a statement that was read, shows it to the watch, and drops it.
+/// Steps through a statement that was read, and shows it to the watch. The feeder uses the memory
+/// of the statement again.
 pub(crate) fn step_watched<V: Watch>(
     replay: &mut Replay,
+    feeder: &mut Feeder<ProofMachine>,
     read: Spanned<Statement>,
     watch: &mut V,
 ) -> Result<(), CheckFault>
@@ -30,12 +32,14 @@ pub(crate) fn step_watched<V: Watch>(
     ensures limits { replay.new.limits ≡ replay.old.limits }
     ensures problem { replay.new.problem ≡ replay.old.problem }
     ensures shown { V.got watch.old (call_for read replay.new result) watch.new }
+    ensures feeder { feeder.new ≡ feeder.old }
 {
     let done = step_through(replay, &read);
     match done {
         Ok(()) => watch.accepted(&read, replay),
         Err(fault) => watch.rejected(&read, replay, fault),
     }
+    feeder.reuse(read.event);
     done
 }
 

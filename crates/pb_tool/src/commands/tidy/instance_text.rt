@@ -104,17 +104,20 @@ impl Gather for InstanceText {
 
     ghost asks = { λ t e. asks e };
 
-    fn add(&mut self, event: OpbEvent) -> Result<(), AllocError> {
+    fn add(&mut self, event: OpbEvent) -> Result<Option<OpbEvent>, AllocError> {
         match event {
             OpbEvent::Header { .. } => {
                 self.header = Some(event);
-                Ok(())
+                Ok(None)
             }
             OpbEvent::Objective(_) => {
                 self.objective = Some(event);
-                Ok(())
+                Ok(None)
             }
-            OpbEvent::Comment(_) | OpbEvent::Constraint(_) => self.push(&event),
+            OpbEvent::Comment(_) | OpbEvent::Constraint(_) => {
+                self.push(&event)?;
+                Ok(Some(event))
+            }
         }
     }
 }

@@ -167,7 +167,7 @@ impl Gather for NormalText {
 
     ghost asks = { λ t e. false };
 
-    fn add(&mut self, event: OpbEvent) -> Result<(), AllocError> {
+    fn add(&mut self, event: OpbEvent) -> Result<Option<OpbEvent>, AllocError> {
         self.notes = self.notes.and(&event);
         match event {
             OpbEvent::Header {
@@ -176,17 +176,17 @@ impl Gather for NormalText {
                 tail: _tail,
             } => {
                 self.variables = variables;
-                Ok(())
+                Ok(None)
             }
-            OpbEvent::Comment(_text) => Ok(()),
+            OpbEvent::Comment(_text) => Ok(None),
             OpbEvent::Objective(terms) => {
                 self.forms.number(terms.as_slice());
                 self.objective = Some(OpbEvent::Objective(terms));
-                Ok(())
+                Ok(None)
             }
             OpbEvent::Constraint(linear) => {
                 self.forms.add(&linear);
-                Ok(())
+                Ok(Some(OpbEvent::Constraint(linear)))
             }
         }
     }

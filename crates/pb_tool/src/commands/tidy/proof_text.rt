@@ -96,18 +96,21 @@ impl Gather for ProofText {
 
     ghost asks = { λ t s. asks s };
 
-    fn add(&mut self, statement: Statement) -> Result<(), AllocError> {
+    fn add(&mut self, statement: Statement) -> Result<Option<Statement>, AllocError> {
         match statement {
-            Statement::Header | Statement::Output | Statement::End => Ok(()),
+            Statement::Header | Statement::Output | Statement::End => Ok(None),
             Statement::F(count) => {
                 self.count = count;
-                Ok(())
+                Ok(None)
             }
             Statement::Conclude(_) => {
                 self.conclusion = statement;
-                Ok(())
+                Ok(None)
             }
-            step => self.push(&step),
+            step => {
+                self.push(&step)?;
+                Ok(Some(step))
+            }
         }
     }
 }

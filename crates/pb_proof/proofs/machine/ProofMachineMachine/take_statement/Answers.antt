@@ -10,5 +10,5 @@ pub returns-clause-statement : goal.returns-clause-statement
 returns-clause-statement c =
     let s : ProofState = the_view c.self.inside in
     let same : s ≡ idle s.limit s.top Stage.Steps = at_step s c.self.invariant (c.in-Between.is ∙ ap Phase.Between c.in-Steps.is) in
-    subst (λ (x : ProofState). TakesStatement proofs x c.args.piece.now (Some (c.in-Some-rup_at.last, Statement.Rup c.in-Some-rup_at.linear)) x) c.self.view_is
+    subst (λ (x : ProofState). TakesStatement proofs x c.args.piece.now (Some (c.in-Some-rup_at.last, Statement.Rup c.in-Some-rup_at.linear)) s) c.self.view_is
     (rup_taken s.limit s.top s c.args.piece.now c.in-Some-rup_at.linear c.in-Some-rup_at.last same c.self.invariant c.in-Some-rup_at.ensures.inside c.in-Some-rup_at.ensures.first c.in-Some-rup_at.ensures.line_feed c.in-Some-rup_at.ensures.runs)

@@ -42,7 +42,7 @@ feeds_once old new piece fed r running further =
 
 pub returns-in-Some-event-clause-feeds : goal.returns-in-Some-event-clause-feeds
 returns-in-Some-event-clause-feeds g c =
-    let fed = c.feed_statement-fed in
+    let fed = c.feed_prefix-fed in
     let stands = rw c.in-Some-event.is at fed.ensures.stands in
     rw (c.with_event.ensures, c.in-Some-event.event-is)
     (feeds_once c.args.self.now fed.new.self c.args.piece.now (record { used = c.loop-used.used + fed.result.used; event = Some c.in-Some-event.event })
@@ -51,7 +51,7 @@ returns-in-Some-event-clause-feeds g c =
 
 pub returns-then-used-piece-clause-feeds : goal.returns-then-used-piece-clause-feeds
 returns-then-used-piece-clause-feeds g c =
-    let fed = c.feed_statement-fed in
+    let fed = c.feed_prefix-fed in
     let stands = rw c.in_default-event.is at fed.ensures.stands in
     let k = with_more c.args.self.now c.loop-used.self fed.new.self c.args.piece.now c.loop-used.used [] c.loop-used.invariant.stands fed.result.used stands in
     feeds_once c.args.self.now fed.new.self c.args.piece.now (record { used = c.loop-used.used + fed.result.used; event = None })
@@ -62,9 +62,9 @@ pub returns-in-Err-clause-feeds : goal.returns-in-Err-clause-feeds
 returns-in-Err-clause-feeds g c = (
   λ longest start input spans counts s.
       let piece = c.args.piece.now in
-      let i = c.loop-used.used + c.feed_statement-fed.result.used in
-      let there : i < length piece = inside_of piece c.loop-used.used c.feed_statement-fed.result.used c.loop-used-test.true c.feed_statement-fed.ensures.bound c.if-used-piece.false in
-      let fed = c.feed_statement-fed in
+      let i = c.loop-used.used + c.feed_prefix-fed.result.used in
+      let there : i < length piece = inside_of piece c.loop-used.used c.feed_prefix-fed.result.used c.loop-used-test.true c.feed_prefix-fed.ensures.bound c.if-used-piece.false in
+      let fed = c.feed_prefix-fed in
       let so_far = passes c.args.self.now fed.new.self _ (with_more c.args.self.now c.loop-used.self fed.new.self piece c.loop-used.used [] c.loop-used.invariant.stands fed.result.used (rw c.in_default-event.is at fed.ensures.stands)) in
       let t = rw c.in-Err.is at c.take.ensures in
       let n = c.take.new.self in
@@ -80,14 +80,14 @@ returns-in-Err-clause-feeds g c = (
 )
 
 pub returns-in-Err-clause-memory : goal.returns-in-Err-clause-memory
-returns-in-Err-clause-memory g c running = grind (arith, inside_of, c.loop-used-test.true, c.feed_statement-fed.ensures.bound, c.if-used-piece.false, c.in-Err.is, c.take.ensures, c.feed_statement-fed.ensures.offset, c.loop-used.invariant.offset, at_place)
+returns-in-Err-clause-memory g c running = grind (arith, inside_of, c.loop-used-test.true, c.feed_prefix-fed.ensures.bound, c.if-used-piece.false, c.in-Err.is, c.take.ensures, c.feed_prefix-fed.ensures.offset, c.loop-used.invariant.offset, at_place)
 
 pub returns-in-Ok-Some-clause-feeds : goal.returns-in-Ok-Some-clause-feeds
 returns-in-Ok-Some-clause-feeds g c =
     let piece = c.args.piece.now in
-    let i = c.loop-used.used + c.feed_statement-fed.result.used in
-    let there : i < length piece = inside_of piece c.loop-used.used c.feed_statement-fed.result.used c.loop-used-test.true c.feed_statement-fed.ensures.bound c.if-used-piece.false in
-    let fed = c.feed_statement-fed in
+    let i = c.loop-used.used + c.feed_prefix-fed.result.used in
+    let there : i < length piece = inside_of piece c.loop-used.used c.feed_prefix-fed.result.used c.loop-used-test.true c.feed_prefix-fed.ensures.bound c.if-used-piece.false in
+    let fed = c.feed_prefix-fed in
     let so_far = passes c.args.self.now fed.new.self _ (with_more c.args.self.now c.loop-used.self fed.new.self piece c.loop-used.used [] c.loop-used.invariant.stands fed.result.used (rw c.in_default-event.is at fed.ensures.stands)) in
     let t = rw (c.in-Ok-Some.is, c.in-Ok-Some.field-0-is) at c.take.ensures in
     rw c.with_event-in-Ok-Some.ensures (feeds_once c.args.self.now c.take.new.self piece (record { used = i + 1; event = Some c.in-Ok-Some.event })
@@ -97,17 +97,17 @@ returns-in-Ok-Some-clause-feeds g c =
 pub loop-used-preserved : goal.loop-used-preserved
 loop-used-preserved g c =
     let piece = c.args.piece.now in
-    let i = c.loop-used.used + c.feed_statement-fed.result.used in
-    let there : i < length piece = inside_of piece c.loop-used.used c.feed_statement-fed.result.used c.loop-used-test.true c.feed_statement-fed.ensures.bound c.if-used-piece.false in
+    let i = c.loop-used.used + c.feed_prefix-fed.result.used in
+    let there : i < length piece = inside_of piece c.loop-used.used c.feed_prefix-fed.result.used c.loop-used-test.true c.feed_prefix-fed.ensures.bound c.if-used-piece.false in
     let t = rw (c.in-Ok-None.is, c.in-Ok-None.field-0-is) at c.take.ensures in
-    let fed = c.feed_statement-fed in
+    let fed = c.feed_prefix-fed in
     let so_far = passes c.args.self.now fed.new.self _ (with_more c.args.self.now c.loop-used.self fed.new.self piece c.loop-used.used [] c.loop-used.invariant.stands fed.result.used (rw c.in_default-event.is at fed.ensures.stands)) in
     record {
       running = t.stop;
       unfinished = t.unfinished cc;
       state = t.state;
       bound = omega (arith, there);
-      offset = omega (arith, t.offset, c.feed_statement-fed.ensures.offset, c.loop-used.invariant.offset);
+      offset = omega (arith, t.offset, c.feed_prefix-fed.ensures.offset, c.loop-used.invariant.offset);
       stands = passes c.args.self.now c.take.new.self _ (with_byte c.args.self.now fed.new.self c.take.new.self piece i [] so_far there t.stands);
     }
 

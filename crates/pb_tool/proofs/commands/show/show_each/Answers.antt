@@ -23,27 +23,27 @@ loop-read-smaller g c =
     let (spans, pulled, wrote) = c.loop-read.invariant.shown in let t = rw (c.in-Ok-Some.is, c.in-Ok-Some.field-0-is) at c.pull.ensures in
     let (more, sofar) = t.row c.args.longest c.args.machine (g.S.Source.left c.args.input.now) spans pulled in
     let within = so_far_within (AcceptsItems g.M.Machine.automaton c.args.machine) c.args.longest (g.S.Source.left c.args.input.now) (g.S.Source.left c.pull.new.source) (spans ++ c.in-Ok-Some.read ∷ []) c.in-Ok-Some.read.past sofar in
-    fewer _ _ (subst (λ (p : Place). p.offset ≤ 2 ^ 40) (t.past c.in-Ok-Some.read refl).past within) (t.past c.in-Ok-Some.read refl).onward
+    rw c.show_statement.ensures.feeder (fewer _ _ (subst (λ (p : Place). p.offset ≤ 2 ^ 40) (t.past c.in-Ok-Some.read refl).past within) (t.past c.in-Ok-Some.read refl).onward)
 
 pub loop-read-preserved : goal.loop-read-preserved
 loop-read-preserved g c =
     let (spans, pulled, wrote) = c.loop-read.invariant.shown in let (given_spans, has, went) = c.loop-read.invariant.given in
     let t = rw (c.in-Ok-Some.is, c.in-Ok-Some.field-0-is) at c.pull.ensures in
     let (more, sofar) = t.row c.args.longest c.args.machine (g.S.Source.left c.args.input.now) spans pulled in
-    record {
+    rw c.show_statement.ensures.feeder (record {
       faults = rw pulled.running at t.faults ∙ c.loop-read.invariant.faults;
-      shown = (spans ++ c.in-Ok-Some.read ∷ [], more, part_wrote g.W.Sink.contents g.W.Sink.faults _ _ _ _ _ _ (shown_more g.E.Canonical.text spans c.in-Ok-Some.read) wrote c.in-Ok.ensures);
+      shown = (spans ++ c.in-Ok-Some.read ∷ [], more, part_wrote g.W.Sink.contents g.W.Sink.faults _ _ _ _ _ _ (shown_more g.E.Canonical.text spans c.in-Ok-Some.read) wrote c.in-Ok.ensures.writes);
       given = (
         given_spans ++ c.in-Ok-Some.read ∷ [],
         given_next {g = g.M.Machine} _ _ _ has c.in-Ok-Some.read t.pulls t.stop,
-        part_wrote g.W.Sink.contents g.W.Sink.faults _ _ _ _ _ _ (shown_more g.E.Canonical.text given_spans c.in-Ok-Some.read) went c.in-Ok.ensures,
+        part_wrote g.W.Sink.contents g.W.Sink.faults _ _ _ _ _ _ (shown_more g.E.Canonical.text given_spans c.in-Ok-Some.read) went c.in-Ok.ensures.writes,
       );
-    }
+    })
 
 pub returns-in-Err-show_statement-clause-shows : goal.returns-in-Err-show_statement-clause-shows
 returns-in-Err-show_statement-clause-shows g c =
     let (spans, pulled, wrote) = c.loop-read.invariant.shown in let t = rw (c.in-Ok-Some.is, c.in-Ok-Some.field-0-is) at c.pull.ensures in
-    broken {g = g.M.Machine} c.args.longest c.args.machine g.E.Canonical.text g.W.Sink.contents g.W.Sink.faults spans c.pull.new.feeder c.in-Ok-Some.read c.args.out.now c.loop-read.out c.show_statement.new.out wrote c.in-Err-show_statement.ensures _ _ (t.row c.args.longest c.args.machine (g.S.Source.left c.args.input.now) spans pulled)
+    broken {g = g.M.Machine} c.args.longest c.args.machine g.E.Canonical.text g.W.Sink.contents g.W.Sink.faults spans c.pull.new.feeder c.in-Ok-Some.read c.args.out.now c.loop-read.out c.show_statement.new.out wrote c.in-Err-show_statement.ensures.writes _ _ (t.row c.args.longest c.args.machine (g.S.Source.left c.args.input.now) spans pulled)
 
 pub returns-in-Err-clause-shows : goal.returns-in-Err-clause-shows
 returns-in-Err-clause-shows g c =
@@ -60,7 +60,7 @@ returns-clause-shows g c =
 pub returns-in-Err-show_statement-clause-given : goal.returns-in-Err-show_statement-clause-given
 returns-in-Err-show_statement-clause-given g c =
     let (spans, has, wrote) = c.loop-read.invariant.given in let t = rw (c.in-Ok-Some.is, c.in-Ok-Some.field-0-is) at c.pull.ensures in
-    given_by _ _ (broken {g = g.M.Machine} c.args.longest c.args.machine g.E.Canonical.text g.W.Sink.contents g.W.Sink.faults spans c.pull.new.feeder c.in-Ok-Some.read c.args.out.now c.loop-read.out c.show_statement.new.out wrote c.in-Err-show_statement.ensures) (given_row {g = g.M.Machine} _ _ _ has t.pulls t.stop t.last (λ m e. (t.past m e).past))
+    given_by _ _ (broken {g = g.M.Machine} c.args.longest c.args.machine g.E.Canonical.text g.W.Sink.contents g.W.Sink.faults spans c.pull.new.feeder c.in-Ok-Some.read c.args.out.now c.loop-read.out c.show_statement.new.out wrote c.in-Err-show_statement.ensures.writes) (given_row {g = g.M.Machine} _ _ _ has t.pulls t.stop t.last (λ m e. (t.past m e).past))
 
 pub returns-in-Err-clause-given : goal.returns-in-Err-clause-given
 returns-in-Err-clause-given g c =

@@ -35,25 +35,25 @@ pub invariant_of-self-in-Ok-step_watched : goal.invariant_of-self-in-Ok-step_wat
 invariant_of-self-in-Ok-step_watched c =
     let (limits, longest, v, first, input, asks, h) = c.self.invariant in let t = rw c.in-Ok.is at c.feed.ensures in
     let u = rw (c.in-Ok-step_watched.is, c.in-Some.is) at c.step_watched.ensures in
-    (limits, longest, v, first, _, asks, (checked.stepped c.texts_are_read.ensures limits longest v first input c.self.inside.feeder c.self.inside.replay c.self.inside.fault (rw (← c.self.view_is) at c.requires) h _ refl c.args.piece.now c.feed.new.self c.in-Ok.fed c.in-Some.read c.in-Some.is t.feeds t.stop c.step_watched.new.replay u.steps u.limits u.problem).0)
+    rw c.step_watched.ensures.feeder ((limits, longest, v, first, _, asks, (checked.stepped c.texts_are_read.ensures limits longest v first input c.self.inside.feeder c.self.inside.replay c.self.inside.fault (rw (← c.self.view_is) at c.requires) h _ refl c.args.piece.now c.feed.new.self c.in-Ok.fed c.in-Some.read c.in-Some.is t.feeds t.stop c.step_watched.new.replay u.steps u.limits u.problem).0))
 
 pub invariant_of-self-in-Err-step_watched : goal.invariant_of-self-in-Err-step_watched
 invariant_of-self-in-Err-step_watched c =
-    let (limits, longest, v, first, input, asks, h) = c.self.invariant in let t = rw c.in-Ok.is at c.feed.ensures in
+    let (limits, longest, v, first, input, asks, h) = c.self.invariant in let t = rw (c.in-Ok.is, ← c.step_watched.ensures.feeder) at c.feed.ensures in
     let u = rw (c.in-Err-step_watched.is, c.in-Some.is) at c.step_watched.ensures in
-    (limits, longest, v, first, _, asks, (checked.refused c.texts_are_read.ensures limits longest v first input c.self.inside.feeder c.self.inside.replay c.self.inside.fault (rw (← c.self.view_is) at c.requires) h _ refl c.args.piece.now c.feed.new.self c.in-Ok.fed c.in-Some.read c.in-Some.is t.feeds t.stop (c.feed.ensures.past c.in-Ok.fed c.in-Some.read c.in-Ok.is c.in-Some.is).past c.step_watched.new.replay c.in-Err-step_watched.fault u.steps u.names u.unvalued).0)
+    (limits, longest, v, first, _, asks, (checked.refused c.texts_are_read.ensures limits longest v first input c.self.inside.feeder c.self.inside.replay c.self.inside.fault (rw (← c.self.view_is) at c.requires) h _ refl c.args.piece.now c.step_watched.new.feeder c.in-Ok.fed c.in-Some.read c.in-Some.is t.feeds t.stop (t.past c.in-Ok.fed c.in-Some.read refl c.in-Some.is).past c.step_watched.new.replay c.in-Err-step_watched.fault u.steps u.names u.unvalued).0)
 
 pub returns-in-Ok-step_watched-clause-counts : goal.returns-in-Ok-step_watched-clause-counts
 returns-in-Ok-step_watched-clause-counts c limits longest v first input k h =
     let t = rw c.in-Ok.is at c.feed.ensures in let u = rw (c.in-Ok-step_watched.is, c.in-Some.is) at c.step_watched.ensures in
     let (here, many) = rw (← c.self.view_is) at h in
-    checked.stepped c.texts_are_read.ensures limits longest v first input c.self.inside.feeder c.self.inside.replay c.self.inside.fault (rw (← c.self.view_is) at c.requires) here k many c.args.piece.now c.feed.new.self c.in-Ok.fed c.in-Some.read c.in-Some.is t.feeds t.stop c.step_watched.new.replay u.steps u.limits u.problem
+    rw c.step_watched.ensures.feeder (checked.stepped c.texts_are_read.ensures limits longest v first input c.self.inside.feeder c.self.inside.replay c.self.inside.fault (rw (← c.self.view_is) at c.requires) here k many c.args.piece.now c.feed.new.self c.in-Ok.fed c.in-Some.read c.in-Some.is t.feeds t.stop c.step_watched.new.replay u.steps u.limits u.problem)
 
 pub returns-in-Err-step_watched-clause-counts : goal.returns-in-Err-step_watched-clause-counts
 returns-in-Err-step_watched-clause-counts c limits longest v first input k h =
-    let t = rw c.in-Ok.is at c.feed.ensures in let u = rw (c.in-Err-step_watched.is, c.in-Some.is) at c.step_watched.ensures in
+    let t = rw (c.in-Ok.is, ← c.step_watched.ensures.feeder) at c.feed.ensures in let u = rw (c.in-Err-step_watched.is, c.in-Some.is) at c.step_watched.ensures in
     let (here, many) = rw (← c.self.view_is) at h in
-    checked.refused c.texts_are_read.ensures limits longest v first input c.self.inside.feeder c.self.inside.replay c.self.inside.fault (rw (← c.self.view_is) at c.requires) here k many c.args.piece.now c.feed.new.self c.in-Ok.fed c.in-Some.read c.in-Some.is t.feeds t.stop (c.feed.ensures.past c.in-Ok.fed c.in-Some.read c.in-Ok.is c.in-Some.is).past c.step_watched.new.replay c.in-Err-step_watched.fault u.steps u.names u.unvalued
+    checked.refused c.texts_are_read.ensures limits longest v first input c.self.inside.feeder c.self.inside.replay c.self.inside.fault (rw (← c.self.view_is) at c.requires) here k many c.args.piece.now c.step_watched.new.feeder c.in-Ok.fed c.in-Some.read c.in-Some.is t.feeds t.stop (t.past c.in-Ok.fed c.in-Some.read refl c.in-Some.is).past c.step_watched.new.replay c.in-Err-step_watched.fault u.steps u.names u.unvalued
 
 pub returns-in-Err-clause-unread : goal.returns-in-Err-clause-unread
 returns-in-Err-clause-unread c =

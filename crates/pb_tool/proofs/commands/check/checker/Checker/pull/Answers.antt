@@ -10,12 +10,12 @@ step_watched-requires g c =
 pub invariant_of-self : goal.invariant_of-self
 invariant_of-self g c =
     let t = rw (c.in-Ok-Some.is, c.in-Ok-Some.field-0-is) at c.pull.ensures in let u = c.in-Ok.ensures in
-    runs.stepped_somewhere c.texts_are_read.ensures c.self.inside.feeder c.self.inside.replay c.self.inside.fault (rw (← c.self.view_is) at c.requires) c.pull.new.feeder (g.S.Source.left c.args.input.now) (g.S.Source.left c.pull.new.source) (g.S.Source.history c.args.input.now) (g.S.Source.history c.pull.new.source) c.in-Ok-Some.read t.pulls t.stop c.self.invariant c.step_watched.new.replay u.steps u.limits u.problem
+    rw c.step_watched.ensures.feeder (runs.stepped_somewhere c.texts_are_read.ensures c.self.inside.feeder c.self.inside.replay c.self.inside.fault (rw (← c.self.view_is) at c.requires) c.pull.new.feeder (g.S.Source.left c.args.input.now) (g.S.Source.left c.pull.new.source) (g.S.Source.history c.args.input.now) (g.S.Source.history c.pull.new.source) c.in-Ok-Some.read t.pulls t.stop c.self.invariant c.step_watched.new.replay u.steps u.limits u.problem)
 
 pub invariant_of-self-in-Err-step_watched : goal.invariant_of-self-in-Err-step_watched
 invariant_of-self-in-Err-step_watched g c =
-    let t = rw (c.in-Ok-Some.is, c.in-Ok-Some.field-0-is) at c.pull.ensures in let u = c.in-Err-step_watched.ensures in
-    runs.refused_somewhere c.texts_are_read.ensures c.self.inside.feeder c.self.inside.replay c.self.inside.fault (rw (← c.self.view_is) at c.requires) c.pull.new.feeder (g.S.Source.left c.args.input.now) (g.S.Source.left c.pull.new.source) (g.S.Source.history c.args.input.now) (g.S.Source.history c.pull.new.source) c.in-Ok-Some.read t.pulls t.stop (t.past c.in-Ok-Some.read refl).past c.self.invariant c.step_watched.new.replay c.in-Err-step_watched.rejected u.steps u.names u.unvalued
+    let t = rw (c.in-Ok-Some.is, c.in-Ok-Some.field-0-is, ← c.step_watched.ensures.feeder) at c.pull.ensures in let u = c.in-Err-step_watched.ensures in
+    runs.refused_somewhere c.texts_are_read.ensures c.self.inside.feeder c.self.inside.replay c.self.inside.fault (rw (← c.self.view_is) at c.requires) c.step_watched.new.feeder (g.S.Source.left c.args.input.now) (g.S.Source.left c.pull.new.source) (g.S.Source.history c.args.input.now) (g.S.Source.history c.pull.new.source) c.in-Ok-Some.read t.pulls t.stop (t.past c.in-Ok-Some.read refl).past c.self.invariant c.step_watched.new.replay c.in-Err-step_watched.rejected u.steps u.names u.unvalued
 
 pub unreachable-requires : goal.unreachable-requires
 unreachable-requires g c =
@@ -37,13 +37,13 @@ returns-in-Ok-clause-runs g c longest began before since unshown run =
     let i = rw (← c.self.view_is) at run in let t = rw (c.in-Ok-Some.is, c.in-Ok-Some.field-0-is) at c.pull.ensures in
     let u = c.in-Ok.ensures in
     let unspent = runs.unspent_on c.self.inside.feeder c.self.inside.replay c.self.inside.fault (rw (← c.self.view_is) at c.requires) c.in-Ok-Some.read c.step_watched.new.replay c.self.invariant u.steps in
-    runs.runs_more c.proofs_are_exact.ensures longest began g.V.Watch.got before since unshown c.self.inside.feeder c.self.inside.replay c.self.inside.fault (g.S.Source.left c.args.input.now) (g.S.Source.history c.args.input.now) c.args.watch.now i c.pull.new.feeder (g.S.Source.left c.pull.new.source) (g.S.Source.history c.pull.new.source) c.in-Ok-Some.read (t.row longest _ before i.spans i.pulled) t.pulls t.stop c.step_watched.new.replay unspent u.steps u.limits u.problem c.step_watched.new.watch u.shown
+    rw c.step_watched.ensures.feeder (runs.runs_more c.proofs_are_exact.ensures longest began g.V.Watch.got before since unshown c.self.inside.feeder c.self.inside.replay c.self.inside.fault (g.S.Source.left c.args.input.now) (g.S.Source.history c.args.input.now) c.args.watch.now i c.pull.new.feeder (g.S.Source.left c.pull.new.source) (g.S.Source.history c.pull.new.source) c.in-Ok-Some.read (t.row longest _ before i.spans i.pulled) t.pulls t.stop c.step_watched.new.replay unspent u.steps u.limits u.problem c.step_watched.new.watch u.shown)
 
 pub returns-in-Err-step_watched-clause-runs : goal.returns-in-Err-step_watched-clause-runs
 returns-in-Err-step_watched-clause-runs g c longest began before since unshown run =
-    let i = rw (← c.self.view_is) at run in let t = rw (c.in-Ok-Some.is, c.in-Ok-Some.field-0-is) at c.pull.ensures in
+    let i = rw (← c.self.view_is) at run in let t = rw (c.in-Ok-Some.is, c.in-Ok-Some.field-0-is, ← c.step_watched.ensures.feeder) at c.pull.ensures in
     let u = c.in-Err-step_watched.ensures in
-    runs.runs_refused c.proofs_are_exact.ensures longest began g.V.Watch.got before since unshown c.self.inside.feeder c.self.inside.replay c.self.inside.fault (g.S.Source.left c.args.input.now) (g.S.Source.history c.args.input.now) c.args.watch.now i c.pull.new.feeder (g.S.Source.left c.pull.new.source) (g.S.Source.history c.pull.new.source) c.in-Ok-Some.read (t.row longest _ before i.spans i.pulled) t.pulls t.stop (λ m e. (t.past m e).past) c.step_watched.new.replay c.in-Err-step_watched.rejected u.steps u.names u.unvalued c.step_watched.new.watch u.shown
+    runs.runs_refused c.proofs_are_exact.ensures longest began g.V.Watch.got before since unshown c.self.inside.feeder c.self.inside.replay c.self.inside.fault (g.S.Source.left c.args.input.now) (g.S.Source.history c.args.input.now) c.args.watch.now i c.step_watched.new.feeder (g.S.Source.left c.pull.new.source) (g.S.Source.history c.pull.new.source) c.in-Ok-Some.read (t.row longest _ before i.spans i.pulled) t.pulls t.stop (λ m e. (t.past m e).past) c.step_watched.new.replay c.in-Err-step_watched.rejected u.steps u.names u.unvalued c.step_watched.new.watch u.shown
 
 pub returns-in-Some-clause-runs : goal.returns-in-Some-clause-runs
 returns-in-Some-clause-runs g c longest began before since unshown run =
@@ -60,12 +60,12 @@ returns-in-Err-clause-runs g c longest began before since unshown run =
 
 pub returns-in-Ok-clause-onward : goal.returns-in-Ok-clause-onward
 returns-in-Ok-clause-onward g c is =
-    let t = rw (c.in-Ok-Some.is, c.in-Ok-Some.field-0-is) at c.pull.ensures in rw (← c.self.view_is) (t.past c.in-Ok-Some.read refl).onward
+    let t = rw (c.in-Ok-Some.is, c.in-Ok-Some.field-0-is) at c.pull.ensures in rw (← c.self.view_is, c.step_watched.ensures.feeder) (t.past c.in-Ok-Some.read refl).onward
 
 pub returns-in-Ok-clause-within : goal.returns-in-Ok-clause-within
 returns-in-Ok-clause-within g c is =
     let t = rw (c.in-Ok-Some.is, c.in-Ok-Some.field-0-is) at c.pull.ensures in
-    runs.within_reach c.texts_are_read.ensures c.self.inside.feeder c.self.inside.replay c.self.inside.fault (rw (← c.self.view_is) at c.requires) c.pull.new.feeder (g.S.Source.left c.args.input.now) (g.S.Source.left c.pull.new.source) (g.S.Source.history c.args.input.now) (g.S.Source.history c.pull.new.source) c.in-Ok-Some.read t.pulls t.stop c.self.invariant
+    rw c.step_watched.ensures.feeder (runs.within_reach c.texts_are_read.ensures c.self.inside.feeder c.self.inside.replay c.self.inside.fault (rw (← c.self.view_is) at c.requires) c.pull.new.feeder (g.S.Source.left c.args.input.now) (g.S.Source.left c.pull.new.source) (g.S.Source.history c.args.input.now) (g.S.Source.history c.pull.new.source) c.in-Ok-Some.read t.pulls t.stop c.self.invariant)
 
 pub returns-in-Err-step_watched-clause-seen : goal.returns-in-Err-step_watched-clause-seen
 returns-in-Err-step_watched-clause-seen g c =
