@@ -14,20 +14,13 @@ use crate::collect::collected;
 use crate::entry::Entry;
 use crate::fault::NormalFault;
 use crate::form::Normal;
-use crate::names::Names;
+use crate::names::{NOTHING, Names};
 use crate::side::Side;
 use crate::terms::Terms;
 use crate::terms::few_codes::FEW;
 use pb_sums::{Linear, Term};
 use pb_text::Limits;
 use std::alloc::{AllocError, Global};
-
-/// What a buffer of terms has where none was written yet.
-const NOTHING: Entry = Entry {
-    variable: 0,
-    negated: false,
-    coefficient: 0,
-};
 
 impl Normal {
     /// The normal form of one side of a constraint, over the numbers of its names, whatever its
@@ -114,7 +107,7 @@ fn signed(number: i128, side: Side) -> i128
 }
 
 // The terms of the form of that side, over the numbers of their names, and the total that cancels.
-// Up to `FEW` terms are collected without a list.
+// Up to `FEW` terms are collected without a list, others in a buffer of the names.
 fn side_terms(
     alloc: Global,
     names: &mut Names,
@@ -135,8 +128,10 @@ fn side_terms(
         let mut buffer = [NOTHING; FEW];
         return side_terms_in(alloc, names, terms, side, &mut buffer[..terms.len()]);
     }
-    let mut buffer = Vec::from_elem(alloc, NOTHING, terms.len())?;
-    side_terms_in(alloc, names, terms, side, buffer.as_mut_slice())
+    let mut buffer = names.buffer(terms.len())?;
+    let collected = side_terms_in(alloc, names, terms, side, buffer.as_mut_slice());
+    names.reuse(buffer);
+    collected
 }
 
 // The same with a buffer for as many terms.

@@ -10,18 +10,29 @@ ghost use Rattle.std.specs.Prelude.{◌≡◌, ◌↔◌, ◌<◌, [], length, I
 ghost use Rattle.std.specs.Option.{option_copied};
 ghost use Rattle.pb_normal.specs.meaning.Names.{AreDistinct, has_name, number_in, with_name};
 
+use crate::entry::Entry;
 use crate::hash_keys::HashKeys;
 use crate::names::table::{NameTable, add, hash_of, number_of};
 use crate::names::text::name_at;
+use pb_text::{Sequence, Spare};
 use std::alloc::{AllocError, Global};
 use std::hash::BuildHasher;
 use std::marker::Model;
+
+/// What a buffer of terms has where none was written yet.
+pub(crate) const NOTHING: Entry = Entry {
+    variable: 0,
+    negated: false,
+    coefficient: 0,
+};
 
 /// The names that have a number, in the order of their first appearance; the first has the number
 /// 0.
 #[derive(Drop)]
 pub struct Names {
     table: NameTable,
+    // Memory for the terms of the next constraint whose names are numbered.
+    spare: Spare<Entry>,
 }
 
 impl Model for Names {
@@ -56,6 +67,7 @@ impl Names {
                 entries: Vec::new(alloc),
                 heads: Vec::new(alloc),
             },
+            spare: Spare::new(alloc),
         }
     }
 
@@ -79,6 +91,23 @@ impl Names {
         ensures { AreDistinct self.now }
     {
         let _ = &self.table;
+    }
+
+    // A buffer for this many terms.
+    pub(crate) fn buffer(&mut self, count: usize) -> Result<Vec<Entry>, AllocError>
+        ensures count { IfOk result (λ buffer. length buffer.items ≡ count) }
+        ensures same { self.new ≡ self.old }
+    {
+        let mut buffer = self.spare.list(count)?.into_vec();
+        buffer.resize(count, NOTHING)?;
+        Ok(buffer)
+    }
+
+    // Keeps the memory of a buffer that is no longer needed.
+    pub(crate) fn reuse(&mut self, buffer: Vec<Entry>)
+        ensures { self.new ≡ self.old }
+    {
+        self.spare.keep(Sequence::from_vec(buffer));
     }
 
     /// The number of a name, or `None` if it has none.

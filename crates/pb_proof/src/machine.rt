@@ -39,9 +39,11 @@ pub struct ProofMachine {
     limits: Limits,
     phase: Phase,
     line: Option<LineMachine>,
-    // Memory for the constraint of the next `rup`, and for the words of the next `pol`.
+    // Memory for the constraint of the next `rup`, for the words of the next `pol`, and for the ids
+    // of the next `del id`.
     terms: Spare<Term>,
     words: Spare<PolWord>,
+    ids: Spare<i64>,
 }
 
 impl Model for ProofMachine {
@@ -63,10 +65,16 @@ fn clear(line: &mut Option<LineMachine>)
 }
 
 /// Makes the line machine for this kind of line. Creating it does not allocate.
-fn start_line(line: &mut Option<LineMachine>, alloc: Global, limits: Limits, kind: LineKind)
+fn start_line(
+    line: &mut Option<LineMachine>,
+    alloc: Global,
+    limits: Limits,
+    kind: LineKind,
+    spare: &mut Spare<i64>,
+)
     ensures { line.new ≡ Some (line_first (largest limits) (top_of limits) kind) }
 {
-    *line = Some(line_first(alloc, limits, kind));
+    *line = Some(line_first(alloc, limits, kind, spare));
 }
 
 impl ProofMachine {
@@ -98,6 +106,7 @@ impl ProofMachine {
             line: None,
             terms: Spare::new(alloc),
             words: Spare::new(alloc),
+            ids: Spare::new(alloc),
         }
     }
 
@@ -111,7 +120,7 @@ impl ProofMachine {
                 Push::Go
             }
             Action::Begin(kind) => {
-                start_line(&mut self.line, self.alloc, self.limits, kind);
+                start_line(&mut self.line, self.alloc, self.limits, kind, &mut self.ids);
                 self.phase = Phase::Inside(kind);
                 Push::Go
             }
@@ -182,7 +191,7 @@ impl ProofMachine {
         match next {
             Action::To(phase) => self.phase = phase,
             Action::Begin(kind) => {
-                start_line(&mut self.line, self.alloc, self.limits, kind);
+                start_line(&mut self.line, self.alloc, self.limits, kind, &mut self.ids);
                 self.phase = Phase::Inside(kind);
             }
             _ => {
@@ -207,7 +216,7 @@ impl Machine for ProofMachine {
                 true
             }
             Action::Begin(kind) => {
-                start_line(&mut self.line, self.alloc, self.limits, kind);
+                start_line(&mut self.line, self.alloc, self.limits, kind, &mut self.ids);
                 self.phase = Phase::Inside(kind);
                 true
             }
@@ -277,6 +286,7 @@ impl Machine for ProofMachine {
         match statement {
             Statement::Rup(linear) => self.terms.keep(linear.terms),
             Statement::Pol(words) => self.words.keep(words),
+            Statement::Delete(ids) => self.ids.keep(ids),
             _ => {}
         }
     }

@@ -2,14 +2,14 @@
 //! each group of clauses: four times its variable, plus 2 in long clauses, and plus 1 if it is
 //! negated.
 
-ghost use Rattle.std.specs.Prelude.{◌≡◌, ◌+◌, ◌*◌, ◌<◌, ◌≤◌, ◌^◌, All, true, false, IfOk};
+ghost use Rattle.std.specs.Prelude.{◌≡◌, ◌+◌, ◌*◌, ◌<◌, ◌≤◌, ◌^◌, [], All, true, false, IfOk};
 ghost use Rattle.pb_normal.specs.meaning.Form.{IsNormal};
 ghost use Rattle.pb_propagate.specs.engine.clauses.Truths.{flip};
 ghost use Rattle.pb_propagate.specs.engine.clauses.Shapes.{IsLight, IsClause, code_in, codes_of_terms, group_by};
 
 use crate::store::sorted_form::term_of;
 use pb_normal::{Entry, Normal, NumberedLiteral, Terms};
-use std::alloc::{AllocError, Global};
+use std::alloc::AllocError;
 
 /// Two groups of clauses: the short ones, of at most four literals, and the long ones. A question
 /// visits the long ones only when the short ones force nothing more. A literal has a code for each
@@ -81,13 +81,15 @@ pub fn opposite(code: usize) -> usize
     code ^ 1
 }
 
-/// The codes of the terms' literals, in the group of a clause with these terms.
-pub fn codes_of(alloc: Global, entries: &Terms) -> Result<Vec<u32>, AllocError>
-    requires { All IsLight entries.now }
+/// The codes of the terms' literals, in the group of a clause with these terms. They are put into
+/// an empty list.
+pub fn codes_of(entries: &Terms, empty: Vec<u32>) -> Result<Vec<u32>, AllocError>
+    requires light { All IsLight entries.now }
+    requires empty { empty.items ≡ [] }
     ensures { IfOk result (λ codes. codes.items ≡ codes_of_terms entries.now) }
 {
     let group = group_of(entries.len());
-    let mut codes = Vec::with_capacity(alloc, entries.len())?;
+    let mut codes = empty;
     'entries: for entry in entries.iter() {
         let term = term_of(entry);
         codes.push(code_of(group, term.literal) as u32)?;

@@ -127,6 +127,15 @@ impl Clauses {
         Ok(fits)
     }
 
+    /// An empty list for the codes of a clause, with memory for this many.
+    pub fn codes_for(&mut self, count: usize) -> Result<Vec<u32>, AllocError>
+        ensures empty { IfOk result (λ codes. codes.items ≡ []) }
+        ensures same { self.new ≡ self.old }
+    {
+        let codes = self.blocks.codes_for(count)?;
+        Ok(codes)
+    }
+
     /// Stores a clause in an empty slot. Two of its literals are watched.
     pub fn fill(&mut self, slot: usize, literals: Vec<u32>, pair: Pair) -> Result<(), AllocError>
         requires rest { AreReady self.old }
@@ -155,6 +164,7 @@ impl Clauses {
         )?;
         self.blocks.seek(slot, Search::new());
         self.blocks.write(slot, literals.as_slice());
+        self.blocks.reuse(literals);
         Ok(())
     }
 

@@ -19,7 +19,7 @@ use crate::store::Store;
 use crate::store::occurrence_lists::{clear_slot, fill, watch, widen};
 use crate::store::stored_form::StoredForm;
 use pb_normal::Normal;
-use std::alloc::{AllocError, Global};
+use std::alloc::AllocError;
 
 // The slot of a removed form.
 fn left_slot(kept: &[StoredForm], free: &mut Free, count: usize) -> Option<usize>
@@ -84,7 +84,6 @@ struct Planned {
 // How a form is stored if it is a clause that can be watched: it has two literals that the assigned
 // ones do not falsify, and the slot has room for it.
 fn plan(
-    alloc: Global,
     form: &Normal,
     assigned: &Assignment,
     clauses: &mut Clauses,
@@ -101,7 +100,8 @@ fn plan(
     if !is_clause(form) {
         return Ok(None);
     }
-    let codes = codes_of(alloc, form.terms())?;
+    let empty = clauses.codes_for(form.len())?;
+    let codes = codes_of(form.terms(), empty)?;
     let Some(pair) = pick(assigned, codes.as_slice()) else {
         return Ok(None);
     };
@@ -134,13 +134,7 @@ pub fn add_form(
         forms_of store.new.stored.items ≡ forms_of store.old.stored.items) }
     ensures variables { store.new.variables ≡ store.old.variables }
 {
-    if let Some(planned) = plan(
-        *store.stored.allocator(),
-        form.form(),
-        assigned,
-        clauses,
-        slot,
-    )? {
+    if let Some(planned) = plan(form.form(), assigned, clauses, slot)? {
         watch(store, clauses, slot, form, planned.codes, planned.pair)?;
         return Ok(());
     }

@@ -1,6 +1,6 @@
 //! The machine for ids.
 
-ghost use Rattle.std.specs.Prelude.{◌≡◌, ◌<◌, ◌≤◌, ◌^◌, take, length, List, ℤ};
+ghost use Rattle.std.specs.Prelude.{◌≡◌, ◌<◌, ◌≤◌, ◌^◌, [], take, length, List, ℤ};
 ghost use Rattle.pb_text.specs.meaning.Limits.{top_of};
 ghost use Rattle.pb_proof.specs.engine.line.ByteKind.{NumberByteFits, number_byte};
 ghost use Rattle.pb_proof.specs.engine.line.Delete.{digits, before, next_action, transition, delete_first, begins_id, is_done, PhaseFits, delete_automaton};
@@ -120,14 +120,16 @@ fn is_done(phase: DeletePhase) -> bool
 }
 
 impl DeleteMachine {
-    /// A machine at the start of its text. Creating it does not allocate.
-    pub fn new(alloc: Global, limits: Limits) -> Self
+    /// A machine at the start of its text, with an empty list for the ids. Creating it does not
+    /// allocate.
+    pub fn new(alloc: Global, limits: Limits, ids: Sequence<i64>) -> Self
+        requires { ids ≡ [] }
         ensures begins { result ≡ delete_first (top_of limits) }
     {
         DeleteMachine {
             alloc,
             top: limits.top(),
-            ids: Sequence::new(alloc),
+            ids,
             phase: DeletePhase::Start,
         }
     }

@@ -13,7 +13,7 @@ use crate::line::rup::RupMachine;
 use crate::line::solution::SolutionMachine;
 use crate::machine::phase::LineKind;
 use crate::statement::Statement;
-use pb_text::{Limits, Machine, Push};
+use pb_text::{Limits, Machine, Push, Sequence, Spare};
 use std::alloc::Global;
 
 /// The answer of the machine that reads this statement.
@@ -57,8 +57,14 @@ fn ended<E, F: FnOnce(E) -> Statement + Drop>(event: Option<E>, statement: F) ->
     }
 }
 
-/// The line machine for this kind of line, at the start of its text. Creating it does not allocate.
-pub fn line_first(alloc: Global, limits: Limits, kind: LineKind) -> LineMachine
+/// The line machine for this kind of line, at the start of its text. Ids take the spare memory.
+/// Creating it does not allocate.
+pub fn line_first(
+    alloc: Global,
+    limits: Limits,
+    kind: LineKind,
+    spare: &mut Spare<i64>,
+) -> LineMachine
     ensures { result ≡ line_first (largest limits) (top_of limits) kind }
 {
     match kind {
@@ -67,7 +73,10 @@ pub fn line_first(alloc: Global, limits: Limits, kind: LineKind) -> LineMachine
         LineKind::Rup => LineMachine::Rup(RupMachine::new(alloc, limits)),
         LineKind::Soli => LineMachine::Soli(SolutionMachine::new(alloc, false)),
         LineKind::Solx => LineMachine::Solx(SolutionMachine::new(alloc, false)),
-        LineKind::Delete => LineMachine::Delete(DeleteMachine::new(alloc, limits)),
+        LineKind::Delete => {
+            let ids = spare.list(0).unwrap_or(Sequence::new(alloc));
+            LineMachine::Delete(DeleteMachine::new(alloc, limits, ids))
+        }
         LineKind::Conclusion => LineMachine::Conclusion(ConclusionMachine::new(alloc, limits)),
     }
 }

@@ -9,6 +9,7 @@ ghost use Rattle.pb_propagate.specs.engine.clauses.Blocks.{begun, number_at, Has
 
 use crate::clauses::lists::Watch;
 use crate::clauses::search::Search;
+use pb_text::{Sequence, Spare};
 use std::alloc::{AllocError, Global};
 use std::marker::Model;
 
@@ -28,6 +29,8 @@ pub struct Blocks {
     starts: Vec<u32>,
     // For each slot, how many literals its block has room for. A slot keeps its block.
     rooms: Vec<u32>,
+    // Memory for the codes of the next clause.
+    spare: Spare<u32>,
 }
 
 impl Model for Blocks {
@@ -135,7 +138,24 @@ impl Blocks {
             run: 0,
             starts: Vec::new(alloc),
             rooms: Vec::new(alloc),
+            spare: Spare::new(alloc),
         }
+    }
+
+    /// An empty list for the codes of a clause, with memory for this many.
+    pub fn codes_for(&mut self, count: usize) -> Result<Vec<u32>, AllocError>
+        ensures empty { IfOk result (λ codes. codes.items ≡ []) }
+        ensures same { self.new ≡ self.old }
+    {
+        let codes = self.spare.list(count)?;
+        Ok(codes.into_vec())
+    }
+
+    /// Keeps the memory of codes that are no longer needed.
+    pub fn reuse(&mut self, codes: Vec<u32>)
+        ensures { self.new ≡ self.old }
+    {
+        self.spare.keep(Sequence::from_vec(codes));
     }
 
     /// How many slots there are.

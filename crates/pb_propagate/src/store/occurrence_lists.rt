@@ -13,6 +13,7 @@ ghost use Rattle.pb_propagate.specs.engine.engine.Stored.{stored_form, stored_te
 ghost use Rattle.pb_propagate.specs.engine.engine.Terms.{terms_of};
 ghost use Rattle.pb_propagate.specs.engine.engine.Fields.{stored_shape, shapes_of, forms_of, spots_of, lists_of, entries_of, IsSound, HasEntered, HasFilled, IsEmpty, IsUnlisted, AreLonger};
 ghost use Rattle.pb_propagate.specs.engine.engine.Slots.{MayHold};
+ghost use Rattle.pb_propagate.specs.engine.engine.Spots.{spots_in};
 ghost use Rattle.pb_propagate.specs.engine.engine.Links.{IsLinked, Moved, cut, terms_at};
 ghost use Rattle.pb_propagate.specs.engine.clauses.Runs.{AreReady, AreSet};
 ghost use Rattle.pb_propagate.specs.engine.clauses.Shapes.{clauses_of, codes_of_terms};
@@ -87,24 +88,25 @@ fn link(
     kept: &StoredForm,
     form: usize,
     lists: &mut Vec<Vec<Occurrence>>,
-    spots: &mut Vec<usize>,
+    spots: &mut Spots,
 ) -> Result<(), AllocError>
     requires inside { All (λ t. place t.literal < length lists.old.items) (stored_terms kept.now) }
-    requires empty { spots.old.items ≡ [] }
+    requires empty { spots_in spots.old ≡ [] }
     ensures sizes { length lists.new.items ≡ length lists.old.items }
     ensures longer { OnOk result (AreLonger lists.old.items lists.new.items) }
-    ensures count { OnOk result (length spots.new.items ≡ length (stored_terms kept.now)) }
+    ensures count { OnOk result (length (spots_in spots.new) ≡ length (stored_terms kept.now)) }
     ensures linked { OnOk result ((base : List Shape) (all : List (List ℕ)) → form < length base →
         terms_at base form ≡ stored_terms kept.now → form < length all →
         IsLinked (cut base form 0) (slice_set all form []) (entries_of base lists.old.items) →
         IsLinked (cut base form (length (stored_terms kept.now)))
-        (slice_set all form spots.new.items) (entries_of base lists.new.items)) }
+        (slice_set all form (spots_in spots.new)) (entries_of base lists.new.items)) }
 {
+    let alloc = *lists.allocator();
     'terms: for i in 0..kept.len() {
         let term = kept.term(i);
         let place = place_of(term.literal);
         let spot = lists[place].len();
-        spots.push(spot)?;
+        spots.add(alloc, spot)?;
         append(&mut lists[place], Occurrence { form, index: i })?;
     }
     Ok(())
@@ -232,10 +234,9 @@ pub fn fill(store: &mut Store, slot: usize, form: Shared) -> Result<(), AllocErr
 {
     let alloc = *store.stored.allocator();
     let kept = stored_of(alloc, form)?;
-    let mut spots = Vec::with_capacity(alloc, kept.len())?;
+    let mut spots = Spots::for_terms(alloc, kept.len())?;
     link(&kept, slot, &mut store.occurrences, &mut spots)?;
-    let positions = Spots::of(alloc, spots)?;
-    store.spots[slot] = positions;
+    store.spots[slot] = spots;
     store.stored[slot] = kept;
     Ok(())
 }

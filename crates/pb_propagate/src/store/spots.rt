@@ -1,6 +1,6 @@
 //! The positions of a form's entries in the occurrence lists.
 
-ghost use Rattle.std.specs.Prelude.{◌≡◌, ◌<◌, ◌≤◌, [], length, slice_index_or, slice_set, IfOk};
+ghost use Rattle.std.specs.Prelude.{◌≡◌, ◌<◌, ◌++◌, ◌∷◌, [], length, slice_index_or, slice_set, IfOk, OnOk};
 ghost use Rattle.pb_propagate.specs.engine.engine.Spots.{spots_in};
 
 use std::alloc::{AllocError, Global};
@@ -18,18 +18,34 @@ pub enum Spots {
 }
 
 impl Spots {
-    /// The same positions.
-    pub fn of(alloc: Global, spots: Vec<usize>) -> Result<Spots, AllocError>
-        ensures { IfOk result (λ s. spots_in s ≡ spots.items) }
+    /// No position, with memory for this many.
+    pub fn for_terms(alloc: Global, count: usize) -> Result<Spots, AllocError>
+        ensures { IfOk result (λ s. spots_in s ≡ []) }
     {
-        if spots.len() == 0 {
+        if count < 2 {
             return Ok(Spots::Empty);
         }
-        if spots.len() == 1 {
-            return Ok(Spots::One(spots[0]));
-        }
+        let spots = Vec::with_capacity(alloc, count)?;
         let spots = Box::new(alloc, spots)?;
         Ok(Spots::Many(spots))
+    }
+
+    /// Adds the position of the next term's entry.
+    pub fn add(&mut self, alloc: Global, spot: usize) -> Result<(), AllocError>
+        ensures { OnOk result (spots_in self.new ≡ spots_in self.old ++ spot ∷ []) }
+    {
+        match self {
+            Spots::Empty => *self = Spots::One(spot),
+            Spots::One(first) => {
+                let mut spots = Vec::new(alloc);
+                spots.push(*first)?;
+                spots.push(spot)?;
+                let spots = Box::new(alloc, spots)?;
+                *self = Spots::Many(spots);
+            }
+            Spots::Many(spots) => spots.as_mut().push(spot)?,
+        }
+        Ok(())
     }
 
     /// The position of a term's entry.

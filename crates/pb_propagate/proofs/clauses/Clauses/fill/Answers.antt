@@ -11,8 +11,8 @@ returns-clause-rest c =
     let xs = c.args.literals.items in
     let all = rw (c.seek.ensures, c.in_ok-put_in-2.ensures.watches, c.in_ok-put_in.ensures.watches, c.as_slice.ensures.value, begun-is c.new.result c.new.ensures) at c.write.ensures in
     let same : c.write.new.self.watches ≡ c.put_in-2.new.blocks.watches = rw (c.write.ensures, c.seek.ensures) refl in
-    rest-fill c.requires.rest c.requires.slot c.put_in.new.lists _ _ c.requires.empty c.requires.pair
+    rw c.reuse.ensures (rest-fill c.requires.rest c.requires.slot c.put_in.new.lists _ _ c.requires.empty c.requires.pair
     (get_or_read xs c.args.pair.first c.index-first.result.now c.requires.pair.first c.index-first.ensures 0)
     (get_or_read xs c.args.pair.second c.index-second.result.now c.requires.pair.second c.index-second.ensures 0)
     c.requires.inside (ap (λ (b : Contents). b.literals) all) (ap (λ (b : Contents). b.searches) all) (c.in_ok-put_in-2.ensures.sizes ∙ c.in_ok-put_in.ensures.sizes)
-    (ap (λ (b : Contents). b.watches) all) (rw same c.in_ok-put_in-2.ensures.linked) c.in_ok-put_in.ensures.more c.in_ok-put_in-2.ensures.more
+    (ap (λ (b : Contents). b.watches) all) (rw same c.in_ok-put_in-2.ensures.linked) c.in_ok-put_in.ensures.more c.in_ok-put_in-2.ensures.more)

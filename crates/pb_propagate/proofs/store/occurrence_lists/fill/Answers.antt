@@ -13,6 +13,6 @@ pub returns-clause-sound : goal.returns-clause-sound
 returns-clause-sound c =
     let store = c.args.store.now in let k = c.in_ok-kept.kept in
     let inside = kept-inside (stored_terms k) c.args.form.terms store.variables c.in_ok-kept.ensures.is.terms c.requires.inside in
-    filled-stored store.stored.items k store.spots.items c.in_ok-positions.positions store.occurrences.items c.link.new.lists.items store.variables c.args.slot
+    filled-stored store.stored.items k store.spots.items c.link.new.spots store.occurrences.items c.link.new.lists.items store.variables c.args.slot
     c.requires.slot c.requires.empty c.in_ok-link.ensures.sizes
-    (ap length c.in_ok-positions.ensures ∙ c.in_ok-link.ensures.count) inside (rw (← c.in_ok-positions.ensures) at c.in_ok-link.ensures.linked) c.requires.sound
+    c.in_ok-link.ensures.count inside c.in_ok-link.ensures.linked c.requires.sound

@@ -1,6 +1,7 @@
 use Rattle.pb_propagate.proofs.{Common.stored_terms, Common.Occurrence, lemmas.engine.Runs.lists-at}
 use Rattle.pb_propagate.proofs.Common.{set, ◌++◌, lists_of, ◌<◌, ◌∙◌, ◌∷◌, ◌≡◌, [], ap, arith, get_or, length, length-append, length-set, Term, place}
 use Rattle.pb_propagate.proofs.lemmas.store.Links.{longer-push, pushed-lists, IsTerm, link-by}
+use Rattle.pb_propagate.specs.engine.engine.Spots.{spots_in}
 use Rattle.pb_propagate.proofs.store.occurrence_lists.link.Goals as goal
 
 pub place_of-place-requires : goal.place_of-place-requires
@@ -28,11 +29,11 @@ terms-preserved c =
     record {
       sizes = length-set occ p c.append.new.list ∙ c.terms.invariant.sizes;
       longer = λ q. omega (arith, c.terms.invariant.longer q, longer-push occ (set occ p c.append.new.list) p o room pushed q);
-      count = omega (arith, ap length c.in_ok-push.ensures.items, length-append c.terms.spots.items (c.len-spot.result ∷ []), c.terms.invariant.count);
+      count = omega (arith, ap length c.in_ok-add.ensures, length-append (spots_in c.terms.spots) (c.len-spot.result ∷ []), c.terms.invariant.count);
       linked = λ base rows inside same wide old.
           let x : IsTerm base c.args.form c.terms.i t = record { inside = inside; within = omega (arith, within, ap length same); is = rw same (c.term-term.ensures t) } in
-          link-by x rows occ _ c.terms.spots.items c.push.new.self.items wide (omega (arith, room, at)) (rw (← at) pushed)
-          (c.in_ok-push.ensures.items ∙ ap (λ n. c.terms.spots.items ++ (n ∷ [])) spot) c.terms.invariant.count (c.terms.invariant.linked base rows inside same wide old);
+          link-by x rows occ _ (spots_in c.terms.spots) (spots_in c.add.new.self) wide (omega (arith, room, at)) (rw (← at) pushed)
+          (c.in_ok-add.ensures ∙ ap (λ n. spots_in c.terms.spots ++ (n ∷ [])) spot) c.terms.invariant.count (c.terms.invariant.linked base rows inside same wide old);
     }
 
 pub returns-clause-linked : goal.returns-clause-linked
