@@ -1,5 +1,7 @@
 //! Rows of a replay, statement by statement.
 
+ghost use Rattle.std.specs.Prelude.{false, ◌≡◌};
+
 use crate::broken::Broken;
 use crate::check::{inputs_of, replay_for, report_verdict};
 use crate::command::report_fault;
@@ -10,7 +12,7 @@ use crate::row::call::Call;
 use pb_proof::{ProofMachine, Statement, statement_is_value};
 use pb_replay::{Fault, Replay};
 use pb_sums::write_count;
-use pb_text::{Feeder, Place, Spanned, write_bytes};
+use pb_text::{Feeder, Machine, Place, Spanned, write_bytes};
 use pb_tool::ToolFault;
 use std::alloc::Global;
 use std::str::FromStr;
@@ -75,23 +77,35 @@ fn read_after(
     prefix: &[u8],
     lines: &[u8],
 ) -> Result<Vec<Spanned<Statement>>, Broken> {
-    let mut feeder = Feeder::new(ProofMachine::new(alloc, call.limits()?));
     let mut text = Vec::new(alloc);
     text.extend_from_slice(prefix)?;
     text.extend_from_slice(lines)?;
-    let mut statements = Vec::new(alloc);
-    let mut rest = text.as_slice();
+    let limits = call.limits()?;
+    read_each(alloc, ProofMachine::new(alloc, limits), text.as_slice())
+}
+
+/// The events of a text, up to the last one that ends in it.
+fn read_each<M: Machine + Drop>(
+    alloc: Global,
+    machine: M,
+    text: &[u8],
+) -> Result<Vec<Spanned<M::Event>>, Broken>
+    requires between { M.automaton.begun machine ≡ false }
+{
+    let mut feeder = Feeder::new(machine);
+    let mut events = Vec::new(alloc);
+    let mut rest = text;
     for _ in 0..text.len() {
         let Ok(fed) = feeder.feed(rest) else {
             return Err(Broken::Value);
         };
         rest = &rest[fed.used.min(rest.len())..];
         match fed.event {
-            Some(read) => statements.push(read)?,
+            Some(read) => events.push(read)?,
             None => break,
         }
     }
-    Ok(statements)
+    Ok(events)
 }
 
 /// The statement of each line, read by itself, so that the lines may be in any order.

@@ -1,12 +1,14 @@
 //! The visits of a proof's propagation, for a benchmark. This is not a row.
 
+ghost use Rattle.std.specs.Prelude.{false, ◌≡◌};
+
 use crate::broken::Broken;
 use crate::check::replay_of;
 use crate::steps::step_one;
 use pb_proof::{ProofMachine, Statement};
 use pb_replay::Replay;
 use pb_sums::write_count;
-use pb_text::{Failed, Feeder, Limits, Sink, write_bytes};
+use pb_text::{Failed, Feeder, Limits, Machine, Sink, write_bytes};
 use std::alloc::Global;
 
 /// The statements that a replay was stepped through, and the visits of all `rup`s among them.
@@ -33,7 +35,19 @@ pub(crate) fn write_visits<S: Sink>(
 
 /// Steps a replay through the statements of a proof.
 fn count_visits(alloc: Global, replay: &mut Replay, proof: &[u8]) -> Result<Visits, Broken> {
-    let mut feeder = Feeder::new(ProofMachine::new(alloc, replay.limits()));
+    let machine = ProofMachine::new(alloc, replay.limits());
+    visits_of(machine, replay, proof)
+}
+
+/// Steps a replay through the statements that a machine reads.
+fn visits_of<M: Machine<Event = Statement> + Drop>(
+    machine: M,
+    replay: &mut Replay,
+    proof: &[u8],
+) -> Result<Visits, Broken>
+    requires between { M.automaton.begun machine ≡ false }
+{
+    let mut feeder = Feeder::new(machine);
     let mut visits = Visits {
         statements: 0,
         visits: 0,
@@ -42,8 +56,8 @@ fn count_visits(alloc: Global, replay: &mut Replay, proof: &[u8]) -> Result<Visi
     Ok(visits)
 }
 
-fn add_each(
-    feeder: &mut Feeder<ProofMachine>,
+fn add_each<M: Machine<Event = Statement>>(
+    feeder: &mut Feeder<M>,
     replay: &mut Replay,
     proof: &[u8],
     visits: &mut Visits,
