@@ -68,6 +68,6 @@ fn added_up(alloc: Global, raw: &[Entry]) -> Result<(Vec<Entry>, u128), AllocErr
     let (right, right_gone) = added_up(alloc, &raw[middle..])?;
     let left = Terms::wide(left);
     let right = Terms::wide(right);
-    let (both, gone) = merged(alloc, &left, &right)?;
+    let (both, gone) = merged(Vec::new(alloc), &left, &right)?;
     Ok((both, left_gone + right_gone + gone))
 }

@@ -5,7 +5,9 @@ ghost use Rattle.pb_normal.specs.meaning.Form.{IsNormal, ReadsTerm, total, each,
 ghost use Rattle.pb_normal.specs.meaning.Rules.{IsContradiction, assignment};
 
 use crate::entries::Entries;
+use crate::entry::Entry;
 use crate::fault::NormalFault;
+use crate::memory::Memory;
 use crate::terms::Terms;
 use crate::terms::choice::{Each, TrueAt, total_of};
 use crate::terms::reading::Reading;
@@ -115,12 +117,35 @@ impl Normal {
         })
     }
 
+    // The same. The terms are put into an empty list.
+    pub(crate) fn widened_in(&self, empty: Vec<Entry>) -> Result<Normal, AllocError>
+        requires { empty.items ≡ [] }
+        ensures same { IfOk result (λ r. r ≡ self.now) }
+    {
+        let mut entries = empty;
+        self.terms.append_to(&mut entries)?;
+        Ok(Normal {
+            terms: Terms::wide(entries),
+            degree: self.degree,
+        })
+    }
+
     // The same form, in as little memory as it allows. Allocates once, or shrinks the list.
     pub(crate) fn compact(self) -> Result<Normal, AllocError>
         ensures same { IfOk result (λ r. r ≡ self) }
     {
         let Normal { terms, degree } = self;
         let terms = terms.compact()?;
+        Ok(Normal { terms, degree })
+    }
+
+    // The same form, in as little memory as it allows. Allocates once, and the memory of a list of
+    // entries is used again.
+    pub(crate) fn compact_from(self, memory: &mut Memory) -> Result<Normal, AllocError>
+        ensures same { IfOk result (λ r. r ≡ self) }
+    {
+        let Normal { terms, degree } = self;
+        let terms = terms.compact_from(memory)?;
         Ok(Normal { terms, degree })
     }
 

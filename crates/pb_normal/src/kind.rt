@@ -7,6 +7,7 @@ ghost use Rattle.pb_normal.specs.meaning.Form.{IsNormal, size};
 ghost use Rattle.pb_normal.specs.meaning.Rules.{SumPasses};
 
 use crate::form::Normal;
+use crate::memory::Memory;
 use crate::merge::cancelled;
 use crate::tree::Tree;
 use std::alloc::{AllocError, Global};
@@ -30,15 +31,23 @@ impl<'a> Listing<'a> {
     }
 
     /// The form as one of its own. One that was made is not copied.
-    pub(crate) fn owned(self) -> Result<Normal, AllocError>
+    pub(crate) fn owned(self, memory: &mut Memory) -> Result<Normal, AllocError>
         ensures same { IfOk result (λ r. r ≡ listing_form self.entry) }
     {
         match self {
             Listing::Held(form) => {
-                let form = form.widened()?;
+                let form = form.widened_in(memory.list())?;
                 Ok(form)
             }
             Listing::Made(form) => Ok(form),
+        }
+    }
+
+    /// Drops the form. The memory of a list that was made is used again.
+    pub(crate) fn spend(self, memory: &mut Memory) -> Result<(), AllocError> {
+        match self {
+            Listing::Held(_) => Ok(()),
+            Listing::Made(form) => form.terms.spend(memory),
         }
     }
 }

@@ -10,7 +10,7 @@ use crate::entry::Entry;
 use crate::terms::Terms;
 use crate::terms::listed::Listed;
 use crate::terms::reading::Reading;
-use std::alloc::{AllocError, Global};
+use std::alloc::AllocError;
 
 // The sum of two terms of one variable, and how much of each cancels.
 pub(crate) fn combined(left: Entry, right: Entry) -> (Option<Entry>, u128)
@@ -46,12 +46,14 @@ fn with_coefficient(term: Entry, coefficient: u128) -> Entry
     }
 }
 
-// The sum of two lists whose variables rise, and how much of each list cancels.
+// The sum of two lists whose variables rise, and how much of each list cancels. It is put into an
+// empty list.
 pub(crate) fn merged(
-    alloc: Global,
+    empty: Vec<Entry>,
     left: &Terms,
     right: &Terms,
 ) -> Result<(Vec<Entry>, u128), AllocError>
+    requires empty { empty.items ≡ [] }
     requires left_rising { IsRising 0 left.now }
     requires right_rising { IsRising 0 right.now }
     requires left_size { total each left.now < 2 ^ 127 }
@@ -60,18 +62,19 @@ pub(crate) fn merged(
     ensures adds { IfOk result (λ r. Adds left.now right.now r.0.items r.1) }
 {
     match left.reading() {
-        Reading::Codes(codes) => merged_with(alloc, &codes, right),
-        Reading::Narrow(terms) => merged_with(alloc, &terms, right),
-        Reading::Wide(terms) => merged_with(alloc, &terms, right),
+        Reading::Codes(codes) => merged_with(empty, &codes, right),
+        Reading::Narrow(terms) => merged_with(empty, &terms, right),
+        Reading::Wide(terms) => merged_with(empty, &terms, right),
     }
 }
 
 // The same where it is known how the left list is stored.
 fn merged_with<L: Listed>(
-    alloc: Global,
+    empty: Vec<Entry>,
     left: &L,
     right: &Terms,
 ) -> Result<(Vec<Entry>, u128), AllocError>
+    requires empty { empty.items ≡ [] }
     requires left_rising { IsRising 0 (L.entries left.now) }
     requires right_rising { IsRising 0 right.now }
     requires left_size { total each (L.entries left.now) < 2 ^ 127 }
@@ -80,18 +83,19 @@ fn merged_with<L: Listed>(
     ensures adds { IfOk result (λ r. Adds (L.entries left.now) right.now r.0.items r.1) }
 {
     match right.reading() {
-        Reading::Codes(codes) => merged_lists(alloc, left, &codes),
-        Reading::Narrow(terms) => merged_lists(alloc, left, &terms),
-        Reading::Wide(terms) => merged_lists(alloc, left, &terms),
+        Reading::Codes(codes) => merged_lists(empty, left, &codes),
+        Reading::Narrow(terms) => merged_lists(empty, left, &terms),
+        Reading::Wide(terms) => merged_lists(empty, left, &terms),
     }
 }
 
 // The same where it is known how both lists are stored.
 fn merged_lists<L: Listed, R: Listed>(
-    alloc: Global,
+    empty: Vec<Entry>,
     left: &L,
     right: &R,
 ) -> Result<(Vec<Entry>, u128), AllocError>
+    requires empty { empty.items ≡ [] }
     requires left_rising { IsRising 0 (L.entries left.now) }
     requires right_rising { IsRising 0 (R.entries right.now) }
     requires left_size { total each (L.entries left.now) < 2 ^ 127 }
@@ -100,7 +104,8 @@ fn merged_lists<L: Listed, R: Listed>(
     ensures adds { IfOk result (λ r.
         Adds (L.entries left.now) (R.entries right.now) r.0.items r.1) }
 {
-    let mut out = Vec::with_capacity(alloc, left.count().saturating_add(right.count()))?;
+    let mut out = empty;
+    out.reserve(left.count().saturating_add(right.count()))?;
     let mut cancelled = 0;
     let mut i = 0;
     let mut j = 0;

@@ -1,6 +1,6 @@
 //! The rules of cutting planes.
 
-ghost use Rattle.std.specs.Prelude.{◌≡◌, ◌*◌, ◌<◌, ◌≤◌, ◌≤ℤ◌, ◌^◌, ◌↔◌, ◌==◌, not, pos, IfOk, IfErr, IsTrue, All, map, min, nat_lt, filter, Err};
+ghost use Rattle.std.specs.Prelude.{◌≡◌, [], ◌*◌, ◌<◌, ◌≤◌, ◌≤ℤ◌, ◌^◌, ◌↔◌, ◌==◌, not, pos, IfOk, IfErr, IsTrue, All, map, min, nat_lt, filter, Err};
 ghost use Rattle.std.specs.Int.{div_ceil};
 ghost use Rattle.std.specs.Int.RustNames.{unsigned_abs};
 ghost use Rattle.pb_text.specs.meaning.Limits.{largest};
@@ -36,21 +36,21 @@ impl Normal {
             return Err(NormalFault::Overflow);
         }
         let alloc = self.terms.allocator();
-        let (terms, _) = merged(alloc, &self.terms, &other.terms)?;
+        let (terms, _) = merged(Vec::new(alloc), &self.terms, &other.terms)?;
         Ok(Normal {
             terms: Terms::wide(terms),
             degree,
         })
     }
 
-    // The sum of two forms, which is normal.
-    pub(crate) fn joined(&self, other: &Normal) -> Result<Normal, AllocError>
+    // The sum of two forms, which is normal. Its terms are put into an empty list.
+    pub(crate) fn joined(&self, other: &Normal, empty: Vec<Entry>) -> Result<Normal, AllocError>
         requires fits { SumFits self.now other.now }
+        requires empty { empty.items ≡ [] }
         ensures sum { IfOk result (λ r. IsSum self.now other.now r) }
         ensures normal { IfOk result (λ r. IsNormal r) }
     {
-        let alloc = self.terms.allocator();
-        let (terms, gone) = merged(alloc, &self.terms, &other.terms)?;
+        let (terms, gone) = merged(empty, &self.terms, &other.terms)?;
         let degree = (self.degree + other.degree).saturating_sub(gone);
         Ok(Normal {
             terms: Terms::wide(terms),
@@ -75,7 +75,7 @@ impl Normal {
         if size_of(&self.terms) > most || self.degree > most {
             return Err(NormalFault::Overflow);
         }
-        let terms = multiplied_terms(self.terms.allocator(), &self.terms, k)?;
+        let terms = multiplied_terms(Vec::new(self.terms.allocator()), &self.terms, k)?;
         let degree = self.degree * k;
         Ok(Normal {
             terms: Terms::wide(terms),
@@ -83,13 +83,15 @@ impl Normal {
         })
     }
 
-    // The form with all coefficients and the degree multiplied, which is normal.
+    // The form with all coefficients and the degree multiplied, which is normal. Its terms are put
+    // into an empty list.
     #[tactic(auto, using(crate::proofs::Rulesets::scaled))]
-    pub(crate) fn scaled(&self, k: u128) -> Result<Normal, AllocError>
+    pub(crate) fn scaled(&self, k: u128, empty: Vec<Entry>) -> Result<Normal, AllocError>
         requires fits { IsNormal (multiplied k self.now) }
+        requires empty { empty.items ≡ [] }
         ensures product { IfOk result (λ r. r ≡ multiplied k self.now) }
     {
-        let terms = multiplied_terms(self.terms.allocator(), &self.terms, k)?;
+        let terms = multiplied_terms(empty, &self.terms, k)?;
         let degree = self.degree * k;
         Ok(Normal {
             terms: Terms::wide(terms),
@@ -162,7 +164,17 @@ impl Normal {
         ensures sound { IfOk result (λ r. Follows self.now r) }
         ensures memory { IfErr result (λ e. e ≡ NormalFault.Memory) }
     {
-        let terms = terms_without(self.terms.allocator(), &self.terms, variable)?;
+        let weakening = self.weakened(variable, Vec::new(self.terms.allocator()))?;
+        Ok(weakening)
+    }
+
+    // The same. The terms are put into an empty list.
+    pub(crate) fn weakened(&self, variable: usize, empty: Vec<Entry>) -> Result<Normal, AllocError>
+        requires empty { empty.items ≡ [] }
+        ensures weakened { IfOk result (λ r. r ≡ weakened variable self.now) }
+        ensures normal { IfOk result (λ r. IsNormal r) }
+    {
+        let terms = terms_without(empty, &self.terms, variable)?;
         let dropped = total_of(&self.terms, &OnVariable { variable });
         let degree = self.degree.saturating_sub(dropped);
         Ok(Normal {
@@ -224,24 +236,31 @@ fn measures_of_sum(left: &Normal, right: &Normal) -> (u128, u128)
 // The functions below choose once how terms are read. Each list has room for all terms from the
 // start.
 
-fn multiplied_terms(alloc: Global, terms: &Terms, k: u128) -> Result<Vec<Entry>, AllocError>
-    requires { All (λ t. t.coefficient * k < 2 ^ 128) terms.now }
+fn multiplied_terms(empty: Vec<Entry>, terms: &Terms, k: u128) -> Result<Vec<Entry>, AllocError>
+    requires empty { empty.items ≡ [] }
+    requires fits { All (λ t. t.coefficient * k < 2 ^ 128) terms.now }
     ensures { IfOk result (λ v.
         v.items ≡ map (λ t. with_coefficient t (t.coefficient * k)) terms.now) }
 {
     match terms.reading() {
-        Reading::Codes(codes) => multiplied_list(alloc, &codes, k),
-        Reading::Narrow(terms) => multiplied_list(alloc, &terms, k),
-        Reading::Wide(terms) => multiplied_list(alloc, &terms, k),
+        Reading::Codes(codes) => multiplied_list(empty, &codes, k),
+        Reading::Narrow(terms) => multiplied_list(empty, &terms, k),
+        Reading::Wide(terms) => multiplied_list(empty, &terms, k),
     }
 }
 
-fn multiplied_list<L: Listed>(alloc: Global, terms: &L, k: u128) -> Result<Vec<Entry>, AllocError>
-    requires { All (λ t. t.coefficient * k < 2 ^ 128) (L.entries terms.now) }
+fn multiplied_list<L: Listed>(
+    empty: Vec<Entry>,
+    terms: &L,
+    k: u128,
+) -> Result<Vec<Entry>, AllocError>
+    requires empty { empty.items ≡ [] }
+    requires fits { All (λ t. t.coefficient * k < 2 ^ 128) (L.entries terms.now) }
     ensures { IfOk result (λ v.
         v.items ≡ map (λ t. with_coefficient t (t.coefficient * k)) (L.entries terms.now)) }
 {
-    let mut out = Vec::with_capacity(alloc, terms.count())?;
+    let mut out = empty;
+    out.reserve(terms.count())?;
     'terms: for i in 0..terms.count() {
         let t = terms.at(i);
         out.push(Entry {
@@ -325,25 +344,32 @@ fn opposite_list<L: Listed>(alloc: Global, terms: &L) -> Result<Vec<Entry>, Allo
     Ok(out)
 }
 
-fn terms_without(alloc: Global, terms: &Terms, variable: usize) -> Result<Vec<Entry>, AllocError>
+fn terms_without(
+    empty: Vec<Entry>,
+    terms: &Terms,
+    variable: usize,
+) -> Result<Vec<Entry>, AllocError>
+    requires { empty.items ≡ [] }
     ensures { IfOk result (λ v. v.items ≡ filter (λ t. not (t.variable == variable)) terms.now) }
 {
     match terms.reading() {
-        Reading::Codes(codes) => list_without(alloc, &codes, variable),
-        Reading::Narrow(terms) => list_without(alloc, &terms, variable),
-        Reading::Wide(terms) => list_without(alloc, &terms, variable),
+        Reading::Codes(codes) => list_without(empty, &codes, variable),
+        Reading::Narrow(terms) => list_without(empty, &terms, variable),
+        Reading::Wide(terms) => list_without(empty, &terms, variable),
     }
 }
 
 fn list_without<L: Listed>(
-    alloc: Global,
+    empty: Vec<Entry>,
     terms: &L,
     variable: usize,
 ) -> Result<Vec<Entry>, AllocError>
+    requires { empty.items ≡ [] }
     ensures { IfOk result (λ v.
         v.items ≡ filter (λ t. not (t.variable == variable)) (L.entries terms.now)) }
 {
-    let mut out = Vec::with_capacity(alloc, terms.count())?;
+    let mut out = empty;
+    out.reserve(terms.count())?;
     'terms: for i in 0..terms.count() {
         let t = terms.at(i);
         if t.variable != variable {

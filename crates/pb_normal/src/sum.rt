@@ -10,6 +10,7 @@ ghost use Rattle.pb_normal.specs.meaning.Rules.{IsSum, Passes, SumPasses, multip
 use crate::fault::NormalFault;
 use crate::form::Normal;
 use crate::kind::{Kind, Listing};
+use crate::memory::Memory;
 use pb_text::Limits;
 use std::alloc::{AllocError, Global};
 use std::marker::Model;
@@ -69,14 +70,14 @@ impl<'a> Sum<'a> {
     }
 
     /// The form.
-    pub fn into_normal(self, alloc: Global) -> Result<Normal, NormalFault>
+    pub fn into_normal(self, memory: &mut Memory) -> Result<Normal, NormalFault>
         ensures same { IfOk result (λ r. r ≡ self.entry) }
         ensures memory { IfErr result (λ e. e ≡ NormalFault.Memory) }
     {
-        match self.kind.listing(alloc)? {
+        match self.kind.listing(memory.allocator())? {
             Listing::Held(form) => form.copy(),
             Listing::Made(form) => {
-                let form = form.compact()?;
+                let form = form.compact_from(memory)?;
                 Ok(form)
             }
         }
@@ -85,20 +86,30 @@ impl<'a> Sum<'a> {
     /// The sum of both. `Overflow` comes if and only if the sum of its coefficients or its degree
     /// exceeds the limit.
     #[tactic(auto, using(crate::proofs::Rulesets::steps))]
-    pub fn add(self, alloc: Global, other: Sum<'a>, limits: Limits) -> Result<Sum<'a>, NormalFault>
+    pub fn add(
+        self,
+        memory: &mut Memory,
+        other: Sum<'a>,
+        limits: Limits,
+    ) -> Result<Sum<'a>, NormalFault>
         ensures sum { IfOk result (λ r. IsSum self.entry other.entry r) }
         ensures within { IfOk result (λ r. IsWithin (largest limits) r) }
         ensures overflow { (result ≡ Err NormalFault.Overflow) ↔ SumPasses
             (largest limits) self.entry other.entry }
     {
         if self.len() < other.len() {
-            return other.take(alloc, self, limits);
+            return other.take(memory, self, limits);
         }
-        self.take(alloc, other, limits)
+        self.take(memory, other, limits)
     }
 
     // The sum with a form that has as many terms, or fewer.
-    fn take(self, alloc: Global, other: Sum<'a>, limits: Limits) -> Result<Sum<'a>, NormalFault>
+    fn take(
+        self,
+        memory: &mut Memory,
+        other: Sum<'a>,
+        limits: Limits,
+    ) -> Result<Sum<'a>, NormalFault>
         ensures sum { IfOk result (λ r. IsSum self.entry other.entry r) }
         ensures within { IfOk result (λ r. IsWithin (largest limits) r) }
         ensures overflow { (result ≡ Err NormalFault.Overflow) ↔ SumPasses
@@ -107,27 +118,31 @@ impl<'a> Sum<'a> {
         if self.kind.sum_exceeds(&other.kind, limits.largest()) {
             return Err(NormalFault::Overflow);
         }
-        let sum = self.joined(alloc, other)?;
+        let sum = self.joined(memory, other)?;
         Ok(sum)
     }
 
     // The sum with a form that has as many terms, or fewer. It is normal.
-    fn joined(self, alloc: Global, other: Sum<'a>) -> Result<Sum<'a>, AllocError>
+    fn joined(self, memory: &mut Memory, other: Sum<'a>) -> Result<Sum<'a>, AllocError>
         requires fits { SumFits self other }
         ensures sum { IfOk result (λ r. IsSum self.entry other.entry r) }
     {
         let small = self.len() >= MANY && other.len() <= self.len() / 8;
+        let alloc = memory.allocator();
         let other = other.kind.listing(alloc)?;
         let changes = counted(small, self.changes);
         if changes > LISTED {
             let tree = self.kind.tree(alloc)?.joined(other.form())?;
+            other.spend(memory)?;
             return Ok(Sum {
                 kind: Kind::Tree(tree),
                 changes,
             });
         }
         let listing = self.kind.listing(alloc)?;
-        let sum = listing.form().joined(other.form())?;
+        let sum = listing.form().joined(other.form(), memory.list())?;
+        listing.spend(memory)?;
+        other.spend(memory)?;
         Ok(Sum {
             kind: Kind::Listing(Listing::Made(sum)),
             changes,
@@ -139,7 +154,7 @@ impl<'a> Sum<'a> {
     #[tactic(auto, using(crate::proofs::Rulesets::multiply))]
     pub fn multiply(
         self,
-        alloc: Global,
+        memory: &mut Memory,
         factor: i128,
         limits: Limits,
     ) -> Result<Sum<'a>, NormalFault>
@@ -154,22 +169,23 @@ impl<'a> Sum<'a> {
         if self.kind.size() > most || self.kind.degree() > most {
             return Err(NormalFault::Overflow);
         }
-        let product = self.scaled(alloc, k)?;
+        let product = self.scaled(memory, k)?;
         Ok(product)
     }
 
     // All coefficients and the degree multiplied; the result is normal. A factor of 1 is a small
     // change.
     #[tactic(auto, using(crate::proofs::Rulesets::steps))]
-    fn scaled(self, alloc: Global, k: u128) -> Result<Sum<'a>, AllocError>
+    fn scaled(self, memory: &mut Memory, k: u128) -> Result<Sum<'a>, AllocError>
         requires fits { IsNormal (multiplied k self) }
         ensures product { IfOk result (λ r. r ≡ multiplied k self.entry) }
     {
         if is_one(k) {
-            return self.unchanged(alloc);
+            return self.unchanged(memory.allocator());
         }
-        let listing = self.kind.listing(alloc)?;
-        let product = listing.form().scaled(k)?;
+        let listing = self.kind.listing(memory.allocator())?;
+        let product = listing.form().scaled(k, memory.list())?;
+        listing.spend(memory)?;
         Ok(Sum::made(product))
     }
 
@@ -188,7 +204,7 @@ impl<'a> Sum<'a> {
 
     /// All coefficients and the degree divided and rounded up. A divisor of 1 costs nothing.
     #[tactic(auto, using(crate::proofs::Rulesets::steps))]
-    pub fn divide(self, alloc: Global, divisor: i128) -> Result<Sum<'a>, NormalFault>
+    pub fn divide(self, memory: &mut Memory, divisor: i128) -> Result<Sum<'a>, NormalFault>
         requires { pos 1 ≤ℤ divisor }
         ensures quotient { IfOk result (λ r. r ≡ divided (unsigned_abs divisor) self.entry) }
         ensures memory { IfErr result (λ e. e ≡ NormalFault.Memory) }
@@ -197,36 +213,37 @@ impl<'a> Sum<'a> {
         if is_one(k) {
             return Ok(self);
         }
-        let form = self.kind.listing(alloc)?.owned()?;
+        let form = self.kind.listing(memory.allocator())?.owned(memory)?;
         let quotient = form.divided(k)?;
         Ok(Sum::made(quotient))
     }
 
     /// Every coefficient reduced to at most the degree.
-    pub fn saturate(self, alloc: Global) -> Result<Sum<'a>, NormalFault>
+    pub fn saturate(self, memory: &mut Memory) -> Result<Sum<'a>, NormalFault>
         ensures saturated { IfOk result (λ r. r ≡ saturated self.entry) }
         ensures memory { IfErr result (λ e. e ≡ NormalFault.Memory) }
     {
-        let form = self.kind.listing(alloc)?.owned()?;
+        let form = self.kind.listing(memory.allocator())?.owned(memory)?;
         let saturation = form.saturated()?;
         Ok(Sum::made(saturation))
     }
 
     /// Without the term on a variable, whose coefficient is subtracted from the degree.
-    pub fn weaken(self, alloc: Global, variable: usize) -> Result<Sum<'a>, NormalFault>
+    pub fn weaken(self, memory: &mut Memory, variable: usize) -> Result<Sum<'a>, NormalFault>
         ensures weakened { IfOk result (λ r. r ≡ weakened variable self.entry) }
         ensures memory { IfErr result (λ e. e ≡ NormalFault.Memory) }
     {
         let changes = counted(true, self.changes);
         if changes > LISTED && self.len() >= MANY {
-            let tree = self.kind.tree(alloc)?;
+            let tree = self.kind.tree(memory.allocator())?;
             return Ok(Sum {
                 kind: Kind::Tree(tree.weaken(variable)),
                 changes,
             });
         }
-        let listing = self.kind.listing(alloc)?;
-        let weakening = listing.form().weaken(variable)?;
+        let listing = self.kind.listing(memory.allocator())?;
+        let weakening = listing.form().weakened(variable, memory.list())?;
+        listing.spend(memory)?;
         Ok(Sum {
             kind: Kind::Listing(Listing::Made(weakening)),
             changes,

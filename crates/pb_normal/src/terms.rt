@@ -7,13 +7,14 @@ pub(crate) mod few_codes;
 pub(crate) mod listed;
 pub(crate) mod reading;
 
-ghost use Rattle.std.specs.Prelude.{◌≡◌, ◌<◌, true, false, IfOk, length, get_or};
+ghost use Rattle.std.specs.Prelude.{◌≡◌, ◌<◌, ◌++◌, true, false, IfOk, length, get_or};
 ghost use Rattle.pb_normal.specs.engine.Compact.{entries_of};
 ghost use Rattle.pb_normal.specs.engine.Reading.{read_entries};
 
 use crate::entries::Entries;
 use crate::entry::Entry;
-use crate::terms::code::{can_store_all, coded_all, decoded_all};
+use crate::memory::Memory;
+use crate::terms::code::{append_decoded, can_store_all, coded_all, decoded_all};
 use crate::terms::coded_term::CodedTerm;
 use crate::terms::few_codes::{FEW, FewCodes};
 use crate::terms::reading::{Reading, copied};
@@ -168,6 +169,42 @@ impl Terms {
             }
         }
         true
+    }
+
+    /// Appends the terms to a list.
+    pub(crate) fn append_to(&self, out: &mut Vec<Entry>) -> Result<(), AllocError>
+        ensures { IfOk result (λ _. out.new.items ≡ out.old.items ++ self.now) }
+    {
+        out.reserve(self.len())?;
+        match self.reading() {
+            Reading::Codes(codes) => append_decoded(codes, out),
+            Reading::Narrow(terms) => append_decoded(terms, out),
+            Reading::Wide(terms) => out.extend_from_slice(terms),
+        }
+    }
+
+    /// Drops the terms. The memory of a list of entries is used again.
+    pub(crate) fn spend(self, memory: &mut Memory) -> Result<(), AllocError> {
+        match self.stored {
+            Stored::Wide(terms) => memory.keep(terms),
+            _ => Ok(()),
+        }
+    }
+
+    /// The same terms. A list of entries is stored in as little memory as they allow, and its own
+    /// memory is used again: it allocates once.
+    pub(crate) fn compact_from(self, memory: &mut Memory) -> Result<Terms, AllocError>
+        ensures same { IfOk result (λ r. r ≡ self) }
+    {
+        let stored = match self.stored {
+            Stored::Wide(terms) => {
+                let stored = stored_of(*terms.allocator(), terms.as_slice())?;
+                memory.keep(terms)?;
+                stored
+            }
+            stored => stored,
+        };
+        Ok(Terms { stored })
     }
 
     /// The same terms. A list of entries is stored in as little memory as they allow: it allocates

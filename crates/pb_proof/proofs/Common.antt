@@ -46,37 +46,21 @@ pub use Rattle.pb_proof.specs.contract.ValueLaws.{BeginProof, CanonicalProof, On
 pub use Rattle.pb_proof.specs.contract.Values.{AreLiterals, IfGiven, IsBound, IsConclusion, IsFactor, IsId, IsProofValue, IsStatementValue, IsWord}
 pub use Rattle.pb_proof.specs.declared.{conclusion.Bound.Bound, proof.Proof.Proof, conclusion.Bound.TheVariants.Finite, conclusion.Bound.TheVariants.Infinite}
 pub use Rattle.pb_proof.specs.declared.conclusion.Conclusion.{Conclusion, TheVariants.Bounds, TheVariants.NoClaim, TheVariants.Sat, TheVariants.Unsat}
-pub use Rattle.pb_proof.specs.declared.line.{LineMachine.LineMachine, conclusion.phase.Word.Word, delete.phase.DeleteAction.DeleteAction}
-pub use Rattle.pb_proof.specs.declared.line.byte_kind.{NameByte.NameByte, NumberByte.NumberByte, NumberByte.TheVariants.Digit, NumberByte.TheVariants.Semicolon}
-pub use Rattle.pb_proof.specs.declared.line.{rup.phase.RupAction.RupAction, rup.phase.RupAction.TheVariants.Give, solution.phase.SolutionAction.SolutionAction}
+pub use Rattle.pb_proof.specs.declared.line.{LineMachine.LineMachine}
+pub use Rattle.pb_proof.specs.declared.line.{rup.phase.RupAction.RupAction, rup.phase.RupAction.TheVariants.Give}
 pub use Rattle.pb_proof.specs.declared.line.rup.phase.RupPhase.{RupPhase, TheVariants.Inside, TheVariants.Tail}
-pub use Rattle.pb_proof.specs.declared.line.delete.phase.DeletePhase.{DeletePhase, TheVariants.Between, TheVariants.Done, TheVariants.Gap, TheVariants.Minus}
-pub use Rattle.pb_proof.specs.declared.line.conclusion.phase.Action.{TheVariants.Finish, TheVariants.Stop, TheVariants.To, Action as ConclusionAction}
-pub use Rattle.pb_proof.specs.declared.line.conclusion.phase.{Concluding.Concluding, Owner.Owner, Showing.Showing, Side.Side, Phase.Phase as ConclusionPhase}
-pub use Rattle.pb_proof.specs.declared.line.formula.phase.{FormulaPhase.FormulaPhase, FormulaPhase.TheVariants.Start, FormulaAction.FormulaAction}
-pub use Rattle.pb_proof.specs.declared.line.pol.phase.{Action.Action, Change.Change, Held.Held, Kind.Kind, Phase.Phase, Role.Role}
-pub use Rattle.pb_proof.specs.declared.line.solution.phase.SolutionPhase.{SolutionPhase, TheVariants.First, TheVariants.More, TheVariants.Negation}
+pub use Rattle.pb_proof.specs.declared.line.{pol.held.Held.Held, words.word.Sign.Sign as WordSign, words.word.Word.Word as LineWord, words.part.Part.Part as WordPart}
 pub use Rattle.pb_proof.specs.declared.machine.phase.{Keyword.Keyword, LineKind.LineKind, Stage.Stage, Action.Action as ProofAction, Phase.Phase as ProofPhase}
 pub use Rattle.pb_proof.specs.declared.machine.phase.Stage.TheVariants.{Closing, Complete, Formula, Opening, Steps}
 pub use Rattle.pb_proof.specs.declared.statement.Statement.TheVariants.{Conclude, Delete, F, Header, Output, Pol, Rup, Soli, Solx}
 pub use Rattle.pb_proof.specs.declared.word.PolWord.TheVariants.{Add, Axiom, Divide, Id, Multiply, Saturate, Weaken}
-pub use Rattle.pb_proof.specs.engine.line.{ByteKind.name_byte, ByteKind.number_byte, Pol.act as pol_act, Pol.next as pol_next, Pol.signed as pol_signed}
-pub use Rattle.pb_proof.specs.engine.line.Conclusion.{colon, after_bound, after_id, begin_bound, between, digits, first_word, id_digits, is_within, PhaseFits}
-pub use Rattle.pb_proof.specs.engine.line.{Ended.ended_lines, Solution.solution_first, Solution.solution_last, Solution.SolutionState, Solution.SpellsJoined}
-pub use Rattle.pb_proof.specs.engine.line.Delete.{begins_id, delete_at, step, before, keeps, delete_automaton, delete_first, delete_last, DeleteState}
+pub use Rattle.pb_proof.specs.engine.line.{Ended.ended_lines, Solution.solution_first, Solution.solution_last, Solution.solution_automaton, Literals.literal}
+pub use Rattle.pb_proof.specs.engine.line.Delete.{delete_automaton, delete_first, delete_last}
 pub use Rattle.pb_proof.specs.engine.line.Machine.{IsCarried, line_automaton, line_first, SpellsRest, IsEnded}
-pub use Rattle.pb_proof.specs.engine.line.Solution.{solution_at, flushed, is_more, literal, adds, is_begun, IsSolutionInOrder, solution_automaton}
-pub use Rattle.pb_proof.specs.engine.line.Pol.{feed, late, read, star, Work, work, blank, bound, changed, close, counted, is_done, kind_of, letter, number}
-pub use Rattle.pb_proof.specs.engine.line.Conclusion.{word_of, phase_after_bound, phase_after_word, next_action as conclusion_next}
-pub use Rattle.pb_proof.specs.engine.line.{Conclusion.transition as conclusion_transition, Conclusion.spell, PolState.ready, PolState.word_units}
-pub use Rattle.pb_proof.specs.engine.line.PolState.{units, over, all_units, in_hand, IsPolInOrder, pol_automaton, pol_first, pol_last, pol_with, PolState}
-pub use Rattle.pb_proof.specs.engine.line.ConclusionState.{asks, conclusion_at, is_in_number, kept, showing_value, conclusion_automaton}
-pub use Rattle.pb_proof.specs.engine.line.ConclusionState.{giving as conclusion_giving, over as conclusion_over, act as conclusion_act, conclusion_first}
-pub use Rattle.pb_proof.specs.engine.line.ConclusionState.{conclusion_last, conclusion_value, ConclusionState, IsConclusionInOrder, spent}
-pub use Rattle.pb_proof.specs.engine.line.Formula.{ActionFits, formula_automaton, formula_last, formula_first, FormulaState, IsFormulaInOrder}
-pub use Rattle.pb_proof.specs.engine.line.Delete.{IsDeleteInOrder, transition as delete_transition}
-pub use Rattle.pb_proof.specs.engine.line.Pol.{Outcome, role_of, symbol, turned, wants, close_lone, finished, held_name, is_midway, may_be_name, next_large}
-pub use Rattle.pb_proof.specs.engine.line.Pol.{next_word, semicolon, transition, with_last, close_number, held_number, is_letter_kind, is_name_kind}
+pub use Rattle.pb_proof.specs.engine.line.Pol.{PolState, pol_at, pol_grammar, pol_automaton, pol_first, pol_last, bound, held_number, held_name, is_free, turns, turned, with_last}
+pub use Rattle.pb_proof.specs.engine.line.Pol.{with_operand, with_number, with_mark, with_pol_word, sums as is_sum, saturates, word_units, units, adds_word}
+pub use Rattle.pb_proof.specs.engine.line.Conclusion.{conclusion_automaton, conclusion_first, conclusion_last}
+pub use Rattle.pb_proof.specs.engine.line.Formula.{formula_automaton, formula_last, formula_first}
 pub use Rattle.pb_proof.specs.engine.line.Rup.{IsRupInOrder, linear_of, rup_automaton, rup_finish, rup_first, rup_in_number, rup_midway, rup_transition}
 pub use Rattle.pb_proof.specs.engine.line.Rup.{rup_act, rup_asks, rup_done, rup_last, rup_over, RupHolds, RupState, sum_first, sum_last}
 pub use Rattle.pb_proof.specs.engine.machine.State.{act, asked, at, begin, HasGaps, Holds, idle, IsInOrder, proofs, ProofState, step_line, giving, is_complete}
@@ -92,4 +76,4 @@ pub use Rattle.pb_proof.specs.meaning.Lines.{del_word, end_word, Feed, inf_word,
 pub use Rattle.pb_proof.specs.meaning.Lines.{f_word, Factor, id_word, IdShown, LineEnd, Listed, rup_word, sat_word, SpellsId, two_word}
 pub use Rattle.pb_proof.specs.meaning.Postfix.{Constraint, IsPostfix, LiteralAxiom, Product, Quotient, Saturation, Sum, Tree, Weakening, words}
 pub use Rattle.pb_proof.specs.meaning.Proofs.{AreSpelled, BeginsAtOnce, IsGap, IsProof, IsProofOf, IsStep, statements_of}
-pub use Rattle.pb_proof.specs.engine.line.PolWhole.{IsExpression, IsClosing, IsFree, EndsAs, AreWords, standing, no_words}
+pub use Rattle.pb_proof.specs.engine.line.PolWhole.{IsExpression, IsClosing, IsNext}

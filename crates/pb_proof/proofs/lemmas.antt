@@ -1,12 +1,15 @@
 pub mod Carried
 pub mod conclusion
+pub mod Literals
+pub mod Solution
 pub mod Formula
 pub mod line
 pub mod machine
 pub mod pol
 pub mod Spaced
 pub mod Delete
-pub mod Solution
 pub mod Rup
 pub mod Texts
 pub mod Proofs
+pub mod words
+pub mod Ids

@@ -1,8 +1,8 @@
 //! The laws of proofs and their texts.
 
 ghost use Rattle.pb_proof.specs.contract.Fields.{ProofKeeps};
-ghost use Rattle.pb_proof.specs.engine.line.ConclusionFields.{ConclusionKeeps};
-ghost use Rattle.pb_proof.specs.engine.line.Fields.{FormulaKeeps, DeleteKeeps, SolutionKeeps, RupKeeps, PolKeeps};
+ghost use Rattle.pb_proof.specs.engine.line.WordsKeep.{FormulaKeeps, DeleteKeeps, SolutionKeeps, ConclusionKeeps, PolKeeps};
+ghost use Rattle.pb_proof.specs.engine.line.Fields.{RupKeeps};
 ghost use Rattle.pb_proof.specs.contract.Formats.{ReadsProofs, OneProof, FixedSpans, PrefixFree, LargerLimits};
 
 pub mod values;

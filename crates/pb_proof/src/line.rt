@@ -1,37 +1,39 @@
 //! The line machines: they read the rest of a statement after its first word.
 
-mod byte_kind;
-pub(crate) mod classes;
 mod conclusion;
 mod delete;
 mod formula;
+mod ids;
+mod literals;
 pub(crate) mod pol;
 pub(crate) mod push;
 pub(crate) mod rup;
 mod solution;
+mod words;
 
-use crate::line::conclusion::ConclusionMachine;
-use crate::line::delete::DeleteMachine;
-use crate::line::formula::FormulaMachine;
-use crate::line::pol::PolMachine;
+use crate::line::conclusion::ConclusionWords;
+use crate::line::delete::DeleteWords;
+use crate::line::formula::FormulaWords;
+use crate::line::pol::PolWords;
 use crate::line::rup::RupMachine;
-use crate::line::solution::SolutionMachine;
+use crate::line::solution::SolutionWords;
+use crate::line::words::WordMachine;
 
 /// A line machine: it reads the rest of a statement after its first word, through the line feed.
 #[derive(Drop)]
 pub enum LineMachine {
     /// After `f`.
-    Formula(FormulaMachine),
+    Formula(WordMachine<FormulaWords>),
     /// After `pol`.
-    Pol(PolMachine),
+    Pol(WordMachine<PolWords>),
     /// After `rup`.
     Rup(RupMachine),
     /// After `soli`.
-    Soli(SolutionMachine),
+    Soli(WordMachine<SolutionWords>),
     /// After `solx`.
-    Solx(SolutionMachine),
+    Solx(WordMachine<SolutionWords>),
     /// After `del id`.
-    Delete(DeleteMachine),
+    Delete(WordMachine<DeleteWords>),
     /// After `conclusion`.
-    Conclusion(ConclusionMachine),
+    Conclusion(WordMachine<ConclusionWords>),
 }

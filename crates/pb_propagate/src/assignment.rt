@@ -1,6 +1,6 @@
 //! The list of assigned literals.
 
-ghost use Rattle.std.specs.Prelude.{◌≡◌, ℕ, ◌≤◌, ◌+◌, ◌*◌, ◌<◌, ◌⊎◌, ◌++◌, ◌∷◌, [], None, Some, not, true, false, length, take, sum_by, OnOk, OnErr, slice_index_or, slice_set};
+ghost use Rattle.std.specs.Prelude.{◌≡◌, ℕ, ◌≤◌, ◌+◌, ◌*◌, ◌<◌, ◌⊎◌, ◌++◌, ◌∷◌, [], None, Some, not, true, false, length, take, sum_by, IfOk, OnOk, OnErr, slice_index_or, slice_set};
 ghost use Rattle.pb_normal.specs.declared.numbered.NumberedLiteral.{NumberedLiteral};
 ghost use Rattle.pb_normal.specs.meaning.Rules.{negation};
 ghost use Rattle.pb_propagate.specs.engine.engine.Lists.{has, says, vacancy, KeepsReasons, IsDue};
@@ -110,6 +110,23 @@ impl Assignment {
             list: Vec::new(alloc),
             reasons: Vec::new(alloc),
         }
+    }
+
+    /// The empty list, over no variables, with memory for this many.
+    #[tactic(auto, using(crate::proofs::rulesets::Store::new))]
+    pub fn with_capacity(alloc: Global, variables: usize) -> Result<Assignment, AllocError>
+        ensures { IfOk result (λ a. (a.values.items ≡ []) × (a.list.items ≡ [])) }
+    {
+        let values = Vec::with_capacity(alloc, variables)?;
+        let failed = Vec::with_capacity(alloc, variables.saturating_mul(4))?;
+        let list = Vec::with_capacity(alloc, variables)?;
+        let reasons = Vec::with_capacity(alloc, variables)?;
+        Ok(Assignment {
+            values,
+            failed,
+            list,
+            reasons,
+        })
     }
 
     /// Adds a variable.

@@ -57,6 +57,21 @@ impl Clauses {
         }
     }
 
+    /// No slots, over no variables, with memory for that many of both.
+    pub fn with_capacity(
+        alloc: Global,
+        variables: usize,
+        slots: usize,
+    ) -> Result<Clauses, AllocError>
+        ensures rest { IfOk result AreReady }
+        ensures literals { IfOk result (λ clauses. clauses.blocks.literals ≡ []) }
+        ensures lists { IfOk result (λ clauses. clauses.lists.items ≡ []) }
+    {
+        let blocks = Blocks::with_capacity(alloc, slots)?;
+        let lists = Vec::with_capacity(alloc, variables.saturating_mul(4))?;
+        Ok(Clauses { blocks, lists })
+    }
+
     /// Adds the lists of a variable's literals, in one group of clauses.
     pub fn widen(&mut self) -> Result<(), AllocError>
         requires rest { AreReady self.old }

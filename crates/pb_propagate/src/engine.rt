@@ -98,6 +98,34 @@ impl Engine {
         }
     }
 
+    /// No forms, over no variables, with memory for that many of both.
+    pub fn with_capacity(
+        alloc: Global,
+        variables: usize,
+        forms: usize,
+    ) -> Result<Engine, AllocError>
+        ensures forms { IfOk result (λ engine. engine.forms ≡ []) }
+        ensures variables { IfOk result (λ engine. engine.variables ≡ 0) }
+        ensures ready { IfOk result (λ engine. engine.spent ≡ false) }
+    {
+        let store = Store::with_capacity(alloc, variables, forms)?;
+        let clauses = Clauses::with_capacity(alloc, variables, forms)?;
+        let root = Root::with_capacity(alloc, variables, forms)?;
+        let conflict = Conflict::with_capacity(alloc, variables)?;
+        let places = Vec::with_capacity(alloc, forms)?;
+        let free = Free::with_capacity(alloc, forms)?;
+        Ok(Engine {
+            store,
+            clauses,
+            root,
+            conflict,
+            places,
+            free,
+            visits: Visits::none(),
+            spent: false,
+        })
+    }
+
     /// Adds a variable.
     pub fn widen(&mut self) -> Result<(), AllocError>
         requires ready { self.old.spent ≡ false }

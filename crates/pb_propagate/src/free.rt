@@ -2,7 +2,7 @@
 
 #![tactic(auto, using(crate::proofs::rulesets::Store::free))]
 
-ghost use Rattle.std.specs.Prelude.{◌≡◌, ℕ, ◌<◌, [], List, length, OnOk, IfSome, IfNone};
+ghost use Rattle.std.specs.Prelude.{◌≡◌, ℕ, ◌<◌, [], List, length, IfOk, OnOk, IfSome, IfNone};
 ghost use Rattle.pb_propagate.specs.engine.engine.Free.{Holds, HasPut, HasTaken, IsSizeOf};
 
 use std::alloc::{AllocError, Global};
@@ -15,6 +15,8 @@ pub struct Free {
     last: [usize; 65],
     // For each slot the one before it in its list.
     before: Vec<usize>,
+    // How many slots there are. If there are none, the lists need not be read.
+    count: usize,
 }
 
 // Which list has the slots with room for that number of literals. Long clauses have room for a
@@ -44,7 +46,20 @@ impl Free {
         Free {
             last: [usize::MAX; 65],
             before,
+            count: 0,
         }
+    }
+
+    /// No slots, with memory for this many.
+    pub fn with_capacity(alloc: Global, slots: usize) -> Result<Free, AllocError>
+        ensures { IfOk result (λ free. (size : ℕ) → Holds free size []) }
+    {
+        let before = Vec::with_capacity(alloc, slots)?;
+        Ok(Free {
+            last: [usize::MAX; 65],
+            before,
+            count: 0,
+        })
     }
 
     /// Makes room for one more slot, so that `put` loses none.
@@ -70,6 +85,7 @@ impl Free {
         }
         self.before[slot] = self.last[size];
         self.last[size] = slot;
+        self.count = self.count.saturating_add(1);
     }
 
     // Takes the last slot out of a list.
@@ -84,6 +100,7 @@ impl Free {
             return None;
         }
         self.last[size] = self.before[slot];
+        self.count = self.count.saturating_sub(1);
         Some(slot)
     }
 
@@ -113,6 +130,9 @@ impl Free {
         }
         if let Some(slot) = self.pop(0) {
             return Some(slot);
+        }
+        if self.count == 0 {
+            return None;
         }
         self.pop_from(size)
     }

@@ -1,8 +1,8 @@
 //! The state to which a question returns.
 
-ghost use Rattle.std.specs.Prelude.{◌≡◌, [], slice_index_or};
+ghost use Rattle.std.specs.Prelude.{◌≡◌, [], slice_index_or, IfOk};
 
-use std::alloc::Global;
+use std::alloc::{AllocError, Global};
 
 /// The open sum and the candidate of each form between two questions. A form that has none here
 /// returns to its total, and to its first term.
@@ -22,6 +22,16 @@ impl Rests {
             opens: Vec::new(alloc),
             starts: Vec::new(alloc),
         }
+    }
+
+    /// The same, with memory for this many forms.
+    pub fn with_capacity(alloc: Global, forms: usize) -> Result<Rests, AllocError>
+        ensures opens { IfOk result (λ rests. rests.opens.items ≡ []) }
+        ensures starts { IfOk result (λ rests. rests.starts.items ≡ []) }
+    {
+        let opens = Vec::with_capacity(alloc, forms)?;
+        let starts = Vec::with_capacity(alloc, forms)?;
+        Ok(Rests { opens, starts })
     }
 
     /// The open sum to which a form with this total returns.

@@ -12,7 +12,7 @@ pub mod sums;
 pub mod unit_form;
 pub mod units;
 
-ghost use Rattle.std.specs.Prelude.{◌≡◌, ◌≤◌, ◌+◌, ◌-◌, ◌^◌, ◌<◌, length, min, slice_index_or};
+ghost use Rattle.std.specs.Prelude.{◌≡◌, ◌≤◌, ◌+◌, ◌-◌, ◌^◌, ◌<◌, [], length, min, slice_index_or, IfOk};
 ghost use Rattle.pb_propagate.specs.declared.term.Term.{Term};
 ghost use Rattle.pb_propagate.specs.engine.engine.Stored.{stored_terms};
 ghost use Rattle.pb_propagate.specs.engine.engine.Fields.{entry_at};
@@ -21,6 +21,7 @@ use crate::engine::visits::Visits;
 use crate::store::spots::Spots;
 use crate::store::stored_form::StoredForm;
 use crate::term::Term;
+use std::alloc::{AllocError, Global};
 
 /// A form that contains a literal, and the position of its term there. The fields are private:
 /// other modules learn them only by `visit`.
@@ -45,6 +46,26 @@ pub struct Store {
     pub spots: Vec<Spots>,
     pub occurrences: Vec<Vec<Occurrence>>,
     pub variables: usize,
+}
+
+impl Store {
+    /// No forms, over no variables, with memory for that many of both.
+    pub fn with_capacity(alloc: Global, variables: usize, forms: usize) -> Result<Store, AllocError>
+        ensures stored { IfOk result (λ store. store.stored.items ≡ []) }
+        ensures spots { IfOk result (λ store. store.spots.items ≡ []) }
+        ensures occurrences { IfOk result (λ store. store.occurrences.items ≡ []) }
+        ensures variables { IfOk result (λ store. store.variables ≡ 0) }
+    {
+        let stored = Vec::with_capacity(alloc, forms)?;
+        let spots = Vec::with_capacity(alloc, forms)?;
+        let occurrences = Vec::with_capacity(alloc, variables.saturating_mul(2))?;
+        Ok(Store {
+            stored,
+            spots,
+            occurrences,
+            variables: 0,
+        })
+    }
 }
 
 /// Reads an entry of an occurrence list, and counts the visit. This is also a visit to the entry's

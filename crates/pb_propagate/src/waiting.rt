@@ -2,7 +2,7 @@
 
 #![tactic(auto, using(crate::proofs::rulesets::Store::waiting))]
 
-ghost use Rattle.std.specs.Prelude.{◌≡◌, ℕ, ◌<◌, ◌≤◌, ◌+◌, ◌++◌, ◌∷◌, [], Some, length, slice_get, swap_remove, true, false, vec_capacity, OnOk};
+ghost use Rattle.std.specs.Prelude.{◌≡◌, ℕ, ◌<◌, ◌≤◌, ◌+◌, ◌++◌, ◌∷◌, [], Some, length, slice_get, swap_remove, true, false, vec_capacity, IfOk, OnOk};
 ghost use Rattle.pb_propagate.specs.engine.engine.Counts.{IsAbsent};
 ghost use Rattle.pb_propagate.specs.engine.engine.Waiting.{IsWithout};
 
@@ -29,6 +29,16 @@ impl Waiting {
             list: Vec::new(alloc),
             positions: Vec::new(alloc),
         }
+    }
+
+    /// An empty list, over no forms, with memory for this many.
+    pub fn with_capacity(alloc: Global, forms: usize) -> Result<Waiting, AllocError>
+        ensures { IfOk result (λ waiting.
+            (waiting.list.items ≡ []) × (waiting.positions.items ≡ [])) }
+    {
+        let list = Vec::with_capacity(alloc, forms)?;
+        let positions = Vec::with_capacity(alloc, forms)?;
+        Ok(Waiting { list, positions })
     }
 
     /// Adds a form that is not on the list, and room for it there.

@@ -2,3 +2,4 @@
 pub mod Bounds
 pub mod Solutions
 pub mod Stack
+pub mod StackForms

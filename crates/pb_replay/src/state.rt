@@ -8,7 +8,7 @@ pub(crate) mod objective;
 pub(crate) mod solution;
 
 use crate::verdict::Verdict;
-use pb_normal::Names;
+use pb_normal::{Memory, Names};
 use pb_proof::Stage;
 use pb_propagate::{Engine, Shared};
 use pb_sums::Linear;
@@ -36,4 +36,6 @@ pub(crate) struct Running {
     pub(crate) concluded: Option<Verdict>,
     /// The number of visits of the last `rup`.
     pub(crate) visits: u64,
+    /// Memory for the forms of the words of `pol`.
+    pub(crate) memory: Memory,
 }

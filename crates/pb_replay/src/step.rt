@@ -16,10 +16,11 @@ mod pol;
 mod rup;
 mod shown;
 mod solution;
+mod stack;
 
 use crate::fault::Fault;
 use crate::state::Running;
-use crate::state::live::engine_of;
+use crate::state::live::make_live;
 use pb_proof::{Stage, Statement};
 
 /// The header.
@@ -57,7 +58,8 @@ fn load(running: &mut Running, count: Option<u64>) -> Result<(), Fault>
     if number > running.limits.top() {
         return Err(Fault::IdsSpent);
     }
-    running.engine = engine_of(
+    make_live(
+        &mut running.engine,
         running.alloc,
         running.loaded.as_slice(),
         running.names.len(),

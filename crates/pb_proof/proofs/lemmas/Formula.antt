@@ -1,154 +1,78 @@
--- What the count machine has read in each of its states.
-use Rattle.pb_proof.proofs.Common.{ℕ, ◌*◌, ◌++◌, ◌+◌, ◌∙◌, ◌∷◌, ◌≡◌, ◌≤◌, [], false, IsTrue, List, nat_le, None, Option, refl, Some, true, rules, leb-true, Keeps}
-use Rattle.pb_proof.proofs.Common.{On, digits-grown, digits-one, after_it, grown, next, nil_first, as_digit, Next, is_blank, ◌⋅◌, Blanks1, Empty, Language, Count}
-use Rattle.pb_proof.proofs.Common.{Letter, NumberByte, Digit, Semicolon, FormulaPhase, Start, number_byte, formula_automaton, FormulaState, LineEnd, SpellsCount}
-use Rattle.pb_proof.proofs.Common.{◌<◌, ap, arith, le-leb, Leads, leads_then, reads_after, digits_lead, TakesDigits, Go, ReadsStatement, formula_last, formula_first}
-use Rattle.pb_proof.proofs.Common.{◌↔◌, ReadsOn, is_state, IsOfOne, one_state, IsState, unmarked, ActionFits, IsFormulaInOrder, Digits as DigitsOf, FormulaAction}
-use Rattle.pb_proof.proofs.lemmas.line.Ends.{NumberMeans, number_means, number_blank, number_digit, TakesBlanks, Feeds, MayEnd, closing_feeds, blanks1_lead}
-use Rattle.pb_proof.proofs.lemmas.line.Ends.{line_reads, reads_exactly}
-use Rattle.pb_proof.specs.declared.line.formula.phase.FormulaPhase.TheVariants.{Gap, Digits, Tail, Closing, Done}
-use Rattle.pb_proof.specs.engine.line.Formula.{act, transition, digits, next_action, is_in_number, at, is_midway, is_done, PhaseFits}
-use Rattle.pb_proof.proofs.lemmas.line.Ends as ends
+-- What the machine for a number reads.
+use Rattle.pb_proof.proofs.Common.{ℕ, ◌≡◌, ◌≤◌, ◌↔◌, ◌<◌, ◌^◌, [], false, List, None, Option, refl, same_Some, Some, subst, sym, ◌⋅◌, nil_first, Blanks1, Count, Digits, Empty, Language, Letter, LineEnd}
+use Rattle.pb_proof.proofs.Common.{reads_after, ReadsStatement, IsOfOne, IsState, SpellsCount, formula_automaton, formula_first, formula_last}
+use Rattle.pb_proof.proofs.lemmas.words.{Spelling.IsSpelled, Theorems.words_first_in_order, Theorems.words_is_state, Theorems.words_of_one, Theorems.words_reads}
+use Rattle.pb_proof.proofs.lemmas.words.Walks.{ends_line, first_after, further, number_led}
+use Rattle.pb_proof.specs.declared.line.{formula.FormulaWords.FormulaWords, words.word.Sign.Sign, words.word.Word.Word}
+use Rattle.pb_proof.specs.engine.line.{FormulaLaws.formula_counted, FormulaLaws.formula_lawful, Grammar.IsNumber, Words.IsWordsInOrder, Words.WordsState, WordTexts.Lead, WordTexts.WordText}
+use Rattle.pb_proof.specs.engine.line.{Formula.AllGood, Formula.formula_grammar, Formula.formula_next, Formula.formula_words, Grammar.following}
+use Rattle.pb_proof.proofs.lemmas.words.Asks.{MayAsk, in_name, at_end, at_mark, words_asked}
+use Rattle.pb_proof.proofs.Common.{true, Walks, false≢true}
+use Rattle.std.specs.Prelude.{is_some, option_map}
 
-module _ (top : ℕ) where
-  -- what is read before the end of the line
-  abbrev body : Option ℕ → Language
-  body None = Empty
-  body (Some n) = Blanks1 ⋅ Count top n
-
-  abbrev pub prefix : FormulaPhase → Language
-  prefix Start = Empty
-  prefix Gap = Blanks1
-  prefix (Digits n) = λ t. (n ≤ top) × (Blanks1 ⋅ DigitsOf n) t
-  prefix (Tail n) = ends.Gapped (body (Some n))
-  prefix (Closing count) = ends.Closing (body count)
-  prefix Done = λ t. ⊥
-
-abbrev pub Prefix : FormulaState → Language
-Prefix s = prefix s.top s.phase
-
-abbrev pub Whole : ℕ → Option ℕ → FormulaState → Language
-Whole limit e s = SpellsCount limit s.top e
+-- nothing, or a number with blanks before it
+abbrev Text : ℕ → Option ℕ → Language
+Text top None = Empty
+Text top (Some n) = Blanks1 ⋅ Count top n
 
 module _ (limit top : ℕ) where
-  abbrev OnNext : Next FormulaState (Option ℕ) → Letter → Language
-  OnNext = On formula_automaton Prefix (Whole limit)
+  abbrev After : FormulaWords → Language
+  After s = Text top s.count
 
-  whole : (count : Option ℕ) (q : List Letter) → (body top count ⋅ LineEnd) q → SpellsCount limit top count q
-  whole count q h = grind (arith, nil_first)
+  worded : (count : Option ℕ) (k : FormulaWords) (w : Word) (name : List ℕ) (p : List Letter) → IsNumber (formula_grammar limit top) (formula_words count) (Some w)
+      → (formula_grammar limit top).next (formula_words count) w name ≡ Some k → (Text top count ⋅ Lead false ⋅ WordText w name) p → After k p
+  worded None k (Word.Number Sign.Nothing n) name p (most, f, l) e (ab, c, g, h, i) =
+      let same : top ≡ most = same_Some _ _ f in
+      subst (λ x. After x p) (same_Some _ _ e)
+      (ab, c, g, nil_first Blanks1 ab h, (subst (λ x. n ≤ x) (sym same) l, nil_first (Digits n) c i))
+  worded _ k _ name p f e h = cc
 
-  digits_sound : (n d : ℕ) (l : Letter) (q : List Letter) → (l.numeral ≡ true → (Blanks1 ⋅ DigitsOf (10 * n + d)) q) → OnNext (act top (digits top n d)) l q
-  digits_sound n d l q h = grind (arith, nat_le, leb-true)
+  pub formula_spelled : IsSpelled (formula_grammar limit top) (λ s. false) After (SpellsCount limit top)
+  formula_spelled = record {
+    first = refl;
+    apart = refl;
+    word = λ s k w name p n e h. (worded s.count k w name p n e h, refl);
+    colon = λ s k p e h. cc;
+    capital = λ s b c e. cc;
+    whole = λ s e p i h. subst (λ x. SpellsCount limit top x p) (same_Some _ _ i) (whole s.count p h);
+  }
+    where
+      whole : (count : Option ℕ) (p : List Letter) → (Text top count ⋅ LineEnd) p → SpellsCount limit top count p
+      whole None p h = nil_first LineEnd p h
+      whole (Some n) p h = h
 
-  after_sound : (count : Option ℕ) (gap : FormulaPhase) (k : NumberByte) (l : Letter) (p : List Letter) → is_in_number gap ≡ false → NumberMeans k l.byte
-      → ends.Gapped (body top count) p → (IsTrue (is_blank l.byte) → l.numeral ≡ false → prefix top gap (p ++ l ∷ [])) → OnNext (act top (next_action count gap k)) l (p ++ l ∷ [])
-  after_sound count gap NumberByte.Blank l p i m h f = λ _ n. f m (n ∙ i)
-  after_sound count gap Semicolon l p i m h f = λ _ n. ends.semicolon_after_blanks (body top count) l p m n h
-  after_sound count gap NumberByte.Feed l p i m h f = λ n. whole count (p ++ l ∷ []) (ends.line_after_blanks (body top count) l p m n h)
-  after_sound count gap _ l p i m h f = tt
+  pub formula_each : (count : Option ℕ) (t : List Letter) → SpellsCount limit top count t → ReadsStatement formula_automaton (formula_first limit top) t count (formula_last limit top)
+  formula_each None t h = ends_line formula_grammar limit top (formula_words None) (formula_first limit top) None t (first_after formula_grammar limit top) refl h
+  formula_each (Some n) t (a, b, e, h, k) =
+      let (mid, w, i) = further formula_grammar limit top (formula_words None) (formula_words (Some n)) (formula_first limit top) (Count top n) a (first_after formula_grammar limit top)
+      (λ u q. number_led formula_grammar limit top (formula_words None) (formula_words (Some n)) Sign.Nothing n u (top, refl, q.0) (λ name. refl) ([], u, refl, refl, q.1)) h in
+      subst (λ x. ReadsStatement formula_automaton (formula_first limit top) x (Some n) (formula_last limit top)) (sym e)
+      (reads_after formula_automaton a b (formula_first limit top) mid (formula_last limit top) (Some n) w (ends_line formula_grammar limit top (formula_words (Some n)) mid (Some n) b i refl k))
 
-  -- complete digits
-  counted : (n : ℕ) (p : List Letter) → n ≤ top → (Blanks1 ⋅ DigitsOf n) p → body top (Some n) p
-  counted n p l h = after_it Blanks1 (DigitsOf n) (Count top n) p (λ q k. (l, k)) h
-
-  sound : (ph : FormulaPhase) (k : NumberByte) (l : Letter) (p : List Letter) → NumberMeans k l.byte → prefix top ph p → OnNext (act top (transition top ph k)) l (p ++ l ∷ [])
-  sound Start k l p m h = after_sound None Gap k l p refl m (ends.gapped Empty p h) (λ b n. ends.first_blank l p b n h)
-  sound Gap (Digit d) l p m h = grind (arith, digits_sound, next, digits-one, as_digit)
-  sound Gap k l p m h = after_sound None Gap k l p refl m (ends.gapped_some Empty p ([], p, refl, refl, h)) (λ b n. ends.further_blank l p b n h)
-  sound (Digits n) (Digit d) l p m h = search (rules, digits_sound, grown, digits-grown, as_digit)
-  sound (Digits n) k l p m h =
-      after_sound (Some n) (Tail n) k l p refl m (ends.gapped (body top (Some n)) p (counted n p h.0 h.1))
-      (λ b i. ends.blank_after (body top (Some n)) l p b i (counted n p h.0 h.1))
-  sound (Tail n) k l p m h = after_sound (Some n) (Tail n) k l p refl m h (λ b i. ends.blank_more (body top (Some n)) l p b i h)
-  sound (Closing count) NumberByte.Blank l p m h = λ _ n. ends.blank_closing (body top count) l p m n h
-  sound (Closing count) NumberByte.Feed l p m h = λ n. whole count (p ++ l ∷ []) (ends.line_closing (body top count) l p m n h)
-  sound _ k l p m h = tt
-
-pub keeps_prefix : (limit : ℕ) → Keeps formula_automaton Prefix (Whole limit)
-keeps_prefix limit s l p h = sound limit s.top s.phase (number_byte l.byte) l p (number_means l.byte) h
-
--- The count machine reads each text of its grammar.
-
-module _ (limit top : ℕ) where
-  by_blank : (ph : FormulaPhase) (b : ℕ) → IsTrue (is_blank b) → formula_automaton.step (at top ph) b ≡ act top (transition top ph NumberByte.Blank)
-  by_blank ph b h = ap (λ k. act top (transition top ph k)) (number_blank b h)
-
-  by_digit : (ph : FormulaPhase) (d : ℕ) → d < 10 → formula_automaton.step (at top ph) (48 + d) ≡ act top (transition top ph (Digit d))
-  by_digit ph d h = ap (λ k. act top (transition top ph k)) (number_digit d h)
-
-  digit_fits : (n d v : ℕ) → 10 * n + d ≡ v → v ≤ top → act top (digits top n d) ≡ Go (at top (Digits v))
-  digit_fits n d v e l = rw (e, le-leb v top l) refl
-
-  takes_digits : TakesDigits formula_automaton (λ n. at top (Digits n)) top
-  takes_digits = record { more = λ n d h l. by_digit (Digits n) d h ∙ digit_fits n d (10 * n + d) refl l; begun = λ n. refl; number = λ n. refl }
-
-  in_gap : TakesBlanks formula_automaton (formula_first top) (at top Gap)
-  in_gap = record { enters = by_blank Start; stays = by_blank Gap; begun = refl; plain = refl }
-
-  in_closing : (count : Option ℕ) → Feeds formula_automaton (at top (Closing count)) (at top (Closing count)) count (formula_last top)
-  in_closing count = closing_feeds formula_automaton (at top (Closing count)) (formula_last top) count (by_blank (Closing count)) refl refl refl
-
-  count_leads : (n : ℕ) → Leads formula_automaton (at top Gap) (Count top n) (at top (Digits n))
-  count_leads n t h =
-      digits_lead formula_automaton (λ n. at top (Digits n)) top takes_digits (at top Gap)
-      (λ d i l. by_digit Gap d i ∙ digit_fits 0 d d (omega arith) l) n h.0 t h.1
-
-  pub reads_each : (count : Option ℕ) (t : List Letter) → SpellsCount limit top count t → ReadsStatement formula_automaton (formula_first top) t count (formula_last top)
-  reads_each None t h =
-      line_reads formula_automaton (formula_first top) (at top Gap) (at top (Closing None)) (formula_last top) None (grind (arith, in_gap, in_closing)) t h
-  reads_each (Some n) t (a, b, e, h, k) =
-      rw e (reads_after formula_automaton a b (formula_first top) (at top (Digits n)) (formula_last top) (Some n)
-      (leads_then formula_automaton Blanks1 (Count top n) (formula_first top) (at top Gap) (at top (Digits n))
-      (blanks1_lead formula_automaton (formula_first top) (at top Gap) in_gap) (count_leads n) a h)
-      (line_reads formula_automaton (at top (Digits n)) (at top (Tail n)) (at top (Closing (Some n))) (formula_last top) (Some n)
-      (grind (arith, by_blank, in_closing)) b k))
-
--- The laws of the count machine.
-
--- What holds after a step that continues.
-record Steps (top : ℕ) (next : FormulaState) : Type 0 where
-  same_top : next.top ≡ top
-  fits : PhaseFits top next.phase
-  midway : is_midway next.phase ≡ true
-
-acted : (top : ℕ) (m : FormulaAction) (next : FormulaState) → ActionFits top m → act top m ≡ Go next → Steps top next
-acted top m next h e = grind (arith, one_state, at)
-
-continues : (s next : FormulaState) (b : ℕ) → formula_automaton.step s b ≡ Go next → Steps s.top next
-continues s next b e = acted s.top (transition s.top s.phase (number_byte b)) next (grind (arith, nat_le, leb-true, s.phase, number_byte b)) e
-
-in_order : (s next : FormulaState) (b : ℕ) → IsFormulaInOrder s → formula_automaton.step s b ≡ Go next → IsFormulaInOrder next
-in_order s next b h e = search (rules, continues)
-
--- the line feed ends the line from each state
-some_text : (top : ℕ) (ph : FormulaPhase) → is_done ph ≡ false → ReadsOn formula_automaton (at top ph)
-some_text top Start h = (unmarked 10 ∷ [], None, formula_last top, (refl, refl))
-some_text top Gap h = (unmarked 10 ∷ [], None, formula_last top, (refl, refl))
-some_text top (Digits n) h = (unmarked 10 ∷ [], Some n, formula_last top, (refl, refl))
-some_text top (Tail n) h = (unmarked 10 ∷ [], Some n, formula_last top, (refl, refl))
-some_text top (Closing count) h = (unmarked 10 ∷ [], count, formula_last top, (refl, refl))
-some_text top Done h = cc
-
-pub formula_of_one : IsOfOne formula_automaton IsFormulaInOrder (λ s. formula_last s.top)
-formula_of_one = record {
-  keeps = in_order;
-  begins = λ s next b e. (continues s next b e).midway;
-  owes = λ s h. grind arith;
-  leads = λ s next b e. ap formula_last (continues s next b e).same_top;
-  ends = λ s next b e i. grind (arith, one_state);
-  done = λ s. refl;
-  stops = λ s h b. grind arith;
-  goes_on = λ s g h. some_text s.top s.phase h;
-  plain = λ s h. grind arith;
-  grows = λ s next b e. omega arith;
-  bounds = λ s. omega arith;
-}
+pub formula_of_one : IsOfOne formula_automaton (IsWordsInOrder formula_grammar AllGood) (λ i. formula_last i.limit i.top)
+formula_of_one = words_of_one formula_grammar AllGood formula_lawful formula_counted
 
 -- A new machine reads exactly the text after `f`.
-pub formula_reads : (limit top : ℕ) (text : List Letter) (e : Option ℕ) (after : FormulaState) →
-    ReadsStatement formula_automaton (formula_first top) text e after ↔ (SpellsCount limit top e text × (after ≡ formula_last top))
+pub formula_reads : (limit top : ℕ) (text : List Letter) (e : Option ℕ) (after : WordsState FormulaWords) →
+    ReadsStatement formula_automaton (formula_first limit top) text e after ↔ (SpellsCount limit top e text × (after ≡ formula_last limit top))
 formula_reads limit top text e after =
-    reads_exactly _ _ _ formula_of_one Prefix (Whole limit) (keeps_prefix limit) (formula_first top) text e after refl (reads_each limit top e text)
+    words_reads formula_grammar AllGood formula_lawful formula_counted (λ limit top s. false) After SpellsCount formula_spelled limit top text e after (formula_each limit top e text)
 
-pub formula_is_state : (s : FormulaState) → IsFormulaInOrder s → IsState formula_automaton s
-formula_is_state s h = is_state _ _ _ formula_of_one s h (λ i. refl)
+pub formula_is_state : (i : WordsState FormulaWords) → IsWordsInOrder formula_grammar AllGood i → IsState formula_automaton i
+formula_is_state = words_is_state formula_grammar AllGood formula_lawful formula_counted
+
+pub formula_first_in_order : (limit top : ℕ) → limit < 2 ^ 127 → top < 2 ^ 63 → 0 < top → IsWordsInOrder formula_grammar AllGood (formula_first limit top)
+formula_first_in_order = words_first_in_order formula_grammar AllGood formula_lawful formula_counted
+
+-- It allocates nothing.
+no_ask : (limit top : ℕ) (s : FormulaWords) (t : List Letter) (b : ℕ) → MayAsk formula_grammar (λ limit top s. false) After SpellsCount formula_spelled limit top s t b → ⊥
+no_ask limit top s t b (in_name h e) = unmarked_count s.count e
+  where
+    unmarked_count : (count : Option ℕ) → is_some (option_map (following (formula_grammar limit top)) (formula_next count (Word.Mark b))) ≡ true → ⊥
+    unmarked_count None e = false≢true e
+    unmarked_count (Some n) e = false≢true e
+no_ask limit top s t b (at_end w name a l h e) = false≢true a
+no_ask limit top s t b (at_mark a h d l) = false≢true a
+
+pub formula_silent : (limit top : ℕ) (t : List Letter) (i : WordsState FormulaWords) (b : ℕ) → Walks formula_automaton (formula_first limit top) t i → formula_automaton.asks i b ≡ true → ⊥
+formula_silent limit top t i b w h = no_ask i.limit i.top i.words t b (words_asked formula_grammar (λ limit top s. false) After SpellsCount formula_spelled limit top t i b w h)

@@ -1,4 +1,5 @@
--- Lemmas about the conclusion machine.
-pub mod Steps
-pub mod Prefix
+-- Lemmas about conclusions.
+pub mod Numbers
+pub mod Spelling
+pub mod Complete
 pub mod Theorems

@@ -2,3 +2,4 @@
 pub mod Asks
 pub mod Laws
 pub mod Ends
+pub mod TextEnds

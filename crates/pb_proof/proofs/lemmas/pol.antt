@@ -1,7 +1,7 @@
--- Lemmas about the `pol` machine and about postfix words.
+-- Lemmas about postfix words, and about the machine that reads them.
 pub mod Postfix
-pub mod Prefixes
-pub mod Sound
 pub mod Moves
-pub mod Walks
+pub mod Spelling
+pub mod Reads
+pub mod Whole
 pub mod Theorems

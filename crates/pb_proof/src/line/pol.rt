@@ -1,250 +1,252 @@
-//! The machine for postfix words.
+//! The postfix words of a `pol` line.
 
-ghost use Rattle.std.specs.Prelude.{◌≡◌, ◌≤◌, ◌<◌, take, length, true};
+ghost use Rattle.std.specs.Prelude.{◌≡◌, [], ℕ, List, true, nat_eq, option_map, IsSome, Some, OnOk, OnErr};
 ghost use Rattle.pb_text.specs.meaning.Limits.{largest, top_of};
-ghost use Rattle.pb_proof.specs.engine.line.PolState.{pol_first, pol_automaton};
-ghost use Rattle.pb_text.specs.contract.Automaton.{Continues, IsState, Runs, Pushes};
-ghost use Rattle.pb_proof.specs.engine.line.Pol.{transition, kind_of, is_name_kind, ActionFits};
+ghost use Rattle.pb_proof.specs.engine.line.Grammar.{IsNumber};
+ghost use Rattle.pb_proof.specs.engine.line.Pol.{bound, no_words, pol_grammar, with_operand, with_number, with_mark, adds_word};
 
-mod close;
-mod fast;
-mod kind;
+mod change;
+mod held;
 mod literal_prefix;
-mod phase;
-mod transition;
 pub(crate) mod whole;
 mod word_prefix;
-mod words;
 
-use crate::line::pol::fast::held_before;
-use crate::line::pol::kind::kind_of;
-use crate::line::pol::phase::{Action, Phase};
-use crate::line::pol::transition::{in_hand, is_done, is_in_number, transition};
-use crate::line::pol::word_prefix::word_prefix;
-use crate::line::pol::words::{count_units, finish, turn};
+use crate::line::pol::change::{count_units, make_room, turn_last};
+use crate::line::pol::held::{Held, held_name, held_number, is_free, turns};
+use crate::line::words::list::WordList;
+use crate::line::words::word::{Capital, Follow, Sign, Word};
 use crate::word::PolWord;
-use pb_sums::Name;
-use pb_text::bytes::is_digit;
-use pb_text::{Limits, Machine, Push, Sequence};
-use std::alloc::Global;
+use pb_sums::{Literal, Name};
+use pb_text::{Limits, Sequence};
+use std::alloc::{AllocError, Global};
 use std::marker::Model;
+use std::mem;
 
-/// A machine that reads the words of one expression, from after `pol` through the line feed.
+/// The words of one expression so far.
 #[derive(Drop)]
-pub struct PolMachine {
-    alloc: Global,
-    limit: u128,
-    top: u64,
+pub struct PolWords {
     words: Vec<PolWord>,
+    /// How many expressions are finished.
     depth: usize,
-    name: Name,
-    phase: Phase,
+    /// What the last word may still become.
+    held: Held,
 }
 
-impl Model for PolMachine {
-    ghost use Rattle.std.specs.Prelude.{◌<◌, ◌≤◌, ◌^◌, vec_len};
-    ghost use Rattle.pb_proof.specs.engine.line.Fields.{pol_state};
-    ghost use Rattle.pb_proof.specs.engine.line.Pol.{PhaseFits};
-    ghost use Rattle.pb_proof.specs.engine.line.PolState.{PolState, IsPolInOrder};
+impl Model for PolWords {
+    ghost use Rattle.std.specs.Prelude.{◌≤◌, vec_len};
+    ghost use Rattle.pb_proof.specs.engine.line.Pol.{PolState};
+    ghost use Rattle.pb_proof.specs.engine.line.PolFields.{pol_state};
 
     ghost Value = { PolState };
 
     ghost view = { pol_state };
 
-    ghost invariant = { λ m. (m.limit < 2 ^ 127) × (m.top < 2 ^ 63) × (m.depth ≤ vec_len m.words) ×
-        PhaseFits m.limit m.top m.depth m.phase × IsPolInOrder (pol_state m) };
+    ghost invariant = { λ m. m.depth ≤ vec_len m.words };
 }
 
-impl PolMachine {
-    /// A machine at the start of its text. Creating it does not allocate.
-    pub fn new(alloc: Global, limits: Limits) -> Self
-        ensures begins { result ≡ pol_first (largest limits) (top_of limits) }
+/// The largest value that digits may have: that of an id or, with an expression before it, of a
+/// factor.
+fn bound(limits: Limits, depth: usize) -> u128
+    ensures { result ≡ bound (largest limits) (top_of limits) depth }
+{
+    let top = limits.top() as u128;
+    if depth == 0 || limits.largest() < top {
+        return top;
+    }
+    limits.largest()
+}
+
+impl PolWords {
+    /// No words. Creating them does not allocate.
+    pub fn new(alloc: Global) -> Self
+        ensures { result ≡ no_words }
     {
-        PolMachine {
-            alloc,
-            limit: limits.largest(),
-            top: limits.top(),
-            words: Vec::new(alloc),
+        PolWords::with_memory(Sequence::new(alloc))
+    }
+
+    /// No words, with the memory of this list.
+    #[inline(always)]
+    fn with_memory(list: Sequence<PolWord>) -> Self
+        requires { list ≡ [] }
+        ensures { result ≡ no_words }
+    {
+        PolWords {
+            words: list.into_vec(),
             depth: 0,
-            name: Name::new(alloc),
-            phase: Phase::Start,
+            held: Held::Nothing,
         }
     }
 
-    /// Takes a word and the space after it on a fast path.
+    /// Whether the words are one expression.
     #[inline(always)]
-    fn take_word(&mut self, text: &[u8]) -> usize
-        ensures bound { result ≤ length text.now }
-        ensures runs { Runs pol_automaton self.old (take result text.now) self.new }
-        ensures state { IsState pol_automaton self.new }
+    fn is_whole(&self) -> bool
+        ensures { result ≡ nat_eq self.now.depth 1 }
     {
-        let _ = self.is_done();
-        let Some(held) = held_before(self.phase) else {
-            return 0;
-        };
-        let Some((length, change, next)) = word_prefix(self.limit, self.top, self.depth, held, text)
-        else {
-            return 0;
-        };
-        if length >= text.len() || text[length] != b' ' {
-            return 0;
-        }
-        if turn(
-            self.alloc,
-            &mut self.words,
-            &mut self.depth,
-            &mut self.name,
-            change,
-        )
-        .is_err()
-        {
-            return 0;
-        }
-        self.phase = Phase::Gap(next);
-        let _ = self.is_done();
-        length + 1
+        self.depth == 1
     }
 
-    /// Takes a byte with its action.
+    /// A number that may come as a word, and what it may still become.
+    #[tactic(auto, using(crate::proofs::lemmas::pol::Moves::number_fits))]
     #[inline(always)]
-    fn take(&mut self, byte: u8, action: Action) -> Push<Sequence<PolWord>>
-        requires action { action ≡ transition self.old.limit self.old.top self.old.work.depth
-            self.old.work.phase (kind_of byte) }
-        requires fits { ActionFits self.old.limit self.old.top self.old.work.depth
-            (kind_of byte) action }
-        requires ascii { is_name_kind (kind_of byte) ≡ true → byte < 128 }
-        ensures { Pushes pol_automaton self.old byte result self.new }
+    fn number_word(&self, limits: Limits, sign: Sign, value: u128) -> (PolWord, Held)
+        requires { IsNumber (pol_grammar (largest limits) (top_of limits)) self.now
+            (Some (Word.Number sign value)) }
+        ensures { with_operand self.now result.0 result.1 ≡
+            with_number (largest limits) (top_of limits) self.now sign value }
     {
-        match action {
-            Action::Stop => {
-                if is_in_number(self.phase) && is_digit(byte) {
-                    Push::Large
-                } else {
-                    Push::No
-                }
-            }
-            Action::To(phase) => {
-                self.phase = phase;
-                Push::Go
-            }
-            Action::Begin(phase) => {
-                let mut name = Name::new(self.alloc);
-                if name.push(byte).is_err() {
-                    return Push::Memory;
-                }
-                self.name = name;
-                self.phase = phase;
-                Push::Go
-            }
-            Action::Add(phase) => {
-                if self.name.push(byte).is_err() {
-                    return Push::Memory;
-                }
-                self.phase = phase;
-                Push::Go
-            }
-            Action::Turn(change, phase) => {
-                if turn(
-                    self.alloc,
-                    &mut self.words,
-                    &mut self.depth,
-                    &mut self.name,
-                    change,
-                )
-                .is_err()
-                {
-                    return Push::Memory;
-                }
-                self.phase = phase;
-                Push::Go
-            }
-            Action::End(change) => {
-                let Ok(words) = finish(
-                    self.alloc,
-                    &mut self.words,
-                    &mut self.depth,
-                    &mut self.name,
-                    &mut self.phase,
-                    change,
-                ) else {
-                    return Push::Memory;
-                };
-                Push::Event(words)
-            }
+        let largest = limits.largest();
+        let top = limits.top() as u128;
+        if matches!(sign, Sign::Minus) {
+            return (PolWord::Id(-(value as i64)), Held::Nothing);
         }
-    }
-}
-
-impl Machine for PolMachine {
-    type Event = Sequence<PolWord>;
-
-    ghost automaton = { pol_automaton };
-
-    fn try_continue(&mut self, byte: u8) -> bool {
-        let _ = self.is_done();
-        let action = transition(self.limit, self.top, self.depth, self.phase, kind_of(byte));
-        if matches!(action, Action::End(_) | Action::Stop) {
-            return false;
+        if value <= top {
+            return (
+                PolWord::Id(value as i64),
+                held_number(largest, self.depth, value),
+            );
         }
-        let answer = self.take(byte, action);
-        let _ = self.is_done();
-        let Push::Go = answer else {
-            return false;
-        };
-        true
+        (PolWord::Multiply(value as i128), Held::Large)
     }
 
-    fn try_finish(&mut self, byte: u8) -> Option<Sequence<PolWord>> {
-        let _ = self.is_done();
-        let action = transition(self.limit, self.top, self.depth, self.phase, kind_of(byte));
-        if !matches!(action, Action::End(_)) {
-            return None;
-        }
-        let answer = self.take(byte, action);
-        let _ = self.is_done();
-        match answer {
-            Push::Event(words) => Some(words),
+    /// How many expressions are finished after one more word, if it may come.
+    #[inline(always)]
+    fn depth_after(&self, word: Word) -> Option<usize>
+        ensures { (limit top : ℕ) (name : List ℕ) → result ≡
+            option_map (λ s. s.depth) ((pol_grammar limit top).next self.now word name) }
+    {
+        match word {
+            Word::Number(_, value) if value > 0 => Some(self.depth + 1),
+            Word::Literal(_) if is_free(self.held) => Some(self.depth + 1),
+            Word::Mark(mark) => self.depth_after_mark(mark),
             _ => None,
         }
     }
 
-    fn take_prefix(&mut self, piece: &[u8]) -> usize {
-        let length = self.take_word(piece);
-        // A line feed takes no word with it, and ends the line.
-        if length > 0 || piece[0] == b'\n' {
-            return length;
+    /// The same for an operator.
+    #[inline(always)]
+    fn depth_after_mark(&self, mark: u8) -> Option<usize>
+        ensures { result ≡ option_map (λ s. s.depth) (with_mark self.now mark) }
+    {
+        if turns(self.held, mark) {
+            return Some(self.depth.saturating_sub(1));
         }
-        if self.try_continue(piece[0]) { 1 } else { 0 }
-    }
-
-    fn push(&mut self, byte: u8) -> Push<Sequence<PolWord>> {
-        let action = transition(self.limit, self.top, self.depth, self.phase, kind_of(byte));
-        let answer = self.take(byte, action);
-        let _ = self.is_done();
-        answer
-    }
-
-    fn is_done(&self) -> bool {
-        is_done(self.phase)
-    }
-
-    fn starts(&self, byte: u8) -> bool {
-        if !matches!(self.phase, Phase::Start) {
-            return false;
+        if !is_free(self.held) {
+            return None;
         }
-        let action = transition(
-            self.limit,
-            self.top,
-            self.depth,
-            Phase::Start,
-            kind_of(byte),
-        );
-        !matches!(action, Action::Stop)
+        match mark {
+            b'+' if self.depth >= 2 => Some(self.depth - 1),
+            b's' if self.depth >= 1 => Some(self.depth),
+            _ => None,
+        }
+    }
+
+    /// Adds an operator that may come.
+    #[inline(always)]
+    fn add_mark(&mut self, mark: u8) -> Result<(), AllocError>
+        requires { IsSome (with_mark self.old mark) }
+        ensures ok { OnOk result (Some self.new ≡ with_mark self.old mark) }
+        ensures err { OnErr result ((self.new ≡ self.old) × (adds_word (Word.Mark mark) ≡ true)) }
+    {
+        if turns(self.held, mark) {
+            turn_last(&mut self.words, mark);
+            self.depth = self.depth.saturating_sub(1);
+        } else {
+            make_room(&mut self.words)?;
+            if mark == b'+' {
+                self.words.push_reserved(PolWord::Add);
+                self.depth -= 1;
+            } else {
+                self.words.push_reserved(PolWord::Saturate);
+            }
+        }
+        self.held = Held::Nothing;
+        Ok(())
+    }
+}
+
+impl WordList for PolWords {
+    type Event = Sequence<PolWord>;
+
+    ghost use Rattle.pb_proof.specs.engine.line.PolLaws.{Anyhow, pol_lawful, pol_counted};
+
+    ghost grammar = { pol_grammar };
+
+    ghost good = { Anyhow };
+
+    fn number(&self, limits: Limits, sign: Sign) -> Option<u128> {
+        if !is_free(self.held) {
+            return None;
+        }
+        match sign {
+            Sign::Nothing => Some(bound(limits, self.depth)),
+            Sign::Minus => Some(limits.top() as u128),
+            Sign::Plus => None,
+        }
+    }
+
+    fn takes_literal(&self) -> bool {
+        is_free(self.held)
+    }
+
+    fn capital(&self, _byte: u8) -> Option<Capital> {
+        None
+    }
+
+    #[inline(always)]
+    fn follow(&self, _limits: Limits, word: Option<Word>) -> Option<Follow> {
+        let depth = match word {
+            None => self.depth,
+            Some(word) => self.depth_after(word)?,
+        };
+        Some(Follow {
+            end: depth == 1,
+            colon: false,
+        })
+    }
+
+    #[inline(always)]
+    fn add(
+        &mut self,
+        alloc: Global,
+        limits: Limits,
+        word: Word,
+        name: &mut Name,
+    ) -> Result<(), AllocError> {
+        match word {
+            Word::Number(sign, value) => {
+                let (word, held) = self.number_word(limits, sign, value);
+                make_room(&mut self.words)?;
+                self.words.push_reserved(word);
+                self.depth += 1;
+                self.held = held;
+            }
+            Word::Literal(negated) => {
+                make_room(&mut self.words)?;
+                let name = mem::replace(name, Name::new(alloc));
+                self.words
+                    .push_reserved(PolWord::Axiom(Literal { name, negated }));
+                self.held = held_name(negated, self.depth);
+                self.depth += 1;
+            }
+            Word::Mark(mark) => self.add_mark(mark)?,
+            Word::Capital(_) => {}
+        }
+        Ok(())
+    }
+
+    fn add_colon(&mut self, _limits: Limits) {}
+
+    fn finish(&mut self, alloc: Global, _limits: Limits) -> Sequence<PolWord> {
+        self.depth = 0;
+        self.held = Held::Nothing;
+        Sequence::from_vec(mem::replace(&mut self.words, Vec::new(alloc)))
     }
 
     fn held(&self) -> usize {
         count_units(self.words.as_slice())
-            .saturating_add(in_hand(self.phase))
-            .saturating_add(self.name.as_str().len())
     }
+
+    ghost lawful = { λ limit top l t some. pol_lawful limit top some };
+
+    ghost counted = { pol_counted };
 }

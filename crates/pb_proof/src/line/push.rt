@@ -5,12 +5,13 @@ ghost use Rattle.pb_text.specs.meaning.Limits.{largest, top_of};
 ghost use Rattle.pb_proof.specs.engine.line.Machine.{line_first, IsCarried, IsEnded, line_automaton};
 
 use crate::line::LineMachine;
-use crate::line::conclusion::ConclusionMachine;
-use crate::line::delete::DeleteMachine;
-use crate::line::formula::FormulaMachine;
-use crate::line::pol::PolMachine;
+use crate::line::conclusion::ConclusionWords;
+use crate::line::delete::DeleteWords;
+use crate::line::formula::FormulaWords;
+use crate::line::pol::PolWords;
 use crate::line::rup::RupMachine;
-use crate::line::solution::SolutionMachine;
+use crate::line::solution::SolutionWords;
+use crate::line::words::WordMachine;
 use crate::machine::phase::LineKind;
 use crate::statement::Statement;
 use pb_text::{Limits, Machine, Push, Sequence, Spare};
@@ -68,16 +69,27 @@ pub fn line_first(
     ensures { result ≡ line_first (largest limits) (top_of limits) kind }
 {
     match kind {
-        LineKind::Formula => LineMachine::Formula(FormulaMachine::new(limits)),
-        LineKind::Pol => LineMachine::Pol(PolMachine::new(alloc, limits)),
+        LineKind::Formula => LineMachine::Formula(WordMachine::new(
+            alloc,
+            limits,
+            FormulaWords::new(),
+        )),
+        LineKind::Pol => LineMachine::Pol(WordMachine::new(alloc, limits, PolWords::new(alloc))),
         LineKind::Rup => LineMachine::Rup(RupMachine::new(alloc, limits)),
-        LineKind::Soli => LineMachine::Soli(SolutionMachine::new(alloc, false)),
-        LineKind::Solx => LineMachine::Solx(SolutionMachine::new(alloc, false)),
+        LineKind::Soli => {
+            LineMachine::Soli(WordMachine::new(alloc, limits, SolutionWords::new(alloc)))
+        }
+        LineKind::Solx => {
+            LineMachine::Solx(WordMachine::new(alloc, limits, SolutionWords::new(alloc)))
+        }
         LineKind::Delete => {
             let ids = spare.list(0).unwrap_or(Sequence::new(alloc));
-            LineMachine::Delete(DeleteMachine::new(alloc, limits, ids))
+            LineMachine::Delete(WordMachine::new(alloc, limits, DeleteWords::new(ids)))
         }
-        LineKind::Conclusion => LineMachine::Conclusion(ConclusionMachine::new(alloc, limits)),
+        LineKind::Conclusion => {
+            let words = ConclusionWords::new(alloc);
+            LineMachine::Conclusion(WordMachine::new(alloc, limits, words))
+        }
     }
 }
 

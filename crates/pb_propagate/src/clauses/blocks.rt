@@ -142,6 +142,23 @@ impl Blocks {
         }
     }
 
+    /// No slots, with memory for this many. A clause of two literals takes ten words.
+    pub fn with_capacity(alloc: Global, slots: usize) -> Result<Blocks, AllocError>
+        ensures { IfOk result (λ blocks. blocks ≡
+            record { literals = []; searches = []; watches = []; rooms = [] }) }
+    {
+        let words = Vec::with_capacity(alloc, slots.saturating_mul(10))?;
+        let starts = Vec::with_capacity(alloc, slots)?;
+        let rooms = Vec::with_capacity(alloc, slots)?;
+        Ok(Blocks {
+            words,
+            run: 0,
+            starts,
+            rooms,
+            spare: Spare::new(alloc),
+        })
+    }
+
     /// An empty list for the codes of a clause, with memory for this many.
     pub fn codes_for(&mut self, count: usize) -> Result<Vec<u32>, AllocError>
         ensures empty { IfOk result (λ codes. codes.items ≡ []) }

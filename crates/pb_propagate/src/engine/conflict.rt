@@ -2,7 +2,7 @@
 
 #![tactic(auto, using(crate::proofs::rulesets::Engine::conflict))]
 
-ghost use Rattle.std.specs.Prelude.{◌≡◌, List, ◌*◌, ◌<◌, [], true, false, length, OnOk};
+ghost use Rattle.std.specs.Prelude.{◌≡◌, List, ◌*◌, ◌<◌, [], true, false, length, IfOk, OnOk};
 ghost use Rattle.pb_propagate.specs.declared.store.Store.{Store};
 ghost use Rattle.pb_propagate.specs.declared.clauses.Clauses.{Clauses};
 ghost use Rattle.pb_propagate.specs.engine.engine.Lists.{Shape, HaveReasons, KeepsReasons};
@@ -39,6 +39,19 @@ impl Conflict {
             assignment: Assignment::new(alloc),
             met: false,
         }
+    }
+
+    /// None yet, with memory for this many variables.
+    pub fn with_capacity(alloc: Global, variables: usize) -> Result<Conflict, AllocError>
+        ensures met { IfOk result (λ conflict. conflict.met ≡ false) }
+        ensures list { IfOk result (λ conflict. conflict.assignment.list.items ≡ []) }
+        ensures values { IfOk result (λ conflict. conflict.assignment.values.items ≡ []) }
+    {
+        let assignment = Assignment::with_capacity(alloc, variables)?;
+        Ok(Conflict {
+            assignment,
+            met: false,
+        })
     }
 
     /// Keeps the literals of a run under which a form is falsified.

@@ -2,7 +2,7 @@
 
 #![tactic(auto, using(crate::proofs::rulesets::Engine::root))]
 
-ghost use Rattle.std.specs.Prelude.{◌≡◌, ℕ, List, ◌+◌, ◌*◌, ◌<◌, ◌⊎◌, ◌++◌, ◌∷◌, [], length, slice_set, slice_index_or, OnOk};
+ghost use Rattle.std.specs.Prelude.{◌≡◌, ℕ, List, ◌+◌, ◌*◌, ◌<◌, ◌⊎◌, ◌++◌, ◌∷◌, [], length, slice_set, slice_index_or, IfOk, OnOk};
 ghost use Rattle.pb_propagate.specs.declared.store.Store.{Store};
 ghost use Rattle.pb_propagate.specs.declared.clauses.Clauses.{Clauses};
 ghost use Rattle.pb_propagate.specs.engine.engine.Lists.{Shape, open_sum};
@@ -130,6 +130,30 @@ fn save(run: &mut Run, rests: &mut Rests)
     run.next = 0;
 }
 
+// A run over no forms and no variables, with memory for that many of both.
+fn run_for(alloc: Global, variables: usize, forms: usize) -> Result<Run, AllocError>
+    ensures opens { IfOk result (λ run. run.opens.items ≡ []) }
+    ensures candidates { IfOk result (λ run. run.candidates.items ≡ []) }
+    ensures assignment { IfOk result (λ run. (run.assignment.values.items ≡ []) ×
+        (run.assignment.list.items ≡ [])) }
+    ensures work { IfOk result (λ run. run.work.items ≡ []) }
+    ensures trail { IfOk result (λ run. run.trail.items ≡ []) }
+    ensures next { IfOk result (λ run. run.next ≡ 0) }
+{
+    let opens = Vec::with_capacity(alloc, forms)?;
+    let candidates = Vec::with_capacity(alloc, forms)?;
+    let assignment = Assignment::with_capacity(alloc, variables)?;
+    Ok(Run {
+        opens,
+        candidates,
+        assignment,
+        work: Vec::new(alloc),
+        next: 0,
+        trail: Vec::new(alloc),
+        visits: Visits::none(),
+    })
+}
+
 impl Root {
     /// The root of no forms, over no variables.
     pub fn new(alloc: Global) -> Root
@@ -152,6 +176,25 @@ impl Root {
             spare: Vec::new(alloc),
             units: Vec::new(alloc),
         }
+    }
+
+    /// The root of no forms, over no variables, with memory for that many of both.
+    pub fn with_capacity(alloc: Global, variables: usize, forms: usize) -> Result<Root, AllocError>
+        ensures { IfOk result (λ root. (store : Store) (clauses : Clauses) →
+            store.stored.items ≡ [] → store.variables ≡ 0 → IsRootOf store clauses root) }
+    {
+        let run = run_for(alloc, variables, forms)?;
+        let rests = Rests::with_capacity(alloc, forms)?;
+        let waiting = Waiting::with_capacity(alloc, forms)?;
+        let units = Vec::with_capacity(alloc, variables.saturating_mul(2))?;
+        Ok(Root {
+            run,
+            rests,
+            waiting,
+            walked: Walked::none(alloc),
+            spare: Vec::new(alloc),
+            units,
+        })
     }
 
     /// Remembers the form of a slot as the unit of its literal, if it has one term.

@@ -24,14 +24,30 @@ pub(crate) fn widen(engine: &mut Engine, from: usize, to: usize) -> Result<(), F
     Ok(())
 }
 
-/// An engine over this many variables.
-pub(crate) fn engine_over(alloc: Global, variables: usize) -> Result<Engine, Fault>
+/// An engine over this many variables, with memory for this many forms.
+pub(crate) fn engine_over(alloc: Global, variables: usize, forms: usize) -> Result<Engine, Fault>
     ensures engine { IfOk result (IsEngine [] variables) }
     ensures err { IfErr result (λ e. e ≡ Fault.Memory) }
 {
-    let mut engine = Engine::new(alloc);
+    let mut engine = Engine::with_capacity(alloc, variables, forms)?;
     widen(&mut engine, 0, variables)?;
     Ok(engine)
+}
+
+/// Adds each of the forms to an engine that has none. It is one more owner of them.
+fn fill(engine: &mut Engine, forms: &[Shared]) -> Result<(), Fault>
+    requires ready { engine.old.spent ≡ false }
+    requires empty { engine.old.forms ≡ [] }
+    requires inside { (f : Form) → Contains forms.now f → IsInside engine.old.variables f }
+    ensures engine { OnOk result (
+        IsEngine (map (λ f. Some f) forms.now) engine.old.variables engine.new) }
+    ensures err { IfErr result (λ e. e ≡ Fault.Memory) }
+{
+    for form in forms {
+        let shared = form.share()?;
+        engine.insert(shared)?;
+    }
+    Ok(())
 }
 
 /// An engine over this many variables, and one more owner of each of the forms.
@@ -40,12 +56,29 @@ pub(crate) fn engine_of(alloc: Global, forms: &[Shared], variables: usize) -> Re
     ensures engine { IfOk result (IsEngine (map (λ f. Some f) forms.now) variables) }
     ensures err { IfErr result (λ e. e ≡ Fault.Memory) }
 {
-    let mut engine = engine_over(alloc, variables)?;
-    for form in forms {
-        let shared = form.share()?;
-        engine.insert(shared)?;
-    }
+    let mut engine = engine_over(alloc, variables, forms.len())?;
+    fill(&mut engine, forms)?;
     Ok(engine)
+}
+
+/// Makes the engine one over this many variables that owns each of the forms, and no other.
+pub(crate) fn make_live(
+    engine: &mut Engine,
+    alloc: Global,
+    forms: &[Shared],
+    variables: usize,
+) -> Result<(), Fault>
+    requires ready { engine.old.spent ≡ false }
+    requires variables { engine.old.variables ≡ variables }
+    requires inside { (f : Form) → Contains forms.now f → IsInside variables f }
+    ensures engine { OnOk result (IsEngine (map (λ f. Some f) forms.now) variables engine.new) }
+    ensures err { IfErr result (λ e. e ≡ Fault.Memory) }
+{
+    if engine.len() > 0 {
+        *engine = engine_of(alloc, forms, variables)?;
+        return Ok(());
+    }
+    fill(engine, forms)
 }
 
 /// Adds a form with the next id.

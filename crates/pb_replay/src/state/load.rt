@@ -1,6 +1,6 @@
 //! An instance as forms.
 
-ghost use Rattle.std.specs.Prelude.{◌≡◌, ◌<◌, ◌≤◌, ◌↔◌, option_map, All, OnOk, IfOk, IfErr, IsTrue, Err, Ok, ◌⊎◌};
+ghost use Rattle.std.specs.Prelude.{◌≡◌, ◌<◌, ◌≤◌, ◌↔◌, option_map, All, OnOk, IfOk, IfErr, IsTrue, Err, None, Ok, ◌⊎◌};
 ghost use Rattle.pb_text.specs.meaning.Limits.{largest};
 ghost use Rattle.pb_normal.specs.meaning.Constraints.{Fits};
 ghost use Rattle.pb_normal.specs.meaning.Names.{with_names};
@@ -11,7 +11,7 @@ ghost use Rattle.pb_replay.specs.contract.ReplayModel.{IsOpened};
 use crate::fault::Fault;
 use crate::state::Running;
 use crate::state::live::engine_over;
-use pb_normal::{HashKeys, Names, Normal, NormalFault, Side, fits, load, terms_fit};
+use pb_normal::{HashKeys, Memory, Names, Normal, NormalFault, Side, fits, load, terms_fit};
 use pb_opb::Instance;
 use pb_proof::Stage;
 use pb_propagate::share_each;
@@ -48,6 +48,7 @@ fn kept_objective(
     limits: Limits,
 ) -> Result<Option<Linear>, NormalFault>
     ensures terms { IfOk result (λ kept. option_map (λ c. c.terms) kept ≡ objective.now) }
+    ensures absent { objective.now ≡ None → result ≡ Ok None }
     ensures names { OnOk result (names.new ≡ with_names names.old
         (names_of (objective_of objective.now))) }
     ensures fits { OnOk result (magnitude (objective_of objective.now) ≤ largest limits) }
@@ -103,7 +104,8 @@ pub(crate) fn open(
         Opened (largest limits) instance.now (Err e)) }
     ensures memory { result ≡ Err Fault.Memory → FitsAll (largest limits) instance.now }
 {
-    if !fits_all(instance, limits) {
+    // With no objective, `load` tests the constraints before anything is allocated.
+    if instance.objective.is_some() && !fits_all(instance, limits) {
         return Err(Fault::Overflow);
     }
     load_instance(alloc, keys, instance, limits)
@@ -119,6 +121,8 @@ fn load_instance(
     ensures ok { IfOk result (IsOpened limits instance.now) }
     ensures err { IfErr result (λ e. (e ≡ Fault.Memory) ⊎
         Opened (largest limits) instance.now (Err e)) }
+    ensures memory { instance.now.objective ≡ None → result ≡ Err Fault.Memory →
+        FitsAll (largest limits) instance.now }
 {
     let mut names = Names::with_hasher(alloc, keys);
     let objective = match kept_objective(alloc, &mut names, &instance.objective, limits) {
@@ -131,7 +135,7 @@ fn load_instance(
     };
     let loaded = share_each(alloc, forms)?;
     let own = names.len();
-    let engine = engine_over(alloc, own)?;
+    let engine = engine_over(alloc, own, loaded.len())?;
     Ok(Running {
         alloc,
         limits,
@@ -144,5 +148,6 @@ fn load_instance(
         next: Stage::Opening,
         concluded: None,
         visits: 0,
+        memory: Memory::new(alloc),
     })
 }

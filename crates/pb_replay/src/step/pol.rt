@@ -19,26 +19,16 @@ use crate::fault::Fault;
 use crate::state::Running;
 use crate::state::find::{find, number_of, share};
 use crate::state::live::{add_shared, widen};
-use pb_normal::{Names, Normal, Sum};
+use crate::step::stack::Stack;
+use pb_normal::{Memory, Names, Normal, Sum};
 use pb_proof::{PolWord, Statement};
 use pb_propagate::{Engine, Shared};
 use pb_text::{Limits, Sequence};
-use std::alloc::{AllocError, Global};
-
-/// Removes the last form from the stack.
-fn pop<'a>(stack: &mut Vec<Sum<'a>>) -> Sum<'a>
-    requires { 0 < length stack.old.items }
-    ensures { stack.old.items ≡ stack.new.items ++ result ∷ [] }
-{
-    match stack.pop() {
-        Some(form) => form,
-        None => unreachable!(),
-    }
-}
+use std::alloc::AllocError;
 
 /// The sum of two forms.
 fn sum_of<'a>(
-    alloc: Global,
+    memory: &mut Memory,
     left: Sum<'a>,
     right: Sum<'a>,
     limits: Limits,
@@ -48,7 +38,7 @@ fn sum_of<'a>(
     ensures err { IfErr result (λ e. (e ≡ Fault.Memory) ⊎
         some (IsSum left.entry right.entry) (limited (largest limits)) (Err e)) }
 {
-    match left.add(alloc, right, limits) {
+    match left.add(memory, right, limits) {
         Ok(sum) => Ok(sum),
         Err(fault) => Err(Fault::from(fault)),
     }
@@ -56,7 +46,7 @@ fn sum_of<'a>(
 
 /// A form times a factor.
 fn product_of<'a>(
-    alloc: Global,
+    memory: &mut Memory,
     form: Sum<'a>,
     factor: i128,
     limits: Limits,
@@ -67,68 +57,57 @@ fn product_of<'a>(
     ensures err { IfErr result (λ e. (e ≡ Fault.Memory) ⊎
         limited (largest limits) (multiplied (unsigned_abs factor) form.entry) (Err e)) }
 {
-    match form.multiply(alloc, factor, limits) {
+    match form.multiply(memory, factor, limits) {
         Ok(product) => Ok(product),
         Err(fault) => Err(Fault::from(fault)),
     }
 }
 
 /// A form divided by a divisor.
-fn quotient_of<'a>(alloc: Global, form: Sum<'a>, divisor: i128) -> Result<Sum<'a>, Fault>
+fn quotient_of<'a>(memory: &mut Memory, form: Sum<'a>, divisor: i128) -> Result<Sum<'a>, Fault>
     requires { pos 1 ≤ℤ divisor }
     ensures ok { IfOk result (λ r. r ≡ divided (unsigned_abs divisor) form.entry) }
     ensures err { IfErr result (λ e. e ≡ Fault.Memory) }
 {
-    let quotient = form.divide(alloc, divisor)?;
+    let quotient = form.divide(memory, divisor)?;
     Ok(quotient)
 }
 
 /// A form saturated.
-fn saturation_of<'a>(alloc: Global, form: Sum<'a>) -> Result<Sum<'a>, Fault>
+fn saturation_of<'a>(memory: &mut Memory, form: Sum<'a>) -> Result<Sum<'a>, Fault>
     ensures ok { IfOk result (λ r. r ≡ saturated form.entry) }
     ensures err { IfErr result (λ e. e ≡ Fault.Memory) }
 {
-    let saturation = form.saturate(alloc)?;
+    let saturation = form.saturate(memory)?;
     Ok(saturation)
 }
 
 /// A form weakened on a variable.
-fn weakening_of<'a>(alloc: Global, form: Sum<'a>, variable: usize) -> Result<Sum<'a>, Fault>
+fn weakening_of<'a>(memory: &mut Memory, form: Sum<'a>, variable: usize) -> Result<Sum<'a>, Fault>
     ensures ok { IfOk result (λ r. r ≡ weakened variable form.entry) }
     ensures err { IfErr result (λ e. e ≡ Fault.Memory) }
 {
-    let weakening = form.weaken(alloc, variable)?;
+    let weakening = form.weaken(memory, variable)?;
     Ok(weakening)
-}
-
-/// Pushes a form on the stack.
-fn push<'a>(stack: &mut Vec<Sum<'a>>, form: Sum<'a>) -> Result<(), Fault>
-    ensures ok { OnOk result (stack.new.items ≡ stack.old.items ++ form.entry ∷ []) }
-    ensures err { IfErr result (λ e. e ≡ Fault.Memory) }
-{
-    match stack.push(form) {
-        Ok(()) => Ok(()),
-        Err(_) => Err(Fault::Memory),
-    }
 }
 
 /// The form that a word pushes on the stack, in place of the forms that it takes.
 fn form_of_word<'a>(
-    alloc: Global,
+    memory: &mut Memory,
     names: &Names,
     engine: &'a Engine,
     word: &PolWord,
-    stack: &mut Vec<Sum<'a>>,
+    stack: &mut Stack<'a>,
     limits: Limits,
 ) -> Result<Sum<'a>, Fault>
-    requires takes { takes word.now ≤ length stack.old.items }
+    requires takes { takes word.now ≤ length stack.old }
     requires named { HasNames names.now (word_names (word.now ∷ [])) }
     requires value { IsWord (largest limits) (top_of limits) word.now }
     ensures ok { IfOk result (λ r. Word (largest limits) names.now engine.now.forms word.now
-        (reverse stack.old.items) (Ok (r ∷ reverse stack.new.items))) }
-    ensures count { OnOk result (length stack.new.items + takes word.now ≡ length stack.old.items) }
+        (reverse stack.old) (Ok (r ∷ reverse stack.new))) }
+    ensures count { OnOk result (length stack.new + takes word.now ≡ length stack.old) }
     ensures err { IfErr result (λ e. (e ≡ Fault.Memory) ⊎
-        Word (largest limits) names.now engine.now.forms word.now (reverse stack.old.items)
+        Word (largest limits) names.now engine.now.forms word.now (reverse stack.old)
         (Err e)) }
 {
     match word {
@@ -138,29 +117,29 @@ fn form_of_word<'a>(
         },
         PolWord::Axiom(literal) => {
             let variable = number_of(names, literal.name.as_str());
-            let axiom = Normal::axiom(alloc, variable, literal.negated)?;
+            let axiom = Normal::axiom(memory.allocator(), variable, literal.negated)?;
             Ok(Sum::made(axiom))
         }
         PolWord::Add => {
-            let right = pop(stack);
-            let left = pop(stack);
-            sum_of(alloc, left, right, limits)
+            let right = stack.pop();
+            let left = stack.pop();
+            sum_of(memory, left, right, limits)
         }
         PolWord::Multiply(factor) => {
-            let form = pop(stack);
-            product_of(alloc, form, *factor, limits)
+            let form = stack.pop();
+            product_of(memory, form, *factor, limits)
         }
         PolWord::Divide(divisor) => {
-            let form = pop(stack);
-            quotient_of(alloc, form, *divisor)
+            let form = stack.pop();
+            quotient_of(memory, form, *divisor)
         }
         PolWord::Saturate => {
-            let form = pop(stack);
-            saturation_of(alloc, form)
+            let form = stack.pop();
+            saturation_of(memory, form)
         }
         PolWord::Weaken(name) => {
-            let form = pop(stack);
-            weakening_of(alloc, form, number_of(names, name.as_str()))
+            let form = stack.pop();
+            weakening_of(memory, form, number_of(names, name.as_str()))
         }
     }
 }
@@ -192,7 +171,7 @@ fn number_words(names: &mut Names, words: &[PolWord]) -> Result<(), AllocError>
 
 /// The form of the expression of these words, or its fault.
 fn form_of_words(
-    alloc: Global,
+    memory: &mut Memory,
     names: &Names,
     engine: &Engine,
     words: &[PolWord],
@@ -207,12 +186,12 @@ fn form_of_words(
         some (λ tree. words.now ≡ words_of tree)
         (FormOfExpression (largest limits) names.now engine.now.forms) (Err e)) }
 {
-    let mut stack = Vec::new(alloc);
+    let mut stack = Stack::new();
     for word in words {
-        let form = form_of_word(alloc, names, engine, word, &mut stack, limits)?;
-        push(&mut stack, form)?;
+        let form = form_of_word(memory, names, engine, word, &mut stack, limits)?;
+        stack.push(memory.allocator(), form)?;
     }
-    let form = pop(&mut stack).into_normal(alloc)?;
+    let form = stack.pop().into_normal(memory)?;
     Ok(form)
 }
 
@@ -233,7 +212,7 @@ fn constraint_of_id(engine: &Engine, words: &[PolWord]) -> Result<Option<Shared>
 /// The form of the expression of these words, or its fault. That of one id shares the terms of its
 /// constraint.
 fn shared_form(
-    alloc: Global,
+    memory: &mut Memory,
     names: &Names,
     engine: &Engine,
     words: &[PolWord],
@@ -251,8 +230,8 @@ fn shared_form(
     if let Some(form) = constraint_of_id(engine, words)? {
         return Ok(form);
     }
-    let form = form_of_words(alloc, names, engine, words, limits)?;
-    let form = Shared::new(alloc, form)?;
+    let form = form_of_words(memory, names, engine, words, limits)?;
+    let form = Shared::new(memory.allocator(), form)?;
     Ok(form)
 }
 
@@ -270,11 +249,12 @@ pub(crate) fn pol(running: &mut Running, words: &Sequence<PolWord>) -> Result<()
     }
     widen(&mut running.engine, before, running.names.len())?;
     let form = shared_form(
-        running.alloc,
+        &mut running.memory,
         &running.names,
         &running.engine,
         words.as_slice(),
         running.limits,
     )?;
+    running.memory.trim();
     add_shared(running, form)
 }

@@ -6,7 +6,7 @@ use Rattle.pb_proof.proofs.Common.{AsksAfter, FirstWord, Automaton, false≢true
 use Rattle.pb_proof.proofs.Common.{prefixes_of, reads_after, bytes-append, ReadsStatement, formula_first, delete_first, solution_first, line_automaton}
 use Rattle.pb_proof.proofs.lemmas.{Carried.Carries, Carried.walks_out, Carried.reads_out, conclusion.Theorems.conclusion_asked}
 use Rattle.pb_proof.proofs.lemmas.line.Laws.{line_only, formula_carries, pol_carries, rup_carries, soli_carries, solx_carries, delete_carries}
-use Rattle.pb_proof.proofs.lemmas.{line.Laws.conclusion_carries, line.Asks.delete_asked, line.Asks.solution_asked, line.Asks.rup_asked, pol.Sound.pol_asked}
+use Rattle.pb_proof.proofs.lemmas.{line.Laws.conclusion_carries, Delete.delete_asked, Formula.formula_silent, Solution.solution_asked, line.Asks.rup_asked, pol.Theorems.pol_asked}
 use Rattle.pb_proof.proofs.lemmas.machine.{Complete.line_nests, Complete.is_giving, Exact.reads_proofs, Exact.comment_reads}
 use Rattle.{pb_proof.specs.engine.machine.State.asks, pb_text.specs.meaning.Asking.AsksOnly}
 use Rattle.pb_text.proofs.lemmas.machine.Asked as asked
@@ -27,12 +27,12 @@ module _ (limit top : ℕ) where
   -- after the first word
   line_asks : (r : LineKind) (q more : List Letter) (l : Letter) (i last : LineMachine) (e : Statement) → Walks line_automaton (line_first limit top r) q i → ReadsStatement line_automaton i (l ∷ more) e last
       → line_automaton.asks i l.byte ≡ true → AsksAfter e (bytes q) l.byte
-  line_asks LineKind.Formula q more l i last e w r h = within _ _ _ formula_carries (formula_first top) q more l i last e w r h (λ s after v k j a. absurd (false≢true a))
+  line_asks LineKind.Formula q more l i last e w r h = within _ _ _ formula_carries (formula_first limit top) q more l i last e w r h (λ s after v k j a. absurd (formula_silent limit top q s l.byte k a))
   line_asks LineKind.Pol q more l i last e w r h = within _ _ _ pol_carries (pol_first limit top) q more l i last e w r h (λ s after v k j a. pol_asked limit top q s l.byte k a)
   line_asks LineKind.Rup q more l i last e w r h = within _ _ _ rup_carries (rup_first limit) q more l i last e w r h (λ s after v k j a. rup_asked limit top q s l.byte k a)
-  line_asks LineKind.Soli q more l i last e w r h = within _ _ _ soli_carries (solution_first false) q more l i last e w r h (λ s after v k j a. solution_asked false q s l.byte k a)
-  line_asks LineKind.Solx q more l i last e w r h = within _ _ _ solx_carries (solution_first false) q more l i last e w r h (λ s after v k j a. solution_asked false q s l.byte k a)
-  line_asks LineKind.Delete q more l i last e w r h = within _ _ _ delete_carries (delete_first top) q more l i last e w r h (λ s after v k j a. delete_asked limit top q s l.byte k a)
+  line_asks LineKind.Soli q more l i last e w r h = within _ _ _ soli_carries (solution_first limit top) q more l i last e w r h (λ s after v k j a. solution_asked limit top q s l.byte k a)
+  line_asks LineKind.Solx q more l i last e w r h = within _ _ _ solx_carries (solution_first limit top) q more l i last e w r h (λ s after v k j a. solution_asked limit top q s l.byte k a)
+  line_asks LineKind.Delete q more l i last e w r h = within _ _ _ delete_carries (delete_first limit top) q more l i last e w r h (λ s after v k j a. delete_asked limit top q s l.byte k a)
   line_asks LineKind.Conclusion q more l i last e w r h =
       within _ _ _ conclusion_carries (conclusion_first limit top) q more l i last e w r h (λ s after v k j a. conclusion_asked limit top q more l s after v k j a)
 

@@ -13,7 +13,8 @@ use Rattle.pb_proof.specs.engine.{line.Carried.carried, machine.Whole.LeadsToPol
 use Rattle.pb_sums.proofs.lemmas.machine.WholeTexts.{linear_ends, last_is_state, before_semicolon, linear_some}
 use Rattle.pb_proof.proofs.lemmas.machine.States.{OnAction, on_after, plain_holds, continues, is_state, at_order, begin_order, give_order}
 use Rattle.pb_proof.proofs.lemmas.Rup as rup_states
-use Rattle.pb_proof.proofs.lemmas.pol.Theorems as pol
+use Rattle.pb_proof.proofs.lemmas.pol.Whole as pol
+use Rattle.pb_proof.specs.engine.line.Words.{WordsState}
 
 -- Runs of the machine.
 
@@ -225,20 +226,25 @@ module _ (limit : ℕ) where
       let inner = runs_in _ _ _ _ rup_carries line (rup_first limit) (rup_read limit c) (rup_runs rest c n inside (ap is_blank (fifth text) ∙ begins) leads) in
       rw cut (word_runs limit top h Keyword.Rup LineKind.Rup 114 117 112 refl refl refl (omega arith) line (LineMachine.Rup (rup_read limit c)) inner)
 
-pub pol_leads : (limit top : ℕ) (text : List ℕ) (ws : List PolWord) (n more : ℕ) → 4 ≤ length text → get_or text 0 0 ≡ 112 → get_or text 1 0 ≡ 111 → get_or text 2 0 ≡ 108 → get_or text 3 0 ≡ 32
-    → IsExpression limit top (take n (text_after 4 text)) ws → IsClosing (take more (text_after n (text_after 4 text))) → LeadsToPol limit top (take (4 + n + more) text) ws
-pol_leads limit top text ws n more long p o l space words closing h =
-    let rest : List ℕ = text_after 4 text in
-    let k = pol.line_runs limit top (take n rest) (take more (text_after n rest)) ws h.some words closing in
-    let four : 4 + n + more ≡ suc (suc (suc (suc (n + more)))) = omega arith in
-    let cut : take (4 + n + more) text ≡ 112 ∷ 111 ∷ 108 ∷ 32 ∷ (take n rest ++ take more (text_after n rest)) =
-    ap (λ (k : ℕ). take k text) four ∙ (begins_with 112 111 108 (n + more) text long p o l space ∙ ap (λ (x : List ℕ). 112 ∷ 111 ∷ 108 ∷ 32 ∷ x) (prefix_parts rest n more)) in
-    let line : List ℕ = 32 ∷ (take n rest ++ take more (text_after n rest)) in
+-- the three letters of `pol`, and what comes after them
+after_pol : (x y z n : ℕ) (text : List ℕ) → 3 ≤ length text → get_or text 0 0 ≡ x → get_or text 1 0 ≡ y → get_or text 2 0 ≡ z → take (suc (suc (suc n))) text ≡ x ∷ y ∷ z ∷ take n (text_after 3 text)
+after_pol x y z n (a ∷ b ∷ c ∷ text) h = λ i j k. rw (all_rest (a ∷ b ∷ c ∷ text) 3, i, j, k) refl
+after_pol x y z n _ h = absurd (let no : ⊥ = omega (arith, h) in no)
+
+pub pol_leads : (limit top : ℕ) (text : List ℕ) (ws : List PolWord) (n more : ℕ) → 4 ≤ length text → get_or text 0 0 ≡ 112 → get_or text 1 0 ≡ 111 → get_or text 2 0 ≡ 108
+    → IsExpression limit top (take n (text_after 3 text)) ws → IsClosing (take more (text_after n (text_after 3 text))) → LeadsToPol limit top (take (3 + n + more) text) ws
+pol_leads limit top text ws n more long p o l words closing h =
+    let rest : List ℕ = text_after 3 text in
+    let line : List ℕ = take n rest ++ take more (text_after n rest) in
+    let k = pol.line_runs limit top h.limit h.top h.some (take n rest) (take more (text_after n rest)) ws words closing in
+    let three : 3 + n + more ≡ suc (suc (suc (n + more))) = omega arith in
+    let cut : take (3 + n + more) text ≡ 112 ∷ 111 ∷ 108 ∷ line =
+    ap (λ (k : ℕ). take k text) three ∙ (after_pol 112 111 108 (n + more) text (omega (arith, long)) p o l ∙ ap (λ (x : List ℕ). 112 ∷ 111 ∷ 108 ∷ x) (prefix_parts rest n more)) in
     let inner = runs_in _ _ _ _ pol_carries line (pol_first limit top) k.0 k.1 in
     let begun : ProofState = giving limit top LineKind.Pol (LineMachine.Pol k.0) in (
       begun,
       rw cut (word_runs limit top h Keyword.Pol LineKind.Pol 112 111 108 refl refl refl (omega arith) line (LineMachine.Pol k.0) inner),
-      ap (λ (n : Next PolState (List PolWord)). over begun LineKind.Pol (carried LineMachine.Pol Statement.Pol (λ e. LineMachine.Pol) n)) k.2,
+      ap (λ (n : Next (WordsState PolState) (List PolWord)). over begun LineKind.Pol (carried LineMachine.Pol Statement.Pol (λ e. LineMachine.Pol) n)) k.2,
     )
 
 -- the whole line

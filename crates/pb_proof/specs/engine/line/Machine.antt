@@ -1,11 +1,11 @@
 -- The line machines as one automaton.
 use Rattle.pb_proof.specs.declared.{line.LineMachine.LineMachine, machine.phase.LineKind.LineKind, statement.Statement.Statement}
-use Rattle.pb_proof.specs.engine.line.{Carried.carried, PolState.pol_automaton, PolState.pol_first, Rup.rup_automaton, Rup.rup_first}
-use Rattle.pb_proof.specs.engine.line.{ConclusionState.conclusion_automaton, ConclusionState.conclusion_first, Delete.delete_first, Solution.solution_automaton}
+use Rattle.pb_proof.specs.engine.line.{Carried.carried, Pol.pol_automaton, Pol.pol_first, Rup.rup_automaton, Rup.rup_first}
+use Rattle.pb_proof.specs.engine.line.{Conclusion.conclusion_automaton, Conclusion.conclusion_first, Delete.delete_first, Solution.solution_automaton}
 use Rattle.pb_proof.specs.engine.line.{Delete.delete_automaton, Formula.formula_automaton, Formula.formula_first, Solution.solution_first}
 use Rattle.pb_proof.specs.meaning.Lines.{SpellsCount, SpellsWords, SpellsRup, SpellsLiterals, SpellsIds, SpellsConclusionLine}
 use Rattle.pb_text.specs.{contract.Automaton.Automaton, contract.Automaton.Next, declared.machine.Push.Push, meaning.Languages.Language}
-use Rattle.std.specs.Prelude.{◌≡◌, ℕ, false, Option, Some, None}
+use Rattle.std.specs.Prelude.{◌≡◌, ℕ, Option, Some, None}
 
 -- an answer of a machine, as an answer of another one, if its events give these
 abbrev pub IsCarried : {E F : Type 0} → (E → F → Type 0) → Push E → Push F → Type 0
@@ -52,12 +52,12 @@ line_automaton = record {
 
 -- the line machine at the start of its text
 abbrev pub line_first : ℕ → ℕ → LineKind → LineMachine
-line_first limit top LineKind.Formula = LineMachine.Formula (formula_first top)
+line_first limit top LineKind.Formula = LineMachine.Formula (formula_first limit top)
 line_first limit top LineKind.Pol = LineMachine.Pol (pol_first limit top)
 line_first limit top LineKind.Rup = LineMachine.Rup (rup_first limit)
-line_first limit top LineKind.Soli = LineMachine.Soli (solution_first false)
-line_first limit top LineKind.Solx = LineMachine.Solx (solution_first false)
-line_first limit top LineKind.Delete = LineMachine.Delete (delete_first top)
+line_first limit top LineKind.Soli = LineMachine.Soli (solution_first limit top)
+line_first limit top LineKind.Solx = LineMachine.Solx (solution_first limit top)
+line_first limit top LineKind.Delete = LineMachine.Delete (delete_first limit top)
 line_first limit top LineKind.Conclusion = LineMachine.Conclusion (conclusion_first limit top)
 
 -- the text after the first word of a statement

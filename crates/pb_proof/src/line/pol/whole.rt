@@ -1,13 +1,14 @@
 //! Whole `pol` lines at the start of a text.
 
-ghost use Rattle.std.specs.Prelude.{◌≡◌, ◌<◌, ◌≤◌, ◌^◌, IfSome, get_or, length, take};
+ghost use Rattle.std.specs.Prelude.{◌≡◌, ◌<◌, ◌≤◌, IfSome, Some, get_or, length, take};
 ghost use Rattle.pb_text.specs.meaning.Limits.{largest, top_of};
+ghost use Rattle.pb_proof.specs.engine.line.Pol.{pol_grammar};
 ghost use Rattle.pb_proof.specs.engine.line.PolWhole.{IsExpression, IsClosing};
 ghost use Rattle.pb_proof.specs.engine.machine.Whole.{LeadsToPol};
 
-use crate::line::pol::literal_prefix::named_prefix;
-use crate::line::pol::phase::Held;
-use crate::line::pol::words::turn;
+use crate::line::pol::PolWords;
+use crate::line::pol::word_prefix::word_at;
+use crate::line::words::list::WordList;
 use crate::word::PolWord;
 use pb_sums::Name;
 use pb_text::{Limits, Sequence, Spare};
@@ -27,67 +28,67 @@ pub(crate) fn pol_at(
     ensures runs { IfSome result (λ r. LeadsToPol (largest limits) (top_of limits)
         (take r.0 text.now) r.1) }
 {
-    if text.len() < 4 || text[0] != b'p' || text[1] != b'o' || text[2] != b'l' || text[3] != b' ' {
+    if text.len() < 4 || text[0] != b'p' || text[1] != b'o' || text[2] != b'l' {
         return None;
     }
-    let limit = limits.largest();
-    let top = limits.top();
-    let rest = &text[4..];
-    let Some((length, words)) = words_at(alloc, limit, top, rest, spare) else {
+    let rest = &text[3..];
+    let Some((length, words)) = words_at(alloc, limits, rest, spare) else {
         return None;
     };
     let Some(more) = closing_prefix(&rest[length..]) else {
         return None;
     };
-    Some((4 + length + more, words))
+    Some((3 + length + more, words))
 }
 
-/// The words of one expression at the start of a text, and their length, if they are fast to read
-/// and memory suffices.
+/// The words of one expression at the start of a text, each after a blank, and their length, if
+/// they are fast to read and memory suffices.
 #[inline(always)]
 fn words_at(
     alloc: Global,
-    limit: u128,
-    top: u64,
+    limits: Limits,
     text: &[u8],
     spare: &mut Spare<PolWord>,
 ) -> Option<(usize, Sequence<PolWord>)>
-    requires top { top < 2 ^ 63 }
     ensures bound { IfSome result (λ r. r.0 ≤ length text.now) }
-    ensures expression { IfSome result (λ r. IsExpression limit top (take r.0 text.now) r.1) }
+    ensures expression { IfSome result (λ r.
+        IsExpression (largest limits) (top_of limits) (take r.0 text.now) r.1) }
 {
     let Ok(list) = spare.list(0) else {
         return None;
     };
-    let mut words = list.into_vec();
+    let mut words = PolWords::with_memory(list);
     let mut name = Name::new(alloc);
-    let mut depth: usize = 0;
-    let mut held = Held::Nothing;
     let mut end: usize = 0;
-    while let Some((length, change, next)) = named_prefix(
-        alloc,
-        limit,
-        top,
-        depth,
-        held,
-        &text[end..],
-        &mut name,
-    ) {
-        if turn(alloc, &mut words, &mut depth, &mut name, change).is_err() {
+    while end < text.len() && text[end] == b' ' {
+        end += 1;
+        let Some((length, word)) = word_at(alloc, limits, &words, &text[end..], &mut name) else {
+            return ended(alloc, limits, words, end);
+        };
+        if words.add(alloc, limits, word, &mut name).is_err() {
             return None;
         }
-        held = next;
         end += length;
-        if end >= text.len() || text[end] != b' ' {
-            return if depth == 1 {
-                Some((end, Sequence::from_vec(words)))
-            } else {
-                None
-            };
-        }
-        end += 1;
     }
-    None
+    ended(alloc, limits, words, end)
+}
+
+/// The words up to this index, if they are one expression.
+#[inline(always)]
+fn ended(
+    alloc: Global,
+    limits: Limits,
+    mut words: PolWords,
+    end: usize,
+) -> Option<(usize, Sequence<PolWord>)>
+    ensures end { IfSome result (λ r. r.0 ≡ end) }
+    ensures words { IfSome result (λ r.
+        Some r.1 ≡ (pol_grammar (largest limits) (top_of limits)).value words) }
+{
+    if !words.is_whole() {
+        return None;
+    }
+    Some((end, words.finish(alloc, limits)))
 }
 
 /// The length of the `;` at the start of a text, or 0, if a line feed comes after it.

@@ -1,6 +1,9 @@
 use Rattle.pb_proof.proofs.lemmas.Carried.{pushes_in}
-use Rattle.pb_proof.proofs.lemmas.line.Laws.{pol_carries, rup_carries, soli_carries, solx_carries, delete_carries, conclusion_carries}
+use Rattle.pb_proof.proofs.lemmas.line.Laws.{formula_carries, pol_carries, rup_carries, soli_carries, solx_carries, delete_carries, conclusion_carries}
 use Rattle.pb_proof.proofs.line.LineMachine.take.Goals as goal
+
+pub returns-in-Formula : goal.returns-in-Formula
+returns-in-Formula c = rw c.in-Formula.is (pushes_in _ _ _ _ formula_carries _ (λ e f g. g) c.in-Formula.machine c.push.new.self c.args.byte _ _ c.carried.ensures c.push.ensures.pushes)
 
 pub returns-in-Pol : goal.returns-in-Pol
 returns-in-Pol c = rw c.in-Pol.is (pushes_in _ _ _ _ pol_carries _ (λ e f g. g) c.in-Pol.machine c.push-in-Pol.new.self c.args.byte _ _ c.carried-in-Pol.ensures c.push-in-Pol.ensures.pushes)

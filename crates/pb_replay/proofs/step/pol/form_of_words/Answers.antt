@@ -3,7 +3,7 @@ use Rattle.pb_replay.proofs.lemmas.rules.Words.{stands_first, word_takes, word_n
 use Rattle.pb_replay.proofs.step.pol.form_of_words.Goals as goal
 
 pub loop-word-init : goal.loop-word-init
-loop-word-init c = rw c.new-stack.ensures.items (stands_first _ _ _ _ c.args.words.now c.requires.postfix c.requires.named)
+loop-word-init c = rw c.new-stack.ensures (stands_first _ _ _ _ c.args.words.now c.requires.postfix c.requires.named)
 
 pub form_of_word-requires-clause-takes : goal.form_of_word-requires-clause-takes
 form_of_word-requires-clause-takes c = word_takes _ _ _ _ _ _ _ c.loop-word-test.true c.word-item.is _ c.loop-word.invariant
@@ -21,7 +21,7 @@ returns-in_err-form-clause-err c =
 
 pub loop-word-preserved : goal.loop-word-preserved
 loop-word-preserved c =
-    stands_next _ _ _ _ _ _ _ c.loop-word-test.true c.word-item.is _ c.loop-word.invariant c.in_ok-form.form _ _ c.in_ok-form.ensures.ok c.in_ok-form.ensures.count c.in_ok-push.ensures.ok
+    stands_next _ _ _ _ _ _ _ c.loop-word-test.true c.word-item.is _ c.loop-word.invariant c.in_ok-form.form _ _ c.in_ok-form.ensures.ok c.in_ok-form.ensures.count c.in_ok-push.ensures
 
 pub returns-clause-ok : goal.returns-clause-ok
 returns-clause-ok c = rw c.in_ok-form-2.ensures.same (some_form _ _ _ _ _ _ _ _ _ c.requires.postfix c.loop-word-test.false c.loop-word.invariant c.pop.ensures)

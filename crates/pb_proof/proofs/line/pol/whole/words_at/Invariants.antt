@@ -1,13 +1,12 @@
-use Rattle.pb_proof.proofs.Common.{◌-◌, ◌≤◌, length, take, vec_len, AreWords}
+use Rattle.pb_proof.proofs.{Common.◌-◌, Common.◌≤◌, Common.largest, Common.length, Common.take, Common.top_of, lemmas.pol.Whole.AreWords}
 use Rattle.pb_proof.proofs.line.pol.whole.words_at.Given as goal
 
 -- the bytes so far are words
-abbrev pub invariant-loop-length : goal.invariant-loop-length
-invariant-loop-length l = record {
+abbrev pub invariant-loop-end : goal.invariant-loop-end
+invariant-loop-end l = record {
   bound : l.end ≤ length l.text;
-  deep : l.depth ≤ vec_len l.words;
-  words : AreWords l.limit l.top (take l.end l.text) l.words.items l.depth l.name l.held;
+  words : AreWords (largest l.limits) (top_of l.limits) (take l.end l.text) l.words;
 }
 
-abbrev pub decreases-loop-length : goal.decreases-loop-length
-decreases-loop-length l = length l.text - l.end
+abbrev pub decreases-loop-end : goal.decreases-loop-end
+decreases-loop-end l = length l.text - l.end

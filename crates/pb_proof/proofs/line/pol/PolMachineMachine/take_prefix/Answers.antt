@@ -1,8 +1,0 @@
-use Rattle.pb_proof.proofs.Common.{ℕ, ◌≡◌, arith, subst, take, runs_on, Runs, pol_automaton}
-use Rattle.pb_proof.proofs.line.pol.PolMachineMachine.take_prefix.Goals as goal
-
-pub returns-then-try_continue-clause-runs : goal.returns-then-try_continue-clause-runs
-returns-then-try_continue-clause-runs c =
-    let none : c.take_word-length.result ≡ 0 = omega arith in
-    let same = subst (λ (n : ℕ). Runs pol_automaton c.args.self.now (take n c.args.piece.now) c.take_word-length.new.self) none c.take_word-length.ensures.runs in
-    runs_on pol_automaton c.args.self.now c.args.piece.now 0 c.take_word-length.new.self c.try_continue.new.self c.requires same c.if-try_continue.ensures.continues c.try_continue.ensures.state

@@ -1,0 +1,29 @@
+use Rattle.pb_proof.proofs.line.words.WordMachine.take.Goals as goal
+use Rattle.pb_proof.proofs.Common.{ap, sym, ◌∙◌, refl, unchanged}
+use Rattle.pb_text.proofs.lemmas.text.NameBytes.{name_ascii}
+use Rattle.pb_proof.proofs.lemmas.words.Pushes.{memory, added_name, after_to, after_add, pushed}
+use Rattle.pb_proof.specs.declared.line.words.part.Step.{Step}
+use Rattle.pb_proof.specs.engine.line.{Words.step_at, WordsFields.words_state}
+
+pub invariant_of-self : goal.invariant_of-self
+invariant_of-self g c =
+    after_to _ _ g.met.W.WordList.lawful g.met.W.WordList.counted (words_state c.self.inside) c.args.byte c.self.invariant c.in-To.part
+    (ap (λ i. step_at g.W.WordList.grammar i c.args.byte) c.self.view_is ∙ (sym c.requires ∙ c.in-To.is))
+
+pub push-requires : goal.push-requires
+push-requires g c =
+    name_ascii c.args.byte (added_name _ _ g.met.W.WordList.lawful g.met.W.WordList.counted (words_state c.self-in-Add.inside) c.args.byte c.self-in-Add.invariant c.in-Add.part
+    (ap (λ i. step_at g.W.WordList.grammar i c.args.byte) c.self-in-Add.view_is ∙ (sym c.requires ∙ c.in-Add.is)))
+
+pub returns-then-is_err : goal.returns-then-is_err
+returns-then-is_err g c =
+    let e = ap (λ i. step_at g.W.WordList.grammar i c.args.byte) c.self-in-Add.view_is ∙ (sym c.requires ∙ c.in-Add.is) in
+    let n = unchanged _ _ _ _ c.push.ensures (sym c.is_err.ensures.value ∙ c.if-is_err.true) in
+    let (x, y) = memory _ _ g.met.W.WordList.lawful g.met.W.WordList.counted (words_state c.self-in-Add.inside) c.args.byte c.self-in-Add.invariant (Step.Add c.in-Add.part) e refl (λ r. cc) in
+    rw (← c.self-in-Add.view_is) (x, y, rw n refl)
+
+pub invariant_of-self-in-Add : goal.invariant_of-self-in-Add
+invariant_of-self-in-Add g c =
+    let e = ap (λ i. step_at g.W.WordList.grammar i c.args.byte) c.self-in-Add.view_is ∙ (sym c.requires ∙ c.in-Add.is) in
+    rw (pushed c.push.result c.push.new.self c.self-in-Add.inside.name c.args.byte c.push.ensures (sym c.is_err.ensures.value ∙ c.if-is_err.false))
+    (after_add _ _ g.met.W.WordList.lawful g.met.W.WordList.counted (words_state c.self-in-Add.inside) c.args.byte c.self-in-Add.invariant c.in-Add.part e)

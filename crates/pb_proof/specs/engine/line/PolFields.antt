@@ -1,0 +1,6 @@
+-- What the words of a `pol` line store.
+use Rattle.pb_proof.specs.{declared.line.pol.PolWords.TheInside.Inside, engine.line.Pol.PolState, engine.line.Pol.pol_at}
+
+-- the state that the fields make up
+abbrev pub pol_state : Inside → PolState
+pol_state m = pol_at m.words.items m.depth m.held
