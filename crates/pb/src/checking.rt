@@ -4,6 +4,7 @@ ghost use Rattle.std.specs.Prelude.{IfSome, ◌<◌};
 
 use crate::explaining::explained_over;
 use crate::failure::Failure;
+use crate::leaving::Leaving;
 use crate::output::{flushed, keys_of, read_buffer, unit_of, write_buffer};
 use crate::until::UntilFault;
 use crate::watching::{Asked, Watching};
@@ -105,7 +106,7 @@ pub(crate) fn check_over<
         &mut Over::new(instance),
         &mut Over::new(proof),
         &mut Over::new(out),
-        watch,
+        &mut Leaving::new(watch),
         longest,
         limits,
     );

@@ -13,6 +13,7 @@ mod explaining;
 mod failure;
 mod hints;
 mod inputs;
+mod leaving;
 mod origin;
 mod output;
 mod recent;

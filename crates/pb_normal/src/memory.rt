@@ -1,6 +1,6 @@
 //! Memory of lists of terms that are no longer needed.
 
-ghost use Rattle.std.specs.Prelude.{◌≡◌, [], IfOk};
+ghost use Rattle.std.specs.Prelude.{◌≡◌, []};
 
 use crate::entry::Entry;
 use std::alloc::{AllocError, Global};
@@ -55,7 +55,7 @@ impl Memory {
     /// Gives memory back if there is much of it.
     pub fn trim(&mut self) {
         let mut room: usize = 0;
-        'lists: for i in 0..self.lists.len() {
+        for i in 0..self.lists.len() {
             room = room.saturating_add(self.lists[i].capacity());
         }
         if room > KEPT {

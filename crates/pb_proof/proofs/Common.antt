@@ -56,7 +56,7 @@ pub use Rattle.pb_proof.specs.declared.statement.Statement.TheVariants.{Conclude
 pub use Rattle.pb_proof.specs.declared.word.PolWord.TheVariants.{Add, Axiom, Divide, Id, Multiply, Saturate, Weaken}
 pub use Rattle.pb_proof.specs.engine.line.{Ended.ended_lines, Solution.solution_first, Solution.solution_last, Solution.solution_automaton, Literals.literal}
 pub use Rattle.pb_proof.specs.engine.line.Delete.{delete_automaton, delete_first, delete_last}
-pub use Rattle.pb_proof.specs.engine.line.Machine.{IsCarried, line_automaton, line_first, SpellsRest, IsEnded}
+pub use Rattle.pb_proof.specs.engine.line.Machine.{IsCarried, line_automaton, line_first, SpellsRest}
 pub use Rattle.pb_proof.specs.engine.line.Pol.{PolState, pol_at, pol_grammar, pol_automaton, pol_first, pol_last, bound, held_number, held_name, is_free, turns, turned, with_last}
 pub use Rattle.pb_proof.specs.engine.line.Pol.{with_operand, with_number, with_mark, with_pol_word, sums as is_sum, saturates, word_units, units, adds_word}
 pub use Rattle.pb_proof.specs.engine.line.Conclusion.{conclusion_automaton, conclusion_first, conclusion_last}
@@ -66,7 +66,7 @@ pub use Rattle.pb_proof.specs.engine.line.Rup.{rup_act, rup_asks, rup_done, rup_
 pub use Rattle.pb_proof.specs.engine.machine.State.{act, asked, at, begin, HasGaps, Holds, idle, IsInOrder, proofs, ProofState, step_line, giving, is_complete}
 pub use Rattle.pb_proof.specs.engine.machine.State.{next_stage, over as proof_over, PhaseFits as ProofPhaseFits, is_within as proof_within}
 pub use Rattle.pb_proof.specs.engine.machine.Transition.{enter, meets, next_action, pass, words_of, sol_word, step_keyword, spell as proof_spell}
-pub use Rattle.pb_proof.specs.engine.machine.{Transition.transition as proof_transition, Transition.between as proof_between, Words.IsRest, Words.LacksRest}
+pub use Rattle.pb_proof.specs.engine.machine.{Transition.transition as proof_transition, Transition.between as proof_between}
 pub use Rattle.pb_proof.specs.meaning.Asking.{Asks, AsksAfter, AsksConclusion, AsksShown, AsksWord, EndsNumber, FirstWord}
 pub use Rattle.pb_proof.specs.meaning.Canonical.{bound_bytes, conclusion_bytes, id_shown_bytes, lines, listed_bytes, literal_line, proof_bytes, statement_bytes}
 pub use Rattle.pb_proof.specs.meaning.{Canonical.shown_bytes, Canonical.word_bytes, Order.GapAt, Order.IsStaged, Order.stage_after, Order.stage_of}
@@ -76,4 +76,4 @@ pub use Rattle.pb_proof.specs.meaning.Lines.{del_word, end_word, Feed, inf_word,
 pub use Rattle.pb_proof.specs.meaning.Lines.{f_word, Factor, id_word, IdShown, LineEnd, Listed, rup_word, sat_word, SpellsId, two_word}
 pub use Rattle.pb_proof.specs.meaning.Postfix.{Constraint, IsPostfix, LiteralAxiom, Product, Quotient, Saturation, Sum, Tree, Weakening, words}
 pub use Rattle.pb_proof.specs.meaning.Proofs.{AreSpelled, BeginsAtOnce, IsGap, IsProof, IsProofOf, IsStep, statements_of}
-pub use Rattle.pb_proof.specs.engine.line.PolWhole.{IsExpression, IsClosing, IsNext}
+pub use Rattle.pb_proof.specs.engine.line.WordsWhole.{IsClosing, IsLine, IsWordAt}

@@ -1,7 +1,7 @@
 //! The line machines: they read the rest of a statement after its first word.
 
 mod conclusion;
-mod delete;
+pub(crate) mod delete;
 mod formula;
 mod ids;
 mod literals;
@@ -9,7 +9,7 @@ pub(crate) mod pol;
 pub(crate) mod push;
 pub(crate) mod rup;
 mod solution;
-mod words;
+pub(crate) mod words;
 
 use crate::line::conclusion::ConclusionWords;
 use crate::line::delete::DeleteWords;

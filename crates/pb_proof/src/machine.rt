@@ -15,16 +15,15 @@ ghost use Rattle.pb_proof.specs.meaning.Proofs.{IsProof};
 ghost use Rattle.pb_proof.specs.engine.machine.State.{proofs, begin};
 ghost use Rattle.pb_proof.specs.engine.machine.Transition.{transition};
 
-mod end;
 pub(crate) mod phase;
 mod transition;
+mod whole;
 
 use crate::line::LineMachine;
-use crate::line::pol::whole::pol_at;
 use crate::line::push::line_first;
-use crate::line::rup::whole::rup_at;
 use crate::machine::phase::{Action, LineKind, Phase, Stage};
-use crate::machine::transition::{is_done, is_within, next_stage, transition, words_prefix};
+use crate::machine::transition::{is_done, is_within, next_stage, transition};
+use crate::machine::whole::{delete_at, pol_at, rup_at};
 use crate::statement::Statement;
 use crate::word::PolWord;
 use pb_sums::Term;
@@ -176,32 +175,6 @@ impl ProofMachine {
         let _ = self.is_done();
         taken
     }
-
-    /// Takes the rest of the words that a statement begins with, if the text begins with that rest.
-    #[inline(always)]
-    fn take_words(&mut self, text: &[u8]) -> usize
-        ensures bound { result ≤ length text.now }
-        ensures runs { Runs proofs self.old (take result text.now) self.new }
-        ensures state { IsState proofs self.new }
-    {
-        let Some((length, next)) = words_prefix(self.phase, text) else {
-            let _ = self.is_done();
-            return 0;
-        };
-        match next {
-            Action::To(phase) => self.phase = phase,
-            Action::Begin(kind) => {
-                start_line(&mut self.line, self.alloc, self.limits, kind, &mut self.ids);
-                self.phase = Phase::Inside(kind);
-            }
-            _ => {
-                let _ = self.is_done();
-                return 0;
-            }
-        }
-        let _ = self.is_done();
-        length
-    }
 }
 
 impl Machine for ProofMachine {
@@ -226,12 +199,7 @@ impl Machine for ProofMachine {
         gone
     }
 
-    #[inline(always)]
-    fn try_finish(&mut self, byte: u8) -> Option<Statement> {
-        self.end(byte)
-    }
-
-    /// Takes a whole `rup` line. It stores nothing, so the machine is the same after it.
+    /// Takes a whole step. It stores nothing, so the machine is the same after it.
     fn take_statement(&mut self, piece: &[u8]) -> Option<(usize, Statement)> {
         let _ = self.is_done();
         let Phase::Between(stage) = self.phase else {
@@ -240,39 +208,32 @@ impl Machine for ProofMachine {
         let Stage::Steps = stage else {
             return None;
         };
-        if let Some((last, words)) = pol_at(self.alloc, self.limits, piece, &mut self.words) {
-            return Some((last, Statement::Pol(words)));
-        }
-        let Some((last, linear)) = rup_at(self.alloc, self.limits, piece, &mut self.terms) else {
+        if piece.is_empty() {
             return None;
-        };
-        Some((last, Statement::Rup(linear)))
+        }
+        match piece[0] {
+            b'p' => {
+                let (last, words) = pol_at(self.alloc, self.limits, piece, &mut self.words)?;
+                Some((last, Statement::Pol(words)))
+            }
+            b'r' => {
+                let (last, linear) = rup_at(self.alloc, self.limits, piece, &mut self.terms)?;
+                Some((last, Statement::Rup(linear)))
+            }
+            b'd' => {
+                let (last, ids) = delete_at(self.alloc, self.limits, piece, &mut self.ids)?;
+                Some((last, Statement::Delete(ids)))
+            }
+            _ => None,
+        }
     }
 
     fn take_prefix(&mut self, piece: &[u8]) -> usize {
-        let length = self.take_words(piece);
+        let length = self.give_prefix(piece);
         if length > 0 {
             return length;
         }
         if self.try_continue(piece[0]) { 1 } else { 0 }
-    }
-
-    /// Within a line it stops where the line machine stops, as `try_continue` gives that machine
-    /// nothing.
-    fn take_run(&mut self, piece: &[u8]) -> usize {
-        let _ = self.is_done();
-        let mut taken: usize = 0;
-        while taken < piece.len() {
-            if matches!(self.phase, Phase::Inside(_)) {
-                return taken + self.give_prefix(&piece[taken..]);
-            }
-            let more = self.take_prefix(&piece[taken..]);
-            if more == 0 {
-                return taken;
-            }
-            taken += more;
-        }
-        taken
     }
 
     fn push(&mut self, byte: u8) -> Push<Statement> {

@@ -29,6 +29,6 @@ pub use Rattle.pb_sums.specs.engine.Machine.{act, action, adds, at_name, digits,
 pub use Rattle.pb_sums.specs.engine.Machine.{is_numeric, kind, kind_of_numeral, kind_of_plain, letter_at, next_action, number, Outcome, PhaseFits, step, symbol}
 pub use Rattle.pb_sums.specs.engine.Prefix.{after_name, after_number, after_space, begins_number, begins_relation, HasSign, IsSign, role, sign_read, text_after}
 pub use Rattle.pb_sums.specs.engine.State.{all_units, asks, first, in_hand, IsInOrder, last, over, ready, sums, SumState, units, with_work}
-pub use Rattle.pb_sums.specs.engine.TermParts.{AreSpacedTerms, begins_term, IsLiteral, IsSpacedLiteral, IsSpacedNumber, IsTilde, LeadsToLinear, standing}
+pub use Rattle.pb_sums.specs.engine.TermParts.{AreSpacedTerms, begins_term, EndsLinear, IsDegree, IsLiteral, IsSpacedLiteral, IsSpacedNumber, IsTilde, LeadsToLinear, standing}
 pub use Rattle.pb_sums.specs.meaning.Sums.{allows, Head, is_space, IsName, IsOneText, literal_bytes, reads_sums, Spaces0, Spaces1, Spells, SpellsFurther}
 pub use Rattle.pb_sums.specs.meaning.Sums.{SpellsLinear, SpellsLiteral, SpellsRelation, SpellsSum, SpellsTerm}

@@ -2,20 +2,22 @@
 
 ghost use Rattle.std.specs.Prelude.{◌≡◌, ◌≤◌, ◌<◌, ◌^◌, IfSome, true, get_or, length, take};
 ghost use Rattle.pb_text.specs.meaning.Limits.{largest};
-ghost use Rattle.pb_sums.specs.engine.TermParts.{begins_term, IsSpacedTerm, AreSpacedTerms, IsSpacedDegree, LeadsToLinear};
+ghost use Rattle.pb_sums.specs.engine.TermParts.{begins_term, IsSpacedTerm, AreSpacedTerms, IsDegree, LeadsToDegree, LeadsToLinear};
 
 use crate::capacity::capacity_for;
 use crate::linear::{Linear, Relation, Term};
 use crate::phase::Phase;
-use crate::prefix::relation_prefix;
+use crate::prefix::{relation_prefix, sign_prefix};
 use crate::sum_kind::Part;
 use crate::term_prefix::{spaced_literal_prefix, spaced_number_prefix};
+use pb_text::decimal::signed;
+use pb_text::digits::number_prefix;
 use pb_text::{Limits, Sequence, Spare};
 use std::alloc::Global;
 
 /// A linear text at the start of a text, and the index of its `;`, if it is fast to read and memory
-/// suffices: it has a term, and one space after each number, literal and relation. Its terms take
-/// the spare memory.
+/// suffices: it has a term, and one space after each coefficient, literal and relation. Before its
+/// `;` there is at most one. Its terms take the spare memory.
 pub fn linear_at(
     alloc: Global,
     limits: Limits,
@@ -86,12 +88,13 @@ fn term_at(alloc: Global, limit: u128, phase: Phase, text: &[u8]) -> Option<(usi
     ))
 }
 
-/// A relation and a degree with a space after each at the start of a text, and their length.
+/// A relation, a space and a degree at the start of a text, with a space after them if there is
+/// one, and their length.
 #[inline(always)]
 fn degree_at(limit: u128, part: Part, text: &[u8]) -> Option<(usize, Relation, i128)>
     requires room { limit < 2 ^ 127 }
     ensures bound { IfSome result (λ r. r.0 ≤ length text.now) }
-    ensures runs { IfSome result (λ r. IsSpacedDegree limit part (take r.0 text.now) r.1 r.2) }
+    ensures runs { IfSome result (λ r. LeadsToDegree limit part (take r.0 text.now) r.1 r.2) }
 {
     let Some((length, relation)) = relation_prefix(part, text) else {
         return None;
@@ -100,9 +103,29 @@ fn degree_at(limit: u128, part: Part, text: &[u8]) -> Option<(usize, Relation, i
         return None;
     }
     let start = length + 1;
-    let rest = &text[start..];
-    let Some((count, degree)) = spaced_number_prefix(limit, Phase::Relation(relation), rest) else {
+    let Some((count, degree)) = degree_prefix(limit, relation, &text[start..]) else {
         return None;
     };
-    Some((start + count, relation, degree))
+    let end = start + count;
+    if end < text.len() && text[end] == b' ' {
+        return Some((end + 1, relation, degree));
+    }
+    Some((end, relation, degree))
+}
+
+/// A degree after this relation and a space, at the start of a text, and its length, if it is fast
+/// to read.
+#[inline(always)]
+fn degree_prefix(limit: u128, relation: Relation, text: &[u8]) -> Option<(usize, i128)>
+    requires room { limit < 2 ^ 127 }
+    ensures bound { IfSome result (λ r. r.0 ≤ length text.now) }
+    ensures runs { IfSome result (λ r. IsDegree limit relation (take r.0 text.now) r.1) }
+{
+    let (sign, negative) = sign_prefix(None, text);
+    let (count, value) = number_prefix(&text[sign..]);
+    let magnitude = value as u128;
+    if count == 0 || magnitude > limit {
+        return None;
+    }
+    Some((sign + count, signed(negative, magnitude)))
 }

@@ -3,5 +3,4 @@ pub mod Postfix
 pub mod Moves
 pub mod Spelling
 pub mod Reads
-pub mod Whole
 pub mod Theorems

@@ -5,3 +5,4 @@ pub mod Walks
 pub mod Asks
 pub mod Theorems
 pub mod Pushes
+pub mod Whole

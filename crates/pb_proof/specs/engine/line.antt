@@ -23,5 +23,5 @@ pub mod Machine
 pub mod Pol
 pub mod PolFields
 pub mod PolLaws
-pub mod PolWhole
+pub mod WordsWhole
 pub mod Rup

@@ -7,9 +7,6 @@ ghost use Rattle.pb_proof.specs.engine.line.Pol.{bound, no_words, pol_grammar, w
 
 mod change;
 mod held;
-mod literal_prefix;
-pub(crate) mod whole;
-mod word_prefix;
 
 use crate::line::pol::change::{count_units, make_room, turn_last};
 use crate::line::pol::held::{Held, held_name, held_number, is_free, turns};
@@ -66,7 +63,7 @@ impl PolWords {
 
     /// No words, with the memory of this list.
     #[inline(always)]
-    fn with_memory(list: Sequence<PolWord>) -> Self
+    pub fn with_memory(list: Sequence<PolWord>) -> Self
         requires { list ≡ [] }
         ensures { result ≡ no_words }
     {
@@ -75,14 +72,6 @@ impl PolWords {
             depth: 0,
             held: Held::Nothing,
         }
-    }
-
-    /// Whether the words are one expression.
-    #[inline(always)]
-    fn is_whole(&self) -> bool
-        ensures { result ≡ nat_eq self.now.depth 1 }
-    {
-        self.depth == 1
     }
 
     /// A number that may come as a word, and what it may still become.

@@ -2,7 +2,7 @@
 
 ghost use Rattle.std.specs.Prelude.{◌≡◌};
 ghost use Rattle.pb_text.specs.meaning.Limits.{largest, top_of};
-ghost use Rattle.pb_proof.specs.engine.line.Machine.{line_first, IsCarried, IsEnded, line_automaton};
+ghost use Rattle.pb_proof.specs.engine.line.Machine.{line_first, IsCarried, line_automaton};
 
 use crate::line::LineMachine;
 use crate::line::conclusion::ConclusionWords;
@@ -43,18 +43,6 @@ fn carried<E, F: FnOnce(E) -> Statement + Drop>(answer: Push<E>, statement: F) -
         Push::No => Push::No,
         Push::Large => Push::Large,
         Push::Memory => Push::Memory,
-    }
-}
-
-/// The event of one line machine, as an event of `LineMachine`.
-#[inline(always)]
-fn ended<E, F: FnOnce(E) -> Statement + Drop>(event: Option<E>, statement: F) -> Option<Statement>
-    requires { F.IsAlwaysCallable statement }
-    ensures { IsEnded (F.post statement) event result }
-{
-    match event {
-        Some(event) => Some(statement(event)),
-        None => None,
     }
 }
 
@@ -130,17 +118,6 @@ impl Machine for LineMachine {
         let taken = self.run(piece);
         let _ = self.is_done();
         taken
-    }
-
-    fn try_finish(&mut self, byte: u8) -> Option<Statement> {
-        let _ = self.is_done();
-        match self {
-            LineMachine::Pol(machine) => ended(machine.try_finish(byte), Statement::Pol),
-            LineMachine::Rup(machine) => ended(machine.try_finish(byte), Statement::Rup),
-            LineMachine::Delete(machine) => ended(machine.try_finish(byte), Statement::Delete),
-            // The other machines have no fast path for a line feed.
-            _ => None,
-        }
     }
 
     fn push(&mut self, byte: u8) -> Push<Statement> {

@@ -5,9 +5,7 @@ ghost use Rattle.pb_text.specs.meaning.Limits.{largest};
 ghost use Rattle.pb_proof.specs.engine.line.Rup.{rup_transition, rup_done, linear_of, units_in, rup_automaton, rup_first};
 ghost use Rattle.pb_text.specs.contract.Automaton.{IsState, Pushes, Continues, Runs};
 
-mod end;
 mod phase;
-pub(crate) mod whole;
 
 use crate::line::rup::phase::{RupAction, RupPhase};
 use pb_sums::{Linear, Part, Relation, Spaces, SumEvent, SumMachine, count_units};
@@ -154,28 +152,8 @@ impl RupMachine {
         }
     }
 
-    /// Gives the first bytes of a constraint to the machine for sums. Returns how many it took.
-    fn begin_prefix(&mut self, text: &[u8]) -> usize
-        requires { self.old.phase ≡ RupPhase.Gap }
-        ensures bound { result ≤ length text.now }
-        ensures runs { Runs rup_automaton self.old (take result text.now) self.new }
-        ensures state { IsState rup_automaton self.new }
-    {
-        let _ = self.is_done();
-        if text.is_empty() || is_blank(text[0]) {
-            return 0;
-        }
-        let taken = self.sums.take_run(text);
-        if taken == 0 {
-            return 0;
-        }
-        self.phase = RupPhase::Inside;
-        let _ = self.is_done();
-        taken
-    }
-
-    /// Gives bytes at the start of a text to the machine for sums, if a constraint has begun or may
-    /// begin. Returns how many it took.
+    /// Gives bytes at the start of a text to the machine for sums, if a constraint has begun. Returns
+    /// how many it took.
     fn give_prefix(&mut self, text: &[u8]) -> usize
         ensures bound { result ≤ length text.now }
         ensures runs { Runs rup_automaton self.old (take result text.now) self.new }
@@ -183,48 +161,9 @@ impl RupMachine {
     {
         let taken = match self.phase {
             RupPhase::Inside => self.sums.take_run(text),
-            RupPhase::Gap => self.begin_prefix(text),
             _ => 0,
         };
         let _ = self.is_done();
-        taken
-    }
-
-    /// Takes the `;` of a constraint that is complete.
-    #[inline(always)]
-    fn take_end(&mut self, byte: u8) -> bool
-        ensures continues { Continues rup_automaton self.old byte result self.new }
-        ensures state { IsState rup_automaton self.new }
-    {
-        let _ = self.is_done();
-        let RupPhase::Inside = self.phase else {
-            return false;
-        };
-        let Some(event) = self.sums.try_finish(byte) else {
-            let _ = self.is_done();
-            return false;
-        };
-        self.linear = Some(linear_of(event));
-        self.phase = RupPhase::Tail;
-        let _ = self.is_done();
-        true
-    }
-
-    /// Takes bytes of a constraint at the start of a text, and its `;` after them. Returns how many
-    /// it took.
-    #[inline(always)]
-    fn take_linear(&mut self, text: &[u8]) -> usize
-        ensures bound { result ≤ length text.now }
-        ensures runs { Runs rup_automaton self.old (take result text.now) self.new }
-        ensures state { IsState rup_automaton self.new }
-    {
-        let taken = self.give_prefix(text);
-        if taken == 0 || taken == text.len() {
-            return taken;
-        }
-        if self.take_end(text[taken]) {
-            return taken + 1;
-        }
         taken
     }
 }
@@ -247,14 +186,8 @@ impl Machine for RupMachine {
         gone
     }
 
-    fn try_finish(&mut self, byte: u8) -> Option<Linear> {
-        let linear = self.end(byte);
-        let _ = self.is_done();
-        linear
-    }
-
     fn take_prefix(&mut self, piece: &[u8]) -> usize {
-        let length = self.take_linear(piece);
+        let length = self.give_prefix(piece);
         if length > 0 {
             return length;
         }

@@ -1,19 +1,23 @@
 //! The machine for lines that are made of words.
 
-ghost use Rattle.std.specs.Prelude.{◌≡◌, [], true, IsSome, OnOk, OnErr, Some};
+ghost use Rattle.std.specs.Prelude.{◌≡◌, ◌≤◌, [], true, IsSome, OnOk, OnErr, Some, length, take};
 ghost use Rattle.pb_text.specs.meaning.Limits.{largest, top_of};
-ghost use Rattle.pb_text.specs.contract.Automaton.{Pushes};
+ghost use Rattle.pb_text.specs.contract.Automaton.{IsState, Pushes, Runs};
 ghost use Rattle.pb_proof.specs.engine.line.Grammar.{IsNumber, with_word, adds_word};
-ghost use Rattle.pb_proof.specs.engine.line.Words.{words_first, words_automaton, step_at, begins_by, is_done};
+ghost use Rattle.pb_proof.specs.engine.line.Words.{words_first, words_automaton, step_at, ended, may_come, is_done};
 
 pub mod list;
+mod literal_prefix;
 pub mod part;
 pub mod step;
+pub mod whole;
 pub mod word;
+mod word_prefix;
 
 use crate::line::words::list::WordList;
 use crate::line::words::part::{Part, Step};
 use crate::line::words::step::step_of;
+use crate::line::words::whole::words_prefix;
 use crate::line::words::word::{Follow, Word};
 use pb_sums::Name;
 use pb_text::bytes::is_digit;
@@ -83,6 +87,22 @@ impl<W: WordList> WordMachine<W> {
         }
     }
 
+    /// Takes words at the start of a text, each with a space after it, if they are fast to read.
+    /// Returns how many bytes it took.
+    fn take_words(&mut self, text: &[u8]) -> usize
+        ensures bound { result ≤ length text.now }
+        ensures runs { Runs (words_automaton W.grammar) self.old (take result text.now) self.new }
+        ensures state { IsState (words_automaton W.grammar) self.new }
+    {
+        let Part::Gap = self.part else {
+            let _ = self.is_done();
+            return 0;
+        };
+        let taken = words_prefix(self.alloc, self.limits, &mut self.words, text);
+        let _ = self.is_done();
+        taken
+    }
+
     /// What the machine does with a byte.
     fn step(&self, byte: u8) -> Step
         ensures { result ≡ step_at W.grammar self.now byte }
@@ -108,10 +128,9 @@ impl<W: WordList> WordMachine<W> {
                 self.part = part;
                 Push::Go
             }
-            Step::End(word, part) => self.end(byte, word, part),
-            Step::Close(word) => self.close(byte, word),
-            Step::Colon(word) => self.colon(byte, word),
-            Step::Finish(word) => self.finish(byte, word),
+            Step::End(word, _) | Step::Close(word) | Step::Colon(word) | Step::Finish(word) => {
+                self.end(byte, step, word)
+            }
             Step::Stop => {
                 if matches!(self.part, Part::Number(_, _)) && is_digit(byte) {
                     return Push::Large;
@@ -121,37 +140,16 @@ impl<W: WordList> WordMachine<W> {
         }
     }
 
-    /// Ends a word, if there is one.
-    fn end(&mut self, byte: u8, word: Option<Word>, part: Part) -> Push<W::Event>
-        requires { step_at W.grammar self.old byte ≡ Step.End word part }
-        ensures { Pushes (words_automaton W.grammar) self.old byte result self.new }
-    {
-        let Some(_follow) = self.words.follow(self.limits, word) else {
-            return Push::No;
-        };
-        let added = add_word(
-            self.alloc,
-            self.limits,
-            &mut self.words,
-            word,
-            &mut self.name,
-        );
-        if added.is_err() {
-            return Push::Memory;
-        }
-        self.part = part;
-        Push::Go
-    }
-
-    /// Ends a word, if there is one, at a `;`.
-    fn close(&mut self, byte: u8, word: Option<Word>) -> Push<W::Event>
-        requires { step_at W.grammar self.old byte ≡ Step.Close word }
+    /// Ends a word, if there is one, and then does what the step says.
+    fn end(&mut self, byte: u8, step: Step, word: Option<Word>) -> Push<W::Event>
+        requires step { step ≡ step_at W.grammar self.old byte }
+        requires word { ended step ≡ Some word }
         ensures { Pushes (words_automaton W.grammar) self.old byte result self.new }
     {
         let Some(follow) = self.words.follow(self.limits, word) else {
             return Push::No;
         };
-        if !follow.end {
+        if !may_come(step, follow) {
             return Push::No;
         }
         let added = add_word(
@@ -164,60 +162,20 @@ impl<W: WordList> WordMachine<W> {
         if added.is_err() {
             return Push::Memory;
         }
-        self.part = Part::Closing;
+        match step {
+            Step::Colon(_) => {
+                self.words.add_colon(self.limits);
+                self.part = Part::Gap;
+            }
+            Step::Finish(_) => {
+                let event = self.words.finish(self.alloc, self.limits);
+                self.part = Part::Done;
+                return Push::Event(event);
+            }
+            Step::End(_, part) => self.part = part,
+            _ => self.part = Part::Closing,
+        }
         Push::Go
-    }
-
-    /// Ends a word, if there is one, at a `:`.
-    fn colon(&mut self, byte: u8, word: Option<Word>) -> Push<W::Event>
-        requires { step_at W.grammar self.old byte ≡ Step.Colon word }
-        ensures { Pushes (words_automaton W.grammar) self.old byte result self.new }
-    {
-        let Some(follow) = self.words.follow(self.limits, word) else {
-            return Push::No;
-        };
-        if !follow.colon {
-            return Push::No;
-        }
-        let added = add_word(
-            self.alloc,
-            self.limits,
-            &mut self.words,
-            word,
-            &mut self.name,
-        );
-        if added.is_err() {
-            return Push::Memory;
-        }
-        self.words.add_colon(self.limits);
-        self.part = Part::Gap;
-        Push::Go
-    }
-
-    /// Ends a word, if there is one, and the line.
-    fn finish(&mut self, byte: u8, word: Option<Word>) -> Push<W::Event>
-        requires { step_at W.grammar self.old byte ≡ Step.Finish word }
-        ensures { Pushes (words_automaton W.grammar) self.old byte result self.new }
-    {
-        let Some(follow) = self.words.follow(self.limits, word) else {
-            return Push::No;
-        };
-        if !follow.end {
-            return Push::No;
-        }
-        let added = add_word(
-            self.alloc,
-            self.limits,
-            &mut self.words,
-            word,
-            &mut self.name,
-        );
-        if added.is_err() {
-            return Push::Memory;
-        }
-        let event = self.words.finish(self.alloc, self.limits);
-        self.part = Part::Done;
-        Push::Event(event)
     }
 }
 
@@ -228,14 +186,14 @@ fn is_done(part: Part) -> bool
     matches!(part, Part::Done)
 }
 
-/// Whether the step begins a line, given what may follow no word.
-fn begins(step: Step, follow: Option<Follow>) -> bool
-    ensures { result ≡ begins_by step follow }
+/// Whether the step may be taken, given what may follow the words.
+fn may_come(step: Step, follow: Follow) -> bool
+    ensures { result ≡ may_come step follow }
 {
-    match (step, follow) {
-        (Step::End(_, _), _) => true,
-        (Step::Finish(_) | Step::Close(_), Some(follow)) => follow.end,
-        (Step::Colon(_), Some(follow)) => follow.colon,
+    match step {
+        Step::End(_, _) => true,
+        Step::Finish(_) | Step::Close(_) => follow.end,
+        Step::Colon(_) => follow.colon,
         _ => false,
     }
 }
@@ -256,18 +214,12 @@ impl<W: WordList> Machine for WordMachine<W> {
         matches!(answer, Push::Go)
     }
 
-    fn try_finish(&mut self, byte: u8) -> Option<W::Event> {
-        let _ = self.is_done();
-        let step = self.step(byte);
-        if !matches!(step, Step::Finish(_)) {
-            return None;
+    fn take_prefix(&mut self, piece: &[u8]) -> usize {
+        let taken = self.take_words(piece);
+        if taken > 0 {
+            return taken;
         }
-        let answer = self.take(byte, step);
-        let _ = self.is_done();
-        match answer {
-            Push::Event(event) => Some(event),
-            _ => None,
-        }
+        if self.try_continue(piece[0]) { 1 } else { 0 }
     }
 
     fn push(&mut self, byte: u8) -> Push<W::Event> {
@@ -283,7 +235,10 @@ impl<W: WordList> Machine for WordMachine<W> {
 
     fn starts(&self, byte: u8) -> bool {
         match self.part {
-            Part::Start => begins(self.step(byte), self.words.follow(self.limits, None)),
+            Part::Start => match self.words.follow(self.limits, None) {
+                Some(follow) => may_come(self.step(byte), follow),
+                None => false,
+            },
             _ => false,
         }
     }

@@ -1,9 +1,8 @@
 //! What the machine for proofs does with a byte, given what it has read last.
 
-ghost use Rattle.std.specs.Prelude.{◌≡◌, ◌<◌, ◌≤◌, IfSome, None, length, take};
+ghost use Rattle.std.specs.Prelude.{◌≡◌, ◌<◌, length};
 ghost use Rattle.pb_proof.specs.engine.machine.Transition.{words_of, next_action, meets, spell, step_keyword, enter, pass, between, transition};
 ghost use Rattle.pb_proof.specs.engine.machine.State.{is_within, is_complete, is_done, next_stage, PhaseFits};
-ghost use Rattle.pb_proof.specs.engine.machine.Words.{IsRest, LacksRest};
 
 use crate::machine::phase::{Action, Keyword, LineKind, Phase, Stage};
 use pb_text::bytes::{is_blank, is_white};
@@ -132,25 +131,6 @@ fn within(keyword: Keyword, read: usize, byte: u8) -> Action
         Action::Stop
     };
     spell(keyword, read, byte, other)
-}
-
-/// The rest of the words that have begun, if the text begins with it and has one space for blanks.
-/// Returns its length in bytes, and what the machine does after it.
-#[inline(always)]
-pub fn words_prefix(phase: Phase, text: &[u8]) -> Option<(usize, Action)>
-    requires { PhaseFits phase }
-    ensures bound { IfSome result (λ r. r.0 ≤ length text.now) }
-    ensures rest { IfSome result (λ r. IsRest phase (take r.0 text.now) r.1) }
-    ensures none { result ≡ None → LacksRest phase text.now }
-{
-    let Phase::Spelling(keyword, read) = phase else {
-        return None;
-    };
-    let rest = &words_of(keyword)[read..];
-    if !text.starts_with(rest) {
-        return None;
-    }
-    Some((rest.len(), next_action(keyword)))
 }
 
 /// What the machine does with a byte.

@@ -1,8 +1,10 @@
 -- Parts of a term at the start of a text, and what a machine does with them, whatever it reads.
 use Rattle.pb_sums.specs.declared.{linear.Linear.Linear, linear.Literal.Literal, linear.Relation.Relation, linear.Term.Term, phase.Phase.Phase}
-use Rattle.{pb_sums.specs.declared.sum_kind.Part.Part, pb_sums.specs.declared.sum_kind.Spaces.Spaces, pb_text.specs.contract.Automaton.Runs}
-use Rattle.pb_sums.specs.engine.{Prefix.role, Prefix.after_number, State.SumState, State.sums, State.first}
-use Rattle.std.specs.Prelude.{◌≡◌, ℕ, ℤ, Bool, true, false, List, [], ◌∷◌, ◌++◌, None}
+use Rattle.{pb_sums.specs.declared.sum_kind.Part.Part, pb_sums.specs.declared.sum_kind.Spaces.Spaces, pb_text.specs.contract.Automaton.Runs, pb_text.specs.contract.Automaton.End}
+use Rattle.pb_sums.specs.engine.{Prefix.role, Prefix.after_number, State.SumState, State.sums, State.first, State.last}
+use Rattle.std.specs.Prelude.{◌≡◌, ℕ, ℤ, Bool, true, false, List, [], ◌∷◌, ◌++◌, None, Some}
+use Rattle.pb_text.specs.meaning.Numbers.{signed}
+use Rattle.pb_sums.specs.declared.linear.SumEvent.{SumEvent}
 
 -- the states in which a term may begin, or the digits of its coefficient
 abbrev pub begins_term : Phase → Bool
@@ -45,12 +47,20 @@ abbrev pub AreSpacedTerms : ℕ → List ℕ → List Term → Phase → Type 0
 AreSpacedTerms limit text xs p = (spaces : Spaces) (part : Part) →
     Runs sums (standing spaces part limit [] [] Phase.Start) text (standing spaces part limit xs [] p)
 
--- a relation and a degree with a space after each, after terms and space
-abbrev pub IsSpacedDegree : ℕ → Part → List ℕ → Relation → ℤ → Type 0
-IsSpacedDegree limit part text r z = (spaces : Spaces) (xs : List Term) →
-    Runs sums (standing spaces part limit xs [] Phase.Between) text (standing spaces part limit xs [] (Phase.Tail r z))
+-- a degree after a relation and a space
+abbrev pub IsDegree : ℕ → Relation → List ℕ → ℤ → Type 0
+IsDegree limit r text z = (spaces : Spaces) (part : Part) (xs : List Term) → (negative : Bool) × (v : ℕ) × (z ≡ signed negative v)
+    × Runs sums (standing spaces part limit xs [] (Phase.Relation r)) text (standing spaces part limit xs [] (Phase.Digits (Some r) negative v))
 
--- From its first state, a machine takes these bytes, and then a `;` ends this linear text.
+-- From this state, a machine takes these bytes, and then a `;` ends this linear text.
+abbrev pub EndsLinear : Spaces → Part → ℕ → SumState → List ℕ → Linear → Type 0
+EndsLinear spaces part limit s text c = (mid : SumState) × Runs sums s text mid × (sums.step mid 59 ≡ End (SumEvent.Linear c) (last spaces part limit))
+
+-- a relation and a degree, after terms and space, and then a `;`
+abbrev pub LeadsToDegree : ℕ → Part → List ℕ → Relation → ℤ → Type 0
+LeadsToDegree limit part text r z = (spaces : Spaces) (xs : List Term) →
+    EndsLinear spaces part limit (standing spaces part limit xs [] Phase.Between) text (record { terms = xs; relation = r; degree = z })
+
+-- a linear text, from the first state
 abbrev pub LeadsToLinear : ℕ → Part → List ℕ → Linear → Type 0
-LeadsToLinear limit part text c = (spaces : Spaces) →
-    Runs sums (first spaces part limit) text (standing spaces part limit c.terms [] (Phase.Tail c.relation c.degree))
+LeadsToLinear limit part text c = (spaces : Spaces) → EndsLinear spaces part limit (first spaces part limit) text c

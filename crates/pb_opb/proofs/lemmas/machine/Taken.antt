@@ -6,7 +6,7 @@ use Rattle.pb_opb.proofs.Common.{Part, SumEvent, ◌<◌, Bool, get_or, inl, len
 use Rattle.pb_opb.proofs.Common.{TakesStatement, Give, Phase, transition, Holds, act, is_within, linears, phase_owing, remaining_after}
 use Rattle.pb_opb.proofs.lemmas.machine.Stands.{IsGiving, gives_at, given_step}
 use Rattle.pb_opb.proofs.lemmas.machine.{Pushed.goes_order, Pushed.give_order, Pushed.end_order, Pushed.end_step, Alive.is_state}
-use Rattle.pb_sums.proofs.lemmas.machine.WholeTexts.{before_semicolon, linear_ends, linear_some}
+use Rattle.pb_sums.proofs.lemmas.machine.WholeTexts.{linear_some}
 use Rattle.{pb_sums.specs.engine.TermParts.LeadsToLinear, std.specs.Option.unwrap_or}
 
 abbrev pub keeping : OpbState → List ℕ → OpbState
@@ -74,15 +74,14 @@ module _ (s : OpbState) (h : IsInOrder s) (may : Bool) (at : s.phase ≡ Phase.B
   taken_at [] c n planned inside semicolon leads = absurd (let no : ⊥ = omega (arith, inside) in no)
   taken_at (b ∷ rest) c zero planned inside semicolon leads = absurd (let no : ⊥ = omega (arith, linear_some White Part.Linear s.limit zero (b ∷ rest) c leads) in no)
   taken_at (b ∷ rest) c (suc k) planned inside semicolon leads =
-      let inner : SumState = before_semicolon White Part.Linear s.limit c in
-      let (mid, goes, state, runs) = leads White in
+      let (inner, (mid, goes, state, runs), ends) = leads White in
       let first : OpbState = giving s Phase.Constraint mid in
       let within : OpbState = giving s Phase.Constraint inner in
       let step = first_step b mid planned goes in
       let order : IsInOrder first = give_order s h b Phase.Constraint mid planned (ap (λ (i : SumState). sums.step i b) sums_are ∙ goes) state in
       let r = runs_given first order (inl refl) (take k rest) inner runs in
-      let e = end_step within r.1 59 Phase.Constraint (last White Part.Linear s.limit) (linears s.limit) (SumEvent.Linear c) refl (linear_ends White Part.Linear s.limit c) refl in
-      let o = end_order within r.1 59 Phase.Constraint (last White Part.Linear s.limit) (linears s.limit) (SumEvent.Linear c) refl (linear_ends White Part.Linear s.limit c) refl (first_is_state White Part.Linear s.limit) in
+      let e = end_step within r.1 59 Phase.Constraint (last White Part.Linear s.limit) (linears s.limit) (SumEvent.Linear c) refl ends refl in
+      let o = end_order within r.1 59 Phase.Constraint (last White Part.Linear s.limit) (linears s.limit) (SumEvent.Linear c) refl ends refl (first_is_state White Part.Linear s.limit) in
       let same : (let x : OpbState = record (owing Phase.Constraint) { sums = linears s.limit } in x) ≡ owing Phase.Constraint =
       ap (λ (i : SumState). let x : OpbState = record (owing Phase.Constraint) { sums = i } in x) (sym sums_are) in (
         (

@@ -115,9 +115,6 @@ module _ (P : Language) (l : Letter) (p : List Letter) where
   blank0 : IsTrue (is_blank l.byte) → l.numeral ≡ false → (q : List Letter) → Blanks0 q → Blanks0 (q ++ l ∷ [])
   blank0 h n q k = many-grown (λ b. IsTrue (is_blank b)) l.byte l (as_unmarked l l.byte n refl) h q k
 
-  pub blank_after : IsTrue (is_blank l.byte) → l.numeral ≡ false → P p → Gapped P (p ++ l ∷ [])
-  blank_after h n k = next P Blanks0 p l k (blank0 h n [] ([], tt, refl))
-
   pub blank_more : IsTrue (is_blank l.byte) → l.numeral ≡ false → Gapped P p → Gapped P (p ++ l ∷ [])
   blank_more h n k = grown P Blanks0 Blanks0 p l (blank0 h n) k
 

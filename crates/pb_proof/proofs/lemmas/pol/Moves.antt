@@ -26,6 +26,3 @@ number_fits limit top (suc d) b sign n m l t e f = grind (arith, sign, le-max_le
 -- the value of words that may end
 pub whole_value : (d : ℕ) (ws es : List PolWord) → IsSome (cond (nat_eq d 1) (Some ws) None) → es ≡ ws → Some es ≡ cond (nat_eq d 1) (Some ws) None
 whole_value d ws es h e = grind arith
-
-pub whole_some : (d : ℕ) (ws : List PolWord) → nat_eq d 1 ≡ true → IsSome (cond (nat_eq d 1) (Some ws) None)
-whole_some d ws e = rw e refl

@@ -79,14 +79,14 @@ module _ (limit top : ℕ) where
       )
 
   -- literals
-  opens : (s : PolState) → is_free s.held ≡ true → walks.Opens pol_grammar limit top s
-  opens s f = record { literal = f; plain = λ b. refl }
+  opens : (s : PolState) (negated : Bool) (name : List ℕ) → is_free s.held ≡ true → walks.Opens pol_grammar limit top s negated name
+  opens s negated name f = record { literal = f; plain = λ b. refl }
 
   literal_led : (vs : List PolWord) (d : ℕ) (h : Held) (negated : Bool) (name : List ℕ) (t : List Letter) → is_free h ≡ true → SpellsLiteral (record { negated = negated; name = name }) t
       → Led (gap (pol_at vs d h)) (pol_at (vs ++ PolWord.Axiom (record { negated = negated; name = name }) ∷ []) (suc d) (held_name negated d)) t
   literal_led vs d h negated name t f x =
       walks.literal_led pol_grammar limit top (pol_at vs d h) (pol_at (vs ++ PolWord.Axiom (record { negated = negated; name = name }) ∷ []) (suc d) (held_name negated d)) negated name t
-      (opens (pol_at vs d h) f) (rw f refl) x
+      (opens (pol_at vs d h) negated name f) (rw f refl) x
 
   -- operators
   symbol_led : (s k : PolState) (b : ℕ) (t : List Letter) → step_of (pol_grammar limit top) s [] Part.Gap b ≡ Step.End (Some (Word.Mark b)) Part.Symbol → with_mark s b ≡ Some k → Byte b t → Led (gap s) k t

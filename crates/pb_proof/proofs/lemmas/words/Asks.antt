@@ -1,5 +1,5 @@
 -- Where a machine for words may allocate.
-use Rattle.pb_proof.proofs.Common.{ℕ, ◌+◌, ◌*◌, ◌-◌, ◌∙◌, ◌≡◌, ◌&&◌, ◌||◌, ◌∷◌, [], Bool, true, false, cond, cond_both, List, Option, Some, None, refl, sym, subst, IsTrue, inl, and_parts, false≢true}
+use Rattle.pb_proof.proofs.Common.{ℕ, ◌+◌, ◌*◌, ◌-◌, ◌≡◌, ◌&&◌, ◌||◌, ◌∷◌, [], Bool, true, false, cond, cond_both, List, Option, Some, None, refl, subst, IsTrue, inl, and_parts, false≢true}
 use Rattle.pb_proof.proofs.Common.{◌⋅◌, Byte, Language, Letter, bytes, Walks, prefixes_of, is_blank, is_digit, is_letter, is_name_byte, nat_eq, nat_le, after_it, none_yet}
 use Rattle.pb_proof.proofs.Common.{Bytes, length, take, word_whole, eqb-true, AsksLiteral, ends_nothing, first_further, at_name, FirstOf, LiteralOf}
 use Rattle.pb_proof.specs.declared.line.words.{part.Part.Part, part.Step.Step, word.Sign.Sign, word.Word.Word, word.Capital.Capital}
@@ -31,9 +31,6 @@ module _ {S E : Type 0} (grammar : ℕ → ℕ → Grammar S E) (joined : ℕ �
   module _ (s : S) (name : List ℕ) (p : Part) (t : List Letter) (b : ℕ) where
     abbrev Asked : Step → Type 0
     Asked m = asks grammar (words_at grammar limit top s name p) m ≡ true → MayAsk s t b
-
-    no_step : (m : Step) → asks grammar (words_at grammar limit top s name p) m ≡ false → Asked m
-    no_step m e h = absurd (false≢true (sym e ∙ h))
 
     number_asked : (most : Option ℕ) (sign : Sign) (n : ℕ) → Asked (number_step most sign n b)
     number_asked None sign n = λ h. absurd (false≢true h)

@@ -276,7 +276,7 @@ module _ {S E : Type 0} (grammar : ℕ → ℕ → Grammar S E) (limit top : ℕ
   letter_on : (s : S) (b : ℕ) (name : List ℕ) (l : Bool) → Good s → g.literal s ≡ l → (l || is_some (follow g s (Some (Word.Mark b)) [])) ≡ true → On s name (Part.Letter b)
   letter_on s b name true o e h = more_on s name (Part.Letter b) false o e (rw e refl)
   letter_on s b name false o e h =
-      word_on s (Word.Mark b) name (words_at grammar limit top s name (Part.Letter b)) (g.next s (Word.Mark b) name) refl (laws.mark s b [] name (followed (g.next s (Word.Mark b) []) _ h)) tt o
+      word_on s (Word.Mark b) name (words_at grammar limit top s name (Part.Letter b)) (g.next s (Word.Mark b) name) refl (subst (λ x. is_some x ≡ true) (laws.mark s b [] name) (followed (g.next s (Word.Mark b) []) _ h)) tt o
       (λ k f. walks.letter_after grammar limit top s k b name f)
 
   -- words in capital letters

@@ -1,13 +1,14 @@
 -- A machine for words on its way through the words of a line.
 use Rattle.pb_proof.proofs.Common.{arith, ℕ, ◌+◌, ◌*◌, ◌-◌, ◌<◌, ◌≤◌, ◌≡◌, ◌∙◌, ◌++◌, ◌∷◌, [], Bool, true, false, List, Option, Some, None, refl, ap, sym, subst, IsTrue, length, map, nat_eq, le-leb}
 use Rattle.pb_proof.proofs.Common.{◌⋅◌, Blanks0, Blanks1, Byte, Digits, Language, LineEnd, Each, Letter, unmarked, is_blank, is_digit, is_letter, is_name_byte, append-nil, append_assoc}
-use Rattle.pb_proof.proofs.Common.{nil_first, or-true, Automaton, Next, false_from_ne_true, eqb-true, nat_tests, Go, End, Walks, walks_then, ReadsStatement, digits_lead, TakesDigits, digit_byte, letter_name}
+use Rattle.pb_proof.proofs.Common.{nil_first, or-true, Automaton, Next, false_from_ne_true, eqb-true, nat_tests, Go, Walks, walks_then, ReadsStatement, digits_lead, TakesDigits, digit_byte, letter_name}
 use Rattle.pb_proof.proofs.lemmas.line.Ends.{TakesBlanks, Feeds, closing_feeds, blanks1_lead, blanks0_lead, line_reads}
 use Rattle.pb_proof.specs.declared.line.words.{part.Part.Part, part.Step.Step, word.Sign.Sign, word.Word.Word, word.Capital.Capital}
 use Rattle.pb_proof.specs.engine.line.Grammar.{Grammar, IsNumber, with_word}
 use Rattle.pb_proof.specs.engine.line.WordTexts.{SignText, WordText}
 use Rattle.pb_proof.specs.engine.line.Words.{WordsState, words_at, words_automaton, words_first, words_last, capital_bytes, ends_word, step_of, number_step, end_word, act}
-use Rattle.std.specs.Prelude.{drop, slice_index_or}
+use Rattle.pb_proof.specs.engine.line.WordsWhole as whole
+use Rattle.std.specs.Prelude.{drop, get_or, slice_index_or}
 use Rattle.std.proofs.lemmas.{Bool.lt-ltb, Bool.eq-eqb, List.drop_more}
 
 -- tests of bytes
@@ -59,11 +60,8 @@ module _ {S E : Type 0} (grammar : ℕ → ℕ → Grammar S E) (limit top : ℕ
   gap s = at s [] Part.Gap
 
   -- The words of the state are s, and the last one is complete.
-  pub record IsAfter (s : S) (i : WordsState S) : Type 0 where
-    pub blank : (b : ℕ) → IsTrue (is_blank b) → m.step i b ≡ Go (gap s)
-    pub semicolon : (e : E) → g.value s ≡ Some e → m.step i 59 ≡ Go (at s [] Part.Closing)
-    pub feed : (e : E) → g.value s ≡ Some e → m.step i 10 ≡ End e (words_last grammar limit top)
-    pub colon : (k : S) → g.colon s ≡ Some k → m.step i 58 ≡ Go (gap k)
+  abbrev pub IsAfter : S → WordsState S → Type 0
+  IsAfter = whole.IsAfter grammar limit top
 
   abbrev acted : S → List ℕ → Part → ℕ → Step → Next (WordsState S) E
   acted s name p b st = act grammar (at s name p) b st
@@ -145,12 +143,12 @@ module _ {S E : Type 0} (grammar : ℕ → ℕ → Grammar S E) (limit top : ℕ
       → Walks m (at s (a ∷ []) p) (map unmarked (b ∷ bs)) (at s (a ∷ b ∷ bs) (Part.Name negated))
   second_walks s p negated a b bs e h = (at s (a ∷ b ∷ []) (Part.Name negated), e, refl, refl, names_walk s negated (a ∷ b ∷ []) bs h)
 
-  -- A literal may come, and no word in capital letters.
-  pub record Opens (s : S) : Type 0 where
+  -- A literal may come, and no word in capital letters that begins with its first letter.
+  pub record Opens (s : S) (negated : Bool) (name : List ℕ) : Type 0 where
     pub literal : g.literal s ≡ true
-    pub plain : (b : ℕ) → g.capital s b ≡ None
+    pub plain : negated ≡ false → g.capital s (get_or name 0 0) ≡ None
 
-  literal_walks : (s : S) (negated : Bool) (name : List ℕ) (t : List Letter) → Opens s → WordText (Word.Literal negated) name t → Walks m (gap s) t (at s name (Part.Name negated))
+  literal_walks : (s : S) (negated : Bool) (name : List ℕ) (t : List Letter) → Opens s negated name → WordText (Word.Literal negated) name t → Walks m (gap s) t (at s name (Part.Name negated))
   literal_walks s true (a ∷ b ∷ bs) t o h =
       rw h.1 (
         at s [] Part.Tilde,
@@ -168,7 +166,7 @@ module _ {S E : Type 0} (grammar : ℕ → ℕ → Grammar S E) (limit top : ℕ
   literal_walks s false (a ∷ b ∷ bs) t o h =
       rw h.1 (
         at s (a ∷ []) (Part.Letter a),
-        by_step s [] Part.Gap a (Step.Add (Part.Letter a)) (rw (name_goes a (letter_name a h.0.0), letter_digit a h.0.0, h.0.0, o.plain a, o.literal) refl),
+        by_step s [] Part.Gap a (Step.Add (Part.Letter a)) (rw (name_goes a (letter_name a h.0.0), letter_digit a h.0.0, h.0.0, o.plain refl, o.literal) refl),
         refl,
         refl,
         second_walks s (Part.Letter a) false a b bs (by_step s (a ∷ []) (Part.Letter a) b (Step.Add (Part.Name false)) (rw (name_goes b h.0.1.0, o.literal, h.0.1.0) refl)) h.0.1.1,
@@ -188,9 +186,9 @@ module _ {S E : Type 0} (grammar : ℕ → ℕ → Grammar S E) (limit top : ℕ
       (at s [] (Part.Capital c (k + 1)), subst (λ y. m.step (at s [] (Part.Capital c k)) y ≡ Go (at s [] (Part.Capital c (k + 1)))) i (capital_goes s c k (omega (arith, l))), refl, refl, capital_walks s c (k + 1) bs j (omega (arith, l)))
 
   -- ---- a word, from the gap before it
-  -- the state after a part of a line that gives the words
+  -- a part of a line leads to the words
   abbrev pub Led : WordsState S → S → List Letter → Type 0
-  Led i k t = (next : WordsState S) × Walks m i t next × IsAfter k next
+  Led = whole.Led grammar limit top
 
   -- A word that may come, whatever name is stored.
   abbrev pub Comes : S → Word → S → Type 0
@@ -199,7 +197,7 @@ module _ {S E : Type 0} (grammar : ℕ → ℕ → Grammar S E) (limit top : ℕ
   pub number_led : (s k : S) (sign : Sign) (n : ℕ) (t : List Letter) → IsNumber g s (Some (Word.Number sign n)) → Comes s (Word.Number sign n) k → WordText (Word.Number sign n) [] t → Led (gap s) k t
   number_led s k sign n t (most, e, l) f h = (at s [] (Part.Number sign n), number_walks s sign most n t e l h, number_after s k sign n (f []))
 
-  pub literal_led : (s k : S) (negated : Bool) (name : List ℕ) (t : List Letter) → Opens s → g.next s (Word.Literal negated) name ≡ Some k → WordText (Word.Literal negated) name t → Led (gap s) k t
+  pub literal_led : (s k : S) (negated : Bool) (name : List ℕ) (t : List Letter) → Opens s negated name → g.next s (Word.Literal negated) name ≡ Some k → WordText (Word.Literal negated) name t → Led (gap s) k t
   literal_led s k negated name t o e h = (at s name (Part.Name negated), literal_walks s negated name t o h, name_after s k negated name e)
 
   pub capital_led : (s k : S) (b : ℕ) (bs : List ℕ) (c : Capital) (t : List Letter) → g.capital s b ≡ Some c → capital_bytes c ≡ b ∷ bs → Comes s (Word.Capital c) k → WordText (Word.Capital c) [] t → Led (gap s) k t

@@ -47,9 +47,6 @@ module _ (limit top : ℕ) where
       → is_some ((conclusion_grammar limit top).next (conclusion_words c ls) (Word.Literal negated) name) ≡ true
   literal_next c ls negated name e = grind (arith, c)
 
-  no_mark : {A : Type 0} (c : Concluding) (ls : List Literal) (b : ℕ) (name : List ℕ) → is_some ((conclusion_grammar limit top).next (conclusion_words c ls) (Word.Mark b) name) ≡ true → A
-  no_mark c ls b name e = grind (arith, c)
-
   captured : (s : ConclusionWords) (b : ℕ) (c : Capital) (name : List ℕ) → capital s.concluding b ≡ Some c → is_some ((conclusion_grammar limit top).next s (Word.Capital c) name) ≡ true
   captured s b c name e = grind (arith, s.concluding)
 
@@ -130,7 +127,8 @@ module _ (limit top : ℕ) where
     leads = λ s g. leads s.concluding s.literals some;
     number = λ s sign most g e. (numbered0 s.concluding s.literals sign most some e, λ n name h i. numbered s.concluding s.literals sign most n e h name);
     literal = λ s e negated name. literal_next s.concluding s.literals negated name e;
-    mark = λ s b name other e. no_mark s.concluding s.literals b name e;
+    digits = λ s sign n name other. refl;
+    mark = λ s b name other. refl;
     capital = captured;
   }
 

@@ -45,7 +45,8 @@ module _ (limit top : ℕ) where
     leads = λ s g. leads s some;
     number = λ s sign most g e. (inl (some_most top sign most some e), λ n name h i. comes s sign n name h);
     literal = λ s e negated name. cc;
-    mark = λ s b name other e. cc;
+    digits = λ s sign n name other. refl;
+    mark = λ s b name other. refl;
     capital = λ s b c name e. cc;
   }
 

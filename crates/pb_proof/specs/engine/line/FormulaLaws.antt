@@ -23,7 +23,8 @@ module _ (limit top : ℕ) where
     leads = λ s g. (unmarked 10 ∷ [], s.count, formula_last limit top, (refl, refl));
     number = λ s sign most g e. (inl (same_top top s.count sign most some e), λ n name i j. comes top s.count sign most n e);
     literal = λ s e negated name. cc;
-    mark = λ s b name other e. e;
+    digits = λ s sign n name other. refl;
+    mark = λ s b name other. refl;
     capital = λ s b c name e. cc;
   }
 

@@ -29,5 +29,7 @@ module _ {S E : Type 0} (grammar : ℕ → ℕ → Grammar S E) where
         → ((0 < most) ⊎ ((name : List ℕ) → is_some ((grammar limit top).next s (Word.Number sign 0) name) ≡ true))
         × ((n : ℕ) (name : List ℕ) → 0 < n → n ≤ most → is_some ((grammar limit top).next s (Word.Number sign n) name) ≡ true)
     pub literal : (s : S) → (grammar limit top).literal s ≡ true → (negated : Bool) (name : List ℕ) → is_some ((grammar limit top).next s (Word.Literal negated) name) ≡ true
-    pub mark : (s : S) (b : ℕ) (name other : List ℕ) → is_some ((grammar limit top).next s (Word.Mark b) name) ≡ true → is_some ((grammar limit top).next s (Word.Mark b) other) ≡ true
+    -- A number or a mark has no name.
+    pub digits : (s : S) (sign : Sign) (n : ℕ) (name other : List ℕ) → (grammar limit top).next s (Word.Number sign n) name ≡ (grammar limit top).next s (Word.Number sign n) other
+    pub mark : (s : S) (b : ℕ) (name other : List ℕ) → (grammar limit top).next s (Word.Mark b) name ≡ (grammar limit top).next s (Word.Mark b) other
     pub capital : (s : S) (b : ℕ) (c : Capital) (name : List ℕ) → (grammar limit top).capital s b ≡ Some c → is_some ((grammar limit top).next s (Word.Capital c) name) ≡ true

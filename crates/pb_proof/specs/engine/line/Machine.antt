@@ -5,7 +5,7 @@ use Rattle.pb_proof.specs.engine.line.{Conclusion.conclusion_automaton, Conclusi
 use Rattle.pb_proof.specs.engine.line.{Delete.delete_automaton, Formula.formula_automaton, Formula.formula_first, Solution.solution_first}
 use Rattle.pb_proof.specs.meaning.Lines.{SpellsCount, SpellsWords, SpellsRup, SpellsLiterals, SpellsIds, SpellsConclusionLine}
 use Rattle.pb_text.specs.{contract.Automaton.Automaton, contract.Automaton.Next, declared.machine.Push.Push, meaning.Languages.Language}
-use Rattle.std.specs.Prelude.{◌≡◌, ℕ, Option, Some, None}
+use Rattle.std.specs.Prelude.{◌≡◌, ℕ}
 
 -- an answer of a machine, as an answer of another one, if its events give these
 abbrev pub IsCarried : {E F : Type 0} → (E → F → Type 0) → Push E → Push F → Type 0
@@ -14,11 +14,6 @@ IsCarried gives (Push.Event e) r = (f : _) × gives e f × (r ≡ Push.Event f)
 IsCarried gives Push.No r = r ≡ Push.No
 IsCarried gives Push.Large r = r ≡ Push.Large
 IsCarried gives Push.Memory r = r ≡ Push.Memory
-
--- an event of the one, as an event of the other
-abbrev pub IsEnded : {E F : Type 0} → (E → F → Type 0) → Option E → Option F → Type 0
-IsEnded gives None r = r ≡ None
-IsEnded gives (Some e) r = (f : _) × gives e f × (r ≡ Some f)
 
 abbrev pub line_step : LineMachine → ℕ → Next LineMachine Statement
 line_step (LineMachine.Formula s) b = carried LineMachine.Formula Statement.F (λ e. LineMachine.Formula) (formula_automaton.step s b)

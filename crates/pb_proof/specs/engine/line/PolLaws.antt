@@ -99,7 +99,8 @@ module _ (limit top : ℕ) where
     number = λ s sign n g e. (inl (most_given limit top s.depth (is_free s.held) sign n some e), λ m name h l. not_none limit top s sign m h);
     literal = λ s e negated name. grind (arith);
     capital = λ s b c name e. cc e;
-    mark = λ s b name other e. e;
+    digits = λ s sign n name other. refl;
+    mark = λ s b name other. refl;
   }
 
 pub pol_counted : (limit top : ℕ) → IsCounted (pol_grammar limit top)

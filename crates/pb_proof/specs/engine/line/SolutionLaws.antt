@@ -21,7 +21,8 @@ module _ (limit top : ℕ) where
     leads = λ s g. (unmarked 10 ∷ [], s.literals, solution_last limit top, (refl, refl));
     number = λ s sign most g e. cc;
     literal = λ s e negated name. refl;
-    mark = λ s b name other e. cc;
+    digits = λ s sign n name other. refl;
+    mark = λ s b name other. refl;
     capital = λ s b c name e. cc;
   }
 

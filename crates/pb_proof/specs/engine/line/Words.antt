@@ -92,13 +92,21 @@ module _ {S E : Type 0} (g : Grammar S E) where
   step_of s name Part.Done b = Step.Stop
   step_of s name p b = cond (ends_word b) (end_step p b) (inner_step s name p b)
 
--- a step from the start of a line that is one of its text
-abbrev pub begins_by : Step → Option Follow → Bool
-begins_by (Step.End w p) f = true
-begins_by (Step.Finish w) (Some f) = f.end
-begins_by (Step.Close w) (Some f) = f.end
-begins_by (Step.Colon w) (Some f) = f.colon
-begins_by _ f = false
+-- the word that a step ends, if it ends one, or none
+abbrev pub ended : Step → Option (Option Word)
+ended (Step.End w p) = Some w
+ended (Step.Close w) = Some w
+ended (Step.Colon w) = Some w
+ended (Step.Finish w) = Some w
+ended _ = None
+
+-- a step that ends a word may be taken, given what may follow
+abbrev pub may_come : Step → Follow → Bool
+may_come (Step.End w p) f = true
+may_come (Step.Finish w) f = f.end
+may_come (Step.Close w) f = f.end
+may_come (Step.Colon w) f = f.colon
+may_come _ f = false
 
 -- What is being read may come, or is the end of a line.
 module _ {S E : Type 0} (g : Grammar S E) where
@@ -159,6 +167,10 @@ ready _ = 0
 module _ {S E : Type 0} (grammar : ℕ → ℕ → Grammar S E) where
   abbrev pub words_at : ℕ → ℕ → S → List ℕ → Part → WordsState S
   words_at limit top s name p = record { limit = limit; top = top; words = s; name = name; part = p }
+
+  -- at blanks after these words
+  abbrev pub words_gap : ℕ → ℕ → S → WordsState S
+  words_gap limit top s = words_at limit top s [] Part.Gap
 
   -- before the words, and after the line
   abbrev pub words_first : ℕ → ℕ → WordsState S

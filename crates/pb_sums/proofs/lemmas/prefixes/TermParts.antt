@@ -3,6 +3,7 @@ use Rattle.pb_sums.proofs.Common.{arith, ℕ, ℤ, ◌++◌, ◌+◌, ◌<◌, �
 use Rattle.pb_sums.proofs.Common.{true, if◌then◌else◌, is_err, is_ok, IsTrue, Result, runs_further, Go, IsState, Runs, value_from, is_digit, is_letter}
 use Rattle.pb_sums.proofs.Common.{is_name_byte, Each, signed, relation_bytes, Relation, AtLeast, Equal, Term, Phase, Part, Spaces, after_name, after_number}
 use Rattle.pb_sums.proofs.Common.{begins_number, begins_relation, HasSign, role, sign_read, text_after, sums, SumState, begins_term, IsLiteral, IsSpacedLiteral}
+use Rattle.pb_sums.proofs.Common.{EndsLinear, IsDegree}
 use Rattle.pb_sums.{proofs.Common.IsSpacedNumber, proofs.Common.IsTilde, proofs.Common.standing, proofs.Common.allows, specs.declared.linear.Literal.Literal}
 use Rattle.pb_sums.proofs.lemmas.{machine.States.goes_then, machine.States.midway_state, prefixes.Digits.number_runs, prefixes.Names.name_runs}
 use Rattle.pb_text.proofs.lemmas.machine.Running.{runs_on}
@@ -102,3 +103,36 @@ spaced_relation_runs spaces part limit xs name p text i r b n h e l s =
     let next : SumState = standing spaces part limit xs name (Phase.Relation r) in
     runs_on sums (standing spaces part limit xs name p) text i next next l (relation_runs spaces part limit xs name p (take i text) r b n h e)
     (rw (n, s) refl) (midway_state spaces part limit xs name (Phase.Relation r) tt refl)
+
+-- a degree
+pub degree_runs : (limit : ℕ) (r : Relation) (text : List ℕ) (i j v : ℕ) (negative : Bool) → HasSign None text i negative → Each (λ b. IsTrue (is_digit b)) (take j (text_after i text))
+    → v ≡ value_from 0 (take j (text_after i text)) → j ≤ length (text_after i text) → (j ≡ 0 → ⊥) → v ≤ limit → IsDegree limit r (take (i + j) text) (signed negative v)
+degree_runs limit r text i j v negative s h g l n m spaces part xs =
+    (negative, v, refl, number_runs spaces part limit xs [] (Phase.Relation r) (Some r) negative text i j v refl refl refl s h g l n m)
+
+-- the `;` after it, or after a space
+pub degree_ends : (spaces : Spaces) (part : Part) (limit : ℕ) (xs : List Term) (r : Relation) (z : ℤ) (text : List ℕ) (i j : ℕ)
+    → Runs sums (standing spaces part limit xs [] Phase.Between) (take i text) (standing spaces part limit xs [] (Phase.Relation r)) → IsDegree limit r (take j (text_after i text)) z
+    → EndsLinear spaces part limit (standing spaces part limit xs [] Phase.Between) (take (i + j) text) (record { terms = xs; relation = r; degree = z })
+degree_ends spaces part limit xs r z text i j runs degree =
+    let (negative, v, e, more) = degree spaces part xs in
+    let digits : SumState = standing spaces part limit xs [] (Phase.Digits (Some r) negative v) in (
+      digits,
+      runs_further sums (standing spaces part limit xs [] Phase.Between) text i j (standing spaces part limit xs [] (Phase.Relation r)) digits runs more,
+      rw e refl,
+    )
+
+pub spaced_degree_ends : (spaces : Spaces) (part : Part) (limit : ℕ) (xs : List Term) (r : Relation) (z : ℤ) (text : List ℕ) (i j : ℕ)
+    → Runs sums (standing spaces part limit xs [] Phase.Between) (take i text) (standing spaces part limit xs [] (Phase.Relation r)) → IsDegree limit r (take j (text_after i text)) z
+    → i + j < length text → get_or text (i + j) 0 ≡ 32
+    → EndsLinear spaces part limit (standing spaces part limit xs [] Phase.Between) (take (i + j + 1) text) (record { terms = xs; relation = r; degree = z })
+spaced_degree_ends spaces part limit xs r z text i j runs degree inside space =
+    let (negative, v, e, more) = degree spaces part xs in
+    let between : SumState = standing spaces part limit xs [] Phase.Between in
+    let digits : SumState = standing spaces part limit xs [] (Phase.Digits (Some r) negative v) in
+    let tail : SumState = standing spaces part limit xs [] (Phase.Tail r (signed negative v)) in (
+      tail,
+      runs_on sums between text (i + j) digits tail inside (runs_further sums between text i j (standing spaces part limit xs [] (Phase.Relation r)) digits runs more)
+          (subst (λ (x : ℕ). sums.step digits x ≡ Go tail) (sym space) (space-on spaces part limit xs (Some r) negative v)) (number_state spaces part limit xs (Some r) (signed negative v)),
+      rw e refl,
+    )

@@ -20,7 +20,10 @@ pub returns-clause-runs : goal.returns-clause-runs
 returns-clause-runs c spaces =
     let limit = c.largest-limit.result in let part = c.args.part in let xs = c.loop-length.terms in
     let fits : SFits w128 c.in-Some-degree_at.degree = record { sfits = omega (arith, ints) } in
+    let (mid, runs, ends) = c.in-Some-degree_at.ensures.runs spaces xs in
     rw (to_z-of_z w128 c.in-Some-degree_at.degree fits, ← c.largest-limit.ensures.value) (
-    runs_further sums (first spaces part limit) c.args.text.now c.loop-length.head c.in-Some-degree_at.tail
-    (standing spaces part limit xs [] Phase.Between) (standing spaces part limit xs [] (Phase.Tail c.in-Some-degree_at.relation c.in-Some-degree_at.degree))
-    (rw c.in-Between.is at (c.loop-length.invariant.runs spaces part)) (c.in-Some-degree_at.ensures.runs spaces xs))
+      mid,
+      runs_further sums (first spaces part limit) c.args.text.now c.loop-length.head c.in-Some-degree_at.tail (standing spaces part limit xs [] Phase.Between) mid
+          (rw c.in-Between.is at (c.loop-length.invariant.runs spaces part)) runs,
+      ends,
+    )

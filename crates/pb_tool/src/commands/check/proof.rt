@@ -33,7 +33,12 @@ pub(crate) fn check_proof<S: Source, V: Watch>(
     ensures faults { S.faults input.new ≡ faults_of_proof result (S.faults input.old) }
 {
     let mut checker = Checker::begin(alloc, replay, longest);
-    run_checker(alloc, &mut checker, input, watch)
+    let verdict = match run_checker(alloc, &mut checker, input, watch) {
+        Ok(verdict) => verdict,
+        Err(fault) => return Err(fault),
+    };
+    watch.release(checker);
+    Ok(verdict)
 }
 
 /// What the proof of a source shows, by a checker that was fed nothing yet.

@@ -3,7 +3,7 @@
 ghost use Rattle.std.specs.Prelude.{◌≡◌};
 ghost use Rattle.pb_tool.specs.contract.Watched.{Accepted, Call, Rejected};
 
-use crate::commands::check::checker::CheckFault;
+use crate::commands::check::checker::{CheckFault, Checker};
 use pb_proof::Statement;
 use pb_replay::Replay;
 use pb_text::Spanned;
@@ -21,6 +21,14 @@ pub trait Watch {
     /// The statement was rejected with this fault. The replay still has its names.
     fn rejected(&mut self, read: &Spanned<Statement>, replay: &Replay, fault: CheckFault)
         ensures { got self.old (Rejected read.now replay.now fault) self.new };
+
+    /// Takes the checker of a proof that was accepted. A program that ends then may leave its
+    /// memory to the system.
+    fn release(&mut self, checker: Checker)
+        ensures { self.new ≡ self.old }
+    {
+        let _checker = checker;
+    }
 }
 
 /// Sees nothing.

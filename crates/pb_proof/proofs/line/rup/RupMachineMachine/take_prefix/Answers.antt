@@ -3,6 +3,6 @@ use Rattle.pb_proof.proofs.line.rup.RupMachineMachine.take_prefix.Goals as goal
 
 pub returns-then-try_continue-clause-runs : goal.returns-then-try_continue-clause-runs
 returns-then-try_continue-clause-runs c =
-    let none : c.take_linear-length.result ≡ 0 = omega arith in
-    let same = subst (λ (n : ℕ). Runs rup_automaton c.args.self.now (take n c.args.piece.now) c.take_linear-length.new.self) none c.take_linear-length.ensures.runs in
-    runs_on rup_automaton c.args.self.now c.args.piece.now 0 c.take_linear-length.new.self c.try_continue.new.self c.requires same c.if-try_continue.ensures.continues c.try_continue.ensures.state
+    let none : c.give_prefix-length.result ≡ 0 = omega arith in
+    let same = subst (λ (n : ℕ). Runs rup_automaton c.args.self.now (take n c.args.piece.now) c.give_prefix-length.new.self) none c.give_prefix-length.ensures.runs in
+    runs_on rup_automaton c.args.self.now c.args.piece.now 0 c.give_prefix-length.new.self c.try_continue.new.self c.requires same c.if-try_continue.ensures.continues c.try_continue.ensures.state

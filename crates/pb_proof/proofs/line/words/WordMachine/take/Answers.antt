@@ -12,18 +12,18 @@ invariant_of-self g c =
 
 pub push-requires : goal.push-requires
 push-requires g c =
-    name_ascii c.args.byte (added_name _ _ g.met.W.WordList.lawful g.met.W.WordList.counted (words_state c.self-in-Add.inside) c.args.byte c.self-in-Add.invariant c.in-Add.part
-    (ap (λ i. step_at g.W.WordList.grammar i c.args.byte) c.self-in-Add.view_is ∙ (sym c.requires ∙ c.in-Add.is)))
+    name_ascii c.args.byte (added_name _ _ g.met.W.WordList.lawful g.met.W.WordList.counted (words_state c.self.inside) c.args.byte c.self.invariant c.in-Add.part
+    (ap (λ i. step_at g.W.WordList.grammar i c.args.byte) c.self.view_is ∙ (sym c.requires ∙ c.in-Add.is)))
 
 pub returns-then-is_err : goal.returns-then-is_err
 returns-then-is_err g c =
-    let e = ap (λ i. step_at g.W.WordList.grammar i c.args.byte) c.self-in-Add.view_is ∙ (sym c.requires ∙ c.in-Add.is) in
+    let e = ap (λ i. step_at g.W.WordList.grammar i c.args.byte) c.self.view_is ∙ (sym c.requires ∙ c.in-Add.is) in
     let n = unchanged _ _ _ _ c.push.ensures (sym c.is_err.ensures.value ∙ c.if-is_err.true) in
-    let (x, y) = memory _ _ g.met.W.WordList.lawful g.met.W.WordList.counted (words_state c.self-in-Add.inside) c.args.byte c.self-in-Add.invariant (Step.Add c.in-Add.part) e refl (λ r. cc) in
-    rw (← c.self-in-Add.view_is) (x, y, rw n refl)
+    let (x, y) = memory _ _ g.met.W.WordList.lawful g.met.W.WordList.counted (words_state c.self.inside) c.args.byte c.self.invariant (Step.Add c.in-Add.part) e refl (λ r. cc) in
+    rw (← c.self.view_is) (x, y, rw n refl)
 
-pub invariant_of-self-in-Add : goal.invariant_of-self-in-Add
-invariant_of-self-in-Add g c =
-    let e = ap (λ i. step_at g.W.WordList.grammar i c.args.byte) c.self-in-Add.view_is ∙ (sym c.requires ∙ c.in-Add.is) in
-    rw (pushed c.push.result c.push.new.self c.self-in-Add.inside.name c.args.byte c.push.ensures (sym c.is_err.ensures.value ∙ c.if-is_err.false))
-    (after_add _ _ g.met.W.WordList.lawful g.met.W.WordList.counted (words_state c.self-in-Add.inside) c.args.byte c.self-in-Add.invariant c.in-Add.part e)
+pub invariant_of-self-in-Add-1 : goal.invariant_of-self-in-Add-1
+invariant_of-self-in-Add-1 g c =
+    let e = ap (λ i. step_at g.W.WordList.grammar i c.args.byte) c.self.view_is ∙ (sym c.requires ∙ c.in-Add.is) in
+    rw (pushed c.push.result c.push.new.self c.self.inside.name c.args.byte c.push.ensures (sym c.is_err.ensures.value ∙ c.if-is_err.false))
+    (after_add _ _ g.met.W.WordList.lawful g.met.W.WordList.counted (words_state c.self.inside) c.args.byte c.self.invariant c.in-Add.part e)

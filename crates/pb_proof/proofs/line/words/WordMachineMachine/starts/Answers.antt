@@ -1,14 +1,19 @@
-use Rattle.pb_proof.proofs.Common.{ap, sym, ◌∙◌}
+use Rattle.pb_proof.proofs.Common.{ap, ap₂, sym, ◌≡◌, ◌∙◌, Some, None}
 use Rattle.pb_proof.proofs.line.words.WordMachineMachine.starts.Goals as goal
-use Rattle.pb_proof.proofs.lemmas.words.Pushes.{starts_as, starts_not}
-use Rattle.pb_proof.specs.engine.line.{Words.begins_by, Words.step_at, WordsFields.words_state}
+use Rattle.pb_proof.proofs.lemmas.words.Pushes.{starts_as}
+use Rattle.pb_proof.specs.engine.line.Grammar.{following}
+use Rattle.pb_proof.specs.engine.line.{Words.may_come, Words.step_at, WordsFields.words_state}
 
-pub returns-in-Start : goal.returns-in-Start
-returns-in-Start g c =
-    let e = c.step.ensures ∙ ap (λ i. step_at g.W.WordList.grammar i c.args.byte) (sym c.self.view_is) in
-    rw (← c.self.view_is) (c.begins.ensures ∙ (ap (λ s. begins_by s c.follow.result) e
-    ∙ (ap (begins_by (step_at g.W.WordList.grammar (words_state c.self.inside) c.args.byte)) (c.follow.ensures c.self.inside.name)
-    ∙ sym (starts_as g.W.WordList.grammar (words_state c.self.inside) c.args.byte c.in-Start.is))))
+pub returns-in-Some : goal.returns-in-Some
+returns-in-Some g c =
+    let grammar = g.W.WordList.grammar in
+    let i = words_state c.self.inside in
+    let e = c.step.ensures ∙ ap (λ s. step_at grammar s c.args.byte) (sym c.self.view_is) in
+    let f : Some c.in-Some.follow ≡ Some (following (grammar i.limit i.top) i.words) = sym c.in-Some.is ∙ c.follow.ensures c.self.inside.name in
+    let q : c.in-Some.follow ≡ following (grammar i.limit i.top) i.words = cc in
+    rw (← c.self.view_is) (c.may_come.ensures ∙ (ap₂ may_come e q ∙ sym (starts_as grammar i c.args.byte c.in-Start.is)))
 
-pub returns-in_default : goal.returns-in_default
-returns-in_default g c = rw (← c.self.view_is) (sym (starts_not g.W.WordList.grammar (words_state c.self.inside) c.args.byte c.in_default.not-Start))
+pub returns-in-None : goal.returns-in-None
+returns-in-None g c =
+    let i = words_state c.self.inside in
+    let f : None ≡ Some (following (g.W.WordList.grammar i.limit i.top) i.words) = sym c.in-None.is ∙ c.follow.ensures c.self.inside.name in cc
