@@ -70,7 +70,7 @@ impl Session {
             Ok(()) => {}
             Err(stop) => return Err(OpenFault::Text(stop)),
         }
-        match Replay::with_hasher(alloc, keys, &read.event, limits) {
+        match Replay::from_instance(alloc, keys, read.event, limits) {
             Ok(replay) => Ok(Session {
                 checker: Checker::new(alloc, replay, longest),
                 rest: Vec::new(alloc),

@@ -49,7 +49,10 @@ pub use Rattle.pb_proof.specs.declared.conclusion.Conclusion.{Conclusion, TheVar
 pub use Rattle.pb_proof.specs.declared.line.{LineMachine.LineMachine}
 pub use Rattle.pb_proof.specs.declared.line.{rup.phase.RupAction.RupAction, rup.phase.RupAction.TheVariants.Give}
 pub use Rattle.pb_proof.specs.declared.line.rup.phase.RupPhase.{RupPhase, TheVariants.Inside, TheVariants.Tail}
-pub use Rattle.pb_proof.specs.declared.line.{pol.held.Held.Held, words.word.Sign.Sign as WordSign, words.word.Word.Word as LineWord, words.part.Part.Part as WordPart}
+pub use Rattle.pb_proof.specs.declared.line.pol.held.Held.{Held}
+pub use Rattle.pb_lines.specs.declared.Sign.{Sign as WordSign}
+pub use Rattle.pb_lines.specs.declared.Word.{Word as LineWord}
+pub use Rattle.pb_lines.specs.declared.part.Part.{Part as WordPart}
 pub use Rattle.pb_proof.specs.declared.machine.phase.{Keyword.Keyword, LineKind.LineKind, Stage.Stage, Action.Action as ProofAction, Phase.Phase as ProofPhase}
 pub use Rattle.pb_proof.specs.declared.machine.phase.Stage.TheVariants.{Closing, Complete, Formula, Opening, Steps}
 pub use Rattle.pb_proof.specs.declared.statement.Statement.TheVariants.{Conclude, Delete, F, Header, Output, Pol, Rup, Soli, Solx}
@@ -72,8 +75,10 @@ pub use Rattle.pb_proof.specs.meaning.Canonical.{bound_bytes, conclusion_bytes, 
 pub use Rattle.pb_proof.specs.meaning.{Canonical.shown_bytes, Canonical.word_bytes, Order.GapAt, Order.IsStaged, Order.stage_after, Order.stage_of}
 pub use Rattle.pb_proof.specs.meaning.Lines.{bounds_word, output_word, pseudo_word, soli_word, SpellsBound, SpellsCount, SpellsShown, SpellsWords, version_word}
 pub use Rattle.pb_proof.specs.meaning.Lines.{conclusion_word, LiteralsShown, none_word, SpellsConclusion, SpellsConclusionLine, SpellsLiterals, SpellsStatement}
-pub use Rattle.pb_proof.specs.meaning.Lines.{del_word, end_word, Feed, inf_word, pol_word, proof_word, solx_word, SpellsIds, SpellsRup, SpellsWord, unsat_word}
-pub use Rattle.pb_proof.specs.meaning.Lines.{f_word, Factor, id_word, IdShown, LineEnd, Listed, rup_word, sat_word, SpellsId, two_word}
+pub use Rattle.pb_proof.specs.meaning.Lines.{del_word, end_word, inf_word, pol_word, proof_word, solx_word, SpellsIds, SpellsRup, SpellsWord, unsat_word}
+pub use Rattle.pb_lines.specs.meaning.LineEnds.{Feed}
+pub use Rattle.pb_proof.specs.meaning.Lines.{f_word, Factor, id_word, IdShown, Listed, rup_word, sat_word, SpellsId, two_word}
+pub use Rattle.pb_lines.specs.meaning.LineEnds.{LineEnd}
 pub use Rattle.pb_proof.specs.meaning.Postfix.{Constraint, IsPostfix, LiteralAxiom, Product, Quotient, Saturation, Sum, Tree, Weakening, words}
 pub use Rattle.pb_proof.specs.meaning.Proofs.{AreSpelled, BeginsAtOnce, IsGap, IsProof, IsProofOf, IsStep, statements_of}
-pub use Rattle.pb_proof.specs.engine.line.WordsWhole.{IsClosing, IsLine, IsWordAt}
+pub use Rattle.pb_lines.specs.engine.WordsWhole.{IsClosing, IsLine, IsWordAt}

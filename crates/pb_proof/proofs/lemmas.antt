@@ -4,6 +4,7 @@ pub mod Literals
 pub mod Solution
 pub mod Formula
 pub mod line
+pub mod Listed
 pub mod machine
 pub mod pol
 pub mod Spaced
@@ -11,5 +12,4 @@ pub mod Delete
 pub mod Rup
 pub mod Texts
 pub mod Proofs
-pub mod words
 pub mod Ids

@@ -1,7 +1,7 @@
 //! The laws of proofs and their texts.
 
 ghost use Rattle.pb_proof.specs.contract.Fields.{ProofKeeps};
-ghost use Rattle.pb_proof.specs.engine.line.WordsKeep.{FormulaKeeps, DeleteKeeps, SolutionKeeps, ConclusionKeeps, PolKeeps};
+ghost use Rattle.pb_proof.specs.engine.line.PolFields.{PolKeeps};
 ghost use Rattle.pb_proof.specs.engine.line.Fields.{RupKeeps};
 ghost use Rattle.pb_proof.specs.contract.Formats.{ReadsProofs, OneProof, FixedSpans, PrefixFree, LargerLimits};
 
@@ -34,14 +34,10 @@ pub fn larger_limits()
     ensures { LargerLimits }
 {}
 
-/// A machine stores nothing besides its state, its limits, its allocator and, for `pol`, its vector
-/// of words, as contracts see these.
+/// A machine stores nothing besides its state, its limits and its allocator, as contracts see these.
+/// The words of a `pol` line are a state and a vector.
 pub fn keeps_its_state()
-    ensures count { FormulaKeeps }
-    ensures ids { DeleteKeeps }
-    ensures literals { SolutionKeeps }
     ensures rup { RupKeeps }
-    ensures conclusion { ConclusionKeeps }
     ensures pol { PolKeeps }
     ensures proof { ProofKeeps }
 {}

@@ -9,7 +9,6 @@ pub(crate) mod pol;
 pub(crate) mod push;
 pub(crate) mod rup;
 mod solution;
-pub(crate) mod words;
 
 use crate::line::conclusion::ConclusionWords;
 use crate::line::delete::DeleteWords;
@@ -17,7 +16,7 @@ use crate::line::formula::FormulaWords;
 use crate::line::pol::PolWords;
 use crate::line::rup::RupMachine;
 use crate::line::solution::SolutionWords;
-use crate::line::words::WordMachine;
+use pb_lines::WordMachine;
 
 /// A line machine: it reads the rest of a statement after its first word, through the line feed.
 #[derive(Drop)]

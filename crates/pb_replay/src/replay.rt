@@ -15,7 +15,7 @@ ghost use Rattle.pb_replay.specs.declared.fault.Fault.{Fault as AFault};
 
 use crate::fault::Fault;
 use crate::state::Running;
-use crate::state::load::open;
+use crate::state::load::{open, open_whole};
 use crate::step::apply;
 use crate::verdict::Verdict;
 use pb_normal::{HashKeys, Normal};
@@ -88,6 +88,31 @@ impl Replay {
         ensures memory { result ≡ Err Fault.Memory → FitsAll (largest limits) instance.now }
     {
         let running = open(alloc, keys, instance, limits)?;
+        Ok(Replay {
+            running,
+            fault: None,
+        })
+    }
+
+    /// The same for an instance that nothing else needs. Its memory is free before the replay
+    /// takes that of its engine, so at most one of the two is in use.
+    pub fn from_instance(
+        alloc: Global,
+        keys: HashKeys,
+        instance: Instance,
+        limits: Limits,
+    ) -> Result<Replay, Fault>
+        ensures opened { IfOk result (λ r. Opened (largest limits) instance (Ok r.problem)) }
+        ensures limits { IfOk result (λ r. r.limits ≡ limits) }
+        ensures first { IfOk result (λ r. StandsFor r (first_state r.problem)) }
+        ensures running { IfOk result (λ r. r.fault ≡ None) }
+        ensures visits { IfOk result (λ r. r.visits ≡ 0) }
+        ensures refused { IfErr result (λ e. (e ≡ Fault.Memory) ⊎
+            Opened (largest limits) instance (Err e)) }
+        // Overflow is decided before anything is allocated.
+        ensures memory { result ≡ Err Fault.Memory → FitsAll (largest limits) instance }
+    {
+        let running = open_whole(alloc, keys, instance, limits)?;
         Ok(Replay {
             running,
             fault: None,

@@ -2,13 +2,23 @@
 use Rattle.pb_proof.proofs.Common.{cond, ℕ, ℤ, ◌≡◌, ◌≤◌, ◌↔◌, ◌<◌, ◌^◌, ◌∷◌, ◌++◌, arith, [], false, Bool, true, List, None, refl, same_Some, Some, subst, sym, nat_eq, false≢true}
 use Rattle.pb_proof.proofs.Common.{◌⋅◌, regroup⁻¹, after_it, Blanks1, Digits, Language, Letter, LineEnd, Listed, SpellsId, SpellsIds, signed, bytes, EndsNumber}
 use Rattle.pb_proof.proofs.Common.{reads_after, ReadsStatement, Walks, IsOfOne, IsState, delete_automaton, delete_first, delete_last}
-use Rattle.pb_proof.proofs.lemmas.{line.Ends.listed_append, line.Ends.listed_walks, line.Ends.not_zero, line.TextEnds.number_end, Ids.id_text, Ids.ends_dark}
-use Rattle.pb_proof.proofs.lemmas.words.{Asks.MayAsk, Asks.in_name, Asks.at_end, Asks.at_mark, Asks.words_asked, Spelling.IsSpelled}
-use Rattle.pb_proof.proofs.lemmas.words.{Theorems.words_first_in_order, Theorems.words_is_state, Theorems.words_of_one, Theorems.words_reads}
-use Rattle.pb_proof.proofs.lemmas.words.Walks.{ends_line, first_after, further, gap, IsAfter, Led as Reach, number_led}
-use Rattle.pb_proof.specs.declared.line.{delete.DeleteWords.DeleteWords, words.word.Sign.Sign, words.word.Word.Word}
-use Rattle.pb_proof.specs.engine.line.{DeleteLaws.delete_counted, DeleteLaws.delete_lawful, Grammar.IsNumber, Ids.id_most, Ids.is_minus}
-use Rattle.pb_proof.specs.engine.line.{Delete.AllGood, Delete.delete_grammar, Delete.delete_value, Delete.delete_words, Words.IsWordsInOrder, Words.WordsState, WordTexts.Lead, WordTexts.SignText, WordTexts.WordText}
+use Rattle.pb_proof.proofs.lemmas.Listed.{listed_append, listed_walks}
+use Rattle.pb_lines.proofs.lemmas.Ends.{not_zero}
+use Rattle.pb_proof.proofs.lemmas.line.TextEnds.{number_end}
+use Rattle.pb_proof.proofs.lemmas.Ids.{id_text, ends_dark}
+use Rattle.pb_lines.proofs.lemmas.Asks.{MayAsk, in_name, at_end, at_mark, words_asked}
+use Rattle.pb_lines.proofs.lemmas.Spelling.{IsSpelled}
+use Rattle.pb_lines.proofs.lemmas.Theorems.{words_first_in_order, words_is_state, words_of_one, words_reads}
+use Rattle.pb_lines.proofs.lemmas.Walks.{ends_line, first_after, further, gap, IsAfter, Led as Reach, number_led}
+use Rattle.pb_proof.specs.declared.line.delete.DeleteWords.{DeleteWords}
+use Rattle.pb_lines.specs.declared.Sign.{Sign}
+use Rattle.pb_lines.specs.declared.Word.{Word}
+use Rattle.pb_proof.specs.engine.line.DeleteLaws.{delete_counted, delete_lawful}
+use Rattle.pb_lines.specs.contract.Grammar.{IsNumber}
+use Rattle.pb_proof.specs.engine.line.Ids.{id_most, is_minus}
+use Rattle.pb_proof.specs.engine.line.Delete.{AllGood, delete_grammar, delete_value, delete_words}
+use Rattle.pb_lines.specs.engine.Words.{IsWordsInOrder, WordsState}
+use Rattle.pb_lines.specs.engine.WordTexts.{Lead, SignText, WordText}
 use Rattle.std.specs.Prelude.{option_map}
 
 module _ (limit top : ℕ) where

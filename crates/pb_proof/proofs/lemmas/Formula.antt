@@ -1,12 +1,19 @@
 -- What the machine for a number reads.
 use Rattle.pb_proof.proofs.Common.{ℕ, ◌≡◌, ◌≤◌, ◌↔◌, ◌<◌, ◌^◌, [], false, List, None, Option, refl, same_Some, Some, subst, sym, ◌⋅◌, nil_first, Blanks1, Count, Digits, Empty, Language, Letter, LineEnd}
 use Rattle.pb_proof.proofs.Common.{reads_after, ReadsStatement, IsOfOne, IsState, SpellsCount, formula_automaton, formula_first, formula_last}
-use Rattle.pb_proof.proofs.lemmas.words.{Spelling.IsSpelled, Theorems.words_first_in_order, Theorems.words_is_state, Theorems.words_of_one, Theorems.words_reads}
-use Rattle.pb_proof.proofs.lemmas.words.Walks.{ends_line, first_after, further, number_led}
-use Rattle.pb_proof.specs.declared.line.{formula.FormulaWords.FormulaWords, words.word.Sign.Sign, words.word.Word.Word}
-use Rattle.pb_proof.specs.engine.line.{FormulaLaws.formula_counted, FormulaLaws.formula_lawful, Grammar.IsNumber, Words.IsWordsInOrder, Words.WordsState, WordTexts.Lead, WordTexts.WordText}
-use Rattle.pb_proof.specs.engine.line.{Formula.AllGood, Formula.formula_grammar, Formula.formula_next, Formula.formula_words, Grammar.following}
-use Rattle.pb_proof.proofs.lemmas.words.Asks.{MayAsk, in_name, at_end, at_mark, words_asked}
+use Rattle.pb_lines.proofs.lemmas.Spelling.{IsSpelled}
+use Rattle.pb_lines.proofs.lemmas.Theorems.{words_first_in_order, words_is_state, words_of_one, words_reads}
+use Rattle.pb_lines.proofs.lemmas.Walks.{ends_line, first_after, further, number_led}
+use Rattle.pb_proof.specs.declared.line.formula.FormulaWords.{FormulaWords}
+use Rattle.pb_lines.specs.declared.Sign.{Sign}
+use Rattle.pb_lines.specs.declared.Word.{Word}
+use Rattle.pb_proof.specs.engine.line.FormulaLaws.{formula_counted, formula_lawful}
+use Rattle.pb_lines.specs.contract.Grammar.{IsNumber}
+use Rattle.pb_lines.specs.engine.Words.{IsWordsInOrder, WordsState}
+use Rattle.pb_lines.specs.engine.WordTexts.{Lead, WordText}
+use Rattle.pb_proof.specs.engine.line.Formula.{AllGood, formula_grammar, formula_next, formula_words}
+use Rattle.pb_lines.specs.contract.Grammar.{following}
+use Rattle.pb_lines.proofs.lemmas.Asks.{MayAsk, in_name, at_end, at_mark, words_asked}
 use Rattle.pb_proof.proofs.Common.{true, Walks, false≢true}
 use Rattle.std.specs.Prelude.{is_some, option_map}
 

@@ -1,8 +1,11 @@
 -- The texts of ids.
 use Rattle.pb_proof.proofs.Common.{arith, ℕ, ◌≡◌, ◌≤◌, true, false, refl, subst, sym, List, [], nat_eq, Some, is_digit, signed, Letter, SpellsId}
-use Rattle.pb_proof.proofs.lemmas.line.Ends.{positive}
-use Rattle.pb_proof.specs.declared.line.words.{word.Sign.Sign, word.Word.Word}
-use Rattle.pb_proof.specs.engine.line.{Ids.id_most, Ids.is_minus, Words.ends_word, WordTexts.WordText}
+use Rattle.pb_lines.proofs.lemmas.Ends.{positive}
+use Rattle.pb_lines.specs.declared.Sign.{Sign}
+use Rattle.pb_lines.specs.declared.Word.{Word}
+use Rattle.pb_proof.specs.engine.line.Ids.{id_most, is_minus}
+use Rattle.pb_lines.specs.engine.Words.{ends_word}
+use Rattle.pb_lines.specs.engine.WordTexts.{WordText}
 use Rattle.std.proofs.lemmas.Bool.{Decides.nat_tests}
 
 pub id_text : (top : ℕ) (sign : Sign) (n most : ℕ) (t : List Letter) → nat_eq n 0 ≡ false → id_most top sign ≡ Some most → n ≤ most → WordText (Word.Number sign n) [] t → SpellsId top (signed (is_minus sign) n) t

@@ -7,7 +7,7 @@ use Rattle.pb_proof.proofs.Common.{none_yet, is_blank, Language, RupPhase, Refus
 use Rattle.pb_proof.proofs.Common.{Letter, Inside, Admits, IsTrue, nat_eq, Blanks0, Blanks1, rup_act, IsAlive, refuses, IsState, rup_asks, rup_done, RupHolds}
 use Rattle.pb_proof.proofs.Common.{ends_walk, rup_midway, reads_after, walks_more, walks_then, blank_each, rup_finish, AcceptsItems, IsRupInOrder, SpellsLinear}
 use Rattle.pb_proof.proofs.Common.{refuse_or_go, false_from_ne_true, continues-midway, midway-not-done, reads_something, SumPhase as Phase, SumAction as Action}
-use Rattle.pb_proof.proofs.lemmas.line.Ends.{blanks1_lead, closing_feeds, feed_reads, first_blank, further_blank, blank_more, feed_after_blanks, gapped}
+use Rattle.pb_lines.proofs.lemmas.Ends.{blanks1_lead, closing_feeds, feed_reads, first_blank, further_blank, blank_more, feed_after_blanks, gapped}
 use Rattle.pb_sums.specs.{declared.linear.Term.Term, engine.State.over, engine.State.units}
 use Rattle.pb_sums.specs.engine.Machine.{Work, Outcome, act, flushed, transition, kind, letter_at, is_numeric}
 use Rattle.pb_text.proofs.lemmas.machine.Living.{before}

@@ -2,12 +2,20 @@
 use Rattle.pb_proof.proofs.Common.{ℕ, ◌≡◌, ◌++◌, ◌∷◌, [], Blanks1, false, List, refl, same_Some, Some, subst, ◌⋅◌, Letter, Listed, Literal, literal, ReadsStatement}
 use Rattle.pb_proof.proofs.Common.{reads_after, Walks, solution_automaton, solution_first, solution_last, SpellsLiteral, SpellsLiterals}
 use Rattle.pb_proof.proofs.Common.{◌∙◌, ◌↔◌, ◌<◌, ◌^◌, after_it, ap, asks_after, AsksLiteral, at_name, bytes, bytes-append, false≢true, IsOfOne, IsState, Language, LiteralOf, sym, true}
-use Rattle.pb_proof.proofs.lemmas.{line.TextEnds.literal_end, line.Ends.listed_append, line.Ends.listed_walks}
-use Rattle.pb_proof.proofs.lemmas.words.{Asks.MayAsk, Asks.in_name, Asks.at_end, Asks.at_mark, Asks.words_asked, Theorems.words_first_in_order, Theorems.words_is_state, Theorems.words_of_one, Theorems.words_reads}
-use Rattle.pb_proof.proofs.lemmas.words.{Spelling.IsSpelled, Walks.ends_line, Walks.first_after, Walks.further, Walks.IsAfter, Walks.literal_led}
-use Rattle.pb_proof.specs.declared.line.{solution.SolutionWords.SolutionWords, words.word.Word.Word}
-use Rattle.pb_proof.specs.engine.line.{Literals.is_literal, SolutionLaws.solution_counted, SolutionLaws.solution_lawful, Words.IsWordsInOrder}
-use Rattle.pb_proof.specs.engine.line.{Solution.AllGood, Solution.solution_grammar, Solution.solution_words, Words.WordsState, WordTexts.Lead, WordTexts.WordText}
+use Rattle.pb_lines.proofs.lemmas.TextEnds.{literal_end}
+use Rattle.pb_proof.proofs.lemmas.Listed.{listed_append, listed_walks}
+use Rattle.pb_lines.proofs.lemmas.Asks.{MayAsk, in_name, at_end, at_mark, words_asked}
+use Rattle.pb_lines.proofs.lemmas.Theorems.{words_first_in_order, words_is_state, words_of_one, words_reads}
+use Rattle.pb_lines.proofs.lemmas.Spelling.{IsSpelled}
+use Rattle.pb_lines.proofs.lemmas.Walks.{ends_line, first_after, further, IsAfter, literal_led}
+use Rattle.pb_proof.specs.declared.line.solution.SolutionWords.{SolutionWords}
+use Rattle.pb_lines.specs.declared.Word.{Word}
+use Rattle.pb_proof.specs.engine.line.Literals.{is_literal}
+use Rattle.pb_proof.specs.engine.line.SolutionLaws.{solution_counted, solution_lawful}
+use Rattle.pb_lines.specs.engine.Words.{IsWordsInOrder}
+use Rattle.pb_proof.specs.engine.line.Solution.{AllGood, solution_grammar, solution_words}
+use Rattle.pb_lines.specs.engine.Words.{WordsState}
+use Rattle.pb_lines.specs.engine.WordTexts.{Lead, WordText}
 
 -- the literals, with blanks before each
 abbrev Row : SolutionWords → List Letter → Type 0

@@ -3,7 +3,7 @@ use Rattle.pb_proof.proofs.Common.{ℕ, ◌&&◌, ◌++◌, ◌<◌, ◌∙◌, 
 use Rattle.pb_proof.proofs.Common.{subst, sym, true, and_parts, eqb-true, not-true, after_it, grown, none_yet, regroup, regroup⁻¹, is_blank, ◌⋅◌, Blanks1, Byte}
 use Rattle.pb_proof.proofs.Common.{Bytes, Empty, Language, unmarked, Letter, plain, Keyword, meets, sol_word, words_of, conclusion_word, del_word, end_word}
 use Rattle.pb_proof.proofs.Common.{f_word, id_word, none_word, output_word, pol_word, proof_word, pseudo_word, rup_word, two_word, version_word}
-use Rattle.pb_proof.proofs.lemmas.line.Ends.{first_blank, further_blank, nil_last}
+use Rattle.pb_lines.proofs.lemmas.Ends.{first_blank, further_blank, nil_last}
 use Rattle.pb_proof.specs.declared.machine.phase.Keyword.TheVariants.{Header, Formula, Pol, Rup, Solution, Delete, Output, Conclusion, End}
 
 abbrev pub chooses : Bool → Language → Language → Language

@@ -1,7 +1,8 @@
 -- What is written, in parts, and the canonical texts of statements.
 use Rattle.pb_proof.specs.{engine.line.Ended.ended_lines, meaning.Canonical.listed_bytes, meaning.Canonical.count_bytes}
 use Rattle.pb_proof.proofs.Common.{ℤ, bounds_word, [], proof_bytes, degree_text, linear_text, bytes-digits, listed_bytes, literal_line, conclusion_word}
-use Rattle.pb_proof.proofs.{Common.Blanks0, Common.Blanks1, Common.IfGiven, Common.IsBound, Common.IdShown, lemmas.line.Ends.fed, lemmas.line.Ends.ended}
+use Rattle.pb_proof.proofs.Common.{Blanks0, Blanks1, IfGiven, IsBound, IdShown}
+use Rattle.pb_lines.proofs.lemmas.Ends.{fed, ended}
 use Rattle.pb_proof.proofs.Common.{take-append-drop, conclusion_bytes, IsStatementValue, SpellsConclusion, SpellsConclusionLine, literal_bytes, ℕ, PolWord}
 use Rattle.pb_proof.proofs.Common.{SpellsLiteral, LiteralsShown, SpellsLiterals, ◌++◌, drop_all, soli_word, solx_word, SpellsIds, SpellsRup, digits_of, ◌+◌}
 use Rattle.pb_proof.proofs.Common.{get_or, length, Header, Output, Option, Letter, Finite, Bounds, Delete, Divide, Weaken, f_word, negsuc, degree, ◌-◌, ◌<◌}

@@ -1,5 +1,4 @@
 -- Lemmas about the lines of statements, and about the machines that read them.
 pub mod Asks
 pub mod Laws
-pub mod Ends
 pub mod TextEnds

@@ -11,17 +11,10 @@ pub mod Finished
 pub mod Delete
 pub mod Solution
 pub mod SolutionLaws
-pub mod Grammar
 pub mod Ids
 pub mod Literals
-pub mod Laws
-pub mod Words
-pub mod WordsFields
-pub mod WordsKeep
-pub mod WordTexts
 pub mod Machine
 pub mod Pol
 pub mod PolFields
 pub mod PolLaws
-pub mod WordsWhole
 pub mod Rup

@@ -1,10 +1,11 @@
 -- The statements of a proof, and their texts.
+use Rattle.pb_lines.specs.meaning.LineEnds.{Feed, LineEnd}
 use Rattle.pb_proof.specs.declared.{conclusion.Bound.Bound, conclusion.Conclusion.Conclusion, statement.Statement.Statement, word.PolWord.PolWord}
 use Rattle.{pb_proof.specs.meaning.Postfix.IsPostfix, pb_sums.specs.declared.Literal.Literal, pb_sums.specs.declared.Relation.TheVariants.AtLeast}
 use Rattle.pb_sums.specs.{declared.Linear.Linear, declared.Spaces.TheVariants.Blank, meaning.Sums.IsName, meaning.Sums.SpellsLiteral, meaning.Sums.SpellsLinear}
 use Rattle.pb_text.specs.meaning.Languages.{Language, ◌⋅◌, Empty, Byte, Bytes, Blanks0, Blanks1}
 use Rattle.pb_text.specs.meaning.Numbers.{Digits, Number, Count, signed}
-use Rattle.std.specs.Prelude.{◌≡◌, ℕ, ℤ, pos, ◌<◌, ◌≤◌, Bool, true, false, List, [], ◌∷◌, length, ◌⊎◌, Option, Some, None, codes}
+use Rattle.std.specs.Prelude.{◌≡◌, ℕ, ℤ, pos, ◌<◌, ◌≤◌, Bool, true, false, List, [], ◌∷◌, length, Option, Some, None, codes}
 
 -- The fixed words.
 abbrev pub pseudo_word : List ℕ
@@ -63,14 +64,6 @@ bounds_word = codes "BOUNDS"
 
 abbrev pub inf_word : List ℕ
 inf_word = codes "INF"
-
--- blank* and a line feed
-abbrev pub Feed : Language
-Feed = Blanks0 ⋅ Byte 10
-
--- a line feed, with or without blanks and one `;` before it
-abbrev pub LineEnd : Language
-LineEnd = λ t. Feed t ⊎ (Blanks0 ⋅ Byte 59 ⋅ Feed) t
 
 -- each with blank+ before it
 abbrev pub Listed : {A : Type 0} → (A → Language) → List A → Language

@@ -2,15 +2,14 @@
 
 ghost use Rattle.std.specs.Prelude.{◌≡◌, ◌<◌, ◌^◌, Some, [], IsSome};
 ghost use Rattle.pb_text.specs.meaning.Limits.{largest, top_of};
-ghost use Rattle.pb_proof.specs.engine.line.Grammar.{IsNumber};
+ghost use Rattle.pb_lines.specs.contract.Grammar.{IsNumber};
 ghost use Rattle.pb_proof.specs.engine.line.Ids.{IsBelow};
 ghost use Rattle.pb_proof.specs.engine.line.Conclusion.{bound_of, first_word, with_word, with_colon, ends, number, capital, showing_value, conclusion_words, conclusion_grammar};
 
 use crate::conclusion::{Bound, Conclusion};
 use crate::line::ids::{id_of, is_minus, largest_id};
 use crate::line::literals::{add_literal, count_units};
-use crate::line::words::list::WordList;
-use crate::line::words::word::{Capital, Follow, Sign, Word};
+use pb_lines::{Capital, Follow, Sign, Word, WordList};
 use pb_sums::{Literal, Name};
 use pb_text::decimal::signed;
 use pb_text::{Limits, Sequence};

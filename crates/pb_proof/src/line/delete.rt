@@ -4,8 +4,7 @@ ghost use Rattle.std.specs.Prelude.{◌≡◌, []};
 ghost use Rattle.pb_proof.specs.engine.line.Delete.{delete_words};
 
 use crate::line::ids::{id_of, largest_id};
-use crate::line::words::list::WordList;
-use crate::line::words::word::{Capital, Follow, Sign, Word};
+use pb_lines::{Capital, Follow, Sign, Word, WordList};
 use pb_sums::Name;
 use pb_text::{Limits, Sequence};
 use std::alloc::{AllocError, Global};

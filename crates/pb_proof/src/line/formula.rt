@@ -3,8 +3,7 @@
 ghost use Rattle.std.specs.Prelude.{◌≡◌, None};
 ghost use Rattle.pb_proof.specs.engine.line.Formula.{formula_words};
 
-use crate::line::words::list::WordList;
-use crate::line::words::word::{Capital, Follow, Sign, Word};
+use pb_lines::{Capital, Follow, Sign, Word, WordList};
 use pb_sums::Name;
 use pb_text::Limits;
 use std::alloc::{AllocError, Global};

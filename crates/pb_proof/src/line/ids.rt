@@ -4,7 +4,7 @@ ghost use Rattle.std.specs.Prelude.{◌≡◌, ◌^◌};
 ghost use Rattle.pb_text.specs.meaning.Limits.{top_of};
 ghost use Rattle.pb_proof.specs.engine.line.Ids.{is_minus, IsBelow, id_of, id_most};
 
-use crate::line::words::word::{Sign, Word};
+use pb_lines::{Sign, Word};
 use pb_text::Limits;
 use pb_text::decimal::signed_i64;
 

@@ -2,7 +2,7 @@
 
 ghost use Rattle.std.specs.Prelude.{◌≡◌, [], ℕ, List, true, nat_eq, option_map, IsSome, Some, OnOk, OnErr};
 ghost use Rattle.pb_text.specs.meaning.Limits.{largest, top_of};
-ghost use Rattle.pb_proof.specs.engine.line.Grammar.{IsNumber};
+ghost use Rattle.pb_lines.specs.contract.Grammar.{IsNumber};
 ghost use Rattle.pb_proof.specs.engine.line.Pol.{bound, no_words, pol_grammar, with_operand, with_number, with_mark, adds_word};
 
 mod change;
@@ -10,9 +10,8 @@ mod held;
 
 use crate::line::pol::change::{count_units, make_room, turn_last};
 use crate::line::pol::held::{Held, held_name, held_number, is_free, turns};
-use crate::line::words::list::WordList;
-use crate::line::words::word::{Capital, Follow, Sign, Word};
 use crate::word::PolWord;
+use pb_lines::{Capital, Follow, Sign, Word, WordList};
 use pb_sums::{Literal, Name};
 use pb_text::{Limits, Sequence};
 use std::alloc::{AllocError, Global};

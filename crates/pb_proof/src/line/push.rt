@@ -11,9 +11,9 @@ use crate::line::formula::FormulaWords;
 use crate::line::pol::PolWords;
 use crate::line::rup::RupMachine;
 use crate::line::solution::SolutionWords;
-use crate::line::words::WordMachine;
 use crate::machine::phase::LineKind;
 use crate::statement::Statement;
+use pb_lines::WordMachine;
 use pb_text::{Limits, Machine, Push, Sequence, Spare};
 use std::alloc::Global;
 

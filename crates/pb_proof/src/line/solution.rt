@@ -4,8 +4,7 @@ ghost use Rattle.std.specs.Prelude.{◌≡◌, []};
 ghost use Rattle.pb_proof.specs.engine.line.Solution.{solution_words};
 
 use crate::line::literals::{add_literal, count_units};
-use crate::line::words::list::WordList;
-use crate::line::words::word::{Capital, Follow, Sign, Word};
+use pb_lines::{Capital, Follow, Sign, Word, WordList};
 use pb_sums::{Literal, Name};
 use pb_text::{Limits, Sequence};
 use std::alloc::{AllocError, Global};

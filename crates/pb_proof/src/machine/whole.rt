@@ -8,9 +8,8 @@ ghost use Rattle.pb_proof.specs.engine.machine.Whole.{IsStepAt, IsLineAfter};
 
 use crate::line::delete::DeleteWords;
 use crate::line::pol::PolWords;
-use crate::line::words::list::WordList;
-use crate::line::words::whole::line_at;
 use crate::word::PolWord;
+use pb_lines::{WordList, line_at};
 use pb_sums::{Linear, Part, Term, linear_at};
 use pb_text::bytes::is_blank;
 use pb_text::{Limits, Sequence, Spare};

@@ -141,15 +141,19 @@ pub record IsFirst (given : Limits) (r : Running) : Type 0 where
   pub own : r.own ≡ length r.names
   pub best : r.best ≡ None
   pub state : state_of r [] ≡ first_state (problem_of r)
-  pub ready : r.engine.spent ≡ false
-  pub variables : r.engine.variables ≡ length r.names
   pub visits : r.visits ≡ 0
 
--- the instance opened as this replay
-pub record IsOpened (given : Limits) (i : Instance) (r : Running) : Type 0 where
+-- the instance as forms
+pub record IsLoaded (given : Limits) (i : Instance) (r : Running) : Type 0 where
   pub opened : Opened (largest given) i (Ok (problem_of r))
   pub first : IsFirst given r
   pub fits : magnitude (objective_of (problem_of r).objective) ≤ largest given
+
+-- the instance opened as this replay, whose engine has a variable for each name
+pub record IsOpened (given : Limits) (i : Instance) (r : Running) : Type 0 where
+  pub loaded : IsLoaded given i r
+  pub ready : r.engine.spent ≡ false
+  pub variables : r.engine.variables ≡ length r.names
 
 -- what callers see of a replay; after a fault it is spent
 pub record Replaying : Type 0 where

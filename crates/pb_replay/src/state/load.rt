@@ -6,7 +6,8 @@ ghost use Rattle.pb_normal.specs.meaning.Constraints.{Fits};
 ghost use Rattle.pb_normal.specs.meaning.Names.{with_names};
 ghost use Rattle.pb_normal.specs.meaning.Written.{names_of, magnitude};
 ghost use Rattle.pb_replay.specs.meaning.Problem.{FitsAll, Opened, objective_of};
-ghost use Rattle.pb_replay.specs.contract.ReplayModel.{IsOpened};
+ghost use Rattle.pb_replay.specs.contract.ReplayModel.{IsLoaded, IsOpened};
+ghost use Rattle.pb_opb.specs.declared.Instance.{Instance as AnInstance};
 
 use crate::fault::Fault;
 use crate::state::Running;
@@ -14,7 +15,7 @@ use crate::state::live::engine_over;
 use pb_normal::{HashKeys, Memory, Names, Normal, NormalFault, Side, fits, load, terms_fit};
 use pb_opb::Instance;
 use pb_proof::Stage;
-use pb_propagate::share_each;
+use pb_propagate::{Engine, share_each};
 use pb_sums::{Linear, Relation, Term};
 use pb_text::{Limits, Sequence};
 use std::alloc::Global;
@@ -104,6 +105,40 @@ pub(crate) fn open(
         Opened (largest limits) instance.now (Err e)) }
     ensures memory { result ≡ Err Fault.Memory → FitsAll (largest limits) instance.now }
 {
+    let running = load_tested(alloc, keys, instance, limits)?;
+    with_engine(running)
+}
+
+/// The same for an instance that nothing else needs. Its memory is free before the engine needs
+/// some.
+pub(crate) fn open_whole(
+    alloc: Global,
+    keys: HashKeys,
+    instance: Instance,
+    limits: Limits,
+) -> Result<Running, Fault>
+    ensures ok { IfOk result (IsOpened limits instance) }
+    ensures err { IfErr result (λ e. (e ≡ Fault.Memory) ⊎
+        Opened (largest limits) instance (Err e)) }
+    ensures memory { result ≡ Err Fault.Memory → FitsAll (largest limits) instance }
+{
+    let running = load_tested(alloc, keys, &instance, limits)?;
+    drop(instance);
+    with_engine(running)
+}
+
+/// The instance as forms, with the names hashed with these keys. The engine has no variable.
+fn load_tested(
+    alloc: Global,
+    keys: HashKeys,
+    instance: &Instance,
+    limits: Limits,
+) -> Result<Running, Fault>
+    ensures ok { IfOk result (IsLoaded limits instance.now) }
+    ensures err { IfErr result (λ e. (e ≡ Fault.Memory) ⊎
+        Opened (largest limits) instance.now (Err e)) }
+    ensures memory { result ≡ Err Fault.Memory → FitsAll (largest limits) instance.now }
+{
     // With no objective, `load` tests the constraints before anything is allocated.
     if instance.objective.is_some() && !fits_all(instance, limits) {
         return Err(Fault::Overflow);
@@ -118,7 +153,7 @@ fn load_instance(
     instance: &Instance,
     limits: Limits,
 ) -> Result<Running, Fault>
-    ensures ok { IfOk result (IsOpened limits instance.now) }
+    ensures ok { IfOk result (IsLoaded limits instance.now) }
     ensures err { IfErr result (λ e. (e ≡ Fault.Memory) ⊎
         Opened (largest limits) instance.now (Err e)) }
     ensures memory { instance.now.objective ≡ None → result ≡ Err Fault.Memory →
@@ -135,7 +170,6 @@ fn load_instance(
     };
     let loaded = share_each(alloc, forms)?;
     let own = names.len();
-    let engine = engine_over(alloc, own, loaded.len())?;
     Ok(Running {
         alloc,
         limits,
@@ -143,11 +177,22 @@ fn load_instance(
         own,
         loaded,
         objective,
-        engine,
+        engine: Engine::new(alloc),
         best: None,
         next: Stage::Opening,
         concluded: None,
         visits: 0,
         memory: Memory::new(alloc),
     })
+}
+
+/// The same replay, whose engine has a variable for each name and memory for each constraint.
+fn with_engine(running: Running) -> Result<Running, Fault>
+    ensures ok { (i : AnInstance) → IsLoaded running.limits i running →
+        IfOk result (IsOpened running.limits i) }
+    ensures err { IfErr result (λ e. e ≡ Fault.Memory) }
+{
+    let mut running = running;
+    running.engine = engine_over(running.alloc, running.own, running.loaded.len())?;
+    Ok(running)
 }

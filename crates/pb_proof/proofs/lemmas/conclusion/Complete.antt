@@ -3,13 +3,18 @@ use Rattle.pb_proof.proofs.Common.{ℕ, ℤ, ◌≡◌, ◌∙◌, ◌++◌, ◌
 use Rattle.pb_proof.proofs.Common.{◌⋅◌, Blanks0, Blanks1, Bytes, Empty, Language, Letter, Listed, regroup, ReadsStatement, reads_after, subst, Walks, walks_then}
 use Rattle.pb_proof.proofs.Common.{Bound, Conclusion, Literal, signed, IdShown, LiteralsShown, SpellsBound, SpellsId, SpellsLiteral, SpellsShown}
 use Rattle.pb_proof.proofs.Common.{bounds_word, sat_word, unsat_word, SpellsConclusion, SpellsConclusionLine, conclusion_automaton, conclusion_first, conclusion_last}
-use Rattle.pb_proof.proofs.lemmas.{conclusion.Spelling.Colon, line.Ends.listed_walks, line.Ends.not_zero}
-use Rattle.pb_proof.proofs.lemmas.words.Walks.{gap, IsAfter, first_after, gap_after, Led, number_led, literal_led, capital_led, further, joined, colon_walks, ends_line}
+use Rattle.pb_proof.proofs.lemmas.conclusion.Spelling.{Colon}
+use Rattle.pb_proof.proofs.lemmas.Listed.{listed_walks}
+use Rattle.pb_lines.proofs.lemmas.Ends.{not_zero}
+use Rattle.pb_lines.proofs.lemmas.Walks.{gap, IsAfter, first_after, gap_after, Led, number_led, literal_led, capital_led, further, joined, colon_walks, ends_line}
 use Rattle.pb_proof.specs.declared.line.{conclusion.Concluding.Concluding, conclusion.ConclusionWords.ConclusionWords, conclusion.Showing.Showing}
-use Rattle.pb_proof.specs.declared.line.words.{word.Capital.Capital, word.Sign.Sign, word.Word.Word}
+use Rattle.pb_lines.specs.declared.Capital.{Capital}
+use Rattle.pb_lines.specs.declared.Sign.{Sign}
+use Rattle.pb_lines.specs.declared.Word.{Word}
 use Rattle.pb_proof.specs.engine.line.Ids.{id_most, id_of, is_minus}
 use Rattle.pb_proof.specs.engine.line.Conclusion.{bound_of, conclusion_grammar, conclusion_words as words, capital, number, with_colon, with_word}
-use Rattle.pb_proof.specs.engine.line.{Words.capital_bytes, Words.WordsState, WordTexts.WordText}
+use Rattle.pb_lines.specs.engine.Words.{capital_bytes, WordsState}
+use Rattle.pb_lines.specs.engine.WordTexts.{WordText}
 use Rattle.std.specs.Prelude.{option_map}
 
 module _ (limit top : ℕ) where

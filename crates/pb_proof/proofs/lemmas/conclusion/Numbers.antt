@@ -1,7 +1,12 @@
 -- Bounds fit, and a conclusion of which nothing is shown.
 use Rattle.pb_proof.proofs.Common.{ℤ, ◌≡◌, ◌∙◌, ◌^◌, [], arith, Conclusion, largest, Limits, List, Literal, Option, same_Some, Some, sym, top_of}
-use Rattle.pb_proof.specs.declared.line.{conclusion.Concluding.Concluding, conclusion.Showing.Showing, words.word.Sign.Sign, words.word.Word.Word}
-use Rattle.pb_proof.specs.engine.line.{Grammar.IsNumber, Conclusion.conclusion_grammar, Conclusion.conclusion_words, Ids.IsBelow, Conclusion.number, Conclusion.value}
+use Rattle.pb_proof.specs.declared.line.conclusion.Concluding.{Concluding}
+use Rattle.pb_proof.specs.declared.line.conclusion.Showing.{Showing}
+use Rattle.pb_lines.specs.declared.Sign.{Sign}
+use Rattle.pb_lines.specs.declared.Word.{Word}
+use Rattle.pb_lines.specs.contract.Grammar.{IsNumber}
+use Rattle.pb_proof.specs.engine.line.Conclusion.{conclusion_grammar, conclusion_words, number, value}
+use Rattle.pb_proof.specs.engine.line.Ids.{IsBelow}
 use Rattle.{pb_text.proofs.lemmas.numbers.Numbers.largest_small, std.specs.Prelude.IsSome}
 
 pub bound_below : (limits : Limits) (c : Concluding) (w : Word) → ((sign : Sign) → number (largest limits) (top_of limits) c sign ≡ Some (largest limits))

@@ -3,10 +3,16 @@ use Rattle.pb_proof.proofs.Common.{ℕ, ℤ, ◌≡◌, ◌++◌, ◌∷◌, [],
 use Rattle.pb_proof.proofs.Common.{◌⋅◌, Blanks0, Blanks1, Byte, Bytes, Empty, Language, Letter, LineEnd, Listed, after_it, inside, nil_first, none_yet, regroup, regroup3}
 use Rattle.pb_proof.proofs.Common.{Bound, Conclusion, Literal, literal, Number, signed, IdShown, LiteralsShown, SpellsBound, SpellsId, SpellsLiteral, SpellsShown}
 use Rattle.pb_proof.proofs.Common.{bounds_word, none_word, sat_word, unsat_word, SpellsConclusion, SpellsConclusionLine}
-use Rattle.pb_proof.proofs.lemmas.{line.Ends.listed_append, line.Ends.nil_last, words.Spelling.FirstByte, words.Spelling.IsSpelled}
+use Rattle.pb_proof.proofs.lemmas.Listed.{listed_append}
+use Rattle.pb_lines.proofs.lemmas.Ends.{nil_last}
+use Rattle.pb_lines.proofs.lemmas.Spelling.{FirstByte, IsSpelled}
 use Rattle.pb_proof.specs.declared.line.{conclusion.Concluding.Concluding, conclusion.ConclusionWords.ConclusionWords, conclusion.Showing.Showing}
-use Rattle.pb_proof.specs.declared.line.words.{word.Capital.Capital, word.Sign.Sign, word.Word.Word}
-use Rattle.pb_proof.specs.engine.line.{Grammar.IsNumber, WordTexts.Lead, WordTexts.WordText, Words.capital_bytes}
+use Rattle.pb_lines.specs.declared.Capital.{Capital}
+use Rattle.pb_lines.specs.declared.Sign.{Sign}
+use Rattle.pb_lines.specs.declared.Word.{Word}
+use Rattle.pb_lines.specs.contract.Grammar.{IsNumber}
+use Rattle.pb_lines.specs.engine.WordTexts.{Lead, WordText}
+use Rattle.pb_lines.specs.engine.Words.{capital_bytes}
 use Rattle.std.specs.Prelude.{option_map}
 use Rattle.pb_proof.proofs.lemmas.Ids.{id_text}
 use Rattle.pb_proof.specs.engine.line.Ids.{id_most, is_minus}

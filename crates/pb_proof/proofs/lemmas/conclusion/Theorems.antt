@@ -4,13 +4,19 @@ use Rattle.pb_proof.proofs.Common.{◌⋅◌, Blanks0, Blanks1, bytes, bytes-app
 use Rattle.pb_proof.proofs.Common.{asks_after, AsksConclusion, AsksLiteral, AsksShown, Conclusion, Literal, SpellsShown, SpellsConclusionLine}
 use Rattle.pb_proof.proofs.Common.{conclusion_automaton, conclusion_first, conclusion_last}
 use Rattle.pb_proof.proofs.lemmas.conclusion.{Complete.conclusion_each, Spelling.After, Spelling.conclusion_spelled, Spelling.joined, Spelling.Shows, Spelling.Text}
-use Rattle.pb_proof.proofs.lemmas.{Solution.literal_asked, words.Asks.MayAsk, words.Asks.in_name, words.Asks.at_end, words.Asks.at_mark, words.Asks.words_asked}
-use Rattle.pb_proof.proofs.lemmas.words.{Theorems.words_first_in_order, Theorems.words_is_state, Theorems.words_of_one, Theorems.words_reads}
+use Rattle.pb_proof.proofs.lemmas.Solution.{literal_asked}
+use Rattle.pb_lines.proofs.lemmas.Asks.{MayAsk, in_name, at_end, at_mark, words_asked}
+use Rattle.pb_lines.proofs.lemmas.Theorems.{words_first_in_order, words_is_state, words_of_one, words_reads}
 use Rattle.pb_proof.specs.declared.line.{conclusion.Concluding.Concluding, conclusion.ConclusionWords.ConclusionWords, conclusion.Showing.Showing}
-use Rattle.pb_proof.specs.declared.line.words.{part.Part.Part, part.Step.Step, word.Word.Word}
+use Rattle.pb_lines.specs.declared.part.Part.{Part}
+use Rattle.pb_lines.specs.declared.part.Step.{Step}
+use Rattle.pb_lines.specs.declared.Word.{Word}
 use Rattle.pb_proof.specs.engine.line.Conclusion.{AllGood, conclusion_grammar, conclusion_words as words, showing_value, takes_literal, value, with_colon}
-use Rattle.pb_proof.specs.engine.line.{Grammar.Grammar, ConclusionLaws.conclusion_lawful, ConclusionLaws.conclusion_counted, Grammar.follow, Grammar.with_word, Literals.is_literal, WordTexts.Lead}
-use Rattle.pb_proof.specs.engine.line.Words.{act, if_some, IsWordsInOrder, step_at, words_at, WordsState}
+use Rattle.pb_lines.specs.contract.Grammar.{Grammar, follow, with_word}
+use Rattle.pb_proof.specs.engine.line.ConclusionLaws.{conclusion_lawful, conclusion_counted}
+use Rattle.pb_proof.specs.engine.line.Literals.{is_literal}
+use Rattle.pb_lines.specs.engine.WordTexts.{Lead}
+use Rattle.pb_lines.specs.engine.Words.{act, if_some, IsWordsInOrder, step_at, words_at, WordsState}
 use Rattle.std.specs.Prelude.{is_some, option_map}
 
 pub conclusion_of_one : IsOfOne conclusion_automaton (IsWordsInOrder conclusion_grammar AllGood) (λ i. conclusion_last i.limit i.top)

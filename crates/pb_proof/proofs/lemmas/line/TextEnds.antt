@@ -1,10 +1,8 @@
--- How the texts of numbers and literals end.
-use Rattle.pb_proof.proofs.Common.{ℕ, ◌+◌, ◌++◌, ◌<◌, ◌∙◌, ◌∷◌, ◌≡◌, [], ap, Bool, false, IsTrue, List, map, refl, subst, sym, true}
-use Rattle.pb_proof.proofs.Common.{ends_after, EndsIn, literal_bytes, digit_byte, bytes-append, bytes-plain, is_digit, ◌⋅◌, Bytes, digit, Each, Language, bytes}
+-- How the texts of numbers end.
+use Rattle.pb_proof.proofs.Common.{ℕ, ◌+◌, ◌<◌, ◌∷◌, ◌≡◌, [], false, IsTrue, List, map, refl, subst, sym}
+use Rattle.pb_proof.proofs.Common.{ends_after, EndsIn, digit_byte, is_digit, ◌⋅◌, digit, Each, Language, bytes}
 use Rattle.pb_proof.proofs.Common.{Letter, EndsNumber, Digits as DigitsOf}
-
-pub joined_end : (a c t : List Letter) (end : List ℕ) → t ≡ a ++ c → EndsIn (bytes c) end → EndsIn (bytes t) end
-joined_end a c t end e h = subst (λ (x : List ℕ). EndsIn x end) (sym (ap bytes e ∙ bytes-append a c)) (ends_after (bytes a) (bytes c) end h)
+use Rattle.pb_lines.proofs.lemmas.TextEnds.{joined_end}
 
 digits_last : (d : ℕ) (ds : List ℕ) → Each (λ e. e < 10) (d ∷ ds) → (c : ℕ) × EndsIn (bytes (map digit (d ∷ ds))) (c ∷ []) × IsTrue (is_digit c)
 digits_last d [] h = (48 + d, ([], refl), digit_byte d h.0)
@@ -19,11 +17,3 @@ digits_end n t (d, ds, h, e, v) =
 -- after digits, at a byte that is not a digit
 pub number_end : (P : Language) (n : ℕ) (t : List Letter) (b : ℕ) → (P ⋅ DigitsOf n) t → is_digit b ≡ false → EndsNumber (bytes t) b
 number_end P n t b (a, c, e, h, k) dark = let (d, f, g) = digits_end n c k in (d, joined_end a c t (d ∷ []) e f, g, dark)
-
-pub name_ends : (negated : Bool) (bs : List ℕ) → EndsIn (literal_bytes negated bs) bs
-name_ends true bs = (126 ∷ [], refl)
-name_ends false bs = ([], refl)
-
-pub literal_end : (P : Language) (negated : Bool) (bs : List ℕ) (t : List Letter) → (P ⋅ Bytes (literal_bytes negated bs)) t → EndsIn (bytes t) bs
-literal_end P negated bs t (a, c, e, h, k) =
-    joined_end a c t bs e (subst (λ (x : List ℕ). EndsIn x bs) (sym (ap bytes k ∙ bytes-plain (literal_bytes negated bs))) (name_ends negated bs))

@@ -7,7 +7,8 @@ use Rattle.pb_proof.proofs.Common.{append_assoc, length-append, ap, Go, ◌⋅�
 use Rattle.pb_proof.proofs.Common.{reads_after, Bool, false, nat_eq, Letter, proofs, eq-eqb, longer, giving, IsTrue, length, Keyword, Closing, Formula, Opening}
 use Rattle.pb_proof.proofs.Common.{LineEnd, Blanks1, List, subst, Walks, Bytes, Stage, Steps, meets, plain, ReadsStatement, SpellsStatement}
 use Rattle.pb_proof.proofs.Common.{proof_spell as spell, ProofPhase as Phase, get_or-append_seam, proof_transition as transition, ProofAction as Action}
-use Rattle.pb_proof.proofs.lemmas.line.{Ends.Feeds, Ends.feed_reads, Ends.MayEnd, Ends.line_reads, Laws.line_begins, Laws.line_fresh, Laws.line_each}
+use Rattle.pb_lines.proofs.lemmas.Ends.{Feeds, feed_reads, MayEnd, line_reads}
+use Rattle.pb_proof.proofs.lemmas.line.Laws.{line_begins, line_fresh, line_each}
 use Rattle.pb_proof.proofs.lemmas.machine.Sound.{stage_keyword}
 
 -- The machine reads each statement from its stage.

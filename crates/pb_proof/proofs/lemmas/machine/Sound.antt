@@ -8,8 +8,9 @@ use Rattle.pb_proof.proofs.Common.{further, Keyword, Closing, Formula, Opening, 
 use Rattle.pb_proof.proofs.Common.{enter, meets, take-suc, ReadsStatement, SpellsStatement, proof_spell as spell, proof_over as over, ProofPhase as Phase}
 use Rattle.pb_proof.proofs.Common.{conclusion_word, proof_between as between, proof_transition as transition, ProofAction as Action}
 use Rattle.pb_proof.proofs.lemmas.Spaced.{Spaced, one_met, spaced_more, spaced_blank, KeywordWords, keyword_only, some_byte}
-use Rattle.pb_proof.proofs.lemmas.line.Ends.{Gapped, blank_more, gapped, Closing as Closed, semicolon_after_blanks, blank_closing, line_after_blanks}
-use Rattle.pb_proof.proofs.lemmas.line.{Ends.line_closing, Ends.feed_after_blanks, Laws.line_only, Laws.line_begins, Laws.line_fresh}
+use Rattle.pb_lines.proofs.lemmas.Ends.{Gapped, blank_more, gapped, Closing as Closed, semicolon_after_blanks, blank_closing, line_after_blanks}
+use Rattle.pb_lines.proofs.lemmas.Ends.{line_closing, feed_after_blanks}
+use Rattle.pb_proof.proofs.lemmas.line.Laws.{line_only, line_begins, line_fresh}
 
 -- What the machine reads from a stage is a statement of that stage.
 

@@ -8,7 +8,9 @@ use Rattle.pb_proof.proofs.Common.{Option, Admits, Refuse, ◌∷◌, ◌++◌, 
 use Rattle.pb_proof.proofs.Common.{LineMachine, append_assoc, AcceptsItems, admits_final, length-append, line_automaton, admits_before, length-take-le, Formula}
 use Rattle.pb_proof.proofs.Common.{ProofState, ProofPhaseFits as PhaseFits, proof_between as between, proof_transition as transition, proof_within as is_within}
 use Rattle.pb_proof.proofs.{Common.Opening, Common.HasGaps, lemmas.machine.Exact.no_gap, lemmas.machine.Exact.finishes, lemmas.machine.Exact.ordered_each}
-use Rattle.pb_proof.proofs.lemmas.{Carried.reads_in, line.Ends.fed, line.Ends.ended, line.Laws.line_begins, line.Laws.line_fresh, line.Laws.line_first_state}
+use Rattle.pb_proof.proofs.lemmas.Carried.{reads_in}
+use Rattle.pb_lines.proofs.lemmas.Ends.{fed, ended}
+use Rattle.pb_proof.proofs.lemmas.line.Laws.{line_begins, line_fresh, line_first_state}
 use Rattle.pb_proof.proofs.lemmas.Spaced.{Spaced, chooses, KeywordWords, keyword_only, some_byte}
 use Rattle.pb_proof.proofs.lemmas.machine.Complete.{spelt, header_end, output_end, step_on, step_last, line_nests, is_giving, meets_any}
 use Rattle.{pb_proof.specs.engine.machine.State.asks, pb_proof.specs.engine.machine.State.is_done, pb_text.proofs.lemmas.machine.Living.before}

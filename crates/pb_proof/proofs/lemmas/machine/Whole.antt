@@ -5,9 +5,15 @@ use Rattle.pb_proof.proofs.Common.{IsInOrder, Keyword, LineKind, LineMachine, Pr
 use Rattle.pb_proof.proofs.Common.{Inside, IsRupInOrder, Linear, RupPhase, RupState, rup_over, SumEvent, rup_automaton, rup_first, rup_last, sum_first, sum_last, first_is_state, proof_over as over}
 use Rattle.std.specs.Prelude.{option_map}
 use Rattle.{pb_sums.specs.engine.TermParts.LeadsToLinear, pb_text.proofs.lemmas.text.Spans.runs_join}
-use Rattle.pb_proof.proofs.lemmas.{Carried.Carries, Carried.runs_in, line.Laws.rup_carries, Rup.rup_is_state, Rup.tail_order, words.Whole.far_byte}
+use Rattle.pb_proof.proofs.lemmas.Carried.{Carries, runs_in}
+use Rattle.pb_proof.proofs.lemmas.line.Laws.{rup_carries}
+use Rattle.pb_proof.proofs.lemmas.Rup.{rup_is_state, tail_order}
+use Rattle.pb_lines.proofs.lemmas.Whole.{far_byte}
 use Rattle.pb_proof.proofs.lemmas.machine.{Complete.spelt, Runs.left_run, Runs.runs_given, Runs.rup_runs_begun, States.begin_order, States.is_state}
-use Rattle.pb_proof.specs.engine.{line.Carried.carried, line.Grammar.Grammar, line.Words.WordsState, line.Words.words_automaton, line.Words.words_first, line.Words.words_last, machine.Whole.IsLineAfter}
+use Rattle.pb_proof.specs.engine.line.Carried.{carried}
+use Rattle.pb_lines.specs.contract.Grammar.{Grammar}
+use Rattle.pb_lines.specs.engine.Words.{WordsState, words_automaton, words_first, words_last}
+use Rattle.pb_proof.specs.engine.machine.Whole.{IsLineAfter}
 use Rattle.pb_sums.proofs.lemmas.machine.WholeTexts.{last_is_state, linear_some}
 
 -- the first byte of a text that begins with a word

@@ -1,6 +1,8 @@
 -- The last of some postfix words, and how much is stored for them.
 use Rattle.pb_proof.proofs.Common.{◌||◌, eqb-true, ℕ, ◌+◌, ◌-◌, ◌^◌, ◌<◌, ◌≡◌, ◌∙◌, ◌∷◌, ◌++◌, [], ap, arith, get_or, length, List, min, refl, take, take_more, Bool, cond, Some, None, true, nat_eq, suc, zero, ◌≤◌, le-max_left, le-max_right, PolWord, units, with_last, word_units}
-use Rattle.pb_proof.specs.{declared.line.words.word.Sign.Sign, engine.line.Pol.most, engine.line.PolLaws.units_append}
+use Rattle.pb_lines.specs.declared.Sign.{Sign}
+use Rattle.pb_proof.specs.engine.line.Pol.{most}
+use Rattle.pb_proof.specs.engine.line.PolLaws.{units_append}
 use Rattle.std.specs.Prelude.{IsSome}
 
 -- one of two bytes

@@ -4,10 +4,13 @@ use Rattle.pb_proof.proofs.Common.{ℕ, ℤ, ◌-◌, ◌<◌, ◌≤◌, ◌≡
 use Rattle.pb_proof.proofs.Common.{◌⋅◌, Blanks1, Byte, Bytes, Digits, Language, LineEnd, Letter, IsTrue, is_letter, after_it, regroup, regroup⁻¹, append-nil, append_assoc, nat_le, le-leb, le-max_left, le-max_right}
 use Rattle.pb_proof.proofs.Common.{false≢true, Listed, Factor, SpellsId, SpellsWord, SpellsWords, SpellsLiteral, PolWord, Held, PolState, pol_automaton, pol_first, pol_last, ReadsStatement, reads_after, walks_then}
 use Rattle.pb_proof.proofs.Common.{pol_at, pol_grammar, bound, held_number, held_name, is_free, turns, turned, with_number, with_mark}
-use Rattle.pb_proof.proofs.lemmas.line.Ends.{not_zero}
-use Rattle.pb_proof.proofs.lemmas.words.Walks as walks
-use Rattle.pb_proof.specs.declared.line.words.{part.Part.Part, part.Step.Step, word.Sign.Sign, word.Word.Word}
-use Rattle.pb_proof.specs.engine.line.{Words.WordsState, Words.step_of}
+use Rattle.pb_lines.proofs.lemmas.Ends.{not_zero}
+use Rattle.pb_lines.proofs.lemmas.Walks as walks
+use Rattle.pb_lines.specs.declared.part.Part.{Part}
+use Rattle.pb_lines.specs.declared.part.Step.{Step}
+use Rattle.pb_lines.specs.declared.Sign.{Sign}
+use Rattle.pb_lines.specs.declared.Word.{Word}
+use Rattle.pb_lines.specs.engine.Words.{WordsState, step_of}
 
 -- numbers and literals leave no operator missing
 free_number : (limit d n : ℕ) → is_free (held_number limit d n) ≡ true

@@ -4,9 +4,14 @@ use Rattle.pb_proof.proofs.Common.{ℕ, ◌-◌, ◌<◌, ◌≤◌, ◌≡◌, 
 use Rattle.pb_proof.proofs.Common.{◌⋅◌, Blanks1, Byte, Bytes, Digits, Empty, Language, LineEnd, Letter, IsName, nil_first, regroup3, append-nil, append_assoc, nat_eq, nat_le}
 use Rattle.pb_proof.proofs.Common.{and_parts, eqb-true, leb-true, le-leb, nat_tests, false≢true, IsPostfix, Listed, SpellsWord, SpellsWords, SpellsLiteral, PolWord, Held, PolState}
 use Rattle.pb_proof.proofs.Common.{pol_at, pol_grammar, bound, held_name, is_free, turns, turned, with_last, with_number, with_mark, with_pol_word, is_sum, saturates}
-use Rattle.pb_proof.proofs.lemmas.{line.Ends.listed_append, line.Ends.positive, words.Spelling.IsSpelled}
-use Rattle.pb_proof.specs.declared.line.words.word.{Sign.Sign, Word.Word}
-use Rattle.pb_proof.specs.engine.line.{Grammar.IsNumber, WordTexts.WordText, PolLaws.tested}
+use Rattle.pb_proof.proofs.lemmas.Listed.{listed_append}
+use Rattle.pb_lines.proofs.lemmas.Ends.{positive}
+use Rattle.pb_lines.proofs.lemmas.Spelling.{IsSpelled}
+use Rattle.pb_lines.specs.declared.Sign.{Sign}
+use Rattle.pb_lines.specs.declared.Word.{Word}
+use Rattle.pb_lines.specs.contract.Grammar.{IsNumber}
+use Rattle.pb_lines.specs.engine.WordTexts.{WordText}
+use Rattle.pb_proof.specs.engine.line.PolLaws.{tested}
 
 -- after these words there are `d` expressions
 abbrev pub Leads : List PolWord → ℕ → Type 0

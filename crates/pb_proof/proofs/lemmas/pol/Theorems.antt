@@ -2,11 +2,17 @@
 use Rattle.pb_proof.proofs.Common.{ℕ, ◌<◌, ◌^◌, ◌≡◌, ◌↔◌, ◌∙◌, ◌∷◌, [], ap, arith, inl, inr, sym, refl, subst, true, false, List}
 use Rattle.pb_proof.proofs.Common.{◌⋅◌, Byte, Digits, Language, Letter, IsState, IsTrue, IsOfOne, ReadsStatement, Walks, bytes, bytes-append, regroup⁻¹, asks_after, at_name, false≢true, nat_tests}
 use Rattle.pb_proof.proofs.Common.{AsksLiteral, AsksWord, is_digit, is_letter, is_name_byte, SpellsWords, PolWord, PolState, pol_automaton, pol_first, pol_last, pol_grammar, adds_word}
-use Rattle.pb_proof.proofs.lemmas.{line.TextEnds.joined_end, line.TextEnds.literal_end, line.TextEnds.number_end, pol.Moves.one_of, pol.Reads.reads_each, pol.Spelling.After, pol.Spelling.spelled}
-use Rattle.pb_proof.proofs.lemmas.words.Asks.{Gap, MayAsk, IsLettered, in_name, at_end, at_mark, words_asked}
-use Rattle.pb_proof.proofs.lemmas.words.Theorems as words
-use Rattle.pb_proof.specs.declared.line.words.word.{Word.Word}
-use Rattle.pb_proof.specs.engine.line.{PolLaws.Anyhow, PolLaws.pol_counted, PolLaws.pol_lawful, WordTexts.SignText, WordTexts.WordText, Words.IsWordsInOrder, Words.WordsState, Words.ends_word}
+use Rattle.pb_lines.proofs.lemmas.TextEnds.{joined_end, literal_end}
+use Rattle.pb_proof.proofs.lemmas.line.TextEnds.{number_end}
+use Rattle.pb_proof.proofs.lemmas.pol.Moves.{one_of}
+use Rattle.pb_proof.proofs.lemmas.pol.Reads.{reads_each}
+use Rattle.pb_proof.proofs.lemmas.pol.Spelling.{After, spelled}
+use Rattle.pb_lines.proofs.lemmas.Asks.{Gap, MayAsk, IsLettered, in_name, at_end, at_mark, words_asked}
+use Rattle.pb_lines.proofs.lemmas.Theorems as words
+use Rattle.pb_lines.specs.declared.Word.{Word}
+use Rattle.pb_proof.specs.engine.line.PolLaws.{Anyhow, pol_counted, pol_lawful}
+use Rattle.pb_lines.specs.engine.WordTexts.{SignText, WordText}
+use Rattle.pb_lines.specs.engine.Words.{IsWordsInOrder, WordsState, ends_word}
 
 abbrev pub IsPolInOrder : WordsState PolState → Type 0
 IsPolInOrder = IsWordsInOrder pol_grammar Anyhow

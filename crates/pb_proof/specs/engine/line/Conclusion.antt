@@ -1,8 +1,12 @@
 -- The grammar of the words after `conclusion`.
 use Rattle.pb_proof.specs.declared.{conclusion.Bound.Bound, conclusion.Conclusion.Conclusion}
 use Rattle.pb_proof.specs.declared.line.conclusion.{Concluding.Concluding, ConclusionWords.ConclusionWords, Showing.Showing}
-use Rattle.pb_proof.specs.declared.line.words.{word.Capital.Capital, word.Sign.Sign, word.Word.Word}
-use Rattle.pb_proof.specs.engine.line.{Grammar.Grammar, Literals.is_literal, Literals.units, Literals.with_literal, Words.words_automaton, Words.words_first, Words.words_last, Words.WordsState}
+use Rattle.pb_lines.specs.declared.Capital.{Capital}
+use Rattle.pb_lines.specs.declared.Sign.{Sign}
+use Rattle.pb_lines.specs.declared.Word.{Word}
+use Rattle.pb_lines.specs.contract.Grammar.{Grammar}
+use Rattle.pb_proof.specs.engine.line.Literals.{is_literal, units, with_literal}
+use Rattle.pb_lines.specs.engine.Words.{words_automaton, words_first, words_last, WordsState}
 use Rattle.{pb_sums.specs.declared.Literal.Literal, pb_text.specs.contract.Automaton.Automaton, pb_text.specs.meaning.Numbers.signed}
 use Rattle.pb_proof.specs.engine.line.Ids.{is_minus, id_of, id_most}
 use Rattle.std.specs.Prelude.{ℕ, Bool, true, false, cond, ◌&&◌, List, [], Option, None, Some, option_map, is_some, nat_eq}

@@ -1,8 +1,15 @@
 -- The grammar of conclusions satisfies the laws of grammars.
-use Rattle.pb_proof.specs.declared.line.{conclusion.Concluding.Concluding, conclusion.ConclusionWords.ConclusionWords, words.part.Part.Part}
+use Rattle.pb_proof.specs.declared.line.conclusion.Concluding.{Concluding}
+use Rattle.pb_proof.specs.declared.line.conclusion.ConclusionWords.{ConclusionWords}
+use Rattle.pb_lines.specs.declared.part.Part.{Part}
 use Rattle.pb_proof.specs.declared.{conclusion.Bound.Bound, conclusion.Conclusion.Conclusion}
-use Rattle.pb_proof.specs.declared.line.words.{word.Capital.Capital, word.Sign.Sign, word.Word.Word}
-use Rattle.pb_proof.specs.engine.line.{Laws.IsCounted, Laws.IsGrammar, Laws.most_units, Literals.units, Literals.with_literal, SolutionLaws.units_append, Words.words_at, Words.WordsState}
+use Rattle.pb_lines.specs.declared.Capital.{Capital}
+use Rattle.pb_lines.specs.declared.Sign.{Sign}
+use Rattle.pb_lines.specs.declared.Word.{Word}
+use Rattle.pb_lines.specs.contract.Laws.{IsCounted, IsGrammar, most_units}
+use Rattle.pb_proof.specs.engine.line.Literals.{units, with_literal}
+use Rattle.pb_proof.specs.engine.line.SolutionLaws.{units_append}
+use Rattle.pb_lines.specs.engine.Words.{words_at, WordsState}
 use Rattle.pb_proof.specs.engine.line.Ids.{id_most}
 use Rattle.pb_proof.specs.engine.line.Conclusion.{AllGood, capital, conclusion_automaton, conclusion_grammar, conclusion_last, conclusion_words, number, showing_value, takes_literal, with_colon, with_word}
 use Rattle.{pb_sums.specs.declared.Literal.Literal, pb_text.specs.contract.Automaton.Go, pb_text.specs.contract.Automaton.ReadsStatement, pb_text.specs.meaning.Languages.digit, pb_text.specs.meaning.Languages.unmarked, pb_text.specs.meaning.Spelling.Letter}

@@ -1,6 +1,8 @@
 -- The grammar of the ids after `del id`.
 use Rattle.pb_proof.specs.declared.line.{delete.DeleteWords.DeleteWords}
-use Rattle.pb_proof.specs.engine.line.{Grammar.Grammar, Ids.id_most, Ids.id_of, Words.words_automaton, Words.words_first, Words.words_last, Words.WordsState}
+use Rattle.pb_lines.specs.contract.Grammar.{Grammar}
+use Rattle.pb_proof.specs.engine.line.Ids.{id_most, id_of}
+use Rattle.pb_lines.specs.engine.Words.{words_automaton, words_first, words_last, WordsState}
 use Rattle.pb_text.specs.contract.Automaton.{Automaton}
 use Rattle.std.specs.Prelude.{ℕ, ℤ, false, is_some, List, [], ◌∷◌, ◌++◌, length, Option, None, Some, option_map}
 

@@ -1,6 +1,11 @@
 -- The grammar of ids satisfies the laws of grammars.
-use Rattle.pb_proof.specs.declared.line.{delete.DeleteWords.DeleteWords, words.part.Part.Part, words.word.Word.Word, words.word.Sign.Sign}
-use Rattle.pb_proof.specs.engine.line.{Laws.IsCounted, Laws.IsGrammar, Laws.most_units, Words.words_at, Words.WordsState, Ids.id_most}
+use Rattle.pb_proof.specs.declared.line.delete.DeleteWords.{DeleteWords}
+use Rattle.pb_lines.specs.declared.part.Part.{Part}
+use Rattle.pb_lines.specs.declared.Word.{Word}
+use Rattle.pb_lines.specs.declared.Sign.{Sign}
+use Rattle.pb_lines.specs.contract.Laws.{IsCounted, IsGrammar, most_units}
+use Rattle.pb_lines.specs.engine.Words.{words_at, WordsState}
+use Rattle.pb_proof.specs.engine.line.Ids.{id_most}
 use Rattle.pb_proof.specs.engine.line.Delete.{AllGood, delete_automaton, delete_grammar, delete_last, delete_value}
 use Rattle.pb_text.specs.{contract.Automaton.Go, contract.Automaton.ReadsStatement, meaning.Languages.digit, meaning.Languages.unmarked, meaning.Spelling.Letter}
 use Rattle.std.proofs.Common.{arith, refl, true, false, ℕ, ℤ, pos, ◌+◌, ◌≡◌, ◌≤◌, ◌<◌, ◌^◌, inl, List, [], ◌∷◌, ◌++◌, length, length-append, nat_eq, Some}

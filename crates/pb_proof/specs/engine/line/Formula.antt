@@ -1,6 +1,9 @@
 -- The grammar of the words after `f`: a number, or none.
-use Rattle.pb_proof.specs.declared.line.{formula.FormulaWords.FormulaWords, words.word.Sign.Sign, words.word.Word.Word}
-use Rattle.pb_proof.specs.engine.line.{Grammar.Grammar, Words.words_automaton, Words.words_first, Words.words_last, Words.WordsState}
+use Rattle.pb_proof.specs.declared.line.formula.FormulaWords.{FormulaWords}
+use Rattle.pb_lines.specs.declared.Sign.{Sign}
+use Rattle.pb_lines.specs.declared.Word.{Word}
+use Rattle.pb_lines.specs.contract.Grammar.{Grammar}
+use Rattle.pb_lines.specs.engine.Words.{words_automaton, words_first, words_last, WordsState}
 use Rattle.pb_text.specs.contract.Automaton.{Automaton}
 use Rattle.std.specs.Prelude.{ℕ, false, Option, None, Some}
 

@@ -1,6 +1,8 @@
 -- The grammar of a number satisfies the laws of grammars.
-use Rattle.pb_proof.specs.declared.line.{words.word.Word.Word, words.word.Sign.Sign}
-use Rattle.pb_proof.specs.engine.line.{Laws.IsCounted, Laws.IsGrammar, Formula.AllGood, Formula.formula_grammar, Formula.formula_last, Formula.formula_most, Formula.formula_next}
+use Rattle.pb_lines.specs.declared.Word.{Word}
+use Rattle.pb_lines.specs.declared.Sign.{Sign}
+use Rattle.pb_lines.specs.contract.Laws.{IsCounted, IsGrammar}
+use Rattle.pb_proof.specs.engine.line.Formula.{AllGood, formula_grammar, formula_last, formula_most, formula_next}
 use Rattle.pb_text.specs.meaning.Languages.{unmarked}
 use Rattle.std.proofs.Common.{arith, refl, true, ℕ, ◌≡◌, ◌<◌, ◌^◌, inl, [], ◌∷◌, Option, None, Some}
 use Rattle.std.specs.Prelude.{is_some}

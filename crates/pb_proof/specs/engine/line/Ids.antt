@@ -1,5 +1,6 @@
 -- Ids among the words of a line.
-use Rattle.pb_proof.specs.declared.line.words.{word.Sign.Sign, word.Word.Word}
+use Rattle.pb_lines.specs.declared.Sign.{Sign}
+use Rattle.pb_lines.specs.declared.Word.{Word}
 use Rattle.pb_text.specs.meaning.Numbers.{signed}
 use Rattle.std.specs.Prelude.{ℕ, ℤ, ◌<◌, Bool, true, false, cond, Option, None, Some, nat_eq}
 

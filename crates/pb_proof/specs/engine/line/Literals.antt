@@ -1,5 +1,6 @@
 -- The literals of a line.
-use Rattle.{pb_proof.specs.declared.line.words.word.Word.Word, pb_sums.specs.declared.Literal.Literal}
+use Rattle.pb_lines.specs.declared.Word.{Word}
+use Rattle.pb_sums.specs.declared.Literal.{Literal}
 use Rattle.std.specs.Prelude.{ℕ, ◌+◌, Bool, true, false, List, [], ◌∷◌, ◌++◌, length}
 
 abbrev pub literal : Bool → List ℕ → Literal

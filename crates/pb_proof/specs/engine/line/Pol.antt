@@ -1,6 +1,10 @@
 -- Lines of postfix words: which words may come, and what they do.
-use Rattle.pb_proof.specs.declared.{line.pol.held.Held.Held, line.words.word.Sign.Sign, line.words.word.Word.Word, word.PolWord.PolWord}
-use Rattle.pb_proof.specs.engine.line.{Grammar.Grammar, Words.words_automaton, Words.words_first, Words.words_last, Words.WordsState}
+use Rattle.pb_proof.specs.declared.line.pol.held.Held.{Held}
+use Rattle.pb_lines.specs.declared.Sign.{Sign}
+use Rattle.pb_lines.specs.declared.Word.{Word}
+use Rattle.pb_proof.specs.declared.word.PolWord.{PolWord}
+use Rattle.pb_lines.specs.contract.Grammar.{Grammar}
+use Rattle.pb_lines.specs.engine.Words.{words_automaton, words_first, words_last, WordsState}
 use Rattle.pb_text.specs.contract.Automaton.{Automaton}
 use Rattle.std.specs.Prelude.{ℕ, zero, suc, ◌+◌, ◌-◌, max, Bool, true, false, cond, ◌&&◌, ◌||◌, List, [], ◌∷◌, ◌++◌, length, pos, neg_ℤ, nat_eq, nat_le, Option, Some, None}
 

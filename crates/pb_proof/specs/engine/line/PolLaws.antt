@@ -1,6 +1,10 @@
 -- Postfix words satisfy the laws of a grammar.
-use Rattle.pb_proof.specs.declared.{line.pol.held.Held.Held, line.words.part.Part.Part, line.words.word.Sign.Sign, word.PolWord.PolWord}
-use Rattle.pb_proof.specs.engine.line.{Laws.IsCounted, Laws.IsGrammar, Words.words_at, Words.WordsState}
+use Rattle.pb_proof.specs.declared.line.pol.held.Held.{Held}
+use Rattle.pb_lines.specs.declared.part.Part.{Part}
+use Rattle.pb_lines.specs.declared.Sign.{Sign}
+use Rattle.pb_proof.specs.declared.word.PolWord.{PolWord}
+use Rattle.pb_lines.specs.contract.Laws.{IsCounted, IsGrammar}
+use Rattle.pb_lines.specs.engine.Words.{words_at, WordsState}
 use Rattle.pb_proof.specs.engine.line.Pol.{PolState, pol_at, pol_grammar, pol_automaton, pol_last, bound, is_free, most, with_number, sums as is_sum, saturates, turned, turns, with_last, with_mark, word_units, units}
 use Rattle.pb_text.proofs.lemmas.machine.Living.{ReadsOn, reads_before}
 use Rattle.pb_text.specs.{contract.Automaton.End, contract.Automaton.Go}

@@ -1,6 +1,9 @@
 -- The grammar of the literals after `soli` or `solx`.
-use Rattle.pb_proof.specs.{declared.line.solution.SolutionWords.SolutionWords, declared.line.words.word.Word.Word}
-use Rattle.pb_proof.specs.engine.line.{Grammar.Grammar, Literals.is_literal, Literals.literal, Literals.units, Words.words_automaton, Words.words_first, Words.words_last, Words.WordsState}
+use Rattle.pb_proof.specs.declared.line.solution.SolutionWords.{SolutionWords}
+use Rattle.pb_lines.specs.declared.Word.{Word}
+use Rattle.pb_lines.specs.contract.Grammar.{Grammar}
+use Rattle.pb_proof.specs.engine.line.Literals.{is_literal, literal, units}
+use Rattle.pb_lines.specs.engine.Words.{words_automaton, words_first, words_last, WordsState}
 use Rattle.{pb_sums.specs.declared.Literal.Literal, pb_text.specs.contract.Automaton.Automaton}
 use Rattle.std.specs.Prelude.{ℕ, true, List, [], ◌∷◌, ◌++◌, Option, None, Some}
 

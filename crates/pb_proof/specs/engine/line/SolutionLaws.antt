@@ -1,6 +1,9 @@
 -- The grammar of literals satisfies the laws of grammars.
-use Rattle.pb_proof.specs.declared.line.{solution.SolutionWords.SolutionWords, words.word.Word.Word}
-use Rattle.pb_proof.specs.engine.line.{Laws.IsCounted, Laws.IsGrammar, Laws.most_units, Literals.units, Solution.AllGood, Solution.solution_grammar, Solution.solution_last}
+use Rattle.pb_proof.specs.declared.line.solution.SolutionWords.{SolutionWords}
+use Rattle.pb_lines.specs.declared.Word.{Word}
+use Rattle.pb_lines.specs.contract.Laws.{IsCounted, IsGrammar, most_units}
+use Rattle.pb_proof.specs.engine.line.Literals.{units}
+use Rattle.pb_proof.specs.engine.line.Solution.{AllGood, solution_grammar, solution_last}
 use Rattle.{pb_sums.specs.declared.Literal.Literal, pb_text.specs.meaning.Languages.unmarked}
 use Rattle.std.proofs.Common.{arith, refl, ℕ, ◌+◌, ◌≡◌, ◌≤◌, ◌<◌, ◌^◌, List, [], ◌∷◌, ◌++◌, length, Some}
 

@@ -1,6 +1,7 @@
 -- Whole steps of a proof at the start of a text.
 use Rattle.pb_proof.specs.declared.{machine.phase.Stage.TheVariants.Steps, statement.Statement.Statement}
-use Rattle.pb_proof.specs.engine.line.{Grammar.Grammar, WordsWhole.IsLine}
+use Rattle.pb_lines.specs.contract.Grammar.{Grammar}
+use Rattle.pb_lines.specs.engine.WordsWhole.{IsLine}
 use Rattle.pb_proof.specs.engine.machine.State.{idle, proofs, IsInOrder}
 use Rattle.pb_text.specs.contract.Automaton.{TakesStatement}
 use Rattle.std.specs.Prelude.{◌≡◌, ◌<◌, ℕ, List, ◌++◌, Option, Some, None, option_map, get_or, length, take}

@@ -290,18 +290,18 @@ step-err old new st d (inr h) = inr (λ s e f best g k. subst (λ (x : State). o
 
 pub ready_first : (limits : Limits) (i : Instance) (r : Running) → IsOpened limits i r → IsReady r
 ready_first limits i r opened =
-    let first = opened.first in let proper = problems-proper (largest limits) i (problem_of r) opened.opened in
+    let first = opened.loaded.first in let proper = problems-proper (largest limits) i (problem_of r) opened.loaded.opened in
     let none : r.engine.forms ≡ [] = ap (λ (s : State). s.live) first.state in
     record {
       proper = record {
         own = omega (arith, first.own);
         problem = proper;
-        fits = rw first.limits opened.fits;
-        loaded = λ f c. let h = loaded-inside (largest limits) i (problem_of r) opened.opened f c in rw (ap (λ n. length (take n r.names)) first.own ∙ ap length (take-length r.names) ∙ sym first.own) at h;
+        fits = rw first.limits opened.loaded.fits;
+        loaded = λ f c. let h = loaded-inside (largest limits) i (problem_of r) opened.loaded.opened f c in rw (ap (λ n. length (take n r.names)) first.own ∙ ap length (take-length r.names) ∙ sym first.own) at h;
       };
       linked = record {
-        ready = first.ready;
-        variables = first.variables;
+        ready = opened.ready;
+        variables = opened.variables;
         inside = λ f c. absurd (contains-none r.engine.forms (Some f) none c);
       };
       sound = ([], rw first.best refl, rw first.state (first-sound (problem_of r) proper));

@@ -31,7 +31,7 @@ pub(crate) fn replay_of_instance<S: Source>(
         Ok(instance) => instance,
         Err(stop) => return Err(text_fault(Input::Instance, stop)),
     };
-    match Replay::with_hasher(alloc, keys, &instance, limits) {
+    match Replay::from_instance(alloc, keys, instance, limits) {
         Ok(replay) => Ok(replay),
         Err(Fault::Memory) => Err(ToolFault::Memory(Input::Instance)),
         Err(_) => Err(ToolFault::Overflow(Input::Instance)),

@@ -16,6 +16,7 @@ use pb_replay::laws::outcomes_are_single;
 use pb_replay::{Fault, Replay, Verdict};
 use pb_text::{Place, Source, rest_is_blank};
 use std::alloc::{AllocError, Global};
+use std::mem::ManuallyDrop;
 
 /// What a proof shows. Only white space and comments may follow the proof.
 pub(crate) fn check_proof<S: Source, V: Watch>(
@@ -37,7 +38,9 @@ pub(crate) fn check_proof<S: Source, V: Watch>(
         Ok(verdict) => verdict,
         Err(fault) => return Err(fault),
     };
-    watch.release(checker);
+    if watch.is_last() {
+        let _checker = ManuallyDrop::new(checker);
+    }
     Ok(verdict)
 }
 

@@ -3,7 +3,7 @@
 ghost use Rattle.std.specs.Prelude.{◌≡◌};
 ghost use Rattle.pb_tool.specs.contract.Watched.{Accepted, Call, Rejected};
 
-use crate::commands::check::checker::{CheckFault, Checker};
+use crate::commands::check::checker::CheckFault;
 use pb_proof::Statement;
 use pb_replay::Replay;
 use pb_text::Spanned;
@@ -22,12 +22,10 @@ pub trait Watch {
     fn rejected(&mut self, read: &Spanned<Statement>, replay: &Replay, fault: CheckFault)
         ensures { got self.old (Rejected read.now replay.now fault) self.new };
 
-    /// Takes the checker of a proof that was accepted. A program that ends then may leave its
-    /// memory to the system.
-    fn release(&mut self, checker: Checker)
-        ensures { self.new ≡ self.old }
-    {
-        let _checker = checker;
+    /// Whether the program ends after this check. Then the memory of the checker of an accepted
+    /// proof is left to the system.
+    fn is_last(&self) -> bool {
+        false
     }
 }
 

@@ -1,5 +1,5 @@
 use Rattle.pb_proof.proofs.Common.{◌∙◌, ◌++◌, ap, arith, bytes_decides, length, prefix_parts, sym, take, text_after}
-use Rattle.pb_proof.proofs.lemmas.words.Whole.{far_byte}
+use Rattle.pb_lines.proofs.lemmas.Whole.{far_byte}
 use Rattle.pb_proof.proofs.machine.whole.line_after.Goals as goal
 
 pub returns : goal.returns

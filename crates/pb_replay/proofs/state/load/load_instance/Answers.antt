@@ -9,9 +9,7 @@ returns-clause-ok c = record {
     limits = refl;
     own = c.len-own.ensures.length;
     best = refl;
-    state = same-state c.in_ok-engine.ensures.engine.forms (sym (ap (λ n. take n c.load.new.names) c.len-own.ensures.length ∙ take-length c.load.new.names)) refl refl;
-    ready = c.in_ok-engine.ensures.engine.ready;
-    variables = c.in_ok-engine.ensures.engine.variables ∙ c.len-own.ensures.length;
+    state = same-state c.new.ensures.forms (sym (ap (λ n. take n c.load.new.names) c.len-own.ensures.length ∙ take-length c.load.new.names)) refl refl;
     visits = refl;
   };
   fits = search rules;

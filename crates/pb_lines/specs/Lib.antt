@@ -1,0 +1,3 @@
+pub mod meaning
+pub mod contract
+pub mod engine

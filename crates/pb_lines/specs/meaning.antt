@@ -1,0 +1,2 @@
+-- The texts of lines.
+pub mod LineEnds

@@ -1,4 +1,0 @@
-use Rattle.pb_proof.proofs.line.words.WordMachine.step.Goals as goal
-
-pub returns : goal.returns
-returns g c = rw (← c.self.view_is) (c.step_of.ensures c.self.inside.name)
