@@ -41,7 +41,7 @@ pub use Rattle.pb_propagate.specs.engine.engine.Counts.{added, Adopted, AreEven,
 pub use Rattle.pb_propagate.specs.engine.engine.Counts.{IsCalm, IsCounted, IsDone, IsTidy, IsUndone, kept, more, NameForms, none, place, pushed, rest_open}
 pub use Rattle.pb_propagate.specs.engine.engine.Counts.{rest_start, spared, spent, term_weight, weight_in, weight_on}
 pub use Rattle.pb_propagate.specs.engine.engine.Denial.{AreDenied, denial_of, IsDisjunction, IsHit, IsOne, RunRefutes}
-pub use Rattle.pb_propagate.specs.engine.engine.Fields.{AreLonger, entries_of, forms_of, HasEntered, HasFilled, IsEmpty, IsSound, IsUnlisted, lists_of}
+pub use Rattle.pb_propagate.specs.engine.engine.Fields.{AreLonger, entries_of, forms_of, HasEntered, HasFilled, IsEmpty, IsSound, IsUnlisted}
 pub use Rattle.pb_propagate.specs.engine.engine.{Fields.shapes_of, Fields.spots_of, Fields.stored_shape, Slots.ArePlaced, Slots.form_at, Slots.numbered}
 pub use Rattle.pb_propagate.specs.engine.engine.Forms.{as_term, entry_at_place, entry_of, in_order, IsPlaced, IsStoredAs, picked}
 pub use Rattle.pb_propagate.specs.engine.engine.Links.{AreCrossed, coefficient_at, Cross, cut, degree_at, entry_at, entry_cross, IsLinked, IsStored, last}

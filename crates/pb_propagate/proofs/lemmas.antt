@@ -2,3 +2,4 @@ pub mod engine
 pub mod store
 pub mod clauses
 pub mod root
+pub mod Parts

@@ -20,6 +20,7 @@ use crate::clauses::blocks::Blocks;
 use crate::clauses::lists::{Listed, put_in, take_out};
 use crate::clauses::search::{Search, may_watch};
 use crate::clauses::watched::Pair;
+use crate::lists::Lists;
 use std::alloc::{AllocError, Global};
 
 // A literal of a clause that is not falsified.
@@ -41,7 +42,7 @@ pub struct Clauses {
     // The clause of each slot, with its search and its watches.
     blocks: Blocks,
     // For each code, the watches on it.
-    lists: Vec<Vec<Listed>>,
+    lists: Lists<Listed>,
 }
 
 impl Clauses {
@@ -49,41 +50,43 @@ impl Clauses {
     pub fn new(alloc: Global) -> Clauses
         ensures rest { AreReady result }
         ensures literals { result.blocks.literals ≡ [] }
-        ensures lists { result.lists.items ≡ [] }
+        ensures lists { result.lists ≡ [] }
     {
         Clauses {
             blocks: Blocks::new(alloc),
-            lists: Vec::new(alloc),
+            lists: Lists::new(alloc),
         }
     }
 
-    /// No slots, over no variables, with memory for that many of both.
-    pub fn with_capacity(
-        alloc: Global,
-        variables: usize,
-        slots: usize,
-    ) -> Result<Clauses, AllocError>
+    /// No slots, over no variables, with memory for that many slots.
+    pub fn with_capacity(alloc: Global, slots: usize) -> Result<Clauses, AllocError>
         ensures rest { IfOk result AreReady }
         ensures literals { IfOk result (λ clauses. clauses.blocks.literals ≡ []) }
-        ensures lists { IfOk result (λ clauses. clauses.lists.items ≡ []) }
+        ensures lists { IfOk result (λ clauses. clauses.lists ≡ []) }
     {
         let blocks = Blocks::with_capacity(alloc, slots)?;
-        let lists = Vec::with_capacity(alloc, variables.saturating_mul(4))?;
-        Ok(Clauses { blocks, lists })
+        Ok(Clauses {
+            blocks,
+            lists: Lists::new(alloc),
+        })
     }
 
-    /// Adds the lists of a variable's literals, in one group of clauses.
+    /// Adds the lists of a variable's literals, in both groups of clauses.
     pub fn widen(&mut self) -> Result<(), AllocError>
         requires rest { AreReady self.old }
         ensures rest { OnOk result (AreReady self.new) }
         ensures literals { self.new.blocks.literals ≡ self.old.blocks.literals }
         ensures watches { self.new.blocks.watches ≡ self.old.blocks.watches }
         ensures lists { OnOk result
-            (length self.new.lists.items ≡ length self.old.lists.items + 2) }
+            (length self.new.lists ≡ length self.old.lists + 4) }
     {
-        let alloc = *self.lists.allocator();
-        self.lists.push(Vec::new(alloc))?;
-        self.lists.push(Vec::new(alloc))?;
+        if self.lists.len() >= usize::MAX - 4 {
+            return Err(AllocError);
+        }
+        self.lists.add();
+        self.lists.add();
+        self.lists.add();
+        self.lists.add();
         Ok(())
     }
 
@@ -104,10 +107,10 @@ impl Clauses {
 
     /// How many watches a literal has.
     pub fn watch_count(&self, literal: usize) -> usize
-        requires { literal < length self.now.lists.items }
-        ensures { result ≡ length (list_at (watch_lists self.now.lists.items) literal) }
+        requires { literal < length self.now.lists }
+        ensures { result ≡ length (list_at (watch_lists self.now.lists) literal) }
     {
-        self.lists[literal].len()
+        self.lists.count(literal)
     }
 
     /// Whether the slot holds a clause.
@@ -158,14 +161,14 @@ impl Clauses {
         requires empty { list_at self.old.blocks.literals slot ≡ [] }
         requires room { CanHold self.old slot (length literals.items) }
         requires pair { IsPair literals.items pair }
-        requires inside { All (λ x. x < length self.old.lists.items) literals.items }
+        requires inside { All (λ x. x < length self.old.lists) literals.items }
         ensures rest { OnOk result (AreReady self.new) }
         ensures literals { OnOk result
             (self.new.blocks.literals ≡ slice_set self.old.blocks.literals slot literals.items) }
         ensures unchanged { OnErr result (self.new.blocks.literals ≡ self.old.blocks.literals) }
         ensures watches { OnOk result (
             AreSet self.old.blocks.watches self.new.blocks.watches slot literals.items pair) }
-        ensures lists { OnOk result (length self.new.lists.items ≡ length self.old.lists.items) }
+        ensures lists { OnOk result (length self.new.lists ≡ length self.old.lists) }
     {
         let first = literals[pair.first];
         let second = literals[pair.second];
@@ -189,7 +192,7 @@ impl Clauses {
         requires slot { slot < length self.old.blocks.literals }
         ensures rest { AreReady self.new }
         ensures literals { self.new.blocks.literals ≡ slice_set self.old.blocks.literals slot [] }
-        ensures lists { length self.new.lists.items ≡ length self.old.lists.items }
+        ensures lists { length self.new.lists ≡ length self.old.lists }
         ensures watches { (e : ℕ) → (e / 2 ≡ slot → ⊥) →
             IsSameWatch (watch_at self.old.blocks.watches e) (watch_at self.new.blocks.watches e) }
     {
@@ -205,7 +208,7 @@ impl Clauses {
         requires some { 0 < length (list_at self.old.blocks.literals slot) }
         ensures rest { AreReady self.new }
         ensures literals { self.new.blocks.literals ≡ slice_set self.old.blocks.literals slot [] }
-        ensures lists { length self.new.lists.items ≡ length self.old.lists.items }
+        ensures lists { length self.new.lists ≡ length self.old.lists }
         ensures watches { (e : ℕ) → (e / 2 ≡ slot → ⊥) →
             IsSameWatch (watch_at self.old.blocks.watches e) (watch_at self.new.blocks.watches e) }
     {
@@ -222,7 +225,7 @@ impl Clauses {
     pub fn free_literal(&self, assignment: &Assignment, slot: usize) -> Option<u32>
         requires rest { AreReady self.now }
         requires slot { slot < length self.now.blocks.literals }
-        requires values { length self.now.lists.items ≡ 4 * length assignment.now.values.items }
+        requires values { length self.now.lists ≡ 4 * length assignment.now.values.items }
         ensures some { IfSome result (
             IsFree assignment.now.values.items (list_at self.now.blocks.literals slot)) }
     {

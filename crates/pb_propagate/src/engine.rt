@@ -23,6 +23,7 @@ use crate::engine::question::ask;
 use crate::engine::root::Root;
 use crate::engine::visits::Visits;
 use crate::free::Free;
+use crate::lists::Lists;
 use crate::shared::Shared;
 use crate::slots::{add_form, clause_size, empty_slot, remove_form};
 use crate::store::Store;
@@ -85,7 +86,7 @@ impl Engine {
             store: Store {
                 stored: Vec::new(alloc),
                 spots: Vec::new(alloc),
-                occurrences: Vec::new(alloc),
+                occurrences: Lists::new(alloc),
                 variables: 0,
             },
             clauses: Clauses::new(alloc),
@@ -108,17 +109,16 @@ impl Engine {
         ensures variables { IfOk result (λ engine. engine.variables ≡ 0) }
         ensures ready { IfOk result (λ engine. engine.spent ≡ false) }
     {
-        let store = Store::with_capacity(alloc, variables, forms)?;
-        let clauses = Clauses::with_capacity(alloc, variables, forms)?;
+        let store = Store::with_capacity(alloc, forms)?;
+        let clauses = Clauses::with_capacity(alloc, forms)?;
         let root = Root::with_capacity(alloc, variables, forms)?;
-        let conflict = Conflict::with_capacity(alloc, variables)?;
         let places = Vec::with_capacity(alloc, forms)?;
         let free = Free::with_capacity(alloc, forms)?;
         Ok(Engine {
             store,
             clauses,
             root,
-            conflict,
+            conflict: Conflict::new(alloc),
             places,
             free,
             visits: Visits::none(),
@@ -134,18 +134,16 @@ impl Engine {
         ensures visits { OnOk result (self.new.visits ≡ self.old.visits) }
         ensures ready { OnOk result (self.new.spent ≡ false) }
     {
-        let alloc = *self.places.allocator();
+        if self.store.occurrences.len() >= usize::MAX - 1 {
+            return Err(AllocError);
+        }
         self.spent = true;
-        self.store.occurrences.push(Vec::new(alloc))?;
-        self.store.occurrences.push(Vec::new(alloc))?;
-        // A literal has a list of watches for each group of clauses.
-        self.clauses.widen()?;
+        self.store.occurrences.add();
+        self.store.occurrences.add();
         self.clauses.widen()?;
         // The root forces nothing more.
         self.root.run.assignment.widen()?;
-        self.root.units.push(usize::MAX)?;
-        self.root.units.push(usize::MAX)?;
-        self.conflict.assignment.widen()?;
+        self.conflict.widen()?;
         self.store.variables = self.store.occurrences.len() / 2;
         self.spent = false;
         Ok(())
@@ -170,7 +168,7 @@ impl Engine {
         )?;
         let assigned = &self.root.run.assignment;
         add_form(&mut self.store, &mut self.clauses, assigned, slot, form)?;
-        self.root.note(&self.store, slot);
+        self.root.note(&self.store, slot)?;
         self.root.add(&self.store, &self.clauses, slot)?;
         self.places.push(slot)?;
         self.spent = false;

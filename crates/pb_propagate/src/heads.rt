@@ -46,14 +46,28 @@ pub struct Walked {
     pub marks: Vec<Heads>,
 }
 
+// Appends that many marks.
+#[inline(never)]
+fn push_marks(marks: &mut Vec<Heads>, count: usize, heads: Heads) -> Result<(), AllocError>
+    ensures { OnOk result (marks.new.items ≡ marks.old.items ++ replicate count heads) }
+{
+    let len = marks.len();
+    if count > usize::MAX - len {
+        return Err(AllocError);
+    }
+    marks.resize(len + count, heads)?;
+    Ok(())
+}
+
 /// Marks the next literals of a list: each was put when the list was walked up to these heads.
+#[inline]
 pub fn mark(marks: &mut Vec<Heads>, count: usize, heads: Heads) -> Result<(), AllocError>
     ensures { OnOk result (marks.new.items ≡ marks.old.items ++ replicate count heads) }
 {
-    'literals: for _ in 0..count {
-        marks.push(heads)?;
+    if count == 0 {
+        return Ok(());
     }
-    Ok(())
+    push_marks(marks, count, heads)
 }
 
 impl Walked {

@@ -9,13 +9,13 @@ mod engine;
 mod free;
 mod heads;
 pub mod laws;
+mod lists;
 mod rests;
 mod run;
 mod shared;
 mod slots;
 mod store;
 mod term;
-mod tight;
 mod waiting;
 mod walk;
 

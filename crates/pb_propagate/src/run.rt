@@ -121,7 +121,7 @@ pub fn put(
     ensures conflict { IfFound result (Conflicts (shapes_in store.now) (list_of run.new)) }
 {
     run.assignment.put(literal, reason)?;
-    let entries = &store.occurrences[place_of(literal.negation())];
+    let entries = store.occurrences.list(place_of(literal.negation()));
     'entries: for j in 0..entries.len() {
         let entry = visit(entries, j, &mut run.visits);
         if lower(store, rests, run, entry)? {

@@ -18,6 +18,7 @@ ghost use Rattle.pb_propagate.specs.engine.engine.Stored.{stored_terms};
 ghost use Rattle.pb_propagate.specs.engine.engine.Fields.{entry_at};
 
 use crate::engine::visits::Visits;
+use crate::lists::Lists;
 use crate::store::spots::Spots;
 use crate::store::stored_form::StoredForm;
 use crate::term::Term;
@@ -44,25 +45,24 @@ pub struct Store {
     pub stored: Vec<StoredForm>,
     // For each form, the position of the entry of each of its terms in the list of its literal.
     pub spots: Vec<Spots>,
-    pub occurrences: Vec<Vec<Occurrence>>,
+    pub occurrences: Lists<Occurrence>,
     pub variables: usize,
 }
 
 impl Store {
-    /// No forms, over no variables, with memory for that many of both.
-    pub fn with_capacity(alloc: Global, variables: usize, forms: usize) -> Result<Store, AllocError>
+    /// No forms, over no variables, with memory for that many forms.
+    pub fn with_capacity(alloc: Global, forms: usize) -> Result<Store, AllocError>
         ensures stored { IfOk result (λ store. store.stored.items ≡ []) }
         ensures spots { IfOk result (λ store. store.spots.items ≡ []) }
-        ensures occurrences { IfOk result (λ store. store.occurrences.items ≡ []) }
+        ensures occurrences { IfOk result (λ store. store.occurrences ≡ []) }
         ensures variables { IfOk result (λ store. store.variables ≡ 0) }
     {
         let stored = Vec::with_capacity(alloc, forms)?;
         let spots = Vec::with_capacity(alloc, forms)?;
-        let occurrences = Vec::with_capacity(alloc, variables.saturating_mul(2))?;
         Ok(Store {
             stored,
             spots,
-            occurrences,
+            occurrences: Lists::new(alloc),
             variables: 0,
         })
     }

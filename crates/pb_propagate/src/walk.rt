@@ -42,7 +42,7 @@ pub fn walk(
     requires sums { RunIsOpen store.now run.old }
     requires joined { AreJoined (shapes_of store.now.stored.items) (clauses_of clauses.old) }
     requires running { IsRunning (values_of run.old) clauses.old }
-    requires literal { (literal < length clauses.old.lists.items) ×
+    requires literal { (literal < length clauses.old.lists) ×
         (false_at (values_of run.old) literal ≡ true) }
     ensures literals { clauses.new.blocks.literals ≡ clauses.old.blocks.literals }
     ensures candidates { run.new.candidates ≡ run.old.candidates }
@@ -57,10 +57,18 @@ pub fn walk(
 {
     let mut index = 0;
     'watches: while index < clauses.watch_count(literal) {
+        let passed = pass_true(clauses, &run.assignment, literal, index, &mut run.visits);
+        index = passed.index;
+        let watch = match passed.watch {
+            Some(watch) => watch,
+            None => {
+                return Ok(false);
+            }
+        };
         let assignment = &run.assignment;
-        match visit_clause(clauses, assignment, literal, index, &mut run.visits)? {
+        match visit_clause(clauses, assignment, literal, index, watch, &mut run.visits)? {
             Visit::Stays => {
-                index = pass_true(clauses, assignment, literal, index + 1, &mut run.visits);
+                index += 1;
             }
             Visit::Leaves => {}
             Visit::Forces(forced) => {

@@ -1,7 +1,7 @@
 -- Lemmas that the goals of functions need, by the file or the function.
 use Rattle.pb_propagate.proofs.lemmas.root.Retracted.{same-reasons, some-sized, other-then, released-same, released-then}
 use Rattle.pb_propagate.proofs.lemmas.{store.Gets.push-default, clauses.Stores.empty-dead, root.Added.watches-apart, root.Added.watches-mine}
-use Rattle.pb_propagate.proofs.lemmas.clauses.Listed.{watch-set, list-small, put-linked, entries-here, lists-length, removed-watch, watch-here, watch-kept}
+use Rattle.pb_propagate.proofs.lemmas.clauses.Listed.{watch-set, list-small, put-linked, lists-length, pushed-more, removed-fewer, removed-watch, set-more, watch-entries, watch-kept}
 use Rattle.pb_propagate.proofs.lemmas.clauses.{Literals.false-listed, Literals.true-listed, Stores.rest-fit, Blocks.slot-at, Blocks.slot-stored, Blocks.stores}
 use Rattle.pb_propagate.proofs.lemmas.clauses.{Listed.watch-read, Visited.entry-round, Visited.passed-at, Visited.round-inside, Visited.running-inside}
 use Rattle.std.proofs.Common.{get_or-set_other, get_or-set_same, length-set}
@@ -18,12 +18,12 @@ pub ruleset heads = (append-nil, append_assoc, replicate_more)
 
 pub ruleset len = (length-map-range_with_len)
 
-pub ruleset lists = (get_or-set_other, get_or-set_same, list-small, lists-length, map-append, put-linked, removed-watch, watch-here, watch-kept, watch-read, watch-set)
+pub ruleset lists = (get_or-set_other, get_or-set_same, list-small, lists-length, map-append, put-linked, pushed-more, removed-fewer, removed-watch, set-more, watch-entries, watch-kept, watch-read, watch-set)
 
 pub ruleset read = (length-drop, length-take, slot-at, slot-stored)
 
 pub ruleset reasons = (get_or_default, other-then, released-same, released-then, same-reasons, some-sized)
 
-pub ruleset visiting = (entries-here, entry-round, length-map, passed-at, round-inside, running-inside, slice_get_read, watch-here)
+pub ruleset visiting = (entry-round, length-map, passed-at, round-inside, running-inside, slice_get_read, watch-entries)
 
 pub ruleset walk = (false-listed, true-listed)

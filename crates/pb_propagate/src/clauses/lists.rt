@@ -8,7 +8,7 @@ ghost use Rattle.pb_propagate.specs.engine.clauses.Links.{watch_lists, list_at, 
 ghost use Rattle.pb_propagate.specs.engine.clauses.Blocks.{HasBlock, rewatched};
 
 use crate::clauses::blocks::Blocks;
-use crate::tight::append;
+use crate::lists::Lists;
 use std::alloc::AllocError;
 
 /// A watch: the literal that it watches, and its position in that literal's list.
@@ -35,83 +35,76 @@ struct Removed {
 }
 
 // Removes an entry from a list. The last entry moves to its position.
-fn remove_entry(lists: &mut Vec<Vec<Listed>>, literal: usize, index: usize) -> Removed
-    requires literal { literal < length lists.old.items }
-    requires index { index < length (list_at (watch_lists lists.old.items) literal) }
-    ensures watch { slice_get (list_at (watch_lists lists.old.items) literal) index ≡ Some
+fn remove_entry(lists: &mut Lists<Listed>, literal: usize, index: usize) -> Removed
+    requires literal { literal < length lists.old }
+    requires index { index < length (list_at (watch_lists lists.old) literal) }
+    ensures watch { slice_get (list_at (watch_lists lists.old) literal) index ≡ Some
         result.watch }
-    ensures lists { watch_lists lists.new.items ≡ slice_set (watch_lists lists.old.items) literal
-        (swap_remove (list_at (watch_lists lists.old.items) literal) index result.watch) }
+    ensures lists { watch_lists lists.new ≡ slice_set (watch_lists lists.old) literal
+        (swap_remove (list_at (watch_lists lists.old) literal) index result.watch) }
     ensures none { IfNone result.moved
-        (index + 1 ≡ length (list_at (watch_lists lists.old.items) literal)) }
+        (index + 1 ≡ length (list_at (watch_lists lists.old) literal)) }
     ensures some { IfSome result.moved (λ t.
-        (index + 1 < length (list_at (watch_lists lists.old.items) literal)) ×
-        (slice_get (list_at (watch_lists lists.old.items) literal)
-        (length (list_at (watch_lists lists.old.items) literal) - 1) ≡ Some t)) }
-    ensures fewer { AreFewer lists.old.items lists.new.items }
+        (index + 1 < length (list_at (watch_lists lists.old) literal)) ×
+        (slice_get (list_at (watch_lists lists.old) literal)
+        (length (list_at (watch_lists lists.old) literal) - 1) ≡ Some t)) }
+    ensures fewer { AreFewer lists.old lists.new }
 {
-    let list = &mut lists[literal];
-    let removed = list.swap_remove(index);
-    let watch = removed.watch;
-    if index >= list.len() {
-        return Removed { watch, moved: None };
-    }
-    let last = list[index];
-    Removed {
-        watch,
-        moved: Some(last.watch),
+    let removed = lists.swap_remove(literal, index);
+    let watch = removed.item.watch;
+    match removed.moved {
+        None => Removed { watch, moved: None },
+        Some(entry) => Removed {
+            watch,
+            moved: Some(entry.watch),
+        },
     }
 }
 
 // Appends an entry to a list, and returns its position.
-fn push_entry(
-    lists: &mut Vec<Vec<Listed>>,
-    literal: usize,
-    entry: Listed,
-) -> Result<usize, AllocError>
-    requires literal { literal < length lists.old.items }
-    ensures lists { OnOk result (watch_lists lists.new.items ≡ slice_set
-        (watch_lists lists.old.items) literal
-        (list_at (watch_lists lists.old.items) literal ++ entry.watch ∷ [])) }
+fn push_entry(lists: &mut Lists<Listed>, literal: usize, entry: Listed) -> Result<usize, AllocError>
+    requires literal { literal < length lists.old }
+    ensures lists { OnOk result (watch_lists lists.new ≡ slice_set
+        (watch_lists lists.old) literal
+        (list_at (watch_lists lists.old) literal ++ entry.watch ∷ [])) }
     ensures spot { IfOk result (λ spot.
-        spot ≡ length (list_at (watch_lists lists.old.items) literal)) }
-    ensures more { OnOk result (AreMore entry lists.old.items lists.new.items) }
+        spot ≡ length (list_at (watch_lists lists.old) literal)) }
+    ensures more { OnOk result (AreMore entry lists.old lists.new) }
 {
-    let list = &mut lists[literal];
-    let spot = list.len();
-    append(list, entry)?;
+    let spot = lists.push(literal, entry)?;
     Ok(spot)
 }
 
 /// Writes an entry of a list, with the same watch and another blocker.
-pub fn block(lists: &mut Vec<Vec<Listed>>, literal: usize, index: usize, entry: Listed)
-    requires literal { literal < length lists.old.items }
-    requires item { slice_get (list_at (watch_lists lists.old.items) literal) index ≡ Some
+pub fn block(lists: &mut Lists<Listed>, literal: usize, index: usize, entry: Listed)
+    requires literal { literal < length lists.old }
+    requires item { slice_get (list_at (watch_lists lists.old) literal) index ≡ Some
         entry.watch }
-    ensures watches { watch_lists lists.new.items ≡ watch_lists lists.old.items }
-    ensures more { AreMore entry lists.old.items lists.new.items }
+    ensures watches { watch_lists lists.new ≡ watch_lists lists.old }
+    ensures more { AreMore entry lists.old lists.new }
 {
-    lists[literal][index] = entry;
+    lists.set(literal, index, entry);
 }
 
 /// Removes the watch at a position of a literal's list. The last of the list moves to its position.
-pub fn take_out(lists: &mut Vec<Vec<Listed>>, blocks: &mut Blocks, literal: usize, index: usize)
-    requires literal { literal < length lists.old.items }
-    requires index { index < length (list_at (watch_lists lists.old.items) literal) }
-    requires linked { AreLinked blocks.old.watches (watch_lists lists.old.items) }
-    ensures linked { AreLinked blocks.new.watches (watch_lists lists.new.items) }
+#[inline]
+pub fn take_out(lists: &mut Lists<Listed>, blocks: &mut Blocks, literal: usize, index: usize)
+    requires literal { literal < length lists.old }
+    requires index { index < length (list_at (watch_lists lists.old) literal) }
+    requires linked { AreLinked blocks.old.watches (watch_lists lists.old) }
+    ensures linked { AreLinked blocks.new.watches (watch_lists lists.new) }
     ensures taken { (e : ℕ) →
-        slice_get (list_at (watch_lists lists.old.items) literal) index ≡ Some e →
+        slice_get (list_at (watch_lists lists.old) literal) index ≡ Some e →
         (watch_at blocks.new.watches e).live ≡ false }
     ensures remain { (e k : ℕ) →
-        slice_get (list_at (watch_lists lists.old.items) literal) index ≡ Some e → (k ≡ e → ⊥) →
+        slice_get (list_at (watch_lists lists.old) literal) index ≡ Some e → (k ≡ e → ⊥) →
         Remains index (watch_at blocks.old.watches k) (watch_at blocks.new.watches k) }
     ensures sizes { (length blocks.new.watches ≡ length blocks.old.watches) ×
-        (length lists.new.items ≡ length lists.old.items) }
-    ensures shorter { length (list_at (watch_lists lists.new.items) literal) + 1 ≡ length
-        (list_at (watch_lists lists.old.items) literal) }
+        (length lists.new ≡ length lists.old) }
+    ensures shorter { length (list_at (watch_lists lists.new) literal) + 1 ≡ length
+        (list_at (watch_lists lists.old) literal) }
     ensures kept { blocks.new ≡ rewatched blocks.old blocks.new.watches }
-    ensures fewer { AreFewer lists.old.items lists.new.items }
+    ensures fewer { AreFewer lists.old lists.new }
 {
     let removed = remove_entry(lists, literal, index);
     blocks.idle(removed.watch as usize);
@@ -121,32 +114,33 @@ pub fn take_out(lists: &mut Vec<Vec<Listed>>, blocks: &mut Blocks, literal: usiz
 }
 
 /// Appends a watch and its blocker to a literal's list.
+#[inline]
 pub fn put_in(
-    lists: &mut Vec<Vec<Listed>>,
+    lists: &mut Lists<Listed>,
     blocks: &mut Blocks,
     watch: usize,
     literal: u32,
     blocker: u32,
 ) -> Result<(), AllocError>
-    requires literal { literal < length lists.old.items }
+    requires literal { literal < length lists.old }
     requires watch { watch < length blocks.old.watches }
     requires small { watch < 2 ^ 32 - 2 }
     requires block { HasBlock blocks.old (watch / 2) }
     requires dead { (watch_at blocks.old.watches watch).live ≡ false }
-    requires linked { AreLinked blocks.old.watches (watch_lists lists.old.items) }
-    ensures linked { OnOk result (AreLinked blocks.new.watches (watch_lists lists.new.items)) }
+    requires linked { AreLinked blocks.old.watches (watch_lists lists.old) }
+    ensures linked { OnOk result (AreLinked blocks.new.watches (watch_lists lists.new)) }
     ensures watches { OnOk result (blocks.new ≡ rewatched blocks.old
         (slice_set blocks.old.watches watch record {
           literal = literal;
           live = true;
-          spot = length (list_at (watch_lists lists.old.items) literal);
+          spot = length (list_at (watch_lists lists.old) literal);
         })) }
     ensures kept { blocks.new ≡ rewatched blocks.old blocks.new.watches }
-    ensures sizes { OnOk result (length lists.new.items ≡ length lists.old.items) }
+    ensures sizes { OnOk result (length lists.new ≡ length lists.old) }
     ensures others { OnOk result ((l : ℕ) → (l ≡ literal → ⊥) →
-        list_at (watch_lists lists.new.items) l ≡ list_at (watch_lists lists.old.items) l) }
+        list_at (watch_lists lists.new) l ≡ list_at (watch_lists lists.old) l) }
     ensures more { OnOk result
-        (AreMore record { watch = watch; blocker = blocker } lists.old.items lists.new.items) }
+        (AreMore record { watch = watch; blocker = blocker } lists.old lists.new) }
 {
     let entry = Listed {
         watch: watch as u32,

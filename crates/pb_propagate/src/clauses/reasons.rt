@@ -23,7 +23,7 @@ use crate::walk::literal_of;
 // clause.
 fn replace_by_codes(
     store: &Store,
-    units: &[usize],
+    units: &[u32],
     assignment: &mut Assignment,
     slot: usize,
     codes: &[u32],
@@ -48,13 +48,13 @@ fn replace_by_codes(
 pub fn replace_by_literals(
     clauses: &Clauses,
     store: &Store,
-    units: &[usize],
+    units: &[u32],
     assignment: &mut Assignment,
     slot: usize,
 ) -> bool
     requires ready { AreReady clauses.now }
     requires slot { slot < length clauses.now.blocks.literals }
-    requires widths { length clauses.now.lists.items ≡ 4 * length assignment.old.values.items }
+    requires widths { length clauses.now.lists ≡ 4 * length assignment.old.values.items }
     ensures reasons { HasOtherReasons (shapes_of store.now.stored.items) slot
         assignment.old assignment.new }
     ensures needless { result ≡ true → (k d : ℕ) →
@@ -91,7 +91,7 @@ fn release_by_codes(store: &Store, root: &mut Root, slot: usize, codes: &[u32])
 pub fn release_by_literals(clauses: &Clauses, store: &Store, root: &mut Root, slot: usize)
     requires ready { AreReady clauses.now }
     requires slot { slot < length clauses.now.blocks.literals }
-    requires widths { length clauses.now.lists.items ≡ 4 * store.now.variables }
+    requires widths { length clauses.now.lists ≡ 4 * store.now.variables }
     requires sound { IsSound store.now }
     requires rooted { IsSomeRoot store.now root.old }
     ensures released { IsReleased store.now slot root.old root.new }

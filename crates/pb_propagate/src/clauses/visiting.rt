@@ -2,7 +2,7 @@
 
 #![tactic(auto, using(crate::proofs::rulesets::Clauses::visiting))]
 
-ghost use Rattle.std.specs.Prelude.{◌≡◌, ℕ, ◌+◌, ◌-◌, ◌/◌, ◌^◌, ◌<◌, ◌≤◌, ◌⊎◌, ◌++◌, ◌∷◌, [], true, false, All, List, length, min, sum, slice_get, OnOk, IfOk, Some};
+ghost use Rattle.std.specs.Prelude.{◌≡◌, ℕ, ◌+◌, ◌-◌, ◌/◌, ◌^◌, ◌<◌, ◌≤◌, ◌⊎◌, ◌++◌, ◌∷◌, [], true, false, All, List, length, min, sum, slice_get, slice_index_or, OnOk, IfOk, IfNone, IfSome, Some};
 ghost use Rattle.pb_propagate.specs.engine.clauses.Truths.{flip, true_at, false_at};
 ghost use Rattle.pb_propagate.specs.engine.clauses.Links.{watch_lists, list_at, watch_at, AreLinked, Remains, IsListed, AreMore};
 ghost use Rattle.pb_propagate.specs.engine.clauses.Blocks.{HasBlock, rewatched};
@@ -14,6 +14,7 @@ use crate::clauses::Clauses;
 use crate::clauses::blocks::Blocks;
 use crate::clauses::lists::{Listed, block, put_in, take_out};
 use crate::engine::visits::Visits;
+use crate::lists::Lists;
 use std::alloc::AllocError;
 
 /// A literal that a clause forces, with the slot of the clause.
@@ -26,7 +27,7 @@ pub struct Forced {
 /// What a visit to a watch of a falsified literal has found.
 #[derive(Clone, Copy)]
 pub enum Visit {
-    // The blocker or the other watched literal is true.
+    // The other watched literal is true. It is the blocker now.
     Stays,
     // The watch has moved to another literal's list. The last watch of the old list, if it is
     // another one, has its position.
@@ -37,29 +38,22 @@ pub enum Visit {
     Falsified,
 }
 
-// An entry of a list of watches.
-fn read_entry(clauses: &Clauses, literal: usize, index: usize) -> Listed
-    requires literal { literal < length clauses.now.lists.items }
-    requires index { index < length (list_at (watch_lists clauses.now.lists.items) literal) }
-    ensures item { slice_get (list_at (watch_lists clauses.now.lists.items) literal) index ≡ Some
-        result.watch }
-    ensures listed { IsListed clauses.now.lists.items result }
-{
-    clauses.lists[literal][index]
+/// The position in a list of watches before which all blockers are true, and the watch there.
+#[derive(Clone, Copy)]
+pub struct Passed {
+    pub index: usize,
+    pub watch: Option<u32>,
 }
 
-// Reads an entry of a list of watches, and counts the visit.
-fn visit_entry(clauses: &Clauses, literal: usize, index: usize, visits: &mut Visits) -> Listed
-    requires literal { literal < length clauses.now.lists.items }
-    requires index { index < length (list_at (watch_lists clauses.now.lists.items) literal) }
-    ensures item { slice_get (list_at (watch_lists clauses.now.lists.items) literal) index ≡ Some
-        result.watch }
-    ensures listed { IsListed clauses.now.lists.items result }
-    ensures rising { visits.old ≤ visits.new }
-    ensures count { visits.new ≡ min (visits.old + 1) (2 ^ 64 - 1) }
+// An entry of a list of watches, which is given.
+fn read_entry(lists: &Lists<Listed>, list: &[Listed], literal: usize, index: usize) -> Listed
+    requires list { list.now ≡ slice_index_or lists.now literal [] }
+    requires index { index < length list.now }
+    ensures item { slice_get (list_at (watch_lists lists.now) literal) index ≡ Some result.watch }
+    ensures listed { IsListed lists.now result }
 {
-    visits.count();
-    read_entry(clauses, literal, index)
+    let _ = lists;
+    list[index]
 }
 
 // Reads the literal of the other watch, and counts the visit.
@@ -73,55 +67,51 @@ fn visit_watch(blocks: &Blocks, watch: usize, visits: &mut Visits) -> u32
     blocks.watched(watch)
 }
 
-// The position of the first watch from `from` on whose blocker is not true.
-fn next_untrue(clauses: &Clauses, assignment: &Assignment, literal: usize, from: usize) -> usize
-    requires running { IsRunning assignment.now.values.items clauses.now }
-    requires literal { literal < length clauses.now.lists.items }
-    requires from { from ≤ length (list_at (watch_lists clauses.now.lists.items) literal) }
-    ensures after { from ≤ result }
-    ensures within { result ≤ length (list_at (watch_lists clauses.now.lists.items) literal) }
-    ensures served { (walked : List ℕ) →
-        IsServedTo assignment.now.values.items clauses.now walked literal from →
-        IsServedTo assignment.now.values.items clauses.now walked literal result }
-{
-    let mut index = from;
-    'entries: while index < clauses.watch_count(literal) {
-        let entry = read_entry(clauses, literal, index);
-        if !assignment.satisfies(entry.blocker) {
-            return index;
-        }
-        index += 1;
-    }
-    index
-}
-
-/// Passes the watches from `from` on whose blockers are true, and counts a visit for each.
+/// Reads the watches from `from` on, up to the first one whose blocker is not true, and counts a
+/// visit for each.
 pub fn pass_true(
     clauses: &Clauses,
     assignment: &Assignment,
     literal: usize,
     from: usize,
     visits: &mut Visits,
-) -> usize
+) -> Passed
     requires running { IsRunning assignment.now.values.items clauses.now }
-    requires literal { literal < length clauses.now.lists.items }
-    requires from { from ≤ length (list_at (watch_lists clauses.now.lists.items) literal) }
-    ensures after { from ≤ result }
-    ensures within { result ≤ length (list_at (watch_lists clauses.now.lists.items) literal) }
+    requires literal { literal < length clauses.now.lists }
+    requires from { from ≤ length (list_at (watch_lists clauses.now.lists) literal) }
+    ensures after { from ≤ result.index }
+    ensures within { result.index ≤ length (list_at (watch_lists clauses.now.lists) literal) }
+    ensures watch { slice_get (list_at (watch_lists clauses.now.lists) literal) result.index ≡
+        result.watch }
     ensures served { (walked : List ℕ) →
         IsServedTo assignment.now.values.items clauses.now walked literal from →
-        IsServedTo assignment.now.values.items clauses.now walked literal result }
+        IsServedTo assignment.now.values.items clauses.now walked literal result.index }
     ensures rising { visits.old ≤ visits.new }
-    ensures count { visits.new ≡ min (visits.old + (result - from)) (2 ^ 64 - 1) }
+    ensures all { IfNone result.watch
+        (visits.new ≡ min (visits.old + (result.index - from)) (2 ^ 64 - 1)) }
+    ensures count { IfSome result.watch
+        (λ w. visits.new ≡ min (visits.old + (result.index - from + 1)) (2 ^ 64 - 1)) }
 {
-    let index = next_untrue(clauses, assignment, literal, from);
+    let list = clauses.lists.list(literal);
+    let mut index = from;
+    'entries: while index < list.len() {
+        let entry = read_entry(&clauses.lists, list, literal, index);
+        if !assignment.satisfies(entry.blocker) {
+            visits.add(index - from + 1);
+            return Passed {
+                index,
+                watch: Some(entry.watch),
+            };
+        }
+        index += 1;
+    }
     visits.add(index - from);
-    index
+    Passed { index, watch: None }
 }
 
 // Moves a watch from a position of a literal's list to another literal's list.
 fn shift(
-    lists: &mut Vec<Vec<Listed>>,
+    lists: &mut Lists<Listed>,
     blocks: &mut Blocks,
     literal: usize,
     index: usize,
@@ -129,24 +119,24 @@ fn shift(
     found: u32,
     blocker: u32,
 ) -> Result<(), AllocError>
-    requires inside { (literal < length lists.old.items) × (found < length lists.old.items) }
+    requires inside { (literal < length lists.old) × (found < length lists.old) }
     requires apart { found ≡ literal → ⊥ }
-    requires item { slice_get (list_at (watch_lists lists.old.items) literal) index ≡ Some watch }
+    requires item { slice_get (list_at (watch_lists lists.old) literal) index ≡ Some watch }
     requires block { HasBlock blocks.old (watch / 2) }
-    requires linked { AreLinked blocks.old.watches (watch_lists lists.old.items) }
-    ensures linked { OnOk result (AreLinked blocks.new.watches (watch_lists lists.new.items)) }
+    requires linked { AreLinked blocks.old.watches (watch_lists lists.old) }
+    ensures linked { OnOk result (AreLinked blocks.new.watches (watch_lists lists.new)) }
     ensures moved { OnOk result (((watch_at blocks.new.watches watch).literal ≡ found) ×
         ((watch_at blocks.new.watches watch).live ≡ true)) }
     ensures others { OnOk result ((k : ℕ) → (k ≡ watch → ⊥) →
         Remains index (watch_at blocks.old.watches k) (watch_at blocks.new.watches k)) }
     ensures sizes { OnOk result ((length blocks.new.watches ≡ length blocks.old.watches) ×
-        (length lists.new.items ≡ length lists.old.items)) }
+        (length lists.new ≡ length lists.old)) }
     ensures shorter { OnOk result
-        (length (list_at (watch_lists lists.new.items) literal) + 1 ≡ length
-        (list_at (watch_lists lists.old.items) literal)) }
+        (length (list_at (watch_lists lists.new) literal) + 1 ≡ length
+        (list_at (watch_lists lists.old) literal)) }
     ensures kept { blocks.new ≡ rewatched blocks.old blocks.new.watches }
     ensures more { OnOk result
-        (AreMore record { watch = watch; blocker = blocker } lists.old.items lists.new.items) }
+        (AreMore record { watch = watch; blocker = blocker } lists.old lists.new) }
 {
     take_out(lists, blocks, literal, index);
     put_in(lists, blocks, watch, found, blocker)?;
@@ -166,8 +156,8 @@ fn search_clause(
 ) -> Result<Visit, AllocError>
     requires running { IsRunning assignment.now.values.items clauses.old }
     requires failed { false_at assignment.now.values.items literal ≡ true }
-    requires literal { literal < length clauses.old.lists.items }
-    requires item { slice_get (list_at (watch_lists clauses.old.lists.items) literal) index ≡ Some
+    requires literal { literal < length clauses.old.lists }
+    requires item { slice_get (list_at (watch_lists clauses.old.lists) literal) index ≡ Some
         watch }
     requires other { other ≡ (watch_at clauses.old.blocks.watches (flip watch)).literal }
     requires untrue { true_at assignment.now.values.items other ≡ false }
@@ -206,43 +196,41 @@ fn search_clause(
     Ok(Visit::Leaves)
 }
 
-/// Visits a clause by its watch on a falsified literal.
+/// Visits a clause by its watch on a falsified literal. The blocker is not true.
 pub fn visit_clause(
     clauses: &mut Clauses,
     assignment: &Assignment,
     literal: usize,
     index: usize,
+    watch: u32,
     visits: &mut Visits,
 ) -> Result<Visit, AllocError>
     requires running { IsRunning assignment.now.values.items clauses.old }
     requires failed { false_at assignment.now.values.items literal ≡ true }
-    requires literal { literal < length clauses.old.lists.items }
-    requires index { index < length (list_at (watch_lists clauses.old.lists.items) literal) }
+    requires literal { literal < length clauses.old.lists }
+    requires item { slice_get (list_at (watch_lists clauses.old.lists) literal) index ≡ Some
+        watch }
     ensures literals { clauses.new.blocks.literals ≡ clauses.old.blocks.literals }
     ensures watch { IfOk result (
         λ r. HasVisited assignment.now.values.items clauses.old clauses.new literal index r) }
 
     // Upper and lower bounds on the number of visits.
-    ensures covered { visits.new + sum (passed_of clauses.old) ≤ visits.old + 2 + sum
+    ensures covered { visits.new + sum (passed_of clauses.old) ≤ visits.old + 1 + sum
         (passed_of clauses.new) }
     ensures bounded { AreWithin (passed_of clauses.new) clauses.old.blocks.literals }
     ensures counted { visits.new < 2 ^ 64 - 1 → visits.old + 1 ≤ visits.new }
     ensures rising { visits.old ≤ visits.new }
 {
-    let entry = visit_entry(clauses, literal, index, visits);
-    if assignment.satisfies(entry.blocker) {
-        return Ok(Visit::Stays);
-    }
-    let watch = entry.watch as usize;
-    let other = visit_watch(&clauses.blocks, opposite(watch), visits);
+    let number = watch as usize;
+    let other = visit_watch(&clauses.blocks, opposite(number), visits);
     if assignment.satisfies(other) {
         let entry = Listed {
-            watch: entry.watch,
+            watch,
             blocker: other,
         };
         block(&mut clauses.lists, literal, index, entry);
         return Ok(Visit::Stays);
     }
-    let visit = search_clause(clauses, assignment, literal, index, watch, other, visits)?;
+    let visit = search_clause(clauses, assignment, literal, index, number, other, visits)?;
     Ok(visit)
 }

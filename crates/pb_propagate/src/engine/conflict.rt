@@ -2,7 +2,7 @@
 
 #![tactic(auto, using(crate::proofs::rulesets::Engine::conflict))]
 
-ghost use Rattle.std.specs.Prelude.{◌≡◌, List, ◌*◌, ◌<◌, [], true, false, length, IfOk, OnOk};
+ghost use Rattle.std.specs.Prelude.{◌≡◌, ℕ, List, ◌+◌, ◌*◌, ◌<◌, ◌≤◌, [], true, false, length, IfOk, OnOk};
 ghost use Rattle.pb_propagate.specs.declared.store.Store.{Store};
 ghost use Rattle.pb_propagate.specs.declared.clauses.Clauses.{Clauses};
 ghost use Rattle.pb_propagate.specs.engine.engine.Lists.{Shape, HaveReasons, KeepsReasons};
@@ -23,6 +23,7 @@ use std::alloc::{AllocError, Global};
 /// is falsified under them. Nothing is assigned if no conflict is kept.
 #[derive(Drop)]
 pub struct Conflict {
+    // Without a conflict it may have fewer variables.
     pub assignment: Assignment,
     // Whether one is kept.
     pub met: bool,
@@ -41,32 +42,44 @@ impl Conflict {
         }
     }
 
-    /// None yet, with memory for this many variables.
-    pub fn with_capacity(alloc: Global, variables: usize) -> Result<Conflict, AllocError>
-        ensures met { IfOk result (λ conflict. conflict.met ≡ false) }
-        ensures list { IfOk result (λ conflict. conflict.assignment.list.items ≡ []) }
-        ensures values { IfOk result (λ conflict. conflict.assignment.values.items ≡ []) }
+    // Adds variables, up to that many.
+    fn widen_to(&mut self, variables: usize) -> Result<(), AllocError>
+        requires few { length self.old.assignment.values.items ≤ variables }
+        ensures values { OnOk result (length self.new.assignment.values.items ≡ variables) }
+        ensures list { self.new.assignment.list.items ≡ self.old.assignment.list.items }
     {
-        let assignment = Assignment::with_capacity(alloc, variables)?;
-        Ok(Conflict {
-            assignment,
-            met: false,
-        })
+        'variables: for _ in self.assignment.values.len()..variables {
+            self.assignment.widen()?;
+        }
+        Ok(())
+    }
+
+    /// Adds a variable. It takes memory here only if a conflict is kept.
+    pub fn widen(&mut self) -> Result<(), AllocError>
+        ensures { OnOk result ((forms : List Shape) (variables : ℕ) →
+            IsKeptConflict forms variables self.old →
+            IsKeptConflict forms (variables + 1) self.new) }
+    {
+        if self.met {
+            self.assignment.widen()?;
+        }
+        Ok(())
     }
 
     /// Keeps the literals of a run under which a form is falsified.
     pub fn note(&mut self, found: &Assignment) -> Result<(), AllocError>
         requires none { self.old.assignment.list.items ≡ [] }
-        requires values { length self.old.assignment.values.items ≡ length found.now.values.items }
+        requires few { length self.old.assignment.values.items ≤ length found.now.values.items }
         requires reasoned { (forms : List Shape) ×
             HaveReasons forms found.now.reasons.items [] found.now.list.items }
         ensures met { OnOk result (self.new.met ≡ true) }
         ensures values { OnOk result (length self.new.assignment.values.items ≡ length
-            self.old.assignment.values.items) }
+            found.now.values.items) }
         ensures list { OnOk result (self.new.assignment.list.items ≡ found.now.list.items) }
         ensures reasons { OnOk result (KeepsReasons found.now.list.items found.now.reasons.items
             self.new.assignment.reasons.items) }
     {
+        self.widen_to(found.values.len())?;
         'literals: for i in 0..found.list.len() {
             let literal = found.list[i];
             self.assignment
@@ -82,7 +95,7 @@ impl Conflict {
         requires sound { IsSound store.now }
         requires ready { AreReady clauses.now }
         requires known { length clauses.now.blocks.literals ≡ length store.now.stored.items }
-        requires widths { length clauses.now.lists.items ≡ 4 * store.now.variables }
+        requires widths { length clauses.now.lists ≡ 4 * store.now.variables }
         requires values { length self.now.assignment.values.items ≡ store.now.variables }
         ensures { result ≡ false →
             IsMet (all_of store.now clauses.now) slot self.now.assignment.list.items }
@@ -111,13 +124,13 @@ impl Conflict {
 
     /// The form of a slot goes. The conflict stays if its literals have other reasons, and the form
     /// is not the falsified one.
-    pub fn remove(&mut self, store: &Store, clauses: &Clauses, units: &[usize], slot: usize)
+    pub fn remove(&mut self, store: &Store, clauses: &Clauses, units: &[u32], slot: usize)
         requires slot { slot < length store.now.stored.items }
         requires sound { IsSound store.now }
         requires joined { AreJoined (shapes_of store.now.stored.items) (clauses_of clauses.now) }
         requires ready { AreReady clauses.now }
         requires known { length clauses.now.blocks.literals ≡ length store.now.stored.items }
-        requires widths { length clauses.now.lists.items ≡ 4 * store.now.variables }
+        requires widths { length clauses.now.lists ≡ 4 * store.now.variables }
         requires kept { IsKeptConflict (all_of store.now clauses.now) store.now.variables self.old }
         ensures kept { IsKeptConflict (all_of store.now clauses.now) store.now.variables self.new }
         ensures spare { self.new.met ≡ true →

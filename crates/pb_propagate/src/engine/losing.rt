@@ -82,7 +82,7 @@ impl Root {
         requires joined { AreJoined (shapes_of store.now.stored.items) (clauses_of clauses.now) }
         requires ready { AreReady clauses.now }
         requires known { length clauses.now.blocks.literals ≡ length store.now.stored.items }
-        requires widths { length clauses.now.lists.items ≡ 4 * store.now.variables }
+        requires widths { length clauses.now.lists ≡ 4 * store.now.variables }
         requires rooted { IsRootOf store.now clauses.now self.old }
         ensures rooted { IsRootOf store.now clauses.now self.new }
         ensures needless { IsNeedless (all_of store.now clauses.now) slot self.new.run.assignment }
@@ -101,7 +101,7 @@ impl Root {
         requires joined { AreJoined (shapes_of store.now.stored.items) (clauses_of clauses.now) }
         requires ready { AreReady clauses.now }
         requires known { length clauses.now.blocks.literals ≡ length store.now.stored.items }
-        requires widths { length clauses.now.lists.items ≡ 4 * store.now.variables }
+        requires widths { length clauses.now.lists ≡ 4 * store.now.variables }
         requires slots { AreSlots (forms_of store.now.stored.items) (all_of store.now clauses.now) }
         requires rooted { IsRootOf store.now clauses.now self.old }
         ensures { HasRemoved store.now clauses.now slot self.new }

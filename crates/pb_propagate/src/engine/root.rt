@@ -42,7 +42,8 @@ pub struct Root {
     // The marks of a question, which nobody reads.
     pub spare: Vec<Heads>,
     // For each literal, by its occurrence list, the last slot that took a form of one term for it.
-    pub units: Vec<usize>,
+    // There are none after the last literal with such a form.
+    pub units: Vec<u32>,
 }
 
 /// Lowers the open sum of a form to that under the list. The form is put to work if it may then
@@ -186,30 +187,34 @@ impl Root {
         let run = run_for(alloc, variables, forms)?;
         let rests = Rests::with_capacity(alloc, forms)?;
         let waiting = Waiting::with_capacity(alloc, forms)?;
-        let units = Vec::with_capacity(alloc, variables.saturating_mul(2))?;
         Ok(Root {
             run,
             rests,
             waiting,
             walked: Walked::none(alloc),
             spare: Vec::new(alloc),
-            units,
+            units: Vec::new(alloc),
         })
     }
 
     /// Remembers the form of a slot as the unit of its literal, if it has one term.
-    pub fn note(&mut self, store: &Store, slot: usize)
+    pub fn note(&mut self, store: &Store, slot: usize) -> Result<(), AllocError>
         requires slot { slot < length store.now.stored.items }
         requires sound { IsSound store.now }
         ensures { (self.new.run ≡ self.old.run) × (self.new.rests ≡ self.old.rests) ×
             (self.new.waiting ≡ self.old.waiting) × (self.new.walked ≡ self.old.walked) }
     {
+        // There are fewer than 2^64 lists.
+        let _ = store.occurrences.len();
         let Some(literal) = only_literal(&store.stored[slot]) else {
-            return;
+            return Ok(());
         };
-        if let Some(unit) = self.units.get_mut(place_of(literal)) {
-            *unit = slot;
+        let place = place_of(literal);
+        if place >= self.units.len() {
+            self.units.resize(place + 1, u32::MAX)?;
         }
+        self.units[place] = u32::try_from(slot).unwrap_or(u32::MAX);
+        Ok(())
     }
 
     /// A form that was added waits for the next question, unless it is a clause with watches.
@@ -217,7 +222,7 @@ impl Root {
         requires store { IsSound store.now }
         requires joined { AreJoined (shapes_of store.now.stored.items) (clauses_of clauses.now) }
         requires ready { AreReady clauses.now }
-        requires widths { length clauses.now.lists.items ≡ 4 * store.now.variables }
+        requires widths { length clauses.now.lists ≡ 4 * store.now.variables }
         requires known { length clauses.now.blocks.literals ≡ length store.now.stored.items }
         requires slot { slot < length store.now.stored.items }
         requires gained { WasRootOf store.now clauses.now slot self.old }
@@ -245,7 +250,7 @@ impl Root {
         requires vacant { IsVacant store.now.variables conflict.old }
         ensures literals { clauses.new.blocks.literals ≡ clauses.old.blocks.literals }
         ensures lists { OnOk result (
-            length clauses.new.lists.items ≡ length clauses.old.lists.items) }
+            length clauses.new.lists ≡ length clauses.old.lists) }
         ensures costs { UpdateCosts store.now clauses.old self.old self.new }
         ensures rooted { OnOk result (IsRootOf store.now clauses.new self.new) }
         ensures kept { OnOk result (

@@ -11,7 +11,7 @@ ghost use Rattle.pb_propagate.specs.engine.engine.Counts.{AreFalling, IsCalm, pl
 ghost use Rattle.pb_propagate.specs.engine.engine.Forms.{IsStoredAs};
 ghost use Rattle.pb_propagate.specs.engine.engine.Stored.{stored_form, stored_terms};
 ghost use Rattle.pb_propagate.specs.engine.engine.Terms.{terms_of};
-ghost use Rattle.pb_propagate.specs.engine.engine.Fields.{stored_shape, shapes_of, forms_of, spots_of, lists_of, entries_of, IsSound, HasEntered, HasFilled, IsEmpty, IsUnlisted, AreLonger};
+ghost use Rattle.pb_propagate.specs.engine.engine.Fields.{stored_shape, shapes_of, forms_of, spots_of, entries_of, IsSound, HasEntered, HasFilled, IsEmpty, IsUnlisted, AreLonger};
 ghost use Rattle.pb_propagate.specs.engine.engine.Slots.{MayHold};
 ghost use Rattle.pb_propagate.specs.engine.engine.Spots.{spots_in};
 ghost use Rattle.pb_propagate.specs.engine.engine.Links.{IsLinked, Moved, cut, terms_at};
@@ -20,6 +20,7 @@ ghost use Rattle.pb_propagate.specs.engine.clauses.Shapes.{clauses_of, codes_of_
 
 use crate::clauses::Clauses;
 use crate::clauses::watched::Pair;
+use crate::lists::Lists;
 use crate::run::{Run, place_of};
 use crate::shared::Shared;
 use crate::store::counted_form::CountedForm;
@@ -28,7 +29,6 @@ use crate::store::spots::Spots;
 use crate::store::stored_form::StoredForm;
 use crate::store::unit_form::UnitForm;
 use crate::store::{Occurrence, Store};
-use crate::tight::append;
 use pb_normal::{Normal, NumberedLiteral};
 use std::alloc::{AllocError, Global};
 
@@ -85,56 +85,55 @@ fn stored_of(alloc: Global, form: Shared) -> Result<StoredForm, AllocError>
 
 // Adds the terms of a form to the lists of their literals, and records their positions.
 fn link(
+    alloc: Global,
     kept: &StoredForm,
     form: usize,
-    lists: &mut Vec<Vec<Occurrence>>,
+    lists: &mut Lists<Occurrence>,
     spots: &mut Spots,
 ) -> Result<(), AllocError>
-    requires inside { All (λ t. place t.literal < length lists.old.items) (stored_terms kept.now) }
+    requires inside { All (λ t. place t.literal < length lists.old) (stored_terms kept.now) }
     requires empty { spots_in spots.old ≡ [] }
-    ensures sizes { length lists.new.items ≡ length lists.old.items }
-    ensures longer { OnOk result (AreLonger lists.old.items lists.new.items) }
+    ensures sizes { length lists.new ≡ length lists.old }
+    ensures longer { OnOk result (AreLonger lists.old lists.new) }
     ensures count { OnOk result (length (spots_in spots.new) ≡ length (stored_terms kept.now)) }
     ensures linked { OnOk result ((base : List Shape) (all : List (List ℕ)) → form < length base →
         terms_at base form ≡ stored_terms kept.now → form < length all →
-        IsLinked (cut base form 0) (slice_set all form []) (entries_of base lists.old.items) →
+        IsLinked (cut base form 0) (slice_set all form []) (entries_of base lists.old) →
         IsLinked (cut base form (length (stored_terms kept.now)))
-        (slice_set all form (spots_in spots.new)) (entries_of base lists.new.items)) }
+        (slice_set all form (spots_in spots.new)) (entries_of base lists.new)) }
 {
-    let alloc = *lists.allocator();
+    // There are fewer than 2^64 lists.
+    let _ = lists.len();
     'terms: for i in 0..kept.len() {
         let term = kept.term(i);
         let place = place_of(term.literal);
-        let spot = lists[place].len();
+        let spot = lists.push(place, Occurrence { form, index: i })?;
         spots.add(alloc, spot)?;
-        append(&mut lists[place], Occurrence { form, index: i })?;
     }
     Ok(())
 }
 
 // Removes an entry from a list. The last entry of the list moves to its position.
-fn take_out(lists: &mut Vec<Vec<Occurrence>>, spots: &mut Vec<Spots>, place: usize, spot: usize)
-    requires place { place < length lists.old.items }
-    requires spot { spot < length (slice_index_or (lists_of lists.old.items) place []) }
+fn take_out(lists: &mut Lists<Occurrence>, spots: &mut Vec<Spots>, place: usize, spot: usize)
+    requires place { place < length lists.old }
+    requires spot { spot < length (slice_index_or lists.old place []) }
     requires named { (e : Occurrence) →
-        slice_get (slice_index_or (lists_of lists.old.items) place [])
-        (length (slice_index_or (lists_of lists.old.items) place []) - 1) ≡ Some e →
+        slice_get (slice_index_or lists.old place [])
+        (length (slice_index_or lists.old place []) - 1) ≡ Some e →
         (e.form < length spots.old.items) ×
         (e.index < length (slice_index_or (spots_of spots.old.items) e.form [])) }
     ensures sizes { length spots.new.items ≡ length spots.old.items }
     ensures lists { (e : Occurrence) ×
-        (e ≡ slice_index_or (slice_index_or (lists_of lists.old.items) place []) spot e) ×
-        (lists_of lists.new.items ≡ slice_set (lists_of lists.old.items) place
-        (swap_remove (slice_index_or (lists_of lists.old.items) place []) spot e)) }
-    ensures spots { Moved (slice_index_or (lists_of lists.old.items) place []) spot
+        (e ≡ slice_index_or (slice_index_or lists.old place []) spot e) ×
+        (lists.new ≡ slice_set lists.old place
+        (swap_remove (slice_index_or lists.old place []) spot e)) }
+    ensures spots { Moved (slice_index_or lists.old place []) spot
         (spots_of spots.old.items) (spots_of spots.new.items) }
 {
-    lists[place].swap_remove(spot);
-    if spot >= lists[place].len() {
-        return;
+    let removed = lists.swap_remove(place, spot);
+    if let Some(moved) = removed.moved {
+        spots[moved.form].set(moved.index, spot);
     }
-    let moved = lists[place][spot];
-    spots[moved.form].set(moved.index, spot);
 }
 
 // Removes the entries of a form from the lists, that of the last term first.
@@ -143,13 +142,15 @@ fn unlink(store: &mut Store, form: usize)
     requires form { form < length store.old.stored.items }
     ensures kept { store.new.stored ≡ store.old.stored }
     ensures variables { store.new.variables ≡ store.old.variables }
-    ensures lists { length store.new.occurrences.items ≡ length store.old.occurrences.items }
+    ensures lists { length store.new.occurrences ≡ length store.old.occurrences }
     ensures rooms { (s : ℕ) → length (slice_index_or (spots_of store.new.spots.items) s []) ≡ length
         (slice_index_or (spots_of store.old.spots.items) s []) }
     ensures linked { IsLinked (cut (shapes_of store.new.stored.items) form 0)
         (spots_of store.new.spots.items)
-        (entries_of (shapes_of store.new.stored.items) store.new.occurrences.items) }
+        (entries_of (shapes_of store.new.stored.items) store.new.occurrences) }
 {
+    // There are fewer than 2^64 lists.
+    let _ = store.occurrences.len();
     let mut left = store.stored[form].len();
     'terms: while left > 0 {
         left -= 1;
@@ -188,7 +189,7 @@ pub fn watch(
     ensures ready { OnOk result (AreReady clauses.new) }
     ensures literals { OnOk result (clauses_of clauses.new ≡ slice_set (clauses_of clauses.old) slot
         (codes_of_terms form.terms)) }
-    ensures lists { OnOk result (length clauses.new.lists.items ≡ length clauses.old.lists.items) }
+    ensures lists { OnOk result (length clauses.new.lists ≡ length clauses.old.lists) }
     ensures watches { OnOk result (
         AreSet clauses.old.blocks.watches clauses.new.blocks.watches slot codes.items pair) }
     ensures kept { OnOk result ((k : StoredForm) × (stored_form k ≡ Some form) × IsUnlisted k ×
@@ -229,13 +230,13 @@ pub fn fill(store: &mut Store, slot: usize, form: Shared) -> Result<(), AllocErr
     ensures filled { OnOk result
         (HasFilled form slot store.old.stored.items store.new.stored.items) }
     ensures longer { OnOk result (
-        AreLonger store.old.occurrences.items store.new.occurrences.items) }
+        AreLonger store.old.occurrences store.new.occurrences) }
     ensures variables { store.new.variables ≡ store.old.variables }
 {
     let alloc = *store.stored.allocator();
     let kept = stored_of(alloc, form)?;
     let mut spots = Spots::for_terms(alloc, kept.len())?;
-    link(&kept, slot, &mut store.occurrences, &mut spots)?;
+    link(alloc, &kept, slot, &mut store.occurrences, &mut spots)?;
     store.spots[slot] = spots;
     store.stored[slot] = kept;
     Ok(())
@@ -253,7 +254,7 @@ pub fn enter(store: &mut Store, run: &mut Run, form: Normal) -> Result<(), Alloc
         (HasEntered form store.old.stored.items store.new.stored.items run.old.opens.items
         run.new.opens.items run.old.candidates.items run.new.candidates.items) }
     ensures longer { OnOk result (
-        AreLonger store.old.occurrences.items store.new.occurrences.items) }
+        AreLonger store.old.occurrences store.new.occurrences) }
     ensures variables { store.new.variables ≡ store.old.variables }
     ensures trail { run.new.trail ≡ run.old.trail }
     ensures rest { (run.new.assignment ≡ run.old.assignment) × (run.new.work ≡ run.old.work) ×

@@ -26,7 +26,7 @@ use pb_normal::NumberedLiteral;
 /// one. Returns whether the literal does not need the form.
 pub fn replace_reason(
     store: &Store,
-    units: &[usize],
+    units: &[u32],
     assignment: &mut Assignment,
     slot: usize,
     literal: NumberedLiteral,
@@ -49,12 +49,7 @@ pub fn replace_reason(
 }
 
 // The same for each literal of a form in the occurrence lists.
-fn replace_by_terms(
-    store: &Store,
-    units: &[usize],
-    assignment: &mut Assignment,
-    slot: usize,
-) -> bool
+fn replace_by_terms(store: &Store, units: &[u32], assignment: &mut Assignment, slot: usize) -> bool
     requires sound { IsSound store.now }
     requires slot { slot < length store.now.stored.items }
     requires values { length assignment.old.values.items ≡ store.now.variables }
@@ -79,7 +74,7 @@ fn replace_by_terms(
 pub fn replace_reasons(
     store: &Store,
     clauses: &Clauses,
-    units: &[usize],
+    units: &[u32],
     assignment: &mut Assignment,
     slot: usize,
 ) -> bool
@@ -88,7 +83,7 @@ pub fn replace_reasons(
     requires joined { AreJoined (shapes_of store.now.stored.items) (clauses_of clauses.now) }
     requires ready { AreReady clauses.now }
     requires known { length clauses.now.blocks.literals ≡ length store.now.stored.items }
-    requires widths { length clauses.now.lists.items ≡ 4 * store.now.variables }
+    requires widths { length clauses.now.lists ≡ 4 * store.now.variables }
     requires values { length assignment.old.values.items ≡ store.now.variables }
     requires reasoned { HaveReasons (all_of store.now clauses.now) assignment.old.reasons.items []
         assignment.old.list.items }

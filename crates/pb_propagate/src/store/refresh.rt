@@ -60,13 +60,13 @@ pub fn refresh_all(store: &Store, root: &mut Root, literal: NumberedLiteral)
     requires sized { IsSized store.now root.old }
     ensures each { AreRefreshed store.now root.old root.new }
     ensures all { (j : ℕ) (e : Weighted) → slice_get (slice_index_or
-        (entries_of (shapes_of store.now.stored.items) store.now.occurrences.items)
+        (entries_of (shapes_of store.now.stored.items) store.now.occurrences)
         (place literal) []) j ≡ Some e → IsRefreshed store.now root.new e.form }
     ensures opens { root.new.run.opens.items ≡ root.old.run.opens.items }
 {
-    let entries = &store.occurrences[place_of(literal)];
-    'entries: for j in 0..entries.len() {
-        let entry = entries[j];
+    let place = place_of(literal);
+    'entries: for j in 0..store.occurrences.count(place) {
+        let entry = store.occurrences.get(place, j);
         let opened = root.run.opens[entry.form];
         refresh(store, root, entry.form, opened);
     }
@@ -79,17 +79,17 @@ pub fn lift_all(store: &Store, root: &mut Root, literal: NumberedLiteral)
     requires inside { literal.variable < store.now.variables }
     requires sized { IsSized store.now root.old }
     requires lacks { Lacks store.now root.old (slice_index_or
-        (entries_of (shapes_of store.now.stored.items) store.now.occurrences.items)
+        (entries_of (shapes_of store.now.stored.items) store.now.occurrences)
         (place literal) []) }
     ensures each { AreRefreshed store.now root.old root.new }
     ensures all { (j : ℕ) (e : Weighted) → slice_get (slice_index_or
-        (entries_of (shapes_of store.now.stored.items) store.now.occurrences.items)
+        (entries_of (shapes_of store.now.stored.items) store.now.occurrences)
         (place literal) []) j ≡ Some e → IsRefreshed store.now root.new e.form }
     ensures lacks { Lacks store.now root.new [] }
 {
-    let entries = &store.occurrences[place_of(literal)];
-    'entries: for j in 0..entries.len() {
-        let entry = entries[j];
+    let place = place_of(literal);
+    'entries: for j in 0..store.occurrences.count(place) {
+        let entry = store.occurrences.get(place, j);
         let kept = &store.stored[entry.form];
         let before = root.run.opens[entry.form];
         let opened = before + kept.term(entry.index).coefficient;

@@ -41,14 +41,14 @@ pub fn is_unit(kept: &StoredForm, literal: NumberedLiteral) -> bool
 /// the last slot that took one. Only that slot is looked at.
 pub fn other_unit(
     store: &Store,
-    units: &[usize],
+    units: &[u32],
     slot: usize,
     literal: NumberedLiteral,
 ) -> Option<usize>
     requires fits { place literal < 2 ^ 64 }
     ensures { IfSome result (IsOtherUnit (shapes_of store.now.stored.items) slot literal) }
 {
-    let unit = *units.get(place_of(literal))?;
+    let unit = *units.get(place_of(literal))? as usize;
     if unit == slot {
         return None;
     }

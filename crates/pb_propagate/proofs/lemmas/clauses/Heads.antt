@@ -173,7 +173,7 @@ pub record IsWatching (c0 c : Clauses) (values : List (Option Bool)) (list : Lis
   pub served : AreWalked values c.blocks.literals c.blocks.watches (reached_codes h list)
 
 -- between two calls
-pub ready-running : (c : Clauses) (values : List (Option Bool)) → AreReady c → length c.lists.items ≡ 4 * length values → IsRunning values c
+pub ready-running : (c : Clauses) (values : List (Option Bool)) → AreReady c → length c.lists ≡ 4 * length values → IsRunning values c
 ready-running c values r sizes =
     let round : AreRound (map (λ (x : Search). x.position) c.blocks.searches) c.blocks.literals c.blocks.searches =
     λ s some. ready-round c.blocks.searches s _ (sym (passed-at c.blocks.searches s) ∙ r.none s) (r.inside s some) in
@@ -262,17 +262,17 @@ reached-more Long clauses h list l single inside is = grind (arith, killed-more,
 
 -- what a walk costs: the watches of its literal
 pub reached-ahead : {c0 c : Clauses} {values : List (Option Bool)} {list : List NumberedLiteral} {h : Heads} {ahead : Ahead} (list' : List NumberedLiteral) → AreSingle list → IsAhead h list ahead → Extends list list' → IsWatching c0 c values list h →
-    length (list_at (watch_lists c.lists.items) ahead.code) + reached (clauses_of c0) h list ≤ reached (clauses_of c0) ahead.heads list'
+    length (list_at (watch_lists c.lists) ahead.code) + reached (clauses_of c0) h list ≤ reached (clauses_of c0) ahead.heads list'
 reached-ahead {c0} {c} {values} {list} {h} {ahead} list' single a extends w =
     let clauses = clauses_of c0 in
-    let few = list-short clauses c.blocks.watches (watch_lists c.lists.items) (falsified_code a.group a.literal) (rw w.literals at w.running.stored) in
+    let few = list-short clauses c.blocks.watches (watch_lists c.lists) (falsified_code a.group a.literal) (rw w.literals at w.running.stored) in
     let grown = reached-more a.group clauses h list a.literal single a.inside a.is in
     let ends = ahead-within a w.short w.long in
     rw a.code (omega (arith, few, grown, ap (λ k. reached clauses k list) a.after, (same-reached ahead.heads list list' ends.0 ends.1 extends).1 clauses))
 
 -- what a walk costs that was abandoned
 pub cost-broken : {c0 c : Clauses} {values : List (Option Bool)} {list : List NumberedLiteral} {h : Heads} {ahead : Ahead} (c' : Clauses) → AreSingle list → IsAhead h list ahead → AreWithin (passed_of c') (clauses_of c) → IsWatching c0 c values list h →
-    2 * length (list_at (watch_lists c.lists.items) ahead.code) + cost c0 c h list + sum (passed_of c') ≤ sum (passed_of c) + (2 * reached (clauses_of c0) ahead.heads list + sum_by length (clauses_of c0))
+    2 * length (list_at (watch_lists c.lists) ahead.code) + cost c0 c h list + sum (passed_of c') ≤ sum (passed_of c) + (2 * reached (clauses_of c0) ahead.heads list + sum_by length (clauses_of c0))
 cost-broken {c0} {c} {values} {list} c' single a bounded w =
     omega (arith, reached-ahead list single a (extends-none list) w, passed-most (passed_of c') (clauses_of c0) (rw w.literals at bounded))
 

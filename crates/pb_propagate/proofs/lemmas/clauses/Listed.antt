@@ -1,9 +1,11 @@
 -- Entries of watch lists are written, added and removed, and so are watches.
 use Rattle.pb_propagate.proofs.Common.{ℕ, ◌++◌, ◌+◌, ◌-◌, ◌<◌, ◌^◌, ◌∙◌, ◌∷◌, ◌≡◌, ◌≤◌, [], ap, arith, false, get_or-set_other, get_or-set_same, length}
 use Rattle.pb_propagate.proofs.Common.{length-set, List, refl, set, true, slice_get, Some, swap_remove, get_or_past, slice_get_within, Watch, AreLinked, idle}
-use Rattle.pb_propagate.proofs.Common.{list_at, Remains, Sits, watch_at, ◌==◌, eqb-true, get_or, nat_tests, slice_get-get_or, ◌/◌, ◌⊎◌, Global, map, suc, sym}
-use Rattle.pb_propagate.proofs.Common.{Vec, zero, Contains, cases_eq, cases_lt, get_or-map, length-map, map-set, set-get_or, get_or_from_slice_get, none-some}
+use Rattle.pb_propagate.proofs.Common.{inl, inr, None, option_map}
+use Rattle.pb_propagate.proofs.Common.{list_at, Remains, Sits, watch_at, ◌==◌, eqb-true, get_or, nat_tests, slice_get-get_or, ◌/◌, ◌⊎◌, map, suc, sym}
+use Rattle.pb_propagate.proofs.Common.{zero, Contains, cases_eq, cases_lt, length-map, map-set, set-get_or, get_or_from_slice_get, none-some}
 use Rattle.pb_propagate.proofs.Common.{slice_get-map, Listed, AreBlocked, AreFewer, AreMore, entries_at, IsListed, watch_lists}
+use Rattle.std.proofs.lemmas.Option.{slice_get_cases, slice_get_read}
 use Rattle.pb_propagate.proofs.lemmas.store.Gets.{get-push_other, get-push_same, swap-other, swap-here, swap-past, get-take_less, get-set_at, get-set_other}
 use Rattle.{pb_propagate.proofs.lemmas.store.Gets.swap-map, std.proofs.lemmas.Grind.get_or-set_at}
 use Rattle.std.proofs.lemmas.{Map.Keys.IsDistinct-from_apart, Map.Steps.length-le_from_distinct_below, Map.Views.Contains-from_any, Option.slice_get_read}
@@ -68,27 +70,23 @@ list-small ws ls l old = length-le_from_distinct_below (list_at ls l) (2 ^ 32 - 
     (λ q h. let w = Contains-from_any eqb-true q (list_at ls l) h in old.small q (old.named q l w.0 (grind (arith, w.1, w.2, slice_get-get_or))).live)
 
 -- ---- Entries of lists are written, added and removed.
-pub lists-length : (occ : List (Vec Listed Global)) → length (watch_lists occ) ≡ length occ
-lists-length occ = length-map occ (λ (v : Vec Listed Global). map (λ (x : Listed). x.watch) v.items)
-
-pub entries-here : (occ : List (Vec Listed Global)) (p : ℕ) (v : Vec Listed Global) → p < length occ → v ≡ get_or occ p v → entries_at occ p ≡ v.items
-entries-here occ p v room value = get_or-map (λ (x : Vec Listed Global). x.items) occ p v [] room ∙ ap (λ (x : Vec Listed Global). x.items) (sym value)
+pub lists-length : (occ : List (List Listed)) → length (watch_lists occ) ≡ length occ
+lists-length occ = length-map occ (λ (v : List Listed). map (λ (x : Listed). x.watch) v)
 
 -- the watches of a list are those of its entries
-pub watch-here : (occ : List (Vec Listed Global)) (p : ℕ) (v : Vec Listed Global) → p < length occ → v ≡ get_or occ p v → list_at (watch_lists occ) p ≡ map (λ (x : Listed). x.watch) v.items
-watch-here occ p v room value = get_or-map (λ (x : Vec Listed Global). map (λ (y : Listed). y.watch) x.items) occ p v [] room ∙ ap (λ (x : Vec Listed Global). map (λ (y : Listed). y.watch) x.items) (sym value)
-
-pub watch-entries : (occ : List (Vec Listed Global)) (p : ℕ) → list_at (watch_lists occ) p ≡ map (λ (x : Listed). x.watch) (entries_at occ p)
+pub watch-entries : (occ : List (List Listed)) (p : ℕ) → list_at (watch_lists occ) p ≡ map (λ (x : Listed). x.watch) (entries_at occ p)
 watch-entries [] p = refl
 watch-entries (v ∷ occ) zero = refl
 watch-entries (v ∷ occ) (suc p) = watch-entries occ p
 
 -- an entry's watch is in the list of watches
-pub listed-watch : (occ : List (Vec Listed Global)) (x : Listed) (there : IsListed occ x) → slice_get (list_at (watch_lists occ) there.0) there.1 ≡ Some x.watch
-listed-watch occ x there = grind (arith, watch-entries, slice_get-map, there.0, there.1, there.2)
+pub listed-watch : (occ : List (List Listed)) (x : Listed) (there : IsListed occ x) → slice_get (list_at (watch_lists occ) there.0) there.1 ≡ Some x.watch
+listed-watch occ x there =
+    ap (λ xs. slice_get xs there.1) (watch-entries occ there.0)
+    ∙ (slice_get-map (λ (y : Listed). y.watch) (entries_at occ there.0) there.1 ∙ ap (option_map (λ (y : Listed). y.watch)) there.2)
 
-pub watch-set : (occ : List (Vec Listed Global)) (p : ℕ) (v : Vec Listed Global) (xs : List ℕ) → map (λ (y : Listed). y.watch) v.items ≡ xs → watch_lists (set occ p v) ≡ set (watch_lists occ) p xs
-watch-set occ p v xs now = map-set (λ (x : Vec Listed Global). map (λ (y : Listed). y.watch) x.items) occ p v ∙ ap (set (watch_lists occ) p) now
+pub watch-set : (occ : List (List Listed)) (p : ℕ) (v : List Listed) (xs : List ℕ) → map (λ (y : Listed). y.watch) v ≡ xs → watch_lists (set occ p v) ≡ set (watch_lists occ) p xs
+watch-set occ p v xs now = map-set (λ (x : List Listed). map (λ (y : Listed). y.watch) x) occ p v ∙ ap (set (watch_lists occ) p) now
 
 -- where an element of a changed list was before
 pub set-older : (es : List Listed) (q i : ℕ) (y x : Listed) → slice_get (set es q y) i ≡ Some x → (x ≡ y) ⊎ ((j : ℕ) × (slice_get es j ≡ Some x))
@@ -101,35 +99,82 @@ pub swap-older : (es : List Listed) (q i : ℕ) (d x : Listed) → slice_get (sw
 swap-older es q i d x h = grind (arith, none-some, swap-past, set-older, get-take_less, slice_get-get_or, cases_lt i (length es - 1))
 
 -- each entry of a changed list is an old one or another
-pub list-older : (occ : List (Vec Listed Global)) (p : ℕ) (v v1 : Vec Listed Global) (P : Listed → Type 0) → p < length occ → v ≡ get_or occ p v → ((i : ℕ) (x : Listed) → slice_get v1.items i ≡ Some x → P x ⊎ ((j : ℕ) × (slice_get v.items j ≡ Some x))) → (x : Listed) → IsListed (set occ p v1) x → P x ⊎ IsListed occ x
-list-older occ p v v1 P room value each x there =
-    grind (arith, there.0, there.1, there.2, map-set, get_or-set_at, get_or-set_other, length-map, entries-here, cases_eq there.0 p)
+pub list-older : (occ : List (List Listed)) (p : ℕ) (new : List Listed) (P : Listed → Type 0) → p < length occ → ((i : ℕ) (x : Listed) → slice_get new i ≡ Some x → P x ⊎ ((j : ℕ) × (slice_get (entries_at occ p) j ≡ Some x))) → (x : Listed) → IsListed (set occ p new) x → P x ⊎ IsListed occ x
+list-older occ p new P room each x there = by_case (cases_eq there.0 p)
+  where
+    here : P x ⊎ ((j : ℕ) × (slice_get (entries_at occ p) j ≡ Some x)) → P x ⊎ IsListed occ x
+    here (inl y) = inl y
+    here (inr (j, is)) = inr (p, j, is)
+
+    by_case : (there.0 ≡ p) ⊎ (there.0 ≡ p → ⊥) → P x ⊎ IsListed occ x
+    by_case (inl same) = here (each there.1 x (ap (λ l. slice_get l there.1) (sym (ap (λ l. get_or (set occ p new) l []) same ∙ get_or-set_same occ p new [] room)) ∙ there.2))
+    by_case (inr other) = inr (there.0, there.1, ap (λ l. slice_get l there.1) (sym (get_or-set_other occ p there.0 new [] other)) ∙ there.2)
+
+-- an entry is appended
+pub pushed-more : (occ : List (List Listed)) (p : ℕ) (entry : Listed) → p < length occ → AreMore entry occ (set occ p (entries_at occ p ++ entry ∷ []))
+pushed-more occ p entry room = list-older occ p (entries_at occ p ++ entry ∷ []) (λ x. x ≡ entry) room (λ i x h. push-older (entries_at occ p) i entry x h)
+
+-- an entry is another
+pub set-more : (occ : List (List Listed)) (p i : ℕ) (entry : Listed) → p < length occ → AreMore entry occ (set occ p (set (entries_at occ p) i entry))
+set-more occ p i entry room = list-older occ p (set (entries_at occ p) i entry) (λ x. x ≡ entry) room (λ j x h. set-older (entries_at occ p) i j entry x h)
 
 -- an entry is removed
-pub removed-fewer : (occ : List (Vec Listed Global)) (p : ℕ) (v v1 : Vec Listed Global) (q : ℕ) (d : Listed) → p < length occ → v ≡ get_or occ p v → v1.items ≡ swap_remove v.items q d → AreFewer occ (set occ p v1)
-removed-fewer occ p v v1 q d room value gone x there =
-    grind (arith, there.0, there.1, there.2, map-set, get_or-set_at, get_or-set_other, length-map, entries-here, swap-older, cases_eq there.0 p)
+pub removed-fewer : (occ : List (List Listed)) (p q : ℕ) (d : Listed) → p < length occ → AreFewer occ (set occ p (swap_remove (entries_at occ p) q d))
+removed-fewer occ p q d room x there = only (list-older occ p (swap_remove (entries_at occ p) q d) (λ x. ⊥) room (λ i y h. inr (swap-older (entries_at occ p) q i d y h)) x there)
+  where
+    only : ⊥ ⊎ IsListed occ x → IsListed occ x
+    only (inl never) = absurd never
+    only (inr is) = is
 
-pub removed-watch : (occ : List (Vec Listed Global)) (p : ℕ) (v v1 : Vec Listed Global) (q : ℕ) (d : Listed) → p < length occ → v ≡ get_or occ p v → v1.items ≡ swap_remove v.items q d → watch_lists (set occ p v1) ≡ set (watch_lists occ) p (swap_remove (list_at (watch_lists occ) p) q d.watch)
-removed-watch occ p v v1 q d room value gone = grind (arith, watch-set, d.watch, swap-map, watch-here)
+pub removed-watch : (occ : List (List Listed)) (p q : ℕ) (d : Listed) → watch_lists (set occ p (swap_remove (entries_at occ p) q d)) ≡ set (watch_lists occ) p (swap_remove (list_at (watch_lists occ) p) q d.watch)
+removed-watch occ p q d = watch-set occ p (swap_remove (entries_at occ p) q d) (swap_remove (list_at (watch_lists occ) p) q d.watch) (rw (watch-entries occ p) (swap-map (λ (x : Listed). x.watch) (entries_at occ p) q d))
 
-pub blocked-more : (clauses : List (List ℕ)) (entry : Listed) (old new : List (Vec Listed Global)) → AreMore entry old new → Contains (list_at clauses (entry.watch / 2)) entry.blocker → AreBlocked clauses old → AreBlocked clauses new
+pub blocked-more : (clauses : List (List ℕ)) (entry : Listed) (old new : List (List Listed)) → AreMore entry old new → Contains (list_at clauses (entry.watch / 2)) entry.blocker → AreBlocked clauses old → AreBlocked clauses new
 blocked-more clauses entry old new more here b x there = grind (arith, more x there, b x)
 
+-- an entry that was read from its list
+pub entry-listed : (occ : List (List Listed)) (list : List Listed) (p i : ℕ) (x : Listed) → list ≡ get_or occ p [] → i < length list → x ≡ get_or list i x → IsListed occ x
+entry-listed occ list p i x is inside read = (p, i, slice_get_read (get_or occ p []) _ i x refl (rw is at inside) (rw is at read))
+
+pub entry-watch : (occ : List (List Listed)) (list : List Listed) (p i : ℕ) (x : Listed) → list ≡ get_or occ p [] → i < length list → x ≡ get_or list i x → slice_get (list_at (watch_lists occ) p) i ≡ Some x.watch
+entry-watch occ list p i x is inside read = listed-watch occ x (p, i, slice_get_read (get_or occ p []) _ i x refl (rw is at inside) (rw is at read))
+
+pub list-long : (occ : List (List Listed)) (list : List Listed) (p : ℕ) → list ≡ get_or occ p [] → length list ≡ length (list_at (watch_lists occ) p)
+list-long occ list p is = ap length is ∙ (sym (length-map (entries_at occ p) (λ (x : Listed). x.watch)) ∙ sym (ap length (watch-entries occ p)))
+
+-- the list has ended
+pub list-ended : {X : Type 0} (xs : List X) (i : ℕ) → slice_get xs i ≡ None → length xs ≤ i
+list-ended xs i none =
+    elim (slice_get_cases xs i).1 [
+      | inl some ↦ absurd (none-some some.0 (sym none ∙ some.2))
+      | inr past ↦ past.0
+    ]
+
+-- the watch of the last entry
+pub last-watch : (occ : List (List Listed)) (p q : ℕ) (m : Listed) → q + 1 < length (entries_at occ p) → m ≡ get_or (entries_at occ p) (length (entries_at occ p) - 1) m → (q + 1 < length (list_at (watch_lists occ) p)) × (slice_get (list_at (watch_lists occ) p) (length (list_at (watch_lists occ) p) - 1) ≡ Some m.watch)
+last-watch occ p q m more is =
+    let es = entries_at occ p in
+    let long : length es ≡ length (list_at (watch_lists occ) p) = list-long occ es p refl in (
+      omega (arith, long, more),
+      ap (λ n. slice_get (list_at (watch_lists occ) p) (n - 1)) (sym long) ∙ entry-watch occ es p (length es - 1) m refl (omega (arith, more)) is,
+    )
+
 -- a live watch is that of each entry
-pub listed-live : (ws : List Watch) (occ : List (Vec Listed Global)) (x : Listed) → AreLinked ws (watch_lists occ) → IsListed occ x → (watch_at ws x.watch).live ≡ true
+pub listed-live : (ws : List Watch) (occ : List (List Listed)) (x : Listed) → AreLinked ws (watch_lists occ) → IsListed occ x → (watch_at ws x.watch).live ≡ true
 listed-live ws occ x linked there = (linked.named x.watch there.0 there.1 (listed-watch occ x there)).live
 
 -- one clause is another, which has the blockers of its entries
-pub blocked-set : (clauses : List (List ℕ)) (s : ℕ) (xs : List ℕ) (occ : List (Vec Listed Global)) → s < length clauses → ((x : Listed) → IsListed occ x → x.watch / 2 ≡ s → Contains xs x.blocker) → ((x : Listed) → IsListed occ x → (x.watch / 2 ≡ s → ⊥) → Contains (list_at clauses (x.watch / 2)) x.blocker) → AreBlocked (set clauses s xs) occ
+pub blocked-set : (clauses : List (List ℕ)) (s : ℕ) (xs : List ℕ) (occ : List (List Listed)) → s < length clauses → ((x : Listed) → IsListed occ x → x.watch / 2 ≡ s → Contains xs x.blocker) → ((x : Listed) → IsListed occ x → (x.watch / 2 ≡ s → ⊥) → Contains (list_at clauses (x.watch / 2)) x.blocker) → AreBlocked (set clauses s xs) occ
 blocked-set clauses s xs occ room here others x there = grind (arith, x.watch, x.blocker, get_or-set_same, get_or-set_other, cases_eq (x.watch / 2) s)
 
 -- an entry that is read
-pub watch-read : (occ : List (Vec Listed Global)) (p : ℕ) (v : Vec Listed Global) (i : ℕ) (x : Listed) → p < length occ → v ≡ get_or occ p v → i < length (list_at (watch_lists occ) p) → x ≡ get_or v.items i x → slice_get (list_at (watch_lists occ) p) i ≡ Some x.watch
-watch-read occ p v i x room value inside is = grind (arith, watch-here, slice_get-map, slice_get_read, length-map)
+pub watch-read : (occ : List (List Listed)) (p i : ℕ) (x : Listed) → i < length (list_at (watch_lists occ) p) → x ≡ get_or (entries_at occ p) i x → slice_get (list_at (watch_lists occ) p) i ≡ Some x.watch
+watch-read occ p i x inside is =
+    let long : i < length (entries_at occ p) = omega (arith, inside, ap length (watch-entries occ p), length-map (entries_at occ p) (λ (y : Listed). y.watch)) in
+    listed-watch occ x (p, i, slice_get_read (entries_at occ p) _ i x refl long is)
 
 -- the same watch with another blocker
-pub watch-kept : (occ : List (Vec Listed Global)) (p : ℕ) (v v1 : Vec Listed Global) (i : ℕ) (x : Listed) → p < length occ → v ≡ get_or occ p v → slice_get (list_at (watch_lists occ) p) i ≡ Some x.watch → v1.items ≡ set v.items i x → watch_lists (set occ p v1) ≡ watch_lists occ
-watch-kept occ p v v1 i x room value item now =
-    let was = get_or_from_slice_get (map (λ (y : Listed). y.watch) v.items) i x.watch 0 (rw (watch-here occ p v room value) at item) in
-    grind (arith, watch-set, watch-here, was, map-set, set-get_or, now)
+pub watch-kept : (occ : List (List Listed)) (p i : ℕ) (x : Listed) → slice_get (list_at (watch_lists occ) p) i ≡ Some x.watch → watch_lists (set occ p (set (entries_at occ p) i x)) ≡ watch_lists occ
+watch-kept occ p i x item =
+    let was = get_or_from_slice_get (list_at (watch_lists occ) p) i x.watch 0 item in
+    grind (arith, watch-set, watch-entries, was, map-set, set-get_or)

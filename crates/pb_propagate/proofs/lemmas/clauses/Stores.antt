@@ -1,7 +1,7 @@
 -- Clauses are added and removed.
-use Rattle.pb_propagate.proofs.Common.{ℕ, ◌*◌, ◌++◌, ◌+◌, ◌/◌, ◌<◌, ◌∙◌, ◌∷◌, ◌≡◌, ◌≤◌, ◌⊎◌, [], ap, arith, Bool, false, get_or, get_or-set_other, Global}
-use Rattle.pb_propagate.proofs.Common.{length, length-set, List, map, refl, set, sym, true, Vec, All, Contains, Option, nat_tests, set-get_or, both_ways}
-use Rattle.pb_propagate.proofs.Common.{cases_Bool, cases_eq, get_or_past, map-append, Contains-get_or, Clauses, Listed, Watch, Pair, Search, begun, Contents}
+use Rattle.pb_propagate.proofs.Common.{ℕ, ◌*◌, ◌++◌, ◌+◌, ◌/◌, ◌<◌, ◌∙◌, ◌∷◌, ◌≡◌, ◌≤◌, ◌⊎◌, [], ap, arith, Bool, false, get_or, get_or-set_other}
+use Rattle.pb_propagate.proofs.Common.{length, length-set, List, map, refl, set, sym, true, All, Contains, Option, nat_tests, set-get_or, both_ways}
+use Rattle.pb_propagate.proofs.Common.{cases_Bool, cases_eq, get_or_past, Contains-get_or, Clauses, Listed, Watch, Pair, Search, begun, Contents}
 use Rattle.pb_propagate.proofs.Common.{AreBlocked, AreFewer, AreLinked, AreMore, entries_at, list_at, IsRenewed, IsSameWatch, watch_at, watch_lists, AreReady}
 use Rattle.pb_propagate.proofs.Common.{AreStored, IsPair, IsRunning, search_at, length-map}
 use Rattle.pb_propagate.proofs.lemmas.{clauses.Literals.flip-half, clauses.Visited.passed-at, clauses.Visited.round-inside, store.Gets.push-default}
@@ -15,12 +15,12 @@ stored-same : {clauses clauses' : List (List ℕ)} {ws ws' : List Watch} {ls ls'
 stored-same same same_w same_l pairs longer r = grind (arith, r.linked.sits, r.linked.named, r.linked.small, r.watched, r.paired, r.apart, r.full, r.inside)
 
 pub rest-same : (c c' : Clauses) → AreReady c → ((s : ℕ) → list_at c'.blocks.literals s ≡ list_at c.blocks.literals s) →
-    ((e : ℕ) → watch_at c'.blocks.watches e ≡ watch_at c.blocks.watches e) → ((l : ℕ) → entries_at c'.lists.items l ≡ entries_at c.lists.items l) →
+    ((e : ℕ) → watch_at c'.blocks.watches e ≡ watch_at c.blocks.watches e) → ((l : ℕ) → entries_at c'.lists l ≡ entries_at c.lists l) →
     ((s : ℕ) → search_at c'.blocks.searches s ≡ search_at c.blocks.searches s) → length c'.blocks.watches ≡ 2 * length c'.blocks.literals →
-    length c.lists.items ≤ length c'.lists.items → length c'.blocks.searches ≡ length c'.blocks.literals → AreReady c'
+    length c.lists ≤ length c'.lists → length c'.blocks.searches ≡ length c'.blocks.literals → AreReady c'
 rest-same c c' r same same_w same_l same_s pairs longer sizes =
-    let listed : (l : ℕ) → list_at (watch_lists c'.lists.items) l ≡ list_at (watch_lists c.lists.items) l = λ l.
-    watch-entries c'.lists.items l ∙ ap (map (λ (x : Listed). x.watch)) (same_l l) ∙ sym (watch-entries c.lists.items l) in
+    let listed : (l : ℕ) → list_at (watch_lists c'.lists) l ≡ list_at (watch_lists c.lists) l = λ l.
+    watch-entries c'.lists l ∙ ap (map (λ (x : Listed). x.watch)) (same_l l) ∙ sym (watch-entries c.lists l) in
     record {
       stored = stored-same same same_w listed pairs (omega (arith, longer, lists-length)) r.stored;
       blocked = λ x there. rw (same (x.watch / 2)) (r.blocked x (there.0, there.1, rw (same_l there.0) at there.2));
@@ -30,9 +30,8 @@ rest-same c c' r same same_w same_l same_s pairs longer sizes =
     }
 
 -- one more empty list
-pub lists-push : (occ : List (Vec Listed Global)) (v : Vec Listed Global) {occ' : List (Vec Listed Global)} → occ' ≡ occ ++ (v ∷ []) → v.items ≡ [] → (l : ℕ) →
-    entries_at occ' l ≡ entries_at occ l
-lists-push occ v pushed none l = rw (pushed, map-append, none, push-default) refl
+pub lists-push : (occ : List (List Listed)) {occ' : List (List Listed)} → occ' ≡ occ ++ [] ∷ [] → (l : ℕ) → entries_at occ' l ≡ entries_at occ l
+lists-push occ pushed l = rw pushed (push-default occ l [])
 
 -- only the room in blocks is another
 pub rest-fit : (c : Clauses) (b : Contents) → AreReady c → b.literals ≡ c.blocks.literals → b.searches ≡ c.blocks.searches → b.watches ≡ c.blocks.watches →
@@ -76,11 +75,11 @@ module _ {c : Clauses} {s : ℕ} (r : AreReady c) (room : s < length c.blocks.li
   -- The slot has another clause, or none. Its watches are live, on two different literals of the clause, or both are dead.
   rest-set : {c' : Clauses} (xs : List ℕ) {v w : Watch} (q : Search) → c'.blocks.literals ≡ set c.blocks.literals s xs →
       c'.blocks.searches ≡ set c.blocks.searches s q → q.passed ≡ 0 → (0 < length xs → q.position < length xs) →
-      AreLinked c'.blocks.watches (watch_lists c'.lists.items) → length c'.blocks.watches ≡ length c.blocks.watches → length c'.lists.items ≡ length c.lists.items →
-      All (λ z. z < length c.lists.items) xs → watch_at c'.blocks.watches (2 * s) ≡ v → watch_at c'.blocks.watches (2 * s + 1) ≡ w → (0 < length xs → v.live ≡ true) →
+      AreLinked c'.blocks.watches (watch_lists c'.lists) → length c'.blocks.watches ≡ length c.blocks.watches → length c'.lists ≡ length c.lists →
+      All (λ z. z < length c.lists) xs → watch_at c'.blocks.watches (2 * s) ≡ v → watch_at c'.blocks.watches (2 * s + 1) ≡ w → (0 < length xs → v.live ≡ true) →
       w.live ≡ v.live → (v.live ≡ true → Contains xs v.literal × Contains xs w.literal × (v.literal ≡ w.literal → ⊥)) →
       ((k : ℕ) → (k / 2 ≡ s → ⊥) → IsSameWatch (watch_at c.blocks.watches k) (watch_at c'.blocks.watches k)) →
-      AreBlocked (set c.blocks.literals s xs) c'.lists.items → AreReady c'
+      AreBlocked (set c.blocks.literals s xs) c'.lists → AreReady c'
   rest-set {c'} xs q filled searching none begins linked sizes sizes_l small is_v is_w full paired two same blocked = record {
     stored = rw filled (record {
       linked = linked;
@@ -98,32 +97,32 @@ module _ {c : Clauses} {s : ℕ} (r : AreReady c) (room : s < length c.blocks.li
   }
 
   -- a clause, of which two literals are watched
-  pub rest-fill : (lists1 : Vec (Vec Listed Global) Global) {lists' : Vec (Vec Listed Global) Global} {b : Contents} {x y : ℕ} (i j : ℕ) {xs : List ℕ} {p : Pair} →
-      list_at c.blocks.literals s ≡ [] → IsPair xs p → x ≡ get_or xs p.first 0 → y ≡ get_or xs p.second 0 → All (λ z. z < length c.lists.items) xs →
-      b.literals ≡ set c.blocks.literals s xs → b.searches ≡ set c.blocks.searches s begun → length lists'.items ≡ length c.lists.items →
-      b.watches ≡ set (set c.blocks.watches (2 * s) (on x i)) (2 * s + 1) (on y j) → AreLinked b.watches (watch_lists lists'.items) →
-      AreMore (record { watch = 2 * s; blocker = y }) c.lists.items lists1.items → AreMore (record { watch = 2 * s + 1; blocker = x }) lists1.items lists'.items →
+  pub rest-fill : (lists1 : List (List Listed)) {lists' : List (List Listed)} {b : Contents} {x y : ℕ} (i j : ℕ) {xs : List ℕ} {p : Pair} →
+      list_at c.blocks.literals s ≡ [] → IsPair xs p → x ≡ get_or xs p.first 0 → y ≡ get_or xs p.second 0 → All (λ z. z < length c.lists) xs →
+      b.literals ≡ set c.blocks.literals s xs → b.searches ≡ set c.blocks.searches s begun → length lists' ≡ length c.lists →
+      b.watches ≡ set (set c.blocks.watches (2 * s) (on x i)) (2 * s + 1) (on y j) → AreLinked b.watches (watch_lists lists') →
+      AreMore (record { watch = 2 * s; blocker = y }) c.lists lists1 → AreMore (record { watch = 2 * s + 1; blocker = x }) lists1 lists' →
       AreReady (record { blocks = b; lists = lists' })
   rest-fill lists1 {lists'} {b} {x} {y} i j {xs} {p} empty pair is_x is_y inside filled searching sizes both linked more_1 more_2 =
       let first : watch_at b.watches (2 * s) ≡ on x i = grind (arith, both, r.stored.pairs, get_or-set_at, get_or-set_other, length-set) in
       let second : watch_at b.watches (2 * s + 1) ≡ on y j = grind (arith, both, r.stored.pairs, get_or-set_at, length-set) in
       let x_in : Contains xs x = rw is_x (Contains-get_or xs p.first 0 pair.first) in
       let y_in : Contains xs y = rw is_y (Contains-get_or xs p.second 0 pair.second) in
-      let old = blocked-set c.blocks.literals s xs c.lists.items room (λ e there is. absurd (both_ways _ (empty-dead _ _ _ s e.watch r.stored empty is)
-      (listed-live c.blocks.watches c.lists.items e r.stored.linked there))) (λ e there off. r.blocked e there) in
+      let old = blocked-set c.blocks.literals s xs c.lists room (λ e there is. absurd (both_ways _ (empty-dead _ _ _ s e.watch r.stored empty is)
+      (listed-live c.blocks.watches c.lists e r.stored.linked there))) (λ e there off. r.blocked e there) in
       rest-set xs begun filled searching refl (λ some. some) linked (rw both (omega (arith, length-set {A = Watch}))) sizes inside
       first second (λ some. refl) refl (λ live. (x_in, y_in, rw (is_x, is_y) pair.apart)) (λ k off. rw both (grind (arith, get_or-set_other, off)))
-      (blocked-more _ _ lists1.items _ more_2 (grind (arith, x_in, room, get_or-set_at))
-      (blocked-more _ _ c.lists.items _ more_1 (grind (arith, y_in, room, get_or-set_at)) old))
+      (blocked-more _ _ lists1 _ more_2 (grind (arith, x_in, room, get_or-set_at))
+      (blocked-more _ _ c.lists _ more_1 (grind (arith, y_in, room, get_or-set_at)) old))
 
   -- none
-  pub rest-cleared : {b : Contents} {lists' : Vec (Vec Listed Global) Global} → b.literals ≡ set c.blocks.literals s [] → b.searches ≡ c.blocks.searches →
-      AreLinked b.watches (watch_lists lists'.items) → length b.watches ≡ length c.blocks.watches → length lists'.items ≡ length c.lists.items →
-      (watch_at b.watches (2 * s)).live ≡ false → (watch_at b.watches (2 * s + 1)).live ≡ false → AreFewer c.lists.items lists'.items →
+  pub rest-cleared : {b : Contents} {lists' : List (List Listed)} → b.literals ≡ set c.blocks.literals s [] → b.searches ≡ c.blocks.searches →
+      AreLinked b.watches (watch_lists lists') → length b.watches ≡ length c.blocks.watches → length lists' ≡ length c.lists →
+      (watch_at b.watches (2 * s)).live ≡ false → (watch_at b.watches (2 * s + 1)).live ≡ false → AreFewer c.lists lists' →
       ((k : ℕ) → (k / 2 ≡ s → ⊥) → IsSameWatch (watch_at c.blocks.watches k) (watch_at b.watches k)) → AreReady (record { blocks = b; lists = lists' })
   rest-cleared {b} {lists'} vacated searching linked sizes sizes_l dead_1 dead_2 fewer same =
       rest-set [] (search_at c.blocks.searches s) vacated (searching ∙ sym (set-get_or c.blocks.searches s begun)) (sym (passed-at c.blocks.searches s) ∙ r.none s)
       (λ h. absurd (omega (arith, h))) linked sizes sizes_l (λ k d h. absurd (omega (arith, h)))
       refl refl (λ h. absurd (omega (arith, h))) (dead_2 ∙ sym dead_1) (λ live. absurd (both_ways _ dead_1 live)) same
-      (blocked-set c.blocks.literals s [] lists'.items room (λ e there is. absurd (both_ways (watch_at b.watches e.watch).live
-      (grind (arith, two-of e.watch s is, dead_1, dead_2)) (listed-live b.watches lists'.items e linked there))) (λ e there off. r.blocked e (fewer e there)))
+      (blocked-set c.blocks.literals s [] lists' room (λ e there is. absurd (both_ways (watch_at b.watches e.watch).live
+      (grind (arith, two-of e.watch s is, dead_1, dead_2)) (listed-live b.watches lists' e linked there))) (λ e there off. r.blocked e (fewer e there)))

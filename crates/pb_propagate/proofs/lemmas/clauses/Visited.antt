@@ -3,8 +3,8 @@ use Rattle.pb_propagate.proofs.Common.{ℕ, ◌*◌, ◌+◌, ◌/◌, ◌<◌, 
 use Rattle.pb_propagate.proofs.Common.{subst, sym, take, take-append-drop, true, Option, nat_tests, All, All-contains, Contains, Contains-append_cases, true_at}
 use Rattle.pb_propagate.proofs.Common.{Contains-append_left, Contains-append_right, get_or-append_right, get_or-drop, get_or-take, get_or_append_left, Clauses}
 use Rattle.pb_propagate.proofs.Common.{Search, Watch, AreStored, around, flip, IsRound, IsRunning, list_at, passed_of, search_at, turned, watch_at, watch_lists}
-use Rattle.pb_propagate.proofs.Common.{AreWithin, map-set, set, sum, rules, ◌∙◌, ◌⊎◌, sum_by-set, both_ways, cases_eq, cases_lt, false, get_or_default, Global}
-use Rattle.pb_propagate.proofs.Common.{get_or-set_other, get_or-set_same, length-map, length-set, min, refl, Vec, Contains-get_or, slice_get, Some, Listed}
+use Rattle.pb_propagate.proofs.Common.{AreWithin, map-set, set, sum, rules, ◌∙◌, ◌⊎◌, sum_by-set, both_ways, cases_eq, cases_lt, false, get_or_default}
+use Rattle.pb_propagate.proofs.Common.{get_or-set_other, get_or-set_same, length-map, length-set, min, refl, Contains-get_or, slice_get, Some, Listed}
 use Rattle.pb_propagate.proofs.Common.{Falsified, Forces, Leaves, Stays, rewatched, searched, AreLinked, AreMore, Remains, Sits, AreBlocked, HasVisited, IsUnit}
 use Rattle.{pb_propagate.proofs.Common.IsBroken, pb_propagate.proofs.Common.false_at, std.proofs.Math.ListN.get_or-map, std.proofs.lemmas.Grind.get_or-set_at}
 use Rattle.pb_propagate.proofs.lemmas.clauses.Literals.{flip-half, flip-apart, flip-flip}
@@ -48,7 +48,7 @@ slot-within clauses ws ls e stored live = grind (arith, sits-within, stored.pair
 
 -- a literal of a clause is one of those that have lists
 pub running-inside : {c : Clauses} {values : List (Option Bool)} → IsRunning values c → (s : ℕ) → All (λ x. x < 4 * length values) (list_at c.blocks.literals s)
-running-inside {c} run s = λ k d h. omega (arith, run.stored.inside s k d h, lists-length c.lists.items, run.sizes)
+running-inside {c} run s = λ k d h. omega (arith, run.stored.inside s k d h, lists-length c.lists, run.sizes)
 
 pub running-small : {c : Clauses} {values : List (Option Bool)} (s x : ℕ) → IsRunning values c → Contains (list_at c.blocks.literals s) x → x < 4 * length values
 running-small {c} {values} s x run there = All-contains (λ y. y < 4 * length values) (list_at c.blocks.literals s) x (running-inside run s) there
@@ -57,7 +57,7 @@ running-small {c} {values} s x run there = All-contains (λ y. y < 4 * length va
 module _ {c : Clauses} {values : List (Option Bool)} (run : IsRunning values c) (e : ℕ) (live : (watch_at c.blocks.watches e).live ≡ true) where
   pub entry-slot : (e / 2 < length c.blocks.literals) × (e / 2 < length (passed_of c))
   entry-slot =
-      let inside = slot-within c.blocks.literals c.blocks.watches (watch_lists c.lists.items) e run.stored live in
+      let inside = slot-within c.blocks.literals c.blocks.watches (watch_lists c.lists) e run.stored live in
       (inside, omega (arith, inside, run.passed.sizes))
 
   pub entry-round : IsRound (get_or run.starts (e / 2) 0) (search_at c.blocks.searches (e / 2)) (length (list_at c.blocks.literals (e / 2)))
@@ -85,7 +85,7 @@ ordered {c} run e = turned (start_of run e) (clause_of c e)
 pub record IsSought (c : Clauses) (values : List (Option Bool)) (l index e other : ℕ) (stop : Search) (v0 v1 : ℕ) : Type 0 where
   pub run : IsRunning values c
   pub failed : false_at values l ≡ true
-  pub item : slice_get (list_at (watch_lists c.lists.items) l) index ≡ Some e
+  pub item : slice_get (list_at (watch_lists c.lists) l) index ≡ Some e
   pub other_is : other ≡ (watch_at c.blocks.watches (flip e)).literal
   pub within : ((search_of c e).passed ≤ stop.passed) × (stop.passed ≤ length (clause_of c e))
   pub round : (start : ℕ) → IsRound start (search_of c e) (length (clause_of c e)) → IsRound start stop (length (clause_of c e))
@@ -96,18 +96,18 @@ pub record IsSought (c : Clauses) (values : List (Option Bool)) (l index e other
       (false_at values (get_or (clause_of c e) stop.position d) ≡ false) × (get_or (clause_of c e) stop.position d ≡ other → ⊥)
 
 -- the watch has moved to another literal
-pub record HasMoved (c : Clauses) (index e other x : ℕ) (ws : List Watch) (lists' : Vec (Vec Listed Global) Global) : Type 0 where
-  pub linked : AreLinked ws (watch_lists lists'.items)
+pub record HasMoved (c : Clauses) (index e other x : ℕ) (ws : List Watch) (lists' : List (List Listed)) : Type 0 where
+  pub linked : AreLinked ws (watch_lists lists')
   pub moved : ((watch_at ws e).literal ≡ x) × ((watch_at ws e).live ≡ true)
   pub others : (k : ℕ) → (k ≡ e → ⊥) → Remains index (watch_at c.blocks.watches k) (watch_at ws k)
-  pub sizes : (length ws ≡ length c.blocks.watches) × (length lists'.items ≡ length c.lists.items)
-  pub more : AreMore (record { watch = e; blocker = other }) c.lists.items lists'.items
+  pub sizes : (length ws ≡ length c.blocks.watches) × (length lists' ≡ length c.lists)
+  pub more : AreMore (record { watch = e; blocker = other }) c.lists lists'
 
 -- each clause has two watches, once one of them has moved to another literal of its clause
-stored-move : {c : Clauses} {index e other x : ℕ} {ws : List Watch} {lists' : Vec (Vec Listed Global) Global} → AreStored c.blocks.literals c.blocks.watches
-    (watch_lists c.lists.items) → (watch_at c.blocks.watches e).live ≡ true →
+stored-move : {c : Clauses} {index e other x : ℕ} {ws : List Watch} {lists' : List (List Listed)} → AreStored c.blocks.literals c.blocks.watches
+    (watch_lists c.lists) → (watch_at c.blocks.watches e).live ≡ true →
     Contains (clause_of c e) x → (x ≡ (watch_at c.blocks.watches (flip e)).literal → ⊥) → HasMoved c index e other x ws lists' →
-    AreStored c.blocks.literals ws (watch_lists lists'.items)
+    AreStored c.blocks.literals ws (watch_lists lists')
 stored-move {c} {index} {e} {other} {x} {ws} {lists'} old on there away m = record {
   linked = m.linked;
   pairs = m.sizes.0 ∙ old.pairs;
@@ -118,7 +118,7 @@ stored-move {c} {index} {e} {other} {x} {ws} {lists'} old on there away m = reco
   paired = λ k live. grind (arith, cases_eq k e, cases_eq (flip k) e, m.others k, m.others (flip k), flip-apart, old.paired k, m.moved.1, on);
   apart = λ k live h. grind (arith, cases_eq k e, cases_eq (flip k) e, m.others k, m.others (flip k), flip-apart, flip-flip, old.apart k, m.moved, on, away, h);
   full = λ t some. grind (arith, cases_eq (2 * t) e, m.others (2 * t), old.full t, m.moved.1);
-  inside = λ t k d h. omega (arith, old.inside t k d h, lists-length lists'.items, lists-length c.lists.items, m.sizes.1);
+  inside = λ t k d h. omega (arith, old.inside t k d h, lists-length lists', lists-length c.lists, m.sizes.1);
 }
 
 -- a watch and the other one of its slot
@@ -141,9 +141,9 @@ module _ {c : Clauses} {values : List (Option Bool)} {l index e other : ℕ} {st
       grind (arith, cases_lt k (search_of c e).passed, s.run.passed.each (e / 2) k d, passed, passed-at c.blocks.searches (e / 2), halves e, s.other_is)
 
   -- the searches and watches, once that of the clause has gone on, and a watch may have moved
-  resumed : {ws : List Watch} {lists' : Vec (Vec Listed Global) Global} (next : Search) → IsRound (start_of s.run e) next (length (clause_of c e)) →
+  resumed : {ws : List Watch} {lists' : List (List Listed)} (next : Search) → IsRound (start_of s.run e) next (length (clause_of c e)) →
       next.passed ≤ length (clause_of c e) →
-      AreStored c.blocks.literals ws (watch_lists lists'.items) → AreBlocked c.blocks.literals lists'.items → length lists'.items ≡ length c.lists.items →
+      AreStored c.blocks.literals ws (watch_lists lists') → AreBlocked c.blocks.literals lists' → length lists' ≡ length c.lists →
       ((t x : ℕ) → IsPassed values c.blocks.watches t x → IsPassed values ws t x) →
       ((k d : ℕ) → stop.passed ≤ k → k < next.passed → IsPassed values ws (e / 2) (get_or (ordered s.run e) k d)) →
       IsRunning values (record { blocks = rewatched (searched c.blocks (e / 2) next) ws; lists = lists' })
@@ -207,7 +207,7 @@ module _ {c : Clauses} {values : List (Option Bool)} {l index e other : ℕ} {st
   -- the watch has moved
   module _ (less : stop.passed < length (clause_of c e)) {next : Search} (round : IsRound (start_of s.run e) next (length (clause_of c e)))
       (one : next.passed ≡ stop.passed + 1)
-      {ws : List Watch} {lists' : Vec (Vec Listed Global) Global} (m : HasMoved c index e other (get_or (clause_of c e) stop.position 0) ws lists') where
+      {ws : List Watch} {lists' : List (List Listed)} (m : HasMoved c index e other (get_or (clause_of c e) stop.position 0) ws lists') where
     inside : stop.position < length (clause_of c e)
     inside = round-inside (start_of s.run e) stop (length (clause_of c e)) stopped s.within.1
 
@@ -222,12 +222,12 @@ module _ {c : Clauses} {values : List (Option Bool)} {l index e other : ℕ} {st
       | inr n ↦ m.others k n
     ]
 
-    pub visited-leaves : length (list_at (watch_lists lists'.items) l) + 1 ≡ length (list_at (watch_lists c.lists.items) l) →
+    pub visited-leaves : length (list_at (watch_lists lists') l) + 1 ≡ length (list_at (watch_lists c.lists) l) →
         HasVisited values c (record { blocks = rewatched (searched c.blocks (e / 2) next) ws; lists = lists' }) l index Leaves
     visited-leaves shorter = record {
       lists = m.sizes.1;
       running = resumed next round (omega (arith, one, less)) (stored-move s.run.stored was.live (Contains-get_or (clause_of c e) stop.position 0 inside)
-          (λ h. (s.found less 0).1 (h ∙ sym s.other_is)) m) (blocked-more c.blocks.literals (record { watch = e; blocker = other }) c.lists.items lists'.items m.more
+          (λ h. (s.found less 0).1 (h ∙ sym s.other_is)) m) (blocked-more c.blocks.literals (record { watch = e; blocker = other }) c.lists lists' m.more
           (rw s.other_is (other-watched s.run e was.live)) s.run.blocked) m.sizes.1 still (λ k d at now.
           let place : k ≡ stop.passed = omega (arith, at, now, one) in
           let next_is = turned-round (start_of s.run e) stop (clause_of c e) d stopped less ∙ get_or_default (clause_of c e) stop.position d 0 inside in
@@ -245,15 +245,15 @@ module _ {c : Clauses} {values : List (Option Bool)} {l index e other : ℕ} {st
     }
 
 -- an entry has another blocker, a literal of its clause
-pub running-blocked : (c : Clauses) (values : List (Option Bool)) (entry : Listed) (lists' : Vec (Vec Listed Global) Global) → IsRunning values c → watch_lists lists'.items ≡ watch_lists c.lists.items → AreMore entry c.lists.items lists'.items → Contains (list_at c.blocks.literals (entry.watch / 2)) entry.blocker → IsRunning values (record { blocks = c.blocks; lists = lists' })
+pub running-blocked : (c : Clauses) (values : List (Option Bool)) (entry : Listed) (lists' : List (List Listed)) → IsRunning values c → watch_lists lists' ≡ watch_lists c.lists → AreMore entry c.lists lists' → Contains (list_at c.blocks.literals (entry.watch / 2)) entry.blocker → IsRunning values (record { blocks = c.blocks; lists = lists' })
 running-blocked c values entry lists' run same more here =
-    let blocked = blocked-more c.blocks.literals entry c.lists.items lists'.items more here run.blocked in
-    let sizes : length lists'.items ≡ 4 * length values = omega (arith, run.sizes, lists-length c.lists.items, lists-length lists'.items, ap length same) in
+    let blocked = blocked-more c.blocks.literals entry c.lists lists' more here run.blocked in
+    let sizes : length lists' ≡ 4 * length values = omega (arith, run.sizes, lists-length c.lists, lists-length lists', ap length same) in
     record { starts = run.starts; stored = rw same run.stored; blocked = blocked; passed = run.passed; round = run.round; sizes = sizes }
 
 -- a true literal of the clause was read
-pub visited-stays : (c : Clauses) (values : List (Option Bool)) (l index e x : ℕ) (lists' : Vec (Vec Listed Global) Global) →
-    IsRunning values (record { blocks = c.blocks; lists = lists' }) → watch_lists lists'.items ≡ watch_lists c.lists.items →
-    slice_get (list_at (watch_lists c.lists.items) l) index ≡ Some e → Contains (clause_of c e) x → true_at values x ≡ true →
+pub visited-stays : (c : Clauses) (values : List (Option Bool)) (l index e x : ℕ) (lists' : List (List Listed)) →
+    IsRunning values (record { blocks = c.blocks; lists = lists' }) → watch_lists lists' ≡ watch_lists c.lists →
+    slice_get (list_at (watch_lists c.lists) l) index ≡ Some e → Contains (clause_of c e) x → true_at values x ≡ true →
     HasVisited values c (record { blocks = c.blocks; lists = lists' }) l index Stays
 visited-stays c values l index e x lists' run same item here met = search (rules, lists-length, served-true, run.stored.linked)

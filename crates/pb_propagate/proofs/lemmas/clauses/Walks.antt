@@ -1,5 +1,5 @@
 -- The walk over the watches of a falsified literal.
-use Rattle.pb_propagate.proofs.{Common.Database, Common.passed_of, Common.sum, lemmas.clauses.Literals.Agree, lemmas.clauses.Literals.true-listed}
+use Rattle.pb_propagate.proofs.{Common.Database, Common.min, Common.passed_of, Common.sum, lemmas.clauses.Literals.Agree, lemmas.clauses.Literals.true-listed}
 use Rattle.pb_propagate.proofs.Common.{ℕ, ◌++◌, ◌+◌, ◌-◌, ◌/◌, ◌<◌, ◌^◌, ◌∙◌, ◌∷◌, ◌≡◌, ◌≤◌, [], ap, arith, Bool, length, rules, length-append, List, refl}
 use Rattle.pb_propagate.proofs.Common.{subst, sym, true, Option, Contains-push_cases, slice_get, slice_get_within, Some, NumberedLiteral, Clauses, Watch}
 use Rattle.pb_propagate.proofs.Common.{Forces, AreLinked, list_at, watch_at, watch_lists, AreServed, AreWalked, Grows, HasTrue, HasVisited, index_after}
@@ -47,21 +47,21 @@ pub served-true : (values : List (Option Bool)) (clauses : List (List ℕ)) (ws 
 served-true values clauses ws ls walked l index e linked item met s = grind (arith, linked.sits, item, met, s.failed, s.now, s.done, s.here)
 
 -- at the end of the list
-pub walked-end : (values : List (Option Bool)) (c : Clauses) (walked : List ℕ) (l index : ℕ) → AreLinked c.blocks.watches (watch_lists c.lists.items) → length (list_at (watch_lists c.lists.items) l) ≤ index → AreServed values c.blocks.literals c.blocks.watches walked l index → AreWalked values c.blocks.literals c.blocks.watches (walked ++ (l ∷ []))
+pub walked-end : (values : List (Option Bool)) (c : Clauses) (walked : List ℕ) (l index : ℕ) → AreLinked c.blocks.watches (watch_lists c.lists) → length (list_at (watch_lists c.lists) l) ≤ index → AreServed values c.blocks.literals c.blocks.watches walked l index → AreWalked values c.blocks.literals c.blocks.watches (walked ++ (l ∷ []))
 walked-end values c walked l index linked end s = record {
   failed = λ x h. grind (arith, Contains-push_cases walked l x h, s.failed x, s.now);
   done = λ e live h.
       let w = watch_at c.blocks.watches e in
-      grind (arith, live, Contains-push_cases walked l w.literal h, s.done e, s.here e, linked.sits e l w.spot, slice_get_within (list_at (watch_lists c.lists.items) l) w.spot e, end);
+      grind (arith, live, Contains-push_cases walked l w.literal h, s.done e, s.here e, linked.sits e l w.spot, slice_get_within (list_at (watch_lists c.lists) l) w.spot e, end);
 }
 
 -- a walk in progress
 pub record IsWalking (d : Database) (c0 c : Clauses) (l index : ℕ) (start now : Progress) : Type 0 where
   pub literals : c.blocks.literals ≡ c0.blocks.literals
-  pub sizes : length c.lists.items ≡ length c0.lists.items
+  pub sizes : length c.lists ≡ length c0.lists
   pub running : IsRunning now.values c
   pub failed : false_at now.values l ≡ true
-  pub within : index ≤ length (list_at (watch_lists c.lists.items) l)
+  pub within : index ≤ length (list_at (watch_lists c.lists) l)
   pub served : (walked : List ℕ) → AreServed start.values c0.blocks.literals c0.blocks.watches walked l 0 → AreServed now.values c.blocks.literals c.blocks.watches walked l index
   pub grows : Grows start.values now.values
   pub kept : KeepsWalked start.values c0 c
@@ -89,6 +89,12 @@ module _ {d : Database} {c0 c : Clauses} {l index : ℕ} {start now : Progress} 
       IsWalking d c0 c l j start (record now { visits = seen })
   walking-pass j seen after within few served rising =
       search (rules, w.literals, w.sizes, w.running, w.failed, w.served, w.grows, w.kept, w.found, walk-pass d c0 c l index j seen after within few rising w.advances)
+
+  -- watches that are passed, and the one after them, which is read
+  pub walking-met : (j seen : ℕ) → index ≤ j → j ≤ size_at c l → ((walked : List ℕ) → IsServedTo now.values c walked l index → IsServedTo now.values c walked l j) → now.visits ≤ seen → seen ≡ min (now.visits + (j - index + 1)) (2 ^ 64 - 1) →
+      IsWalking d c0 c l j start (record now { visits = min (now.visits + (j - index)) (2 ^ 64 - 1) })
+  walking-met j seen after within served rising is =
+      walking-pass j (min (now.visits + (j - index)) (2 ^ 64 - 1)) after within (omega arith) served (omega (arith, rising, is))
 
   -- a visit, and the literal that it forces
   pub walking-forces : (c' : Clauses) (seen : ℕ) (f : Forced) (after : Progress) →

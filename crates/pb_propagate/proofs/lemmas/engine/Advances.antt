@@ -77,7 +77,7 @@ advances-visit d p seen m n rising most = advances-counted d p p.candidates seen
 
 -- the length of a literal's list of watches
 abbrev pub size_at : Clauses → ℕ → ℕ
-size_at c l = length (list_at (watch_lists c.lists.items) l)
+size_at c l = length (list_at (watch_lists c.lists) l)
 
 -- two visits are left for each watch from a position on
 abbrev pub WalkIsAt : Database → Clauses → Clauses → ℕ → ℕ → Progress → Progress → Type 0

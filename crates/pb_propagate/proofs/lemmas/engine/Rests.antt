@@ -3,7 +3,7 @@ use Rattle.pb_propagate.proofs.Common.{one_in, terms_in, form_at, IsAbsent, ℕ,
 use Rattle.pb_propagate.proofs.{Common.eqb-true, lemmas.clauses.Shapes.AreJoined-push, lemmas.engine.Bridge.AreKept, lemmas.engine.Literals.get_or-push_default}
 use Rattle.pb_propagate.proofs.Common.{length, length-append, List, map, None, refl, set, subst, suc, sym, take, true, zero, Contains, Option, slice_get, Some}
 use Rattle.pb_propagate.proofs.Common.{take-append_seam, length-map, map-append, Contains-append_left, Contains-push_cases, Form, StoredForm, AreJoined, ne_eqb}
-use Rattle.pb_propagate.proofs.Common.{shapes_of, stored_shape, IsStoredAs, Shape, Live, AreSlots, IsSlot, With, ◌*◌, ◌/◌, Global, rules, Vec, sum_by_push, ◌≤◌}
+use Rattle.pb_propagate.proofs.Common.{shapes_of, stored_shape, IsStoredAs, Shape, Live, AreSlots, IsSlot, With, ◌*◌, ◌/◌, rules, sum_by_push, ◌≤◌}
 use Rattle.pb_propagate.proofs.Common.{Occurrence, entries_of, AreCrossed, IsLinked, IsStored, Weighted, sum_by-set, joined, one_term, slot_shape, entry_of}
 use Rattle.pb_propagate.{proofs.Common.Cross, proofs.Common.eqb, proofs.Common.list_any, specs.engine.engine.Rest.no_slots, specs.engine.engine.Rest.add_slot}
 use Rattle.pb_propagate.proofs.Common.{slice_get-get_or, slice_get_within, length-set, get_or-set_other, Contains-push, length_permutation, sum_by, sum_by-cons}
@@ -114,8 +114,8 @@ crossed-entries f g g' e old s i p q w = (λ h. e p q ∙ (old s i p q w).0 h, �
 pub stored-push : (forms : List Shape) (spots : List (List ℕ)) (lists : List (List Weighted)) → IsLinked forms spots lists → IsLinked forms spots (lists ++ ([] ∷ []))
 stored-push forms spots lists old = search (rules, get_or-push_default, old.linked, sum_by_push, old.totals, crossed-entries, old.crossed, old.sizes)
 
-pub widened-stored : (forms : List Shape) (spots : List (List ℕ)) (occ occ1 occ2 : List (Vec Occurrence Global)) (u v : Vec Occurrence Global) (n m : ℕ) → occ1 ≡ occ ++ (u ∷ []) → occ2 ≡ occ1 ++ (v ∷ []) → u.items ≡ [] → v.items ≡ [] → m ≡ n + 1 → IsStored forms spots (entries_of forms occ) n → IsStored forms spots (entries_of forms occ2) m
-widened-stored forms spots occ occ1 occ2 u v n m one two a b more old = grind (arith, map-append, stored-push, old.whole, get_or-push_default, old.named, old.places, length-append, old.inside, old.rooms)
+pub widened-stored : (forms : List Shape) (spots : List (List ℕ)) (occ occ1 occ2 : List (List Occurrence)) (n m : ℕ) → occ1 ≡ occ ++ [] ∷ [] → occ2 ≡ occ1 ++ [] ∷ [] → m ≡ n + 1 → IsStored forms spots (entries_of forms occ) n → IsStored forms spots (entries_of forms occ2) m
+widened-stored forms spots occ occ1 occ2 n m one two more old = grind (arith, map-append, stored-push, old.whole, get_or-push_default, old.named, old.places, length-append, old.inside, old.rooms)
 
 pub half : (x y n : ℕ) → x ≡ y → y ≡ 2 * n + 2 → x / 2 ≡ n + 1
 half x y n e f = omega (arith, e, f)

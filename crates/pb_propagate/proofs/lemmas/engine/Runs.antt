@@ -1,13 +1,13 @@
 -- What a run has counted, and the steps that put a literal and go over its entries.
-use Rattle.pb_propagate.{proofs.lemmas.store.Stored.index-within, specs.declared.store.Visited.Visited}
+use Rattle.pb_propagate.{proofs.lemmas.store.Stored.entries-get, proofs.lemmas.store.Stored.index-within, specs.declared.store.Visited.Visited}
 use Rattle.pb_propagate.proofs.{Common.entries_against, Common.StaysTidy, lemmas.engine.Literals.settled-of_terms, lemmas.engine.Literals.negation-negation}
 use Rattle.pb_propagate.proofs.Common.{◌∙◌, sym, ℕ, ◌++◌, ◌+◌, ◌-◌, ◌<◌, ◌∷◌, ◌≡◌, ◌≤◌, [], arith, eq-eqb, false, get_or, get_or-set_other, length}
 use Rattle.pb_propagate.proofs.Common.{length-append, List, refl, set, suc, true, zero, All, ne_eqb, get_or_append_left, get_or_default, get_or_push, All-push}
 use Rattle.pb_propagate.proofs.Common.{sum_by-cons, NumberedLiteral, negation, Term, AreFalling, beside, Database, Grown, IsTidy, Rests, IsAbsent, IsCalm}
 use Rattle.pb_propagate.proofs.Common.{IsCounted, IsDone, IsTidyAt, Lowers, Progress, pushed, spared, weight_in, weight_on, has, IsSettled, open_part, open_sum}
-use Rattle.pb_propagate.proofs.Common.{same, Shape, Weighted, Extends, AreSingle, rules, ◌*◌, ◌^◌, ap, Bool, drop, Global, length-set, map, min, Vec, Option}
-use Rattle.pb_propagate.proofs.Common.{sum, drop_more, get_or-map, length-map, Contains-get_or, sum_by_push, Occurrence, Store, more, place, spent, entries_of}
-use Rattle.pb_propagate.proofs.Common.{IsSound, lists_of, shapes_of, spots_of, coefficient_at, terms_at, weighted, broken, Conflicts, Advances, Costs, database}
+use Rattle.pb_propagate.proofs.Common.{same, Shape, Weighted, Extends, AreSingle, rules, ◌*◌, ◌^◌, ap, Bool, drop, length-set, map, min, Option}
+use Rattle.pb_propagate.proofs.Common.{sum, drop_more, length-map, Contains-get_or, sum_by_push, Occurrence, Store, more, place, spent, entries_of}
+use Rattle.pb_propagate.proofs.Common.{IsSound, shapes_of, spots_of, coefficient_at, terms_at, weighted, broken, Conflicts, Advances, Costs, database}
 use Rattle.pb_propagate.proofs.lemmas.engine.Literals.{has-push, has-push_old, has-push_new, same-true, same-refl, open_part-falsified, open_part-open}
 use Rattle.pb_propagate.specs.engine.engine.{Counts.entry_weight, Counts.term_weight, Counts.ArePassed, Fields.entry_at, Links.coefficient_at}
 use Rattle.std.proofs.{Math.ListN.get_or-map as get_or-map-default, lemmas.Grind.get_or-set_at}
@@ -185,11 +185,8 @@ counted-conflict forms opens list rest form inside counted low =
     broken (get_or forms form none) (Contains-get_or forms form none inside) (omega (arith, low none, counted.each form none inside))
 
 -- in terms of what the program reads
-pub lists-at : (occ : List (Vec Occurrence Global)) (p q : ℕ) (v : Vec Occurrence Global) → q < length occ → v ≡ get_or occ q v → q ≡ p → get_or (lists_of occ) p [] ≡ v.items
-lists-at occ p q v inside is same = grind (arith, get_or-map)
-
-pub entries-at : (forms : List Shape) (occ : List (Vec Occurrence Global)) (p q : ℕ) (v : Vec Occurrence Global) → q < length occ → v ≡ get_or occ q v → q ≡ p → get_or (entries_of forms occ) p [] ≡ map (weighted forms) v.items
-entries-at forms occ p q v inside is same = grind (arith, get_or-map)
+pub entries-at : (forms : List Shape) (occ : List (List Occurrence)) (p q : ℕ) (items : List Occurrence) → items ≡ get_or occ q [] → q ≡ p → get_or (entries_of forms occ) p [] ≡ map (weighted forms) items
+entries-at forms occ p q items is same_place = entries-get forms occ p ∙ ap (map (weighted forms)) (ap (λ n. get_or occ n []) (sym same_place) ∙ sym is)
 
 item-weighted : (forms : List Shape) (es : List Weighted) (items : List Occurrence) (j : ℕ) (e : Occurrence) → es ≡ map (weighted forms) items → e ≡ get_or items j e → weighted forms e ≡ get_or es j (weighted forms e)
 item-weighted forms es items j e same is = rw same (ap (weighted forms) is ∙ sym (get_or-map-default (weighted forms) items j e))
@@ -202,18 +199,17 @@ form-within forms es items j e n same is inside named =
 pub place-inside : (l : NumberedLiteral) (n : ℕ) → l.variable < n → place l < 2 * n
 place-inside l n h = grind arith
 
-pub place-read : (forms : List Shape) (occ : List (Vec Occurrence Global)) (n : ℕ) (l : NumberedLiteral) (q : ℕ) → l.variable < n → q ≡ place (negation l) → length (entries_of forms occ) ≡ 2 * n → q < length occ
+pub place-read : (forms : List Shape) (occ : List (List Occurrence)) (n : ℕ) (l : NumberedLiteral) (q : ℕ) → l.variable < n → q ≡ place (negation l) → length (entries_of forms occ) ≡ 2 * n → q < length occ
 place-read forms occ n l q h e sizes =
-    omega (arith, place-inside (negation l) n h, e, sizes, length-map occ (λ (v : Vec Occurrence Global). map (weighted forms) v.items))
+    omega (arith, place-inside (negation l) n h, e, sizes, length-map occ (map (weighted forms)))
 
-pub entry-read : (store : Store) (rests : Rests) (l : NumberedLiteral) (q : ℕ) (v : Vec Occurrence Global) (items : List Occurrence) (j : ℕ) (e : Visited) → IsSound store → l.variable < store.variables → q ≡ place (negation l) → v ≡ get_or store.occurrences.items q v → items ≡ v.items → entry_at e ≡ get_or items j (entry_at e) → j < length items → IsRead (database store rests) (entries_against (database store rests) l) e j
-entry-read store rests l q v items j e sound inside at read is item less =
+pub entry-read : (store : Store) (rests : Rests) (l : NumberedLiteral) (q : ℕ) (items : List Occurrence) (j : ℕ) (e : Visited) → IsSound store → l.variable < store.variables → q ≡ place (negation l) → items ≡ get_or store.occurrences q [] → entry_at e ≡ get_or items j (entry_at e) → j < length items → IsRead (database store rests) (entries_against (database store rests) l) e j
+entry-read store rests l q items j e sound inside at read item less =
     let forms = shapes_of store.stored.items in
-    let es = get_or (entries_of forms store.occurrences.items) (place (negation l)) [] in
-    let there = place-read forms store.occurrences.items store.variables l q inside at sound.places in
-    let same : es ≡ map (weighted forms) items = entries-at forms store.occurrences.items (place (negation l)) q v there read at ∙ ap (map (weighted forms)) (sym is) in
+    let es = get_or (entries_of forms store.occurrences) (place (negation l)) [] in
+    let same : es ≡ map (weighted forms) items = entries-at forms store.occurrences (place (negation l)) q items read at in
     let named = form-within forms es items j (entry_at e) (length forms) same item less (sound.named (place (negation l))) in
-    let index = index-within forms (spots_of store.spots.items) store.occurrences.items (place (negation l)) j items (entry_at e) same item less sound.whole in
+    let index = index-within forms (spots_of store.spots.items) store.occurrences (place (negation l)) j items (entry_at e) same item less sound.whole in
     let entry = weighted forms (entry_at e) in
     let room : j < length es = omega (arith, less, ap length same, length-map items (weighted forms)) in
     search (rules, drop_more es j entry room ∙ ap (λ x. x ∷ drop (j + 1) es) (sym (item-weighted forms es items j (entry_at e) same item)))

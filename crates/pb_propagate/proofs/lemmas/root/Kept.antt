@@ -63,7 +63,7 @@ kept-moved : {forms forms' : List Shape} {variables variables' : ℕ} (conflict 
     IsKeptConflict forms variables conflict → IsKeptConflict forms' variables' conflict
 kept-moved {forms} {forms'} conflict same move k =
     let holds : conflict.met ≡ true → IsConflict forms' conflict.assignment = λ met. let m = move (k.holds met) met in search (rules, m.0, m.1, (k.holds met).low) in
-    search (rules, k.values ∙ sym same, k.none, holds)
+    record { few = omega (arith, k.few, same); values = λ met. k.values met ∙ sym same; none = k.none; holds = holds }
 
 -- a form came into a slot
 pub gained-kept : (before store : Store) (old clauses : Clauses) (slot : ℕ) (conflict : Conflict) → AreSlots (forms_of before.stored.items) (all_of before old) → HasGained before old store clauses slot → IsKeptConflict (all_of before old) before.variables conflict → IsKeptConflict (all_of store clauses) store.variables conflict

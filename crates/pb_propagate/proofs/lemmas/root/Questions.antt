@@ -5,7 +5,7 @@ use Rattle.pb_propagate.proofs.Common.{map, min, rules, refl, suc, true, zero, A
 use Rattle.pb_propagate.proofs.Common.{Contains-push, Contains-push_cases, IsPermutation-refl, sum_by-cons, Entry, NumberedLiteral, each, Form, IsNormal, total}
 use Rattle.pb_propagate.proofs.Common.{negation, negation_of, opposite, Term, AreJoined, joined, added, Adopted, AreFound, kept, AreDenied, denial_of}
 use Rattle.pb_propagate.proofs.Common.{IsDisjunction, IsHit, IsOne, as_term, entry_of, IsStoredAs, broken, Conflicts, Derives, has, IsSettled, IsWithin}
-use Rattle.pb_propagate.proofs.Common.{open_sum, opposed, put, Shape, AreSettled, none, ◌*◌, Global, take, Vec, sum, sum_by, ext_get_or, get_or-take}
+use Rattle.pb_propagate.proofs.Common.{open_sum, opposed, put, Shape, AreSettled, none, ◌*◌, take, sum, sum_by, ext_get_or, get_or-take}
 use Rattle.pb_propagate.proofs.Common.{get_or_append_left, get_or_default, get_or_past, get_or_push, length-take, map-append, take_all, sum_by-append, Long}
 use Rattle.pb_propagate.proofs.Common.{Short, Clauses, Heads, heads_at, Rests, Run, Occurrence, Store, StoredForm, clauses_of, code_in, fallen, AreSingle}
 use Rattle.pb_propagate.proofs.Common.{beside, IsTidy, IsUndone, place, spent, AreLonger, entries_of, IsSound, shapes_of, spots_of, stored_shape, Extends, size}
@@ -118,7 +118,7 @@ pub root-few : (store : Store) (clauses : Clauses) (a : Assignment) → IsSound 
     HaveReasons (all_of store clauses) a.reasons.items [] a.list.items → length a.list.items ≤ terms_of_all store clauses
 root-few store clauses a sound j r =
     let shapes = shapes_of store.stored.items in
-    let lists = entries_of shapes store.occurrences.items in
+    let lists = entries_of shapes store.occurrences in
     let one : IsOneSided a.list.items = λ l. one_sided a.values.items a.list.items l a.agrees in
     let short = root-short shapes (spots_of store.spots.items) lists store.variables (clauses_of clauses) a.list.items sound (reasons-derive r) in
     let both = both-le lists a.list.items (derivation-single (all_of store clauses) [] a.list.items none (reasons-derive r)) one in
@@ -152,11 +152,11 @@ found-after n v r found small = grind (arith, found)
 -- The number of visits: the literals of the root are true terms of the forms that forced them, and no true term is
 -- falsified later.
 pub question-most : (store : Store) (clauses : List (List ℕ)) (old new : List NumberedLiteral) (v w c : ℕ) → IsSound store → AreJoined (shapes_of store.stored.items) clauses → AreSingle new → IsOneSided new → Extends old new → Derives (joined (shapes_of store.stored.items) clauses) [] old → c ≤ sum_by (λ f. length f.terms) (shapes_of store.stored.items) →
-    v ≤ length old + w + c + 2 * spent (entries_of (shapes_of store.stored.items) store.occurrences.items) new + 2 * fallen clauses new + sum_by length clauses →
+    v ≤ length old + w + c + 2 * spent (entries_of (shapes_of store.stored.items) store.occurrences) new + 2 * fallen clauses new + sum_by length clauses →
     v ≤ 3 * sum_by (λ (f : Shape). length f.terms) (joined (shapes_of store.stored.items) clauses) + w
 question-most store clauses old new v w c sound j single one (more, e) d bounded upper =
     let shapes = shapes_of store.stored.items in
-    let lists = entries_of shapes store.occurrences.items in
+    let lists = entries_of shapes store.occurrences in
     let short = root-short shapes (spots_of store.spots.items) lists store.variables clauses old sound d in
     let mine : owned lists old ≤ owned lists new = omega (arith, ap (owned lists) e, sum_by-append (λ l. length (get_or lists (place l) [])) old more) in
     omega (arith, upper, bounded, short, mine, killed-longer clauses (code_in Short) old new (more, e), killed-longer clauses (code_in Long) old new (more, e), both-le lists new single one, killed-both clauses new one, sound.whole.totals, joined-terms shapes clauses j)
@@ -173,9 +173,9 @@ both-answered {shapes} x start mid done {visits} {found} begun first second same
     let sided = λ (l : NumberedLiteral). one_sided (values_of done) (list_of done) l done.assignment.agrees in search rules
 
 -- as many entries are against a list of literals if lists got longer
-spent-longer : (forms forms' : List Shape) (occ occ' : List (Vec Occurrence Global)) (list : List NumberedLiteral) → AreLonger occ occ' →
+spent-longer : (forms forms' : List Shape) (occ occ' : List (List Occurrence)) (list : List NumberedLiteral) → AreLonger occ occ' →
     spent (entries_of forms occ) list ≤ spent (entries_of forms' occ') list
-spent-longer forms forms' occ occ' list h = sum_by-le-sum_by (λ l. length (get_or (entries_of forms occ) (place (negation l)) [])) (λ l. length (get_or (entries_of forms' occ') (place (negation l)) [])) list (λ l. grind (arith, h (place (negation l)), entries-size))
+spent-longer forms forms' occ occ' list h = sum_by-le-sum_by (λ l. length (get_or (entries_of forms occ) (place (negation l)) [])) (λ l. length (get_or (entries_of forms' occ') (place (negation l)) [])) list (λ l. omega (arith, h (place (negation l)), entries-size forms occ (place (negation l)), entries-size forms' occ' (place (negation l))))
 
 -- the number of visits, if only the forms that wait were visited
 pub updated-most : {store : Store} {clauses : Clauses} {old new : Root} → IsStanding store clauses old → old.run.visits ≡ length (list_of old.run) → UpdateCosts store clauses old new → new.run.visits ≤ 3 * terms_of_all store clauses + length old.waiting.list.items
@@ -187,12 +187,12 @@ updated-most {store} {clauses} {old} {new} s visits costs =
 -- The visits of both parts of a question: what the first has read is not paid again.
 pub posed-most : {store : Store} (store' : Store) {clauses between : Clauses} {old mid : Root} (start done : Run) (count : ℕ) → IsStanding store clauses old →
     old.run.visits ≡ length (list_of old.run) → HasUpdated store clauses between old mid →
-    clauses_of between ≡ clauses_of clauses → AreLonger store.occurrences.items store'.occurrences.items → IsSound store' →
+    clauses_of between ≡ clauses_of clauses → AreLonger store.occurrences store'.occurrences → IsSound store' →
     AreJoined (shapes_of store'.stored.items) (clauses_of clauses) → Derives (all_of store' clauses) [] (list_of old.run) →
     list_of start ≡ list_of mid.run → sum start.candidates.items ≡ sum mid.run.candidates.items → start.visits ≡ mid.run.visits →
     RunRefutes store' mid.rests between count start done → done.visits ≤ 3 * terms_of_all store' clauses + (length old.waiting.list.items + count)
 posed-most {store} store' {clauses} {between} {old} {mid} start done count s visits u same longer sound joined d list cands begun r =
-    let more = spent-longer (shapes_of store.stored.items) (shapes_of store'.stored.items) store.occurrences.items store'.occurrences.items (list_of mid.run) longer in
+    let more = spent-longer (shapes_of store.stored.items) (shapes_of store'.stored.items) store.occurrences store'.occurrences (list_of mid.run) longer in
     let extends = extends-then (list_of old.run) (list_of mid.run) (list_of done) u.pays.extends (rw list at r.extends) in
     let upper = rw (same, list) at r.upper in
     question-most store' (clauses_of clauses) (list_of old.run) (list_of done) done.visits (length old.waiting.list.items + count)

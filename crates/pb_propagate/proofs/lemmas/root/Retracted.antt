@@ -1,5 +1,5 @@
 -- Literals are taken off the root's list, the last one first, and reasons are replaced by others.
-use Rattle.pb_propagate.proofs.Common.{rules, ℕ, ◌++◌, ◌+◌, ◌<◌, ◌∙◌, ◌∷◌, ◌≡◌, ◌≤◌, [], ap, arith, false, get_or, inl, inr, Global, length, Vec}
+use Rattle.pb_propagate.proofs.Common.{rules, ℕ, ◌++◌, ◌+◌, ◌<◌, ◌∙◌, ◌∷◌, ◌≡◌, ◌≤◌, [], ap, arith, false, get_or, inl, inr, length}
 use Rattle.pb_propagate.proofs.Common.{coefficient_at, drop, drop_more, get_or-set_other, set, sum_by-le-sum_by, List, None, refl, subst, sym, take, Option}
 use Rattle.pb_propagate.proofs.Common.{slice_get, Some, cases_lt, get_or_default, get_or_past, length-map, length-append, slice_get-get_or, sum_by-cons}
 use Rattle.pb_propagate.proofs.Common.{take_all, take-append-le, get_or-map, map, Occurrence, weighted, NumberedLiteral, negation, Form, Assignment, Clauses}
@@ -12,7 +12,7 @@ use Rattle.pb_propagate.proofs.lemmas.clauses.Shapes.{joined-at, joined-length, 
 use Rattle.pb_propagate.proofs.lemmas.engine.{Advances.extends-none, Advances.extends-then, Advances.extends-within, Propagated.shape-at}
 use Rattle.pb_propagate.proofs.lemmas.engine.Literals.{literal_ext, has-elsewhere, one-literal, open_part-open, has-none, one_itself}
 use Rattle.pb_propagate.proofs.lemmas.engine.Reasoned.{IsMoved, moved-same, reasons-moved, due-term, stored-joined}
-use Rattle.pb_propagate.proofs.lemmas.engine.Runs.{Tidy-rest, entry_weight-other, entry_weight-same, open_sum-push, entries-at, form-within, place-inside}
+use Rattle.pb_propagate.proofs.lemmas.engine.Runs.{Tidy-rest, entry_weight-other, entry_weight-same, open_sum-push, entries-at, form-within}
 use Rattle.pb_propagate.proofs.lemmas.root.{Ready.IsTidyRoot, Ready.reasoned-rooted, Rooted.term-entry, Rooted.last-split}
 use Rattle.pb_propagate.proofs.lemmas.store.{Gets.get-map, Gets.get-set_same, Gets.get-set_other, Stored.index-within}
 use Rattle.{pb_propagate.specs.declared.engine.root.Root.Root, std.proofs.lemmas.Grind.get_or-set_at}
@@ -83,12 +83,12 @@ pub record IsCut (old a : Assignment) (last : ℕ) (l : NumberedLiteral) : Type 
 
 -- each form with an entry of the literal is refreshed
 abbrev pub AllRefreshed : Store → Root → NumberedLiteral → Type 0
-AllRefreshed store r l = (j : ℕ) (e : Weighted) → slice_get (get_or (entries_of (shapes_of store.stored.items) store.occurrences.items) (place l) []) j ≡ Some e → IsRefreshed store r e.form
+AllRefreshed store r l = (j : ℕ) (e : Weighted) → slice_get (get_or (entries_of (shapes_of store.stored.items) store.occurrences) (place l) []) j ≡ Some e → IsRefreshed store r e.form
 
 -- after the cut the open sums lack the coefficients of the literal that was falsified
 pub cut-lacks : (store : Store) (clauses : Clauses) (old : Root) (a : Assignment) (walked : Walked) (last : ℕ) (l : NumberedLiteral) → IsSound store →
     IsRootOf store clauses old → IsCut old.run.assignment a last l →
-    Lacks store (shorter old a walked) (get_or (entries_of (shapes_of store.stored.items) store.occurrences.items) (place (negation l)) [])
+    Lacks store (shorter old a walked) (get_or (entries_of (shapes_of store.stored.items) store.occurrences) (place (negation l)) [])
 cut-lacks store clauses old a walked last l sound r cut s d less =
     let listed = last-split old.run.assignment.list.items last l cut.size cut.is in
     let absent = ap (has (take last old.run.assignment.list.items)) cut.is ∙ (reasons-fresh last l r.reasoned (omega (arith, cut.size))).0 in
@@ -128,23 +128,23 @@ pub record IsOccurrence (store : Store) (l : NumberedLiteral) (items : List Occu
   pub form : o.form < length store.stored.items
   pub index : o.index < length (terms_at (shapes_of store.stored.items) o.form)
   pub some : 0 < length (terms_at (shapes_of store.stored.items) o.form)
-  pub entries : get_or (entries_of (shapes_of store.stored.items) store.occurrences.items) (place l) [] ≡ map (weighted (shapes_of store.stored.items)) items
+  pub entries : get_or (entries_of (shapes_of store.stored.items) store.occurrences) (place l) [] ≡ map (weighted (shapes_of store.stored.items)) items
 
 -- the list of a literal, as the program reads it
-pub listed-entries : (store : Store) (l : NumberedLiteral) (q : ℕ) (v : Vec Occurrence Global) → IsSound store → l.variable < store.variables → q ≡ place l → v ≡ get_or store.occurrences.items q v → get_or (entries_of (shapes_of store.stored.items) store.occurrences.items) (place l) [] ≡ map (weighted (shapes_of store.stored.items)) v.items
-listed-entries store l q v sound inside at read = grind (arith, place-inside, store.variables, sound.places, length-map, entries-at)
+pub listed-entries : (store : Store) (l : NumberedLiteral) (q : ℕ) (v : List Occurrence) → IsSound store → l.variable < store.variables → q ≡ place l → v ≡ get_or store.occurrences q [] → get_or (entries_of (shapes_of store.stored.items) store.occurrences) (place l) [] ≡ map (weighted (shapes_of store.stored.items)) v
+listed-entries store l q v sound inside at read = entries-at (shapes_of store.stored.items) store.occurrences (place l) q v read at
 
-pub occurrence-read : (store : Store) (l : NumberedLiteral) (q : ℕ) (v : Vec Occurrence Global) (j : ℕ) (o : Occurrence) → IsSound store → l.variable < store.variables → q ≡ place l → v ≡ get_or store.occurrences.items q v → o ≡ get_or v.items j o → j < length v.items → IsOccurrence store l v.items j o
+pub occurrence-read : (store : Store) (l : NumberedLiteral) (q : ℕ) (v : List Occurrence) (j : ℕ) (o : Occurrence) → IsSound store → l.variable < store.variables → q ≡ place l → v ≡ get_or store.occurrences q [] → o ≡ get_or v j o → j < length v → IsOccurrence store l v j o
 occurrence-read store l q v j o sound inside at read item less =
     let forms = shapes_of store.stored.items in
     let same = listed-entries store l q v sound inside at read in
-    let form = form-within forms (get_or (entries_of forms store.occurrences.items) (place l) []) v.items j o (length forms) same item less (sound.named (place l)) in
-    let index = index-within forms (spots_of store.spots.items) store.occurrences.items (place l) j v.items o same item less sound.whole in
+    let form = form-within forms (get_or (entries_of forms store.occurrences) (place l) []) v j o (length forms) same item less (sound.named (place l)) in
+    let index = index-within forms (spots_of store.spots.items) store.occurrences (place l) j v o same item less sound.whole in
     search (rules, length-map store.stored.items stored_shape)
 
 -- one more entry is refreshed
 pub all-next : (store : Store) (l : NumberedLiteral) (items : List Occurrence) (b c : Root) (i : ℕ) (o : Occurrence) → IsOccurrence store l items i o → AreRefreshed store b c → IsRefreshed store c o.form →
-    ((j : ℕ) (e : Weighted) → j < i → slice_get (get_or (entries_of (shapes_of store.stored.items) store.occurrences.items) (place l) []) j ≡ Some e → IsRefreshed store b e.form) → (j : ℕ) (e : Weighted) → j < i + 1 → slice_get (get_or (entries_of (shapes_of store.stored.items) store.occurrences.items) (place l) []) j ≡ Some e → IsRefreshed store c e.form
+    ((j : ℕ) (e : Weighted) → j < i → slice_get (get_or (entries_of (shapes_of store.stored.items) store.occurrences) (place l) []) j ≡ Some e → IsRefreshed store b e.form) → (j : ℕ) (e : Weighted) → j < i + 1 → slice_get (get_or (entries_of (shapes_of store.stored.items) store.occurrences) (place l) []) j ≡ Some e → IsRefreshed store c e.form
 all-next store l items b c i o there next mine old j e less at =
     let got = get-map (weighted (shapes_of store.stored.items)) items i o there.inside there.read in
     grind (arith, cases_lt j i, got, there.entries, old j e, refreshed-stays store b c e.form next, mine, refreshed-at)

@@ -1,12 +1,12 @@
 -- The store after a form was added, removed or emptied, and slots that forms take and leave.
 use Rattle.{pb_normal.specs.declared.entry.Entry.Entry as Given, pb_propagate.specs.declared.store.stored_form.StoredForm.TheVariants.Vacant}
 use Rattle.pb_propagate.proofs.Common.{slice_get_past, stored_form, stored_terms, ℕ, ◌⊎◌, ◌++◌, ◌+◌, ◌<◌, ◌∙◌, ◌∷◌, ◌≡◌, [], All, All-permutation, All-set, ap}
-use Rattle.pb_propagate.proofs.Common.{arith, get_or, get_or-set_other, get_or-set_same, Global, inl, inr, IsPermutation, IsPermutation-sym, length}
+use Rattle.pb_propagate.proofs.Common.{arith, get_or, get_or-set_other, get_or-set_same, inl, inr, IsPermutation, IsPermutation-sym, length}
 use Rattle.pb_propagate.proofs.Common.{length-append, length-set, List, map, None, NumberedLiteral, place, refl, set, set-get_or, set_past, slice_get}
-use Rattle.pb_propagate.proofs.Common.{slice_get-get_or, slice_get_within, sym, take, Vec, Option, cases_eq, cases_lt, false, get_or-take, get_or_append_left}
+use Rattle.pb_propagate.proofs.Common.{slice_get-get_or, slice_get_within, sym, take, Option, cases_eq, cases_lt, false, get_or-take, get_or_append_left}
 use Rattle.pb_propagate.proofs.Common.{get_or_default, get_or_from_slice_get, get_or_past, get_or_push, length-map, length-take, length-take-le, map-append}
 use Rattle.pb_propagate.proofs.Common.{map-set, take_all, Form, Occurrence, entry_of, entry_weight, NameForms, weight_in, weight_on, weighted, Weighted, Spots}
-use Rattle.pb_propagate.proofs.Common.{spots_in, StoredForm, Term, entries_of, forms_of, lists_of, shapes_of, spots_of, stored_shape, cut, degree_at, IsLinked}
+use Rattle.pb_propagate.proofs.Common.{spots_in, StoredForm, Term, entries_of, forms_of, shapes_of, spots_of, stored_shape, cut, degree_at, IsLinked}
 use Rattle.pb_propagate.proofs.Common.{IsStored, term_at, terms_at, AreInside, Shape, Some, map-set_same, IsNormal, Clauses, Store, AreReady, IsRefitted}
 use Rattle.pb_propagate.proofs.Common.{clauses_of, codes_of_terms, group_by, IsClause, joined, HasFilled, IsEmpty, IsSound, IsUnlisted, AreSlots, IsAtRest}
 use Rattle.pb_propagate.proofs.lemmas.clauses.Shapes.{joined-length, IsVacant, slots-vacant, joined-widen, AreJoined-widen, joined-set, AreJoined-set}
@@ -64,14 +64,13 @@ module _ {old : List Shape} {spots : List (List ℕ)} {lists : List (List Weight
       }
 
 -- the entries do not change with forms that no entry names
-entries-kept : {old : List Shape} {spots : List (List ℕ)} (base forms : List Shape) (occ : List (Vec Occurrence Global)) → IsLinked old spots (entries_of base occ) →
+entries-kept : {old : List Shape} {spots : List (List ℕ)} (base forms : List Shape) (occ : List (List Occurrence)) → IsLinked old spots (entries_of base occ) →
     ((s : ℕ) → 0 < length (terms_at old s) → terms_at forms s ≡ terms_at old s) → entries_of forms occ ≡ entries_of base occ
 entries-kept {old} {spots} base forms occ linked same =
-    let each = λ (xs : List Shape) (v : Vec Occurrence Global). map (weighted xs) v.items in
-    map-agree (each forms) (each base) occ (λ p v h. map-agree (weighted forms) (weighted base) (get_or occ p v).items (λ k o less.
-    let items = (get_or occ p v).items in
+    map-agree (map (weighted forms)) (map (weighted base)) occ (λ p v h. map-agree (weighted forms) (weighted base) (get_or occ p v) (λ k o less.
+    let items = (get_or occ p v) in
     let x = get_or items k o in
-    let listed : get_or (lists_of occ) p [] ≡ items = get_or-map (λ (u : Vec Occurrence Global). u.items) occ p v [] h in
+    let listed : get_or occ p [] ≡ items = get_or_default occ p [] v h in
     let got = entry-weighted base occ p k x (ap (λ (xs : List Occurrence). slice_get xs k) listed ∙ slice_get-get_or items k o less) in
     let named = named-term old spots (entries_of base occ) p k (weighted base x) got linked in
     let inside = slice_get_within (terms_at old x.form) x.index named.term named.is in
@@ -85,7 +84,7 @@ pub record IsEmptied (keep keep' : List StoredForm) (sp sp' : List Spots) (slot 
   pub others : (s : ℕ) → (s ≡ slot) ⊎ ((terms_at (shapes_of keep') s ≡ terms_at (shapes_of keep) s) × (get_or (spots_of sp') s [] ≡ get_or (spots_of sp) s []))
   pub sizes : length sp' ≡ length keep'
 
-pub emptied-stored : {keep keep' : List StoredForm} {sp sp' : List Spots} {n slot : ℕ} (sp0 : List Spots) (occ occ0 : List (Vec Occurrence Global)) →
+pub emptied-stored : {keep keep' : List StoredForm} {sp sp' : List Spots} {n slot : ℕ} (sp0 : List Spots) (occ occ0 : List (List Occurrence)) →
     IsEmptied keep keep' sp sp' slot → length occ ≡ length occ0 → ((s : ℕ) → length (get_or (spots_of sp) s []) ≡ length (get_or (spots_of sp0) s [])) →
     IsLinked (cut (shapes_of keep) slot 0) (spots_of sp) (entries_of (shapes_of keep) occ) →
     IsStored (shapes_of keep) (spots_of sp0) (entries_of (shapes_of keep) occ0) n → IsStored (shapes_of keep') (spots_of sp') (entries_of (shapes_of keep') occ) n
@@ -140,7 +139,7 @@ emptied-take {keep} {keep'} {sp} {sp'} {slot} a b sizes count = rw (a, b) (recor
 })
 
 -- a form in the slot of an empty one
-pub filled-stored : (keep : List StoredForm) (k : StoredForm) (sp : List Spots) (v : Spots) (occ occ' : List (Vec Occurrence Global)) (n form : ℕ) →
+pub filled-stored : (keep : List StoredForm) (k : StoredForm) (sp : List Spots) (v : Spots) (occ occ' : List (List Occurrence)) (n form : ℕ) →
     form < length keep → terms_at (shapes_of keep) form ≡ [] → length occ' ≡ length occ → length (spots_in v) ≡ length (stored_terms k) → AreInside n (stored_terms k) →
     ((base : List Shape) (all : List (List ℕ)) → form < length base → terms_at base form ≡ stored_terms k → form < length all →
     IsLinked (cut base form 0) (set all form []) (entries_of base occ) →
@@ -216,7 +215,7 @@ shapes-watched keep keep' k clauses s v e keeps =
     ap shapes_of keeps ∙ map-set_same stored_shape keep s k k same
 
 pub rest-watched : (store store' : Store) (clauses clauses' : Clauses) (forms : List (Option Form)) (f : Form) (k : StoredForm) (s : ℕ) → slice_get forms s ≡ Some None → IsUnlisted k → store'.stored.items ≡ set store.stored.items s k →
-    store'.spots ≡ store.spots → store'.occurrences ≡ store.occurrences → store'.variables ≡ store.variables → IsNormal f → IsClause f → AreReady clauses' → clauses_of clauses' ≡ set (clauses_of clauses) s (codes_of_terms f.terms) → length clauses'.lists.items ≡ length clauses.lists.items →
+    store'.spots ≡ store.spots → store'.occurrences ≡ store.occurrences → store'.variables ≡ store.variables → IsNormal f → IsClause f → AreReady clauses' → clauses_of clauses' ≡ set (clauses_of clauses) s (codes_of_terms f.terms) → length clauses'.lists ≡ length clauses.lists →
     IsAtRest store clauses forms → IsAtRest store' clauses' (set forms s (Some f))
 rest-watched store store' clauses clauses' forms f k s none e keeps spots occ variables normal clause ready literals lists r =
     let keep = store.stored.items in
@@ -224,11 +223,12 @@ rest-watched store store' clauses clauses' forms f k s none e keeps spots occ va
     let bare = vacant-bare keep (clauses_of clauses) s vacant in
     let same = shapes-watched keep store'.stored.items k (clauses_of clauses) s vacant e keeps in
     let different = rising-different (group_by (length f.terms)) 0 f.terms normal.ordered in
-    grind (arith, bare.inside, same, spots, occ, variables, r.sound, literals, joined-clause, clause-kept, normal, clause, slots-set, AreJoined-clause, vacant.terms, vacant.degree, different, r.slots, r.joined, lists, r.widths, length-set, length-map, r.known, clause.two)
+    let sound : IsSound store' = rw (same, spots, occ, variables) r.sound in
+    grind (arith, bare.inside, same, sound, variables, literals, joined-clause, clause-kept, normal, clause, slots-set, AreJoined-clause, vacant.terms, vacant.degree, different, r.slots, r.joined, lists, r.widths, length-set, length-map, r.known, clause.two)
 
 -- an empty form in the slot of a removed one
 pub rest-removed : (store store' : Store) (clauses clauses' : Clauses) (forms : List (Option Form)) (k : StoredForm) (s : ℕ) → s < length forms → IsSound store' → IsEmpty k → store'.stored.items ≡ set store.stored.items s k → store'.variables ≡ store.variables →
-    AreReady clauses' → clauses_of clauses' ≡ set (clauses_of clauses) s [] → length clauses'.lists.items ≡ length clauses.lists.items → IsAtRest store clauses forms → IsAtRest store' clauses' (set forms s None)
+    AreReady clauses' → clauses_of clauses' ≡ set (clauses_of clauses) s [] → length clauses'.lists ≡ length clauses.lists → IsAtRest store clauses forms → IsAtRest store' clauses' (set forms s None)
 rest-removed store store' clauses clauses' forms k s less sound e keeps variables ready literals lists r = grind (arith, slots-length, joined-length, length-map, map-set, joined-cleared, AreJoined-cleared, slots-set, r.slots, r.joined, r.widths, r.known, e.terms, e.degree, length-set)
 
 -- only the room in the blocks of clauses is another

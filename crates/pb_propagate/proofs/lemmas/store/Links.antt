@@ -1,19 +1,19 @@
 -- Terms are added to the lists and removed, in the terms of the store and of what the program reads.
 use Rattle.pb_propagate.proofs.Common.{ℕ, ◌++◌, ◌+◌, ◌-◌, ◌<◌, ◌∙◌, ◌∷◌, ◌≡◌, ◌≤◌, ◌⊎◌, [], ap, arith, get_or, get_or-set_other, Global, length, length-append}
-use Rattle.pb_propagate.proofs.Common.{length-set, lists_of, List, None, Occurrence, refl, set, sym, take, slice_get, Some, sum_by, swap_remove, cases_Bool}
+use Rattle.pb_propagate.proofs.Common.{length-set, List, None, Occurrence, refl, set, sym, take, slice_get, Some, sum_by, swap_remove, cases_Bool}
 use Rattle.pb_propagate.proofs.Common.{cases_eq, false, inl, inr, get_or_default, get_or_from_slice_get, last, length-take-le, Moved, sum_by-set, stored_shape}
 use Rattle.pb_propagate.proofs.Common.{sum_by-swap_remove, sum_by_more, sum_by_push, slice_get-get_or, slice_get_past, slice_get_within, Vec, weighted}
 use Rattle.pb_propagate.proofs.Common.{NumberedLiteral, Term, entries_of, entry_weight, place, term_weight, weight_in, weight_on, cut, degree_at, entry_at}
 use Rattle.pb_propagate.proofs.Common.{entry_cross, IsLinked, Option, term_at, term_cross, terms_at, cases_lt, same, Shape, Weighted, AreLonger, IsSound, Store}
 use Rattle.pb_propagate.proofs.Common.{stored_terms, subst, get_or-map, length-map, map-set, set_past, StoredForm, Spots, spots_in, shapes_of, spots_of}
 use Rattle.pb_propagate.proofs.lemmas.engine.{Literals.same-true, Literals.same-refl, Literals.place-injective, Propagated.shape-at, Propagated.term-inside}
-use Rattle.pb_propagate.proofs.lemmas.engine.Runs.{entry_weight-same, entry_weight-other, term_weight-same, term_weight-other, lists-at, place-inside}
+use Rattle.pb_propagate.proofs.lemmas.engine.Runs.{entry_weight-same, entry_weight-other, term_weight-same, term_weight-other, place-inside}
 use Rattle.pb_propagate.proofs.lemmas.store.Gets.{swap-past, swap-here, swap-length, get-take_less, get-take_past, get-push_same, get-push_other, get-set_at}
 use Rattle.pb_propagate.proofs.lemmas.store.{Gets.get-set_other, Gets.swap-other, Positions.taken-is}
 use Rattle.pb_propagate.proofs.lemmas.store.Stored.{to, Same, crossed-add, crossed-drop, crossed-move, entry-back, named-term, named-spot, entries-length}
 use Rattle.pb_propagate.proofs.lemmas.store.Stored.{entries-size, entries-pushed, entries-taken, entry-weighted, item-taken}
 use Rattle.{pb_propagate.specs.engine.engine.Links.none, std.proofs.lemmas.Grind.get_or-set_at}
-pub use Rattle.pb_propagate.proofs.lemmas.store.Stored.{entries-length, lists-length}
+pub use Rattle.pb_propagate.proofs.lemmas.store.Stored.{entries-length}
 
 -- how many forms there are when one is cut
 pub cut-length : (base : List Shape) (s i : ℕ) → length (cut base s i) ≡ length base
@@ -67,9 +67,9 @@ module _ {base : List Shape} {s0 i : ℕ} {t : Term} (x : IsTerm base s0 i t) wh
   terms-step s j = grind (arith, cases_eq s s0, cases_eq j i, get_or-set_at, get_or-set_other, cases_lt j i, get-take_less, get-take_past, x.inside)
 
   -- a term is added
-  pub link-by : (all : List (List ℕ)) (occ occ' : List (Vec Occurrence Global)) (spots spots' : List ℕ) → s0 < length all → place t.literal < length occ →
-      lists_of occ' ≡ set (lists_of occ) (place t.literal) (get_or (lists_of occ) (place t.literal) [] ++ (record { form = s0; index = i } ∷ [])) →
-      spots' ≡ spots ++ (length (get_or (lists_of occ) (place t.literal) []) ∷ []) → length spots ≡ i →
+  pub link-by : (all : List (List ℕ)) (occ occ' : List (List Occurrence)) (spots spots' : List ℕ) → s0 < length all → place t.literal < length occ →
+      occ' ≡ set occ (place t.literal) (get_or occ (place t.literal) [] ++ (record { form = s0; index = i } ∷ [])) →
+      spots' ≡ spots ++ (length (get_or occ (place t.literal) []) ∷ []) → length spots ≡ i →
       IsLinked (cut base s0 i) (set all s0 spots) (entries_of base occ) → IsLinked (cut base s0 (i + 1)) (set all s0 spots') (entries_of base occ')
   link-by all occ occ' spots spots' wide room longer pushed size old =
       let p = place t.literal in
@@ -115,10 +115,10 @@ moved-cases (none end) = (refl, inl (end, refl))
 moved-cases {es} {q} {spots} (last m more at) = (length-set spots m.form (set (get_or spots m.form []) m.index q), inr (m, more, at, refl))
 
 -- a term and its entry are removed
-pub unlink-next : {base : List Shape} {spots : List (List ℕ)} {s0 i q : ℕ} {t : Term} (occ occ' : List (Vec Occurrence Global)) (o : Occurrence) → IsTerm base s0 i t →
-    slice_get (get_or spots s0 []) i ≡ Some q → place t.literal < length occ → o ≡ get_or (get_or (lists_of occ) (place t.literal) []) q o →
-    lists_of occ' ≡ set (lists_of occ) (place t.literal) (swap_remove (get_or (lists_of occ) (place t.literal) []) q o) →
-    IsLinked (cut base s0 (i + 1)) spots (entries_of base occ) → (spots' : List (List ℕ)) → Moved (get_or (lists_of occ) (place t.literal) []) q spots spots' →
+pub unlink-next : {base : List Shape} {spots : List (List ℕ)} {s0 i q : ℕ} {t : Term} (occ occ' : List (List Occurrence)) (o : Occurrence) → IsTerm base s0 i t →
+    slice_get (get_or spots s0 []) i ≡ Some q → place t.literal < length occ → o ≡ get_or (get_or occ (place t.literal) []) q o →
+    occ' ≡ set occ (place t.literal) (swap_remove (get_or occ (place t.literal) []) q o) →
+    IsLinked (cut base s0 (i + 1)) spots (entries_of base occ) → (spots' : List (List ℕ)) → Moved (get_or occ (place t.literal) []) q spots spots' →
     IsLinked (cut base s0 i) spots' (entries_of base occ')
 unlink-next {base} {spots} {s0} {i} {q} {t} occ occ' o x at inside read taken old spots' moved =
     let p = place t.literal in
@@ -155,7 +155,7 @@ unlink-next {base} {spots} {s0} {i} {q} {t} occ occ' o x at inside read taken ol
             let m = moves.0 in
             let w = weighted base m in
             let next = set spots m.form (set (get_or spots m.form []) m.index q) in
-            let got : slice_get es top ≡ Some w = rw size (entry-weighted base occ p (length (get_or (lists_of occ) p []) - 1) m moves.2) in
+            let got : slice_get es top ≡ Some w = rw size (entry-weighted base occ p (length (get_or occ p []) - 1) m moves.2) in
             let named = named-term (cut base s0 (i + 1)) spots lists p top w got old in
             let places = named-spot (cut base s0 (i + 1)) spots lists p top w got old in
             let spot : slice_get (get_or next m.form []) m.index ≡ Some q = grind (arith, get_or-set_at, get-set_at, places.0, places.1) in
@@ -171,28 +171,12 @@ unlink-next {base} {spots} {s0} {i} {q} {t} occ occ' o x at inside read taken ol
     }
 
 -- ---- Adding and removing terms, in terms of what the program reads.
--- an entry is added at the end of a list
-pub pushed-lists : (occ : List (Vec Occurrence Global)) (p : ℕ) (v0 v1 : Vec Occurrence Global) (o : Occurrence) → p < length occ → v0 ≡ get_or occ p v0 → v1.items ≡ v0.items ++ (o ∷ []) → lists_of (set occ p v1) ≡ set (lists_of occ) p (get_or (lists_of occ) p [] ++ (o ∷ []))
-pushed-lists occ p v0 v1 o room value pushed = grind (arith, map-set, lists-at, pushed, room, value)
-
-pub longer-push : (occ occ' : List (Vec Occurrence Global)) (p : ℕ) (o : Occurrence) → p < length occ → lists_of occ' ≡ set (lists_of occ) p (get_or (lists_of occ) p [] ++ (o ∷ [])) → AreLonger occ occ'
-longer-push occ occ' p o room pushed q = grind (arith, cases_eq q p, pushed, get_or-set_at, get_or-set_other, lists-length occ, length-append)
+pub longer-push : (occ occ' : List (List Occurrence)) (p : ℕ) (o : Occurrence) → p < length occ → occ' ≡ set occ p (get_or occ p [] ++ (o ∷ [])) → AreLonger occ occ'
+longer-push occ occ' p o room pushed q = grind (arith, cases_eq q p, pushed, get_or-set_at, get_or-set_other, length-append)
 
 -- an entry is removed
-pub taken-lists : (occ : List (Vec Occurrence Global)) (p q : ℕ) (v0 v1 : Vec Occurrence Global) (e : Occurrence) → p < length occ → v0 ≡ get_or occ p v0 → e ≡ get_or v0.items q e → v1.items ≡ swap_remove v0.items q e → (x : Occurrence) × (x ≡ get_or (get_or (lists_of occ) p []) q x) × (lists_of (set occ p v1) ≡ set (lists_of occ) p (swap_remove (get_or (lists_of occ) p []) q x))
-taken-lists occ p q v0 v1 e room value item gone =
-    let es = lists-at occ p p v0 room value refl in
-    (e, rw es item, map-set (λ (v : Vec Occurrence Global). v.items) occ p v1 ∙ ap (λ xs. set (lists_of occ) p xs) (gone ∙ ap (λ xs. swap_remove xs q e) (sym es)))
-
-pub taken-last : (occ : List (Vec Occurrence Global)) (p q : ℕ) (v0 v1 : Vec Occurrence Global) (e : Occurrence) (spots : List (List ℕ)) → p < length occ → v0 ≡ get_or occ p v0 → v1.items ≡ swap_remove v0.items q e → q < length (get_or (lists_of occ) p []) → length v1.items ≤ q → Moved (get_or (lists_of occ) p []) q spots spots
-taken-last occ p q v0 v1 e spots room value gone inside short =
-    let es = lists-at occ p p v0 room value refl in
-    let inside_v0 : q < length v0.items = omega (arith, inside, ap length es) in
-    none (omega (arith, inside, ap length es, swap-length v0.items q e inside_v0, ap length gone, short))
-
-pub taken-moved : (occ : List (Vec Occurrence Global)) (p q : ℕ) (v0 v1 : Vec Occurrence Global) (e m : Occurrence) → p < length occ → v0 ≡ get_or occ p v0 → v1.items ≡ swap_remove v0.items q e → q < length (get_or (lists_of occ) p []) → q < length v1.items → m ≡ get_or v1.items q m →
-    (q + 1 < length (get_or (lists_of occ) p [])) × (slice_get (get_or (lists_of occ) p []) (length (get_or (lists_of occ) p []) - 1) ≡ Some m)
-taken-moved occ p q v0 v1 e m room value gone inside more item = grind (arith, lists-at, swap-length, slice_get-get_or, swap-here, get_or_from_slice_get)
+pub taken-last : (es : List Occurrence) (q : ℕ) (spots : List (List ℕ)) → q + 1 ≡ length es → Moved es q spots spots
+taken-last es q spots end = none (omega (arith, end))
 
 pub spots-moved : (spots : List Spots) (es : List Occurrence) (q : ℕ) (m : Occurrence) (w0 w1 : Spots) → m.form < length spots → w0 ≡ get_or spots m.form w0 → spots_in w1 ≡ set (spots_in w0) m.index q → q + 1 < length es → slice_get es (length es - 1) ≡ Some m → Moved es q (spots_of spots) (spots_of (set spots m.form w1))
 spots-moved spots es q m w0 w1 room value put more at =
@@ -205,25 +189,25 @@ spots-moved spots es q m w0 w1 room value put more at =
 pub record IsUnlinking (store now : Store) (form left : ℕ) : Type 0 where
   pub stored : now.stored ≡ store.stored
   pub variables : now.variables ≡ store.variables
-  pub lists : length now.occurrences.items ≡ length store.occurrences.items
+  pub lists : length now.occurrences ≡ length store.occurrences
   pub within : left ≤ length (terms_at (shapes_of store.stored.items) form)
   pub rooms : (s : ℕ) → length (get_or (spots_of now.spots.items) s []) ≡ length (get_or (spots_of store.spots.items) s [])
-  pub linked : IsLinked (cut (shapes_of store.stored.items) form left) (spots_of now.spots.items) (entries_of (shapes_of store.stored.items) now.occurrences.items)
+  pub linked : IsLinked (cut (shapes_of store.stored.items) form left) (spots_of now.spots.items) (entries_of (shapes_of store.stored.items) now.occurrences)
 
 -- what a term's removal needs and does
-pub record UnlinkRead (base : List Shape) (spots : List (List ℕ)) (occ : List (Vec Occurrence Global)) (form j q p : ℕ) : Type 0 where
+pub record UnlinkRead (base : List Shape) (spots : List (List ℕ)) (occ : List (List Occurrence)) (form j q p : ℕ) : Type 0 where
   pub room : p < length occ
-  pub spot_in : q < length (get_or (lists_of occ) p [])
-  pub named : (o : Occurrence) → slice_get (get_or (lists_of occ) p []) (length (get_or (lists_of occ) p []) - 1) ≡ Some o → (o.form < length spots) × (o.index < length (get_or spots o.form []))
-  pub next : (spots' : List (List ℕ)) (occ' : List (Vec Occurrence Global)) → ((o : Occurrence) × (o ≡ get_or (get_or (lists_of occ) p []) q o) × (lists_of occ' ≡ set (lists_of occ) p (swap_remove (get_or (lists_of occ) p []) q o))) → Moved (get_or (lists_of occ) p []) q spots spots' → IsLinked (cut base form j) spots' (entries_of base occ')
+  pub spot_in : q < length (get_or occ p [])
+  pub named : (o : Occurrence) → slice_get (get_or occ p []) (length (get_or occ p []) - 1) ≡ Some o → (o.form < length spots) × (o.index < length (get_or spots o.form []))
+  pub next : (spots' : List (List ℕ)) (occ' : List (List Occurrence)) → ((o : Occurrence) × (o ≡ get_or (get_or occ p []) q o) × (occ' ≡ set occ p (swap_remove (get_or occ p []) q o))) → Moved (get_or occ p []) q spots spots' → IsLinked (cut base form j) spots' (entries_of base occ')
 
 pub unlink-read : {store now : Store} {form left : ℕ} (k : StoredForm) (t : Term) (w : Spots) (q p : ℕ) → IsSound store → IsUnlinking store now form left → 0 < left → form < length store.stored.items → k ≡ get_or now.stored.items form k → t ≡ get_or (stored_terms k) (left - 1) t → w ≡ get_or now.spots.items form w → q ≡ get_or (spots_in w) (left - 1) q → p ≡ place t.literal →
-    UnlinkRead (shapes_of store.stored.items) (spots_of now.spots.items) now.occurrences.items form (left - 1) q p
+    UnlinkRead (shapes_of store.stored.items) (spots_of now.spots.items) now.occurrences form (left - 1) q p
 unlink-read {store} {now} {form} {left} k t w q p0 sound u some inside kept_is item spots_is spot_is place_is =
     let keep = store.stored.items in
     let base = shapes_of keep in
     let j = left - 1 in
-    let occ = now.occurrences.items in
+    let occ = now.occurrences in
     let p = place t.literal in
     let kept_here : k ≡ get_or keep form k = rw (ap (λ (v : Vec StoredForm Global). v.items) u.stored) at kept_is in
     let inside_base : form < length base = omega (arith, inside, length-map keep stored_shape) in
@@ -236,12 +220,12 @@ unlink-read {store} {now} {form} {left} k t w q p0 sound u some inside kept_is i
     let spot : slice_get (get_or (spots_of now.spots.items) form []) j ≡ Some q = ap (λ (xs : List ℕ). slice_get xs j) spots_here ∙ slice_get-get_or (spots_in w) j q within_w ∙ ap (λ y. Some y) (sym spot_is) in
     let linked : IsLinked (cut base form (j + 1)) (spots_of now.spots.items) (entries_of base occ) = subst (λ n. IsLinked (cut base form n) (spots_of now.spots.items) (entries_of base occ)) (omega (arith, some)) u.linked in
     let variable : t.literal.variable < store.variables = term-inside keep store.variables form k (stored_terms k) j t inside kept_here refl (omega (arith, within, ap length those)) item sound.inside in
-    let room : p < length occ = omega (arith, place-inside t.literal store.variables variable, sound.places, u.lists, entries-length base store.occurrences.items) in
+    let room : p < length occ = omega (arith, place-inside t.literal store.variables variable, sound.places, u.lists, entries-length base store.occurrences) in
     let entry : slice_get (get_or (entries_of base occ) p []) q ≡ Some (entry_for form j t) = named-entry (spots_of now.spots.items) (entries_of base occ) q x spot linked in
     rw place_is (record {
       room = room;
       spot_in = omega (arith, slice_get_within (get_or (entries_of base occ) p []) q (entry_for form j t) entry, entries-size base occ p);
-      named = λ o h. named-spot (cut base form (j + 1)) (spots_of now.spots.items) (entries_of base occ) p (length (get_or (lists_of occ) p []) - 1) (weighted base o) (entry-weighted base occ p (length (get_or (lists_of occ) p []) - 1) o h) linked;
+      named = λ o h. named-spot (cut base form (j + 1)) (spots_of now.spots.items) (entries_of base occ) p (length (get_or occ p []) - 1) (weighted base o) (entry-weighted base occ p (length (get_or occ p []) - 1) o h) linked;
       next = λ spots' occ' taken moved. unlink-next occ occ' taken.0 x spot room taken.1 taken.2 linked spots' moved;
     })
 
@@ -250,6 +234,6 @@ pub moved-rooms : (es : List Occurrence) (q : ℕ) (spots spots' : List (List �
 moved-rooms es q spots _ (none end) s = refl
 moved-rooms es q spots _ (last m more at) s = grind (arith, cases_eq s m.form, cases_lt m.form (length spots), get_or-set_at, get_or-set_other, set_past, length-set)
 
-pub taken-length : (occ occ' : List (Vec Occurrence Global)) (p q : ℕ) → ((e : Occurrence) × (e ≡ get_or (get_or (lists_of occ) p []) q e) × (lists_of occ' ≡ set (lists_of occ) p (swap_remove (get_or (lists_of occ) p []) q e))) → length occ' ≡ length occ
+pub taken-length : (occ occ' : List (List Occurrence)) (p q : ℕ) → ((e : Occurrence) × (e ≡ get_or (get_or occ p []) q e) × (occ' ≡ set occ p (swap_remove (get_or occ p []) q e))) → length occ' ≡ length occ
 taken-length occ occ' p q taken =
-    omega (arith, lists-length occ, lists-length occ', ap length taken.2, length-set (lists_of occ) p (swap_remove (get_or (lists_of occ) p []) q taken.0))
+    omega (arith, ap length taken.2, length-set occ p (swap_remove (get_or occ p []) q taken.0))

@@ -1,12 +1,12 @@
 -- A form's terms, as they are read, sorted and stored, and what terms and entries name.
-use Rattle.pb_propagate.proofs.{Common.slice_get-map, Common.Occurrence, Common.entries_of, Common.lists_of, Common.weighted, lemmas.store.Gets.swap-map}
+use Rattle.pb_propagate.proofs.{Common.slice_get-map, Common.Occurrence, Common.entries_of, Common.weighted, lemmas.store.Gets.swap-map}
 use Rattle.pb_propagate.proofs.Common.{ℕ, ◌+◌, ◌-◌, ◌<◌, ◌^◌, ◌∙◌, ◌∷◌, ◌≡◌, ◌≤◌, [], ap, arith, false, get_or, length, List, map, of_z, pos, refl, sym, to_z}
 use Rattle.pb_propagate.proofs.Common.{ℤ, All, IsPermutation, sum_by, sum, sum-map, unsigned_abs, get_or-map, get_or_default, length-map, IsPermutation-map}
 use Rattle.pb_propagate.proofs.Common.{IsPermutation-sym, sum_by-IsPermutation, get_or-le-sum_by, sum_by-cons, w128, Entry, each, total, Rank, Term, AreFalling}
 use Rattle.pb_propagate.proofs.Common.{IsCalm, AreEven, as_term, entry_at_place, entry_of, in_order, IsPermutation-refl, IsPlaced, length_permutation, picked}
 use Rattle.pb_propagate.proofs.Common.{StoredForm, stored_shape, stored_bound, stored_degree, stored_terms, stored_total, unit_terms, UnitForm, ◌⊎◌}
 use Rattle.pb_propagate.proofs.Common.{get_or_past, None, Option, slice_get, slice_get_within, Some, AreCrossed, Cross, entry_cross, IsLinked, place, Shape}
-use Rattle.pb_propagate.proofs.Common.{term_cross, terms_at, Weighted, map-append, ◌++◌, Global, set, suc, Vec, zero, swap_remove, map-set, slice_get-get_or}
+use Rattle.pb_propagate.proofs.Common.{term_cross, terms_at, Weighted, map-append, ◌++◌, set, suc, zero, swap_remove, map-set, slice_get-get_or}
 use Rattle.pb_propagate.specs.declared.store.stored_form.StoredForm.TheVariants.{Single, Counted}
 use Rattle.std.{proofs.lemmas.List.Elements.All-map, proofs.lemmas.Simd.map-map, specs.List.Sorted.IsNonDecreasingBy}
 use Rattle.std.proofs.{Math.ListN.get_or-map as get-mapped, lemmas.Int.fits_signed_from_abs, lemmas.Int.to_z-of_z, lemmas.List.ext_get_or, lemmas.List.map-id}
@@ -205,41 +205,34 @@ named-spot forms spots lists p q e is old =
     let inner = slice_get_within (get_or spots e.form []) e.index q (named-term forms spots lists p q e is old).spot in
     (grind (arith, get_or_past, inner), inner)
 
--- how many lists there are
-pub lists-length : (occ : List (Vec Occurrence Global)) → length (lists_of occ) ≡ length occ
-lists-length occ = length-map occ (λ (v : Vec Occurrence Global). v.items)
-
-pub entries-length : (forms : List Shape) (occ : List (Vec Occurrence Global)) → length (entries_of forms occ) ≡ length occ
-entries-length forms occ = length-map occ (λ (v : Vec Occurrence Global). map (weighted forms) v.items)
-
 -- the lists with and without the coefficients
-entries-lists : (forms : List Shape) (occ : List (Vec Occurrence Global)) → entries_of forms occ ≡ map (map (weighted forms)) (lists_of occ)
-entries-lists forms occ = sym (map-map (map (weighted forms)) (λ (v : Vec Occurrence Global). v.items) occ)
+pub entries-length : (forms : List Shape) (occ : List (List Occurrence)) → length (entries_of forms occ) ≡ length occ
+entries-length forms occ = length-map occ (map (weighted forms))
 
-pub entries-get : (forms : List Shape) (occ : List (Vec Occurrence Global)) (p : ℕ) → get_or (entries_of forms occ) p [] ≡ map (weighted forms) (get_or (lists_of occ) p [])
-entries-get forms occ p = ap (λ es. get_or es p []) (entries-lists forms occ) ∙ get-mapped (map (weighted forms)) (lists_of occ) p []
+pub entries-get : (forms : List Shape) (occ : List (List Occurrence)) (p : ℕ) → get_or (entries_of forms occ) p [] ≡ map (weighted forms) (get_or occ p [])
+entries-get forms occ p = get-mapped (map (weighted forms)) occ p []
 
-pub entry-weighted : (forms : List Shape) (occ : List (Vec Occurrence Global)) (p q : ℕ) (o : Occurrence) → slice_get (get_or (lists_of occ) p []) q ≡ Some o → slice_get (get_or (entries_of forms occ) p []) q ≡ Some (weighted forms o)
-entry-weighted forms occ p q o h = grind (arith, entries-get forms occ p, slice_get-map (weighted forms) (get_or (lists_of occ) p []) q, h)
+pub entry-weighted : (forms : List Shape) (occ : List (List Occurrence)) (p q : ℕ) (o : Occurrence) → slice_get (get_or occ p []) q ≡ Some o → slice_get (get_or (entries_of forms occ) p []) q ≡ Some (weighted forms o)
+entry-weighted forms occ p q o h = grind (arith, entries-get forms occ p, slice_get-map (weighted forms) (get_or occ p []) q, h)
 
-pub entries-size : (forms : List Shape) (occ : List (Vec Occurrence Global)) (p : ℕ) → length (get_or (entries_of forms occ) p []) ≡ length (get_or (lists_of occ) p [])
-entries-size forms occ p = ap length (entries-get forms occ p) ∙ length-map (get_or (lists_of occ) p []) (weighted forms)
+pub entries-size : (forms : List Shape) (occ : List (List Occurrence)) (p : ℕ) → length (get_or (entries_of forms occ) p []) ≡ length (get_or occ p [])
+entries-size forms occ p = ap length (entries-get forms occ p) ∙ length-map (get_or occ p []) (weighted forms)
 
 -- an entry that is removed, and the one that moves
-entries-set : (forms : List Shape) (occ occ' : List (Vec Occurrence Global)) (p : ℕ) (os : List Occurrence) → lists_of occ' ≡ set (lists_of occ) p os → entries_of forms occ' ≡ set (entries_of forms occ) p (map (weighted forms) os)
-entries-set forms occ occ' p os h = grind (arith, entries-lists, map-set)
+entries-set : (forms : List Shape) (occ occ' : List (List Occurrence)) (p : ℕ) (os : List Occurrence) → occ' ≡ set occ p os → entries_of forms occ' ≡ set (entries_of forms occ) p (map (weighted forms) os)
+entries-set forms occ occ' p os h = ap (entries_of forms) h ∙ map-set (map (weighted forms)) occ p os
 
-pub entries-taken : (forms : List Shape) (occ occ' : List (Vec Occurrence Global)) (p q : ℕ) (o : Occurrence) → lists_of occ' ≡ set (lists_of occ) p (swap_remove (get_or (lists_of occ) p []) q o) → entries_of forms occ' ≡ set (entries_of forms occ) p (swap_remove (get_or (entries_of forms occ) p []) q (weighted forms o))
-entries-taken forms occ occ' p q o h = grind (arith, entries-set forms occ occ' p (swap_remove (get_or (lists_of occ) p []) q o) h, swap-map, entries-get)
+pub entries-taken : (forms : List Shape) (occ occ' : List (List Occurrence)) (p q : ℕ) (o : Occurrence) → occ' ≡ set occ p (swap_remove (get_or occ p []) q o) → entries_of forms occ' ≡ set (entries_of forms occ) p (swap_remove (get_or (entries_of forms occ) p []) q (weighted forms o))
+entries-taken forms occ occ' p q o h = grind (arith, entries-set forms occ occ' p (swap_remove (get_or occ p []) q o) h, swap-map, entries-get)
 
-pub entries-pushed : (forms : List Shape) (occ occ' : List (Vec Occurrence Global)) (p : ℕ) (o : Occurrence) → lists_of occ' ≡ set (lists_of occ) p (get_or (lists_of occ) p [] ++ (o ∷ [])) → entries_of forms occ' ≡ set (entries_of forms occ) p (get_or (entries_of forms occ) p [] ++ (weighted forms o ∷ []))
-entries-pushed forms occ occ' p o h = grind (arith, entries-set forms occ occ' p (get_or (lists_of occ) p [] ++ (o ∷ [])) h, map-append, entries-get)
+pub entries-pushed : (forms : List Shape) (occ occ' : List (List Occurrence)) (p : ℕ) (o : Occurrence) → occ' ≡ set occ p (get_or occ p [] ++ (o ∷ [])) → entries_of forms occ' ≡ set (entries_of forms occ) p (get_or (entries_of forms occ) p [] ++ (weighted forms o ∷ []))
+entries-pushed forms occ occ' p o h = grind (arith, entries-set forms occ occ' p (get_or occ p [] ++ (o ∷ [])) h, map-append, entries-get)
 
-pub item-taken : (forms : List Shape) (occ : List (Vec Occurrence Global)) (p q : ℕ) (o : Occurrence) → o ≡ get_or (get_or (lists_of occ) p []) q o → weighted forms o ≡ get_or (get_or (entries_of forms occ) p []) q (weighted forms o)
-item-taken forms occ p q o is = grind (arith, is, entries-get forms occ p, get-mapped (weighted forms) (get_or (lists_of occ) p []) q o)
+pub item-taken : (forms : List Shape) (occ : List (List Occurrence)) (p q : ℕ) (o : Occurrence) → o ≡ get_or (get_or occ p []) q o → weighted forms o ≡ get_or (get_or (entries_of forms occ) p []) q (weighted forms o)
+item-taken forms occ p q o is = grind (arith, is, entries-get forms occ p, get-mapped (weighted forms) (get_or occ p []) q o)
 
 -- the term of an entry that is read
-pub index-within : (forms : List Shape) (spots : List (List ℕ)) (occ : List (Vec Occurrence Global)) (p j : ℕ) (items : List Occurrence) (o : Occurrence) → get_or (entries_of forms occ) p [] ≡ map (weighted forms) items → o ≡ get_or items j o → j < length items → IsLinked forms spots (entries_of forms occ) → o.index < length (terms_at forms o.form)
+pub index-within : (forms : List Shape) (spots : List (List ℕ)) (occ : List (List Occurrence)) (p j : ℕ) (items : List Occurrence) (o : Occurrence) → get_or (entries_of forms occ) p [] ≡ map (weighted forms) items → o ≡ get_or items j o → j < length items → IsLinked forms spots (entries_of forms occ) → o.index < length (terms_at forms o.form)
 index-within forms spots occ p j items o same item inside old =
     let at : slice_get (get_or (entries_of forms occ) p []) j ≡ Some (weighted forms o) = grind (arith, same, item, slice_get-map, slice_get-get_or items j o, inside) in
     slice_get_within (terms_at forms o.form) o.index _ (named-term forms spots (entries_of forms occ) p j (weighted forms o) at old).is

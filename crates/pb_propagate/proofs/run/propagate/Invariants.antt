@@ -21,4 +21,4 @@ invariant-work l = record {
 }
 
 abbrev pub decreases-work : goal.decreases-work
-decreases-work l = (length l.initial.run.work.items + length l.waiting + sum_by length (entries_of (shapes_of l.store.stored.items) l.store.occurrences.items) + length l.waiting + 2 * length l.initial.run.assignment.values.items) - (l.run.next + l.taken + (l.heads.short + l.heads.long))
+decreases-work l = (length l.initial.run.work.items + length l.waiting + sum_by length (entries_of (shapes_of l.store.stored.items) l.store.occurrences) + length l.waiting + 2 * length l.initial.run.assignment.values.items) - (l.run.next + l.taken + (l.heads.short + l.heads.long))

@@ -5,15 +5,14 @@ use Rattle.pb_propagate.proofs.lemmas.engine.{Advances.costs-none, Advances.on-e
 use Rattle.pb_propagate.proofs.lemmas.engine.Runs.{putting-fits, putting-next, putting-advances, putting-costs, assigned-tidy, counted-conflict, entry-read}
 use Rattle.pb_propagate.proofs.run.put.Goals as goal
 
-pub index-entries-requires : goal.index-entries-requires
-index-entries-requires c =
+pub list-entries-requires : goal.list-entries-requires
+list-entries-requires c =
     let store = c.args.store.now in
-    let read = place-read (shapes_of store.stored.items) store.occurrences.items store.variables c.args.literal c.place_of.result c.requires.inside (c.place_of.ensures.place ∙ ap place c.negation.ensures) c.requires.store.places in
-    omega (arith, read, store.occurrences.ok.0)
+    place-read (shapes_of store.stored.items) store.occurrences store.variables c.args.literal c.place_of.result c.requires.inside (c.place_of.ensures.place ∙ ap place c.negation.ensures) c.requires.store.places
 
 -- the entry that is read is one of the literal's list
 read : (c : After-visit-entry) → IsRead (database c.args.store.now c.args.rests.now) (entries_against (database c.args.store.now c.args.rests.now) c.args.literal) c.visit-entry.result c.entries.j
-read c = entry-read c.args.store.now c.args.rests.now c.args.literal c.place_of.result c.index-entries.result.now c.deref.result.now c.entries.j c.visit-entry.result c.requires.store c.requires.inside (c.place_of.ensures.place ∙ ap place c.negation.ensures) c.index-entries.ensures c.deref.ensures.value c.visit-entry.ensures.item (omega (arith, c.entries-test.true, c.len-j-end.ensures, c.deref.ensures.len))
+read c = entry-read c.args.store.now c.args.rests.now c.args.literal c.place_of.result c.list-entries.result.now c.entries.j c.visit-entry.result c.requires.store c.requires.inside (c.place_of.ensures.place ∙ ap place c.negation.ensures) c.list-entries.ensures c.visit-entry.ensures.item (omega (arith, c.entries-test.true))
 
 pub lower-requires : goal.lower-requires
 lower-requires c =
@@ -23,7 +22,7 @@ lower-requires c =
 -- one entry more was subtracted
 lowered : (c : In_ok-lower) → IsPutting (database c.args.store.now c.args.rests.now) (entries_against (database c.args.store.now c.args.rests.now) c.args.literal) (record (progress c.args.run.now) { values = c.put.new.self.values.items; list = c.put.new.self.list.items }) (progress c.lower.new.run) (c.entries.j + 1)
 lowered c =
-    let read = entry-read c.args.store.now c.args.rests.now c.args.literal c.place_of.result c.index-entries.result.now c.deref.result.now c.entries.j c.visit-entry.result c.requires.store c.requires.inside (c.place_of.ensures.place ∙ ap place c.negation.ensures) c.index-entries.ensures c.deref.ensures.value c.visit-entry.ensures.item (omega (arith, c.entries-test.true, c.len-j-end.ensures, c.deref.ensures.len)) in
+    let read = entry-read c.args.store.now c.args.rests.now c.args.literal c.place_of.result c.list-entries.result.now c.entries.j c.visit-entry.result c.requires.store c.requires.inside (c.place_of.ensures.place ∙ ap place c.negation.ensures) c.list-entries.ensures c.visit-entry.ensures.item (omega (arith, c.entries-test.true)) in
     putting-next c.visit-entry.new.visits c.visit-entry.result (progress c.lower.new.run) read c.requires.sums.next c.visit-entry.ensures.count c.visit-entry.ensures.rising c.entries.invariant.putting c.in_ok-lower.ensures.lowers (ap (λ (a : Assignment). a.values.items) c.lower.ensures.assignment) c.lower.ensures.visits
 
 pub entries-preserved : goal.entries-preserved

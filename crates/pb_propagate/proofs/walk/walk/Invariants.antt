@@ -12,4 +12,4 @@ invariant-watches l = record {
 }
 
 abbrev pub decreases-watches : goal.decreases-watches
-decreases-watches l = length (list_at (watch_lists l.clauses.lists.items) l.literal) - l.index
+decreases-watches l = length (list_at (watch_lists l.clauses.lists) l.literal) - l.index

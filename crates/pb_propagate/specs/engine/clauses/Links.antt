@@ -1,10 +1,10 @@
 -- Watches, and the lists that contain them.
-use Rattle.{pb_propagate.specs.declared.clauses.lists.Listed.Listed, pb_propagate.specs.declared.clauses.lists.Watch.Watch, std.specs.Global.Global}
-use Rattle.std.specs.Prelude.{◌≡◌, ℕ, ◌-◌, ◌/◌, ◌^◌, ◌<◌, ◌⊎◌, true, false, Contains, List, [], map, Some, slice_get, slice_index_or, Vec}
+use Rattle.{pb_propagate.specs.declared.clauses.lists.Listed.Listed, pb_propagate.specs.declared.clauses.lists.Watch.Watch}
+use Rattle.std.specs.Prelude.{◌≡◌, ℕ, ◌-◌, ◌/◌, ◌^◌, ◌<◌, ◌⊎◌, true, false, Contains, List, [], map, Some, slice_get, slice_index_or}
 
 -- the watches on each literal
-abbrev pub watch_lists : List (Vec Listed Global) → List (List ℕ)
-watch_lists lists = map (λ v. map (λ x. x.watch) v.items) lists
+abbrev pub watch_lists : List (List Listed) → List (List ℕ)
+watch_lists lists = map (map (λ x. x.watch)) lists
 
 -- the list of a literal
 abbrev pub list_at : List (List ℕ) → ℕ → List ℕ
@@ -36,21 +36,21 @@ pub record Remains (index : ℕ) (old new : Watch) : Type 0 where
   pub spot : new.spot < index → new.spot ≡ old.spot
 
 -- the entries of a literal's list
-abbrev pub entries_at : List (Vec Listed Global) → ℕ → List Listed
-entries_at lists l = slice_index_or (map (λ v. v.items) lists) l []
+abbrev pub entries_at : List (List Listed) → ℕ → List Listed
+entries_at lists l = slice_index_or lists l []
 
 -- the entry is in a list
-abbrev pub IsListed : List (Vec Listed Global) → Listed → Type 0
+abbrev pub IsListed : List (List Listed) → Listed → Type 0
 IsListed lists x = (l : ℕ) × (i : ℕ) × (slice_get (entries_at lists l) i ≡ Some x)
 
 -- no entry is new
-abbrev pub AreFewer : List (Vec Listed Global) → List (Vec Listed Global) → Type 0
+abbrev pub AreFewer : List (List Listed) → List (List Listed) → Type 0
 AreFewer old new = (x : Listed) → IsListed new x → IsListed old x
 
 -- no entry but this one is new
-abbrev pub AreMore : Listed → List (Vec Listed Global) → List (Vec Listed Global) → Type 0
+abbrev pub AreMore : Listed → List (List Listed) → List (List Listed) → Type 0
 AreMore entry old new = (x : Listed) → IsListed new x → (x ≡ entry) ⊎ IsListed old x
 
 -- the blocker of each entry is a literal of the clause that its watch is of
-abbrev pub AreBlocked : List (List ℕ) → List (Vec Listed Global) → Type 0
+abbrev pub AreBlocked : List (List ℕ) → List (List Listed) → Type 0
 AreBlocked clauses lists = (x : Listed) → IsListed lists x → Contains (list_at clauses (x.watch / 2)) x.blocker

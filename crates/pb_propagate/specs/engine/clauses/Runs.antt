@@ -78,11 +78,11 @@ pub record ArePassed (values : List (Option Bool)) (starts : List ℕ) (clauses 
 pub record IsRunning (values : List (Option Bool)) (c : Clauses) : Type 0 where
   -- where the searches of this run began
   pub starts : List ℕ
-  pub stored : AreStored c.blocks.literals c.blocks.watches (watch_lists c.lists.items)
-  pub blocked : AreBlocked c.blocks.literals c.lists.items
+  pub stored : AreStored c.blocks.literals c.blocks.watches (watch_lists c.lists)
+  pub blocked : AreBlocked c.blocks.literals c.lists
   pub passed : ArePassed values starts c.blocks.literals (passed_of c) c.blocks.watches
   pub round : AreRound starts c.blocks.literals c.blocks.searches
-  pub sizes : length c.lists.items ≡ 4 * length values
+  pub sizes : length c.lists ≡ 4 * length values
 
 -- some literal of the clause is true
 abbrev pub HasTrue : List (Option Bool) → List (List ℕ) → ℕ → Type 0
@@ -114,13 +114,13 @@ pub record IsBroken (values : List (Option Bool)) (clauses : List (List ℕ)) : 
 
 -- the watch at a position of a list is of a clause with the literal
 abbrev pub Awaits : Clauses → ℕ → ℕ → ℕ → Type 0
-Awaits c l index x = (e : ℕ) × (slice_get (list_at (watch_lists c.lists.items) l) index ≡ Some e) × Contains (list_at c.blocks.literals (e / 2)) x
+Awaits c l index x = (e : ℕ) × (slice_get (list_at (watch_lists c.lists) l) index ≡ Some e) × Contains (list_at c.blocks.literals (e / 2)) x
 
 -- what a visit has found, and what it leaves
 abbrev pub HasFound : List (Option Bool) → Clauses → Clauses → ℕ → ℕ → Visit → Type 0
-HasFound values old new l index Stays = length (list_at (watch_lists new.lists.items) l) ≡ length (list_at (watch_lists old.lists.items) l)
-HasFound values old new l index Leaves = length (list_at (watch_lists new.lists.items) l) + 1 ≡ length (list_at (watch_lists old.lists.items) l)
-HasFound values old new l index (Forces f) = (length (list_at (watch_lists new.lists.items) l) ≡ length (list_at (watch_lists old.lists.items) l)) × IsUnit values new.blocks.literals f.slot f.code × Awaits new l index f.code
+HasFound values old new l index Stays = length (list_at (watch_lists new.lists) l) ≡ length (list_at (watch_lists old.lists) l)
+HasFound values old new l index Leaves = length (list_at (watch_lists new.lists) l) + 1 ≡ length (list_at (watch_lists old.lists) l)
+HasFound values old new l index (Forces f) = (length (list_at (watch_lists new.lists) l) ≡ length (list_at (watch_lists old.lists) l)) × IsUnit values new.blocks.literals f.slot f.code × Awaits new l index f.code
 HasFound values old new l index Falsified = IsBroken values new.blocks.literals
 
 -- the position of the next visit
@@ -130,8 +130,8 @@ index_after index r = index
 
 -- no search has begun
 pub record AreReady (c : Clauses) : Type 0 where
-  pub stored : AreStored c.blocks.literals c.blocks.watches (watch_lists c.lists.items)
-  pub blocked : AreBlocked c.blocks.literals c.lists.items
+  pub stored : AreStored c.blocks.literals c.blocks.watches (watch_lists c.lists)
+  pub blocked : AreBlocked c.blocks.literals c.lists
   pub sizes : length c.blocks.searches ≡ length c.blocks.literals
   pub inside : (s : ℕ) → 0 < length (list_at c.blocks.literals s) → (search_at c.blocks.searches s).position < length (list_at c.blocks.literals s)
   pub none : (s : ℕ) → slice_index_or (passed_of c) s 0 ≡ 0
@@ -156,7 +156,7 @@ KeepsWalked values old new = (e : ℕ) → (watch_at new.blocks.watches e).live 
 
 -- what a visit to the watch at a position of a list leaves, and what it has found
 pub record HasVisited (values : List (Option Bool)) (old new : Clauses) (l index : ℕ) (r : Visit) : Type 0 where
-  pub lists : length new.lists.items ≡ length old.lists.items
+  pub lists : length new.lists ≡ length old.lists
   pub running : IsRunning values new
   pub served : (walked : List ℕ) → AreServed values old.blocks.literals old.blocks.watches walked l index → AreServed values new.blocks.literals new.blocks.watches walked l (index_after index r)
   pub found : HasFound values old new l index r

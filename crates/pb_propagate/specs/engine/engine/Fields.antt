@@ -1,9 +1,9 @@
 -- The engine's fields as lists.
-use Rattle.{pb_normal.specs.meaning.Form.Form, std.specs.Global.Global}
+use Rattle.{pb_normal.specs.meaning.Form.Form}
 use Rattle.pb_propagate.specs.declared.store.{stored_form.StoredForm.StoredForm, Occurrence.Occurrence, Store.Store, Visited.Visited, spots.Spots.Spots}
 use Rattle.pb_propagate.specs.engine.engine.{Forms.IsStoredAs, Lists.Shape, Lists.Weighted, Spots.spots_in}
 use Rattle.pb_propagate.specs.engine.engine.{Links.IsStored, Links.weighted, Stored.stored_form, Stored.stored_terms, Stored.stored_degree, Stored.stored_total}
-use Rattle.std.specs.Prelude.{◌≡◌, ℕ, ◌≤◌, [], ◌∷◌, ◌++◌, List, Option, Some, None, map, length, slice_index_or, slice_set, Vec}
+use Rattle.std.specs.Prelude.{◌≡◌, ℕ, ◌≤◌, [], ◌∷◌, ◌++◌, List, Option, Some, None, map, length, slice_index_or, slice_set}
 
 abbrev pub stored_shape : StoredForm → Shape
 stored_shape k = record { terms = stored_terms k; degree = stored_degree k }
@@ -15,27 +15,24 @@ shapes_of kept = map stored_shape kept
 abbrev pub forms_of : List StoredForm → List (Option Form)
 forms_of kept = map stored_form kept
 
-abbrev pub lists_of : List (Vec Occurrence Global) → List (List Occurrence)
-lists_of lists = map (λ v. v.items) lists
-
 -- no list got shorter
-abbrev pub AreLonger : List (Vec Occurrence Global) → List (Vec Occurrence Global) → Type 0
-AreLonger old new = (p : ℕ) → length (slice_index_or (lists_of old) p []) ≤ length (slice_index_or (lists_of new) p [])
+abbrev pub AreLonger : List (List Occurrence) → List (List Occurrence) → Type 0
+AreLonger old new = (p : ℕ) → length (slice_index_or old p []) ≤ length (slice_index_or new p [])
 
 -- the entry that was visited
 abbrev pub entry_at : Visited → Occurrence
 entry_at v = record { form = v.form; index = v.index }
 
 -- the lists of entries, each with the coefficient of its term
-abbrev pub entries_of : List Shape → List (Vec Occurrence Global) → List (List Weighted)
-entries_of forms lists = map (λ v. map (weighted forms) v.items) lists
+abbrev pub entries_of : List Shape → List (List Occurrence) → List (List Weighted)
+entries_of forms lists = map (map (weighted forms)) lists
 
 abbrev pub spots_of : List Spots → List (List ℕ)
 spots_of spots = map spots_in spots
 
 -- the store's parts belong together
 abbrev pub IsSound : Store → Type 0
-IsSound s = IsStored (shapes_of s.stored.items) (spots_of s.spots.items) (entries_of (shapes_of s.stored.items) s.occurrences.items) s.variables
+IsSound s = IsStored (shapes_of s.stored.items) (spots_of s.spots.items) (entries_of (shapes_of s.stored.items) s.occurrences) s.variables
 
 -- a form is added after the others, with its open sum and its candidate as at rest
 pub record HasEntered (f : Form) (keep keep' : List StoredForm) (opens opens' cands cands' : List ℕ) : Type 0 where

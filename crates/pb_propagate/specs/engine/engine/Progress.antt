@@ -40,7 +40,7 @@ pub record Database : Type 0 where
 abbrev pub database : Store → Rests → Database
 database store rests = record {
   forms = shapes_of store.stored.items;
-  lists = entries_of (shapes_of store.stored.items) store.occurrences.items;
+  lists = entries_of (shapes_of store.stored.items) store.occurrences;
   rests = rests;
 }
 
@@ -190,7 +190,7 @@ RunAdvances store rests before after old new = Advances (database store rests) b
 
 -- the same for a walk over the watches of a literal: two visits for each watch, and one for each literal that a search passed
 abbrev pub WalkCosts : Store → Rests → Clauses → Clauses → ℕ → Run → Run → Type 0
-WalkCosts store rests c c' literal old new = RunCosts store rests (sum (passed_of c)) (2 * length (list_at (watch_lists c.lists.items) literal) + sum (passed_of c')) old new
+WalkCosts store rests c c' literal old new = RunCosts store rests (sum (passed_of c)) (2 * length (list_at (watch_lists c.lists) literal) + sum (passed_of c')) old new
 
 -- two visits for each watch of the literals that the heads reach, and one for each literal that a search passed
 abbrev pub seen_to : Clauses → Heads → List NumberedLiteral → ℕ

@@ -21,7 +21,7 @@ pub record RunVisits (store : Store) (rests : Rests) (old new : Run) : Type 0 wh
 
 -- watches of a literal were walked
 pub record RunWalks (store : Store) (rests : Rests) (before after : Clauses) (literal : ℕ) (old new : Run) : Type 0 where
-  pub advances : RunAdvances store rests (sum (passed_of before)) (2 * length (list_at (watch_lists before.lists.items) literal) + sum (passed_of after)) old new
+  pub advances : RunAdvances store rests (sum (passed_of before)) (2 * length (list_at (watch_lists before.lists) literal) + sum (passed_of after)) old new
   pub reasons : RunReasons (all_of store before) old new
   pub tidy : StaysTidy (database store rests) (progress old) (progress new)
   pub running : IsRunning (values_of new) after

@@ -20,7 +20,7 @@ pub record IsAtRest (store : Store) (clauses : Clauses) (forms : List (Option Fo
   pub slots : AreSlots forms (all_of store clauses)
   pub joined : AreJoined (shapes_of store.stored.items) (clauses_of clauses)
   pub ready : AreReady clauses
-  pub widths : length clauses.lists.items ≡ 4 * store.variables
+  pub widths : length clauses.lists ≡ 4 * store.variables
   pub known : length clauses.blocks.literals ≡ length store.stored.items
 
 -- a derivation from the given literals, in any order

@@ -64,14 +64,15 @@ pub record IsConflict (forms : List Shape) (a : Assignment) : Type 0 where
 
 -- a conflict is kept, or nothing is assigned
 pub record IsKeptConflict (forms : List Shape) (variables : ℕ) (conflict : Conflict) : Type 0 where
-  pub values : length conflict.assignment.values.items ≡ variables
+  pub few : length conflict.assignment.values.items ≤ variables
+  pub values : conflict.met ≡ true → length conflict.assignment.values.items ≡ variables
   pub none : conflict.met ≡ false → conflict.assignment.list.items ≡ []
   pub holds : conflict.met ≡ true → IsConflict forms conflict.assignment
 
 -- no conflict is kept
 pub record IsVacant (variables : ℕ) (conflict : Conflict) : Type 0 where
   pub unmet : conflict.met ≡ false
-  pub values : length conflict.assignment.values.items ≡ variables
+  pub few : length conflict.assignment.values.items ≤ variables
   pub list : conflict.assignment.list.items ≡ []
 
 -- no question is in progress
@@ -80,14 +81,14 @@ pub record IsStanding (store : Store) (clauses : Clauses) (root : Root) : Type 0
   pub sound : IsSound store
   pub joined : AreJoined (shapes_of store.stored.items) (clauses_of clauses)
   pub ready : AreReady clauses
-  pub widths : length clauses.lists.items ≡ 4 * store.variables
+  pub widths : length clauses.lists ≡ 4 * store.variables
 
 -- what a question leaves: the same forms, no search in progress, the root, and a conflict if one is met
 pub record IsLeft (before store : Store) (old clauses : Clauses) (root : Root) (noted : Conflict) : Type 0 where
   pub sound : IsSound store
   pub kept : store.stored.items ≡ before.stored.items
   pub ready : AreReady clauses
-  pub lists : length clauses.lists.items ≡ length old.lists.items
+  pub lists : length clauses.lists ≡ length old.lists
   pub rooted : IsRootOf store clauses root
   pub conflict : IsKeptConflict (all_of before old) before.variables noted
 

@@ -28,4 +28,4 @@ pub record MayHold (store : Store) (c : Clauses) (s : ℕ) (form : Form) (xs : L
   pub room : CanHold c s (length xs)
   pub pair : IsPair xs p
   pub inside : All (λ t. t.variable < store.variables) form.terms
-  pub widths : length c.lists.items ≡ 4 * store.variables
+  pub widths : length c.lists ≡ 4 * store.variables

@@ -5,7 +5,7 @@ use Rattle.pb_propagate.proofs.lemmas.clauses.{Listed.list-within, Listed.lists-
 use Rattle.pb_propagate.proofs.clauses.Clauses.remove_clause.Goals as goal
 
 -- the two watches stand in their lists: the first, and the second once the first is taken out
-first : (c : After-spot-spot) → slice_get (list_at (watch_lists c.args.self.now.lists.items) c.watched-first.result) c.spot-spot.result ≡ Some (2 * c.args.slot)
+first : (c : After-spot-spot) → slice_get (list_at (watch_lists c.args.self.now.lists) c.watched-first.result) c.spot-spot.result ≡ Some (2 * c.args.slot)
 first c =
     let st = c.requires.rest.stored in
     st.linked.sits _ _ _ (record { live = st.full c.args.slot c.requires.some; literal = sym c.watched-first.ensures; spot = sym c.spot-spot.ensures })
@@ -18,7 +18,7 @@ second-live c =
     ∙ slot-sits _ c.args.self.now.blocks.watches _ c.args.slot _ st c.requires.some (omega arith)
 
 second : (c : After-spot-spot-2) → (watch_at c.take_out.new.blocks.watches (2 * c.args.slot + 1)).live ≡ true →
-    slice_get (list_at (watch_lists c.take_out.new.lists.items) c.watched-second.result) c.spot-spot-2.result ≡ Some (2 * c.args.slot + 1)
+    slice_get (list_at (watch_lists c.take_out.new.lists) c.watched-second.result) c.spot-spot-2.result ≡ Some (2 * c.args.slot + 1)
 second c live = c.take_out.ensures.linked.sits _ _ _ (record { live = live; literal = sym c.watched-second.ensures; spot = sym c.spot-spot-2.ensures })
 
 pub take_out-requires : goal.take_out-requires
@@ -34,8 +34,8 @@ pub take_out-requires-2 : goal.take_out-requires-2
 take_out-requires-2 c =
     let at = goal.at.take_out-requires-2 c in
     let item = second at.After-spot-spot-2 (second-live at.After-take_out) in
-    let inside = list-within (watch_lists c.take_out.new.lists.items) c.watched-second.result c.spot-spot-2.result (2 * c.args.slot + 1) item in
-    record { literal = omega (arith, inside, lists-length c.take_out.new.lists.items); index = slice_get_within _ _ _ item; linked = c.take_out.ensures.linked }
+    let inside = list-within (watch_lists c.take_out.new.lists) c.watched-second.result c.spot-spot-2.result (2 * c.args.slot + 1) item in
+    record { literal = omega (arith, inside, lists-length c.take_out.new.lists); index = slice_get_within _ _ _ item; linked = c.take_out.ensures.linked }
 
 pub returns-clause-literals : goal.returns-clause-literals
 returns-clause-literals c = rw (c.clear.ensures, c.take_out-2.ensures.kept, c.take_out.ensures.kept) refl

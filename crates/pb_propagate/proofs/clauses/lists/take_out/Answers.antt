@@ -8,17 +8,17 @@ place-requires-clause-live c =
     let of = c.remove_entry-removed.ensures in
     let reported = rw c.in-Some.is at of.some in
     let apart = moved-apart c.args.literal c.args.index c.requires.linked of.watch of.lists reported.0 reported.1 in
-    let sits = c.requires.linked.named c.in-Some.moved c.args.literal (length (list_at (watch_lists c.args.lists.now.items) c.args.literal) - 1) reported.1 in
+    let sits = c.requires.linked.named c.in-Some.moved c.args.literal (length (list_at (watch_lists c.args.lists.now) c.args.literal) - 1) reported.1 in
     grind (arith, get_or-set_other, apart, sits)
 
 -- another watch has moved to the position of the removed one, or none has
-moved : (c : After-place) → IsTakenOut c.args.blocks.now.watches c.place.new.self.watches (watch_lists c.args.lists.now.items) (watch_lists c.remove_entry-removed.new.lists.items) c.args.literal c.args.index
+moved : (c : After-place) → IsTakenOut c.args.blocks.now.watches c.place.new.self.watches (watch_lists c.args.lists.now) (watch_lists c.remove_entry-removed.new.lists) c.args.literal c.args.index
 moved c =
     let of = c.remove_entry-removed.ensures in
     let reported = rw c.in-Some.is at of.some in
     taken-moved c.args.literal c.args.index c.requires.linked of.watch of.lists reported.0 reported.1 (rw (c.place.ensures, c.idle.ensures) refl)
 
-last : (c : After-idle) → c.args.index + 1 ≡ length (list_at (watch_lists c.args.lists.now.items) c.args.literal) → IsTakenOut c.args.blocks.now.watches c.idle.new.self.watches (watch_lists c.args.lists.now.items) (watch_lists c.remove_entry-removed.new.lists.items) c.args.literal c.args.index
+last : (c : After-idle) → c.args.index + 1 ≡ length (list_at (watch_lists c.args.lists.now) c.args.literal) → IsTakenOut c.args.blocks.now.watches c.idle.new.self.watches (watch_lists c.args.lists.now) (watch_lists c.remove_entry-removed.new.lists) c.args.literal c.args.index
 last c end =
     let of = c.remove_entry-removed.ensures in
     taken-last c.args.literal c.args.index c.requires.linked of.watch of.lists end (rw c.idle.ensures refl)

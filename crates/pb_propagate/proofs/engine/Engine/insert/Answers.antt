@@ -32,6 +32,9 @@ returns-in_err-slot-clause-unchanged c = let same = same-forms (goal.at.returns-
 pub returns-in_err-add_form-clause-unchanged : goal.returns-in_err-add_form-clause-unchanged
 returns-in_err-add_form-clause-unchanged c = grind (arith, c.in_err-add_form.ensures.refused, same-forms)
 
+pub returns-in_err-note-clause-unchanged : goal.returns-in_err-note-clause-unchanged
+returns-in_err-note-clause-unchanged c = grind (arith, open-places, same-forms, numbered-filled, c.in_ok-slot.ensures.slot, c.in_ok-add_form.ensures.forms)
+
 pub returns-in_err-push-clause-unchanged : goal.returns-in_err-push-clause-unchanged
 returns-in_err-push-clause-unchanged c = grind (arith, open-places, same-forms, numbered-filled, c.in_ok-slot.ensures.slot, c.in_ok-add_form.ensures.forms)
 

@@ -13,4 +13,4 @@ returns-clause-sound c =
     let emptied : IsEmptied keep (set keep c.args.form c.empty_stored.result) less.spots.items (set less.spots.items c.args.form Empty) c.args.form =
     emptied-set c.empty_stored.result refl refl c.empty_stored.ensures.terms sizes c.requires.form in
     rw (c.unlink.ensures.variables, same)
-    (emptied-stored store.spots.items less.occurrences.items store.occurrences.items emptied c.unlink.ensures.lists c.unlink.ensures.rooms linked c.requires.sound)
+    (emptied-stored store.spots.items less.occurrences store.occurrences emptied c.unlink.ensures.lists c.unlink.ensures.rooms linked c.requires.sound)

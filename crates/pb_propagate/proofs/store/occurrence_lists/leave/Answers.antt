@@ -15,4 +15,4 @@ returns-clause-sound c =
     let spots : c.pop-2.new.self.items ≡ take number less.spots.items = grind (arith, c.pop-2.ensures.rest, sizes, count, less.spots.ok.0) in
     let emptied = emptied-take kept spots sizes count in
     rw c.unlink.ensures.variables
-    (emptied-stored store.spots.items less.occurrences.items store.occurrences.items emptied c.unlink.ensures.lists c.unlink.ensures.rooms linked c.requires.sound)
+    (emptied-stored store.spots.items less.occurrences store.occurrences emptied c.unlink.ensures.lists c.unlink.ensures.rooms linked c.requires.sound)

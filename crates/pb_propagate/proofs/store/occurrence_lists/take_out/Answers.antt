@@ -1,30 +1,41 @@
-use Rattle.pb_propagate.proofs.Common.{Some, slice_get, ◌+◌, ◌≡◌, ◌-◌, ◌<◌, [], arith, get_or, get_or-map, get_or-set_same, length, lists_of}
-use Rattle.pb_propagate.proofs.lemmas.store.Links.{taken-lists, taken-moved, spots-moved}
-use Rattle.pb_propagate.proofs.store.occurrence_lists.take_out.Goals.{After-index-moved}
+use Rattle.pb_propagate.proofs.Common.{◌+◌, ◌-◌, ◌<◌, ◌≡◌, [], ap, arith, get_or, get_or-map, length, refl, slice_get, Some}
+use Rattle.pb_propagate.proofs.lemmas.store.Links.{taken-last, spots-moved}
+use Rattle.std.proofs.lemmas.Option.{slice_get_read}
+use Rattle.pb_propagate.specs.engine.engine.Spots.{spots_in}
+use Rattle.pb_propagate.proofs.store.occurrence_lists.take_out.Goals.{In-Some}
 use Rattle.pb_propagate.proofs.store.occurrence_lists.take_out.Goals as goal
 
-pub returns-then-spot-len-clause-lists : goal.returns-then-spot-len-clause-lists
-returns-then-spot-len-clause-lists c =
-    taken-lists c.args.lists.now.items c.args.place c.args.spot c.index_mut.result.now c.swap_remove.new.self c.swap_remove.result c.requires.place c.index_mut.ensures.value c.swap_remove.ensures.value c.swap_remove.ensures.items
-
 -- the entry that moves
-moved : (c : After-index-moved) → (c.args.spot + 1 < length (get_or (lists_of c.args.lists.now.items) c.args.place [])) ×
-    (slice_get (get_or (lists_of c.args.lists.now.items) c.args.place []) (length (get_or (lists_of c.args.lists.now.items) c.args.place []) - 1) ≡ Some c.index-moved.result.now)
-moved c = grind (arith, get_or-set_same, taken-moved)
+moves : (c : In-Some) → (c.args.spot + 1 < length (get_or c.args.lists.now c.args.place [])) ×
+    (slice_get (get_or c.args.lists.now c.args.place []) (length (get_or c.args.lists.now c.args.place []) - 1) ≡ Some c.in-Some.moved)
+moves c =
+    let end = rw c.in-Some.is at c.swap_remove-removed.ensures.some in
+    let es = get_or c.args.lists.now c.args.place [] in
+    (end.0, slice_get_read es _ (length es - 1) c.in-Some.moved refl (omega (arith, end.0)) (end.1 c.in-Some.moved))
 
-pub index_mut-requires-2 : goal.index_mut-requires-2
-index_mut-requires-2 c = grind (arith, moved)
+pub returns-in-Some-clause-lists : goal.returns-in-Some-clause-lists
+returns-in-Some-clause-lists c = (c.swap_remove-removed.result.item, c.swap_remove-removed.ensures.item c.swap_remove-removed.result.item, c.swap_remove-removed.ensures.lists)
+
+pub returns-in_default-clause-lists : goal.returns-in_default-clause-lists
+returns-in_default-clause-lists c = (c.swap_remove-removed.result.item, c.swap_remove-removed.ensures.item c.swap_remove-removed.result.item, c.swap_remove-removed.ensures.lists)
+
+pub returns-in_default-clause-spots : goal.returns-in_default-clause-spots
+returns-in_default-clause-spots c =
+    taken-last (get_or c.args.lists.now c.args.place []) c.args.spot _ (rw c.in_default.is at c.swap_remove-removed.ensures.none)
+
+pub index_mut-requires : goal.index_mut-requires
+index_mut-requires c =
+    let m = moves (goal.at.index_mut-requires c).In-Some in
+    omega (arith, (c.requires.named c.in-Some.moved m.1).0, c.args.spots.now.ok.0)
 
 pub set-requires : goal.set-requires
-set-requires c = grind (arith, moved, get_or-map)
+set-requires c =
+    let m = moves (goal.at.set-requires c).In-Some in
+    let named = c.requires.named c.in-Some.moved m.1 in
+    omega (arith, named.1, ap length (get_or-map spots_in c.args.spots.now.items c.in-Some.moved.form c.index_mut.result.now [] named.0), ap (λ w. length (spots_in w)) c.index_mut.ensures.value)
 
-pub returns-clause-lists : goal.returns-clause-lists
-returns-clause-lists c =
-    taken-lists c.args.lists.now.items c.args.place c.args.spot c.index_mut.result.now c.swap_remove.new.self c.swap_remove.result c.requires.place c.index_mut.ensures.value c.swap_remove.ensures.value c.swap_remove.ensures.items
-
-pub returns-clause-spots : goal.returns-clause-spots
-returns-clause-spots c =
-    let m = c.index-moved.result.now in
-    let moves = moved (goal.at.returns-clause-spots c).After-index-moved in
-    let named = c.requires.named m moves.1 in
-    spots-moved c.args.spots.now.items (get_or (lists_of c.args.lists.now.items) c.args.place []) c.args.spot m c.index_mut-2.result.now c.set.new.self named.0 c.index_mut-2.ensures.value c.set.ensures moves.0 moves.1
+pub returns-in-Some-clause-spots : goal.returns-in-Some-clause-spots
+returns-in-Some-clause-spots c =
+    let m = moves (goal.at.returns-in-Some-clause-spots c).In-Some in
+    let named = c.requires.named c.in-Some.moved m.1 in
+    spots-moved c.args.spots.now.items (get_or c.args.lists.now c.args.place []) c.args.spot c.in-Some.moved c.index_mut.result.now c.set.new.self named.0 c.index_mut.ensures.value c.set.ensures m.0 m.1

@@ -1,4 +1,4 @@
-use Rattle.pb_propagate.proofs.Common.{◌-◌, ◌∙◌, [], arith, get_or, refl, length-map, place, lists_of, shapes_of, spots_in, spots_of}
+use Rattle.pb_propagate.proofs.Common.{◌-◌, ◌≡◌, ◌∙◌, [], arith, get_or, refl, length-map, place, shapes_of, spots_in, spots_of}
 use Rattle.pb_propagate.proofs.lemmas.store.Links.{UnlinkRead, unlink-read, moved-rooms, taken-length}
 use Rattle.pb_propagate.proofs.store.occurrence_lists.unlink.Goals.{After-place_of-place}
 use Rattle.pb_propagate.proofs.store.occurrence_lists.unlink.Goals as goal
@@ -6,10 +6,10 @@ use Rattle.pb_propagate.proofs.store.occurrence_lists.unlink.Goals as goal
 pub place_of-place-requires : goal.place_of-place-requires
 place_of-place-requires c =
     let read = unlink-read c.index-in-terms.result.now c.term-term.result c.index-in-terms-2.result.now c.get-spot.result (place c.term-term.result.literal) c.requires.sound c.terms.invariant (omega (arith, c.terms-test.true)) c.requires.form c.index-in-terms.ensures (c.term-term.ensures c.term-term.result) c.index-in-terms-2.ensures c.get-spot.ensures refl in
-    omega (arith, read.room, c.terms.store.occurrences.ok.0)
+    omega (arith, read.room, c.terms.invariant.lists, c.len.ensures)
 
 -- what was read of the last term that is left
-read : (c : After-place_of-place) → UnlinkRead (shapes_of c.args.store.now.stored.items) (spots_of c.terms.store.spots.items) c.terms.store.occurrences.items c.args.form (c.terms.left - 1) c.get-spot.result c.place_of-place.result
+read : (c : After-place_of-place) → UnlinkRead (shapes_of c.args.store.now.stored.items) (spots_of c.terms.store.spots.items) c.terms.store.occurrences c.args.form (c.terms.left - 1) c.get-spot.result c.place_of-place.result
 read c = unlink-read c.index-in-terms.result.now c.term-term.result c.index-in-terms-2.result.now c.get-spot.result c.place_of-place.result c.requires.sound c.terms.invariant (omega (arith, c.terms-test.true)) c.requires.form c.index-in-terms.ensures (c.term-term.ensures c.term-term.result) c.index-in-terms-2.ensures c.get-spot.ensures c.place_of-place.ensures.place
 
 pub take_out-requires : goal.take_out-requires
@@ -23,8 +23,13 @@ terms-preserved c =
     record {
       stored = c.terms.invariant.stored;
       variables = c.terms.invariant.variables;
-      lists = taken-length now.occurrences.items done.lists.items c.place_of-place.result c.get-spot.result c.take_out.ensures.lists ∙ c.terms.invariant.lists;
+      lists = taken-length now.occurrences done.lists c.place_of-place.result c.get-spot.result c.take_out.ensures.lists ∙ c.terms.invariant.lists;
       within = omega (arith, c.terms.invariant.within);
-      rooms = λ s. moved-rooms (get_or (lists_of now.occurrences.items) c.place_of-place.result []) c.get-spot.result (spots_of now.spots.items) (spots_of done.spots.items) c.take_out.ensures.spots s ∙ c.terms.invariant.rooms s;
-      linked = (read (goal.at.terms-preserved c).After-place_of-place).next (spots_of done.spots.items) done.lists.items c.take_out.ensures.lists c.take_out.ensures.spots;
+      rooms = λ s. moved-rooms (get_or now.occurrences c.place_of-place.result []) c.get-spot.result (spots_of now.spots.items) (spots_of done.spots.items) c.take_out.ensures.spots s ∙ c.terms.invariant.rooms s;
+      linked = (read (goal.at.terms-preserved c).After-place_of-place).next (spots_of done.spots.items) done.lists c.take_out.ensures.lists c.take_out.ensures.spots;
     }
+
+pub returns-clause-linked : goal.returns-clause-linked
+returns-clause-linked c =
+    let none_left : c.terms.left ≡ 0 = omega (arith, c.terms-test.false) in
+    rw c.terms.invariant.stored (rw none_left at c.terms.invariant.linked)

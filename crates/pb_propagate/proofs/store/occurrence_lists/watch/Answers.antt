@@ -4,4 +4,4 @@ use Rattle.pb_propagate.proofs.store.occurrence_lists.watch.Goals as goal
 
 pub fill-requires-clause-inside : goal.fill-requires-clause-inside
 fill-requires-clause-inside c =
-    subst (λ (xs : List ℕ). All (λ x. x < length c.args.clauses.now.lists.items) xs) (sym c.requires.codes) (codes-inside (group_by (length c.args.form.terms)) c.args.form.terms c.args.store.now.variables (length c.args.clauses.now.lists.items) c.requires.widths c.requires.inside)
+    subst (λ (xs : List ℕ). All (λ x. x < length c.args.clauses.now.lists) xs) (sym c.requires.codes) (codes-inside (group_by (length c.args.form.terms)) c.args.form.terms c.args.store.now.variables (length c.args.clauses.now.lists) c.requires.widths c.requires.inside)

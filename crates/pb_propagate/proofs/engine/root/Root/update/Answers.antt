@@ -1,5 +1,5 @@
-use Rattle.pb_propagate.proofs.{Common.rules, lemmas.clauses.Heads.heads-is, lemmas.clauses.Heads.visits-back, lemmas.clauses.Heads.walks-back}
-use Rattle.pb_propagate.proofs.Common.{ℕ, ◌∙◌, ◌≡◌, [], ap, arith, Global, length, refl, take, Vec, slice_get_within, all_of, ◌++◌, ◌-◌, Assignment, heads_at}
+use Rattle.pb_propagate.proofs.{lemmas.clauses.Heads.heads-is, lemmas.clauses.Heads.visits-back, lemmas.clauses.Heads.walks-back}
+use Rattle.pb_propagate.proofs.Common.{both_ways, ℕ, ◌∙◌, ◌≡◌, [], ap, arith, Global, length, refl, take, Vec, slice_get_within, all_of, ◌++◌, ◌-◌, Assignment, heads_at}
 use Rattle.pb_propagate.proofs.lemmas.{clauses.Heads.walks-ended, clauses.Heads.ready-running, engine.Reasoned.run-reasons-rooted, root.Kept.conflicts-kept}
 use Rattle.pb_propagate.proofs.lemmas.root.{Kept.conflict-same, Ready.back-rooted, Ready.rooted-waiting, Ready.root-ready, Ready.kept-rooted}
 use Rattle.std.proofs.Math.ListN.{replicate}
@@ -30,7 +30,8 @@ returns-then-found-clause-kept c =
     let noted = c.in_ok-note.ensures in
     let reasoned = run-reasons-rooted c.requires.standing.rooted.reasoned reported.reasons in
     let holds = conflict-same forms done c.note.new.self.assignment noted.list noted.reasons (conflicts-kept forms done reasoned (reported.conflict c.if-found.true)) in
-    search (rules, noted.values ∙ c.requires.vacant.values, noted.met, holds)
+    let values : length c.note.new.self.assignment.values.items ≡ c.args.store.now.variables = noted.values ∙ (reported.left.values ∙ c.requires.standing.rooted.values) in
+    record { few = omega (arith, values); values = λ met. values; none = λ unmet. absurd (both_ways _ unmet noted.met); holds = λ met. holds }
 
 -- none is met
 pub returns-clause-costs : goal.returns-clause-costs
