@@ -29,7 +29,7 @@ pub use entry::Entry;
 pub use fault::NormalFault;
 pub use form::Normal;
 pub use hash_keys::HashKeys;
-pub use linear::{fits, terms_fit};
+pub use linear::{fits, number_names, terms_fit};
 pub use memory::Memory;
 pub use names::Names;
 pub use names::hasher::NameHasher;

@@ -185,6 +185,17 @@ fn number(
     Ok(())
 }
 
+/// Numbers the names of the terms in order. If out of memory, a prefix of them has appeared.
+pub fn number_names(names: &mut Names, terms: &[Term]) -> Result<(), AllocError>
+    ensures names { OnOk result (names.new ≡ with_names names.old (names_of terms.now)) }
+    ensures err { OnErr result (AfterPrefix names.old (names_of terms.now) names.new) }
+{
+    for term in terms {
+        names.number(term.literal.name.as_str())?;
+    }
+    Ok(())
+}
+
 // Moves a negative coefficient to the opposite literal.
 fn raw(variable: usize, negated: bool, coefficient: i128) -> Entry
     ensures { result ≡ entry_of variable negated coefficient }

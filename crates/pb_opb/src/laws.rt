@@ -51,7 +51,8 @@ pub fn instances_are_values()
     ensures { InstanceValues }
 {}
 
-/// A machine stores nothing but its state, its limits and its allocator, as contracts see these.
+/// A machine stores nothing but its state, its limits, its allocator and memory to use again, as
+/// contracts see these.
 pub fn keeps_its_state()
     ensures { KeepsItsState }
 {}

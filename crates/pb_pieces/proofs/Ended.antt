@@ -1,17 +1,20 @@
 -- A session at its end, and at its beginning.
 use Rattle.pb_pieces.proofs.Common.{ℕ, ◌∙◌, ◌≡◌, [], ap, append-nil, arith, Bor, drop, Err, inl, length, List, None, Ok, Option, refl, Result, Some, subst, sym}
-use Rattle.pb_pieces.proofs.Common.{true, Vec, drop-append_seam, drop-nil, Fault, Opened, Problem, first_state, State, place_after-offset, Limits, Place}
-use Rattle.pb_pieces.proofs.Common.{Spanned, Stop, ReadsBlank, largest, top_of, Checking, IsAt, EndsAfter, CountsAt, fault_of, place_in, CheckFault, AfterProof}
+use Rattle.pb_pieces.proofs.Common.{true, Vec, drop-append_seam, drop-nil, Fault, Problem, first_state, State, place_after-offset, Limits, Place}
+use Rattle.pb_pieces.proofs.Common.{Stop, ReadsBlank, largest, top_of, Checking, IsAt, EndsAfter, CountsAt, fault_of, place_in, CheckFault, AfterProof}
 use Rattle.pb_pieces.proofs.Common.{IsAccepted, HasFault, IsInstanceOf, IsRejected, IsRunning, IsSession, Session}
-use Rattle.pb_text.specs.{contract.Over.reported, contract.OverState.inner_of, contract.OverState.shown_of, meaning.Whole.IsRead, meaning.Whole.events_at}
-use Rattle.{std.specs.declared.alloc.Global.Global, pb_tool.proofs.lemmas.check.TwoSources.whole_file, pb_tool.proofs.lemmas.file.GivenBytes.file_then_blank}
-use Rattle.pb_opb.specs.{declared.Instance.Instance, meaning.Reading.ReadsInstance, meaning.Values.IsValueOf}
+use Rattle.pb_text.specs.{contract.Over.reported, contract.OverState.inner_of, contract.OverState.shown_of, meaning.Whole.events_at}
+use Rattle.{std.specs.declared.alloc.Global.Global, pb_tool.proofs.lemmas.check.TwoSources.whole_file, pb_opb.specs.declared.Instance.Instance}
 use Rattle.{pb_proof.specs.declared.Stage.Stage, pb_proof.specs.declared.Stage.TheVariants.Complete, pb_replay.specs.meaning.Statements.Accepts}
-use Rattle.pb_replay.specs.{contract.ReplayModel.Replaying, contract.ReplayModel.StandsFor, contract.ReplayModel.verdict_at, declared.verdict.Verdict.Verdict}
+use Rattle.pb_replay.specs.{contract.ReplayModel.Replaying, contract.ReplayModel.verdict_at, declared.verdict.Verdict.Verdict}
 use Rattle.pb_text.specs.declared.over.Over.{Over}
-use Rattle.pb_tool.specs.{contract.Runs.Replays, meaning.Decided.AreVerified, meaning.Headline.VerdictsAreTrue}
-use Rattle.pb_tool.specs.meaning.Files.{IsInstanceFile, IsInstanceText, IsNoInstanceFile, IsRefused.InText, IsRefused.InRest}
+use Rattle.pb_tool.specs.contract.Runs.{IsNoReplay, IsReplayOf, Replays}
+use Rattle.pb_tool.specs.declared.fault.{Input.Input, Input.TheVariants.Instance as of_instance, ToolFault.ToolFault}
+use Rattle.pb_tool.specs.declared.fault.ToolFault.TheVariants.{Memory, Overflow, Text}
+use Rattle.pb_tool.specs.meaning.{Decided.AreVerified, Files.IsInstanceFile, Headline.VerdictsAreTrue}
+use Rattle.pb_pieces.specs.{Session.IsNoSession, declared.session.OpenFault.OpenFault}
 use Rattle.pb_pieces.proofs.{Faults.accepting, Faults.refused_at_end, Fed.running, Fed.with_stands}
+use Rattle.pb_pieces.specs.declared.session.OpenFault.TheVariants as opening
 use Rattle.pb_text.specs.declared.place.Why.TheVariants as reason
 use Rattle.pb_tool.specs.declared.commands.check.checker.CheckFault.TheVariants as check
 
@@ -26,6 +29,12 @@ concluded_as _ concluded w e = absurd cc
 
 same_state : {s t : State} → ◌≡◌ {A = Result State Fault} (Ok s) (Ok t) → s ≡ t
 same_state e = cc
+
+-- the fault of a session for one of the tool
+abbrev pub fault_of_tool : ToolFault → OpenFault
+fault_of_tool (Text i s) = opening.Text s
+fault_of_tool (Memory i) = opening.Memory
+fault_of_tool e = opening.Overflow
 
 -- what a finish says of the text, with the number of its statements
 abbrev pub EndsOf : Checking → Checking → Result Verdict CheckFault → Type 0
@@ -108,36 +117,45 @@ module _ (limits : Limits) (longest : ℕ) where
       true_of law = let a = verified in (a.instance, a.first, law limits longest a.instance a.proof w (Some fed) (Some []) a.second a.verified)
 
   -- ---- the beginning
-  module _ (text : List ℕ) (before : Option (List ℕ)) (one : before ≡ Some text) (within : ℕ) (is : within ≡ longest) where
-    pub no_text : (s : Stop) (after : Option (List ℕ)) → ReadsInstance (largest limits) (top_of limits) within before (Err s) after → (a : Option (List ℕ)) × IsNoInstanceFile limits longest (Some text) a s
-    no_text s after reads =
-        (after, InText (subst (λ (x : Option (List ℕ)). ReadsInstance (largest limits) (top_of limits) longest x (Err s) after) one (subst (λ (n : ℕ). ReadsInstance (largest limits) (top_of limits) n before (Err s) after) is reads)))
+  module _ (text : List ℕ) (before : Option (List ℕ)) (one : before ≡ Some text) (within : ℕ) (is : within ≡ longest) (after : Option (List ℕ)) where
+    at_text : (P : ℕ → Option (List ℕ) → Type 0) → P within before → P longest (Some text)
+    at_text P p = subst (P longest) one (subst (λ (n : ℕ). P n before) is p)
 
-    instance_read : (m : Spanned Instance) (mid : Option (List ℕ)) → ReadsInstance (largest limits) (top_of limits) within before (Ok m) mid → ReadsInstance (largest limits) (top_of limits) longest (Some text) (Ok m) mid
-    instance_read m mid reads = subst (λ (x : Option (List ℕ)). ReadsInstance (largest limits) (top_of limits) longest x (Ok m) mid) one (subst (λ (n : ℕ). ReadsInstance (largest limits) (top_of limits) n before (Ok m) mid) is reads)
+    whole_text : (v : Instance) → IsInstanceFile limits longest (Some text) after v → IsInstanceFile limits longest (Some text) (Some []) v
+    whole_text v f = subst (λ (x : Option (List ℕ)). IsInstanceFile limits longest (Some text) x v) f.took.1 f
 
-    pub no_rest : (m : Spanned Instance) (mid after : Option (List ℕ)) (s : Stop) → ReadsInstance (largest limits) (top_of limits) within before (Ok m) mid → ReadsBlank m.past mid (Err s) after → (a : Option (List ℕ)) × IsNoInstanceFile limits longest (Some text) a s
-    no_rest m mid after s reads stray = (after, InRest m mid (instance_read m mid reads) stray)
+    by_fault : (e : ToolFault) → IsNoReplay limits longest (Some text) after e → IsNoSession limits longest text (fault_of_tool e)
+    by_fault (Text of_instance s) stopped = (after, stopped)
+    by_fault (Overflow of_instance) (v, file, opened) = (v, whole_text v file, opened)
+    by_fault (Memory of_instance) (v, file, fits) = (v, whole_text v file, fits)
+    by_fault e none = absurd none
 
-    pub file : (m : Spanned Instance) (mid after : Option (List ℕ)) → ReadsInstance (largest limits) (top_of limits) within before (Ok m) mid → ReadsBlank m.past mid (Ok tt) after → IsInstanceFile limits longest (Some text) (Some []) m.event
-    file m mid after reads blank =
-        let (used, seen, took, read) = instance_read m mid reads in
-        let f = file_then_blank (IsRead (IsInstanceText limits) longest IsValueOf) m (Some text) mid after used seen took read read.past blank in
-        subst (λ (x : Option (List ℕ)). IsInstanceFile limits longest (Some text) x m.event) f.took.1 f
+    pub unopened : (e : ToolFault) → IsNoReplay limits within before after e → IsNoSession limits longest text (fault_of_tool e)
+    unopened e none = by_fault e (at_text (λ (n : ℕ) (x : Option (List ℕ)). IsNoReplay limits n x after e) none)
 
-    pub opened : (m : Spanned Instance) (mid after : Option (List ℕ)) (r : Replaying) (c : Checking) (rest : Vec ℕ Global) → ReadsInstance (largest limits) (top_of limits) within before (Ok m) mid → ReadsBlank m.past mid (Ok tt) after
-        → Opened (largest limits) m.event (Ok r.problem) → r.limits ≡ limits → StandsFor r (first_state r.problem) → r.fault ≡ None
+    by_rest : (e : ToolFault) → ((i : Input) (s : Stop) → e ≡ Text i s → ⊥) → ((i : Input) → e ≡ Memory i → ⊥) → IsNoSession limits longest text (fault_of_tool e) → IsNoReplay limits longest (Some text) after e → IsNoSession limits longest text opening.Overflow
+    by_rest (Text i s) no_text memory h r = absurd (no_text i s refl)
+    by_rest (Memory i) no_text memory h r = absurd (memory i refl)
+    by_rest (Overflow of_instance) no_text memory h r = h
+    by_rest e no_text memory h r = absurd r
+
+    pub overflown : (e : ToolFault) → ((i : Input) (s : Stop) → e ≡ Text i s → ⊥) → ((i : Input) → e ≡ Memory i → ⊥) → IsNoReplay limits within before after e → IsNoSession limits longest text opening.Overflow
+    overflown e no_text memory none = by_rest e no_text memory (unopened e none) (at_text (λ (n : ℕ) (x : Option (List ℕ)). IsNoReplay limits n x after e) none)
+
+    pub opened : (r : Replaying) (c : Checking) (rest : Vec ℕ Global) → IsReplayOf limits within before after r
         → ((first : Result State Fault) → IsAt r first → CountsAt r.limits longest r.problem first [] 0 c) → fault_of c ≡ None → rest.items ≡ []
         → IsSession limits longest text [] (record { checker = c; rest = rest; accepted = 0; fault = None })
-    opened m mid after r c rest reads blank opens limited first unspent stands running none = record {
-      instance = m.event;
-      file = file m mid after reads blank;
-      problem = r.problem;
-      opened = opens;
-      stands = record {
-        counts = subst (λ (l : Limits). CountsAt l longest r.problem (Ok (first_state r.problem)) [] 0 c) limited (stands (Ok (first_state r.problem)) (unspent, first));
-        running = running;
-        few = omega arith;
-        rest_is = none ∙ sym (drop-nil (place_in c).offset);
-      };
-    }
+    opened r c rest opens stands running none =
+        let o = at_text (λ (n : ℕ) (x : Option (List ℕ)). IsReplayOf limits n x after r) opens in
+        record {
+          instance = o.instance;
+          file = whole_text o.instance o.file;
+          problem = r.problem;
+          opened = o.opened;
+          stands = record {
+            counts = subst (λ (l : Limits). CountsAt l longest r.problem (Ok (first_state r.problem)) [] 0 c) o.limited (stands (Ok (first_state r.problem)) (o.running, o.first));
+            running = running;
+            few = omega arith;
+            rest_is = none ∙ sym (drop-nil (place_in c).offset);
+          };
+        }

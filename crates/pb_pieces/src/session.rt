@@ -12,14 +12,13 @@ ghost use Rattle.pb_tool.specs.meaning.Decided.{AreVerified};
 ghost use Rattle.pb_pieces.specs.Session.{HasAccepted, IsInstanceOf, IsNoSession, IsSession, held_in};
 
 use pb_normal::{HashKeys, Normal};
-use pb_opb::read_instance_within;
 use pb_proof::ProofMachine;
 use pb_proof::laws::{prefix_free, proofs_are_exact};
-use pb_replay::{Fault, Replay, Verdict};
+use pb_replay::Verdict;
 use pb_text::laws::standing_is_reading;
 use pb_text::{BYTE_LIMIT, Limits, Over, Place, Stop, Why, rest_is_blank};
 use pb_tool::laws::check::verified_is_true;
-use pb_tool::{CheckFault, Checker, Went};
+use pb_tool::{CheckFault, Checker, ToolFault, Went, replay_of_instance};
 use std::alloc::Global;
 
 /// Why there is no session for a text.
@@ -62,22 +61,15 @@ impl Session {
     {
         let mut source = Over::new(text);
         let within = longest.unwrap_or(BYTE_LIMIT);
-        let read = match read_instance_within(alloc, &mut source, within, limits) {
-            Ok(read) => read,
-            Err(stop) => return Err(OpenFault::Text(stop)),
-        };
-        match rest_is_blank(&mut source, read.past) {
-            Ok(()) => {}
-            Err(stop) => return Err(OpenFault::Text(stop)),
-        }
-        match Replay::from_instance(alloc, keys, read.event, limits) {
+        match replay_of_instance(alloc, keys, &mut source, within, limits) {
             Ok(replay) => Ok(Session {
                 checker: Checker::new(alloc, replay, longest),
                 rest: Vec::new(alloc),
                 accepted: 0,
                 fault: None,
             }),
-            Err(Fault::Memory) => Err(OpenFault::Memory),
+            Err(ToolFault::Text { input: _, stop }) => Err(OpenFault::Text(stop)),
+            Err(ToolFault::Memory(_)) => Err(OpenFault::Memory),
             Err(_) => Err(OpenFault::Overflow),
         }
     }

@@ -34,8 +34,8 @@ pub fn larger_limits()
     ensures { LargerLimits }
 {}
 
-/// A machine stores nothing besides its state, its limits and its allocator, as contracts see these.
-/// The words of a `pol` line are a state and a vector.
+/// A machine stores nothing besides its state, its limits, its allocator and memory to use again, as
+/// contracts see these. The words of a `pol` line are a state and a vector.
 pub fn keeps_its_state()
     ensures rup { RupKeeps }
     ensures pol { PolKeeps }

@@ -5,4 +5,5 @@ pub mod Fields
 pub mod ReplayModel
 pub mod Rules
 pub mod Laws
+pub mod Loading
 pub mod Visits

@@ -3,11 +3,13 @@
 
 mod fault;
 pub mod laws;
+mod loading;
 mod replay;
 mod state;
 mod step;
 mod verdict;
 
 pub use fault::Fault;
+pub use loading::Loading;
 pub use replay::Replay;
 pub use verdict::Verdict;

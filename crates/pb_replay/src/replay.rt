@@ -8,14 +8,16 @@ ghost use Rattle.pb_proof.specs.contract.Values.{IsStatementValue};
 ghost use Rattle.pb_replay.specs.meaning.Problem.{FitsAll, Opened};
 ghost use Rattle.pb_replay.specs.meaning.Replay.{State, first_state};
 ghost use Rattle.pb_replay.specs.meaning.Meaning.{IsNamePrefix, IsProblem, IsSound, Means, MeansWritten};
+ghost use Rattle.pb_replay.specs.contract.Loading.{NamesInOrder};
 ghost use Rattle.pb_replay.specs.contract.ReplayModel.{StandsFor, StepsAs, verdict_in, constraint_in};
 ghost use Rattle.pb_replay.specs.meaning.Statements.{MayWantAt};
 ghost use Rattle.pb_replay.specs.contract.Visits.{StepVisits};
 ghost use Rattle.pb_replay.specs.declared.fault.Fault.{Fault as AFault};
 
 use crate::fault::Fault;
+use crate::loading::Loading;
 use crate::state::Running;
-use crate::state::load::{open, open_whole};
+use crate::state::load::open;
 use crate::step::apply;
 use crate::verdict::Verdict;
 use pb_normal::{HashKeys, Normal};
@@ -94,25 +96,23 @@ impl Replay {
         })
     }
 
-    /// The same for an instance that nothing else needs. Its memory is free before the replay
-    /// takes that of its engine, so at most one of the two is in use.
-    pub fn from_instance(
-        alloc: Global,
-        keys: HashKeys,
-        instance: Instance,
-        limits: Limits,
-    ) -> Result<Replay, Fault>
-        ensures opened { IfOk result (λ r. Opened (largest limits) instance (Ok r.problem)) }
-        ensures limits { IfOk result (λ r. r.limits ≡ limits) }
+    /// The same for the instance that the statements of a loading are: no constraint was stored as
+    /// written. The objective, if there is one, comes before the constraints. `Memory` also comes
+    /// if memory ran out while a statement was added.
+    pub fn from_loading(loading: Loading) -> Result<Replay, Fault>
+        requires order { (i : AnInstance) × NamesInOrder loading.1 i }
+        ensures opened { IfOk result (λ r. (i : AnInstance) → NamesInOrder loading.1 i →
+            Opened (largest loading.0) i (Ok r.problem)) }
+        ensures limits { IfOk result (λ r. r.limits ≡ loading.0) }
         ensures first { IfOk result (λ r. StandsFor r (first_state r.problem)) }
         ensures running { IfOk result (λ r. r.fault ≡ None) }
         ensures visits { IfOk result (λ r. r.visits ≡ 0) }
-        ensures refused { IfErr result (λ e. (e ≡ Fault.Memory) ⊎
-            Opened (largest limits) instance (Err e)) }
-        // Overflow is decided before anything is allocated.
-        ensures memory { result ≡ Err Fault.Memory → FitsAll (largest limits) instance }
+        ensures refused { IfErr result (λ e. (e ≡ Fault.Memory) ⊎ ((i : AnInstance) →
+            NamesInOrder loading.1 i → Opened (largest loading.0) i (Err e))) }
+        ensures memory { result ≡ Err Fault.Memory → (i : AnInstance) → NamesInOrder loading.1 i →
+            FitsAll (largest loading.0) i }
     {
-        let running = open_whole(alloc, keys, instance, limits)?;
+        let running = loading.open()?;
         Ok(Replay {
             running,
             fault: None,

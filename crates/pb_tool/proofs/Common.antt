@@ -58,12 +58,13 @@ pub use Rattle.pb_tool.specs.contract.Seen.{SawFile, SawInstance, SawNoInstance,
 pub use Rattle.pb_tool.specs.contract.Show.{EndsAt, IsRefusedAfter, IsSpelling, line_of, shown, shown_line, ShowsLines, ShowsFile}
 pub use Rattle.pb_tool.specs.contract.Stays.{HasNoFault, IsInstanceWithin, IsOutside, IsProofWithin, IsReadAsInstance, IsReadAsProof, ProofHasNoFault}
 pub use Rattle.pb_tool.specs.contract.Watched.{Accepted, Call, GotEach, HasSeen, HasSeenUpTo, IsWatched, Rejected, ShowsEach, ShowsProof, ShowsRun}
-pub use Rattle.pb_tool.specs.declared.commands.{check.checker.CheckFault.CheckFault, tidy.normal_text.Forms.Forms, tidy.notes.Notes.Notes}
+pub use Rattle.pb_tool.specs.declared.commands.{check.checker.CheckFault.CheckFault, tidy.normal_text.Forms.Forms}
 pub use Rattle.pb_tool.specs.{declared.fault.Input.TheVariants.File, declared.fault.ToolFault.ToolFault, meaning.Verified.verdict_line}
 pub use Rattle.pb_tool.specs.declared.fault.ToolFault.TheVariants.{Memory, Overflow, Step, Text, Write}
 pub use Rattle.pb_tool.specs.{engine.Gathered.IsGathered, engine.Gathered.IsNotGathered, engine.Gathered.TidiesEach, meaning.Verified.Returns}
 pub use Rattle.pb_tool.specs.engine.InstanceText.{IsInstanceTextOf, line, line_if, text_of, with}
-pub use Rattle.pb_tool.specs.engine.NormalText.{AreLines, AreMade, as_statement, form_lines, IsNoted, names_at, names_on, NamesInOrder, noted}
+pub use Rattle.pb_tool.specs.engine.NormalText.{AreLines, AreMade, as_statement, form_lines, IsNoted}
+pub use Rattle.pb_replay.specs.contract.Loading.{names_at, names_on, NamesInOrder, noted}
 pub use Rattle.pb_tool.specs.engine.Running.{Begins, HasGiven, HasRun, HasShown, IsChecked, IsRun, OfBoth, RunsTo}
 pub use Rattle.pb_tool.specs.meaning.Decided.{AnswersExactly, AreVerified, IsDecided, IsOfText, IsOfTexts, IsSame, OneAnswer}
 pub use Rattle.pb_tool.specs.meaning.Files.{AsksInProofText, IsProofFile, IsProofText, MayBeInstance, MayBeProof, AsksInInstanceText, IsFile, IsInstanceFile}

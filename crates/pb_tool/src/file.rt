@@ -7,13 +7,13 @@ ghost use Rattle.pb_text.specs.contract.NothingRead.{ReadsNothing, first_fault};
 ghost use Rattle.pb_text.specs.meaning.Pulling.{OfGiven, faults_after};
 ghost use Rattle.pb_text.specs.meaning.Stopping.{IsShown};
 ghost use Rattle.pb_text.specs.meaning.Writing.{one_more};
-ghost use Rattle.pb_tool.specs.meaning.Files.{IsProofText, IsNoInstanceFile, IsInstanceText, IsInstanceFile};
+ghost use Rattle.pb_tool.specs.meaning.Files.{IsProofText, IsInstanceText};
 ghost use Rattle.pb_tool.specs.engine.Gathered.{IsGathered, IsNotGathered};
 ghost use Rattle.pb_tool.specs.engine.Opening.{IsReadAs};
 ghost use Rattle.pb_tool.specs.declared.fault.Input.TheVariants.{File};
 
 use crate::fault::{Input, ToolFault, text_fault};
-use pb_opb::{Instance, OpbMachine, read_instance_within};
+use pb_opb::OpbMachine;
 use pb_proof::ProofMachine;
 use pb_text::{Failed, Gather, Limits, Machine, Source, Stop, read_whole, rest_is_blank, unread};
 use std::alloc::Global;
@@ -82,31 +82,4 @@ pub(crate) fn read_file<S: Source, M: Machine + Drop, G: Gather<Event = M::Event
     let read = read_whole(input, machine, longest, empty)?;
     rest_is_blank(input, read.past)?;
     Ok(read.event)
-}
-
-/// Reads an instance. Only white space and comments may follow it.
-pub(crate) fn read_instance_file<S: Source>(
-    alloc: Global,
-    input: &mut S,
-    longest: u64,
-    limits: Limits,
-) -> Result<Instance, Stop>
-    requires { 0 < longest }
-    ensures file { IfOk result (IsInstanceFile limits longest (S.left input.old)
-        (S.left input.new)) }
-    ensures refused { IfErr result (IsNoInstanceFile limits longest (S.left input.old)
-        (S.left input.new)) }
-    ensures given { IfOk result (λ v.
-        OfGiven (λ left rest. IsInstanceFile limits longest left rest v) (S.history input.old)
-        (S.history input.new)) }
-    ensures refused_given { IfErr result (λ s.
-        OfGiven (λ left rest. IsNoInstanceFile limits longest left rest s) (S.history input.old)
-        (S.history input.new)) }
-    ensures ended { OnOk result (S.ended input.new ≡ true) }
-    ensures shown { IfErr result (λ s. IsShown (S.shown input.new) (S.ended input.new) s.why) }
-    ensures faults { S.faults input.new ≡ faults_after None result (S.faults input.old) }
-{
-    let instance = read_instance_within(alloc, input, longest, limits)?;
-    rest_is_blank(input, instance.past)?;
-    Ok(instance.event)
 }

@@ -9,6 +9,7 @@ pub mod laws;
 mod limits;
 
 pub use commands::check::checker::{CheckFault, Checker, Went};
+pub use commands::check::instance::replay_of_instance;
 pub use commands::check::watch::{Unwatched, Watch};
 pub use commands::check::{check, check_watched, check_with_hasher};
 pub use commands::show::show;

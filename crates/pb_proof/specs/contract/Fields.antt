@@ -6,6 +6,12 @@ use Rattle.pb_text.specs.meaning.Limits.{largest, top_of}
 abbrev pub proof_state : Inside → ProofState
 proof_state m = record { limit = largest m.limits; top = top_of m.limits; phase = m.phase; line = m.line }
 
--- It stores nothing besides its state, its limits and its allocator, as contracts see these.
+-- the same memory to use again
+pub record HasSameMemory (a b : Inside) : Type 0 where
+  pub terms : a.terms ≡ b.terms
+  pub words : a.words ≡ b.words
+  pub ids : a.ids ≡ b.ids
+
+-- It stores nothing besides its state, its limits, its allocator and memory to use again, as contracts see these.
 abbrev pub ProofKeeps : Type 0
-ProofKeeps = (a b : Inside) → a.alloc ≡ b.alloc → a.limits ≡ b.limits → proof_state a ≡ proof_state b → a ≡ b
+ProofKeeps = (a b : Inside) → a.alloc ≡ b.alloc → a.limits ≡ b.limits → HasSameMemory a b → proof_state a ≡ proof_state b → a ≡ b

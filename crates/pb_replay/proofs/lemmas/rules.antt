@@ -1,5 +1,6 @@
 -- Lemmas of the rules, each on a replay.
 pub mod Live
+pub mod Loading
 pub mod Steps
 pub mod Words
 pub mod Completions

@@ -1,8 +1,8 @@
 -- What a replay stores.
 use Rattle.{pb_replay.specs.declared.replay.Replay.TheInside.Inside, pb_replay.specs.declared.state.Running.Running, std.specs.Prelude.◌≡◌}
 
--- Both have the same instance, names, engine, best value, stage, conclusion and number of visits, under the same limits and
--- with the same allocator.
+-- Both have the same instance, names, engine, best value, stage, conclusion and number of visits, under the same limits,
+-- with the same allocator, and with the same memory to use again.
 pub record AreAlike (a b : Running) : Type 0 where
   pub alloc : a.alloc ≡ b.alloc
   pub limits : a.limits ≡ b.limits
@@ -15,6 +15,7 @@ pub record AreAlike (a b : Running) : Type 0 where
   pub next : a.next ≡ b.next
   pub concluded : a.concluded ≡ b.concluded
   pub visits : a.visits ≡ b.visits
+  pub memory : a.memory ≡ b.memory
 
 -- It stores nothing besides these and its fault, as contracts see these.
 abbrev pub KeepsItsState : Type 0

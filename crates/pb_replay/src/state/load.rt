@@ -1,12 +1,12 @@
 //! An instance as forms.
 
-ghost use Rattle.std.specs.Prelude.{◌≡◌, ◌<◌, ◌≤◌, ◌↔◌, option_map, All, OnOk, IfOk, IfErr, IsTrue, Err, None, Ok, ◌⊎◌};
+ghost use Rattle.std.specs.Prelude.{◌≡◌, ◌<◌, ◌≤◌, ◌↔◌, pos, option_map, All, OnOk, IfOk, IfErr, IsTrue, Err, None, Ok, ◌⊎◌};
 ghost use Rattle.pb_text.specs.meaning.Limits.{largest};
 ghost use Rattle.pb_normal.specs.meaning.Constraints.{Fits};
 ghost use Rattle.pb_normal.specs.meaning.Names.{with_names};
 ghost use Rattle.pb_normal.specs.meaning.Written.{names_of, magnitude};
 ghost use Rattle.pb_replay.specs.meaning.Problem.{FitsAll, Opened, objective_of};
-ghost use Rattle.pb_replay.specs.contract.ReplayModel.{IsLoaded, IsOpened};
+ghost use Rattle.pb_replay.specs.contract.ReplayModel.{IsFirst, IsLoaded, IsOpened, problem_of};
 ghost use Rattle.pb_opb.specs.declared.Instance.{Instance as AnInstance};
 
 use crate::fault::Fault;
@@ -15,10 +15,32 @@ use crate::state::live::engine_over;
 use pb_normal::{HashKeys, Memory, Names, Normal, NormalFault, Side, fits, load, terms_fit};
 use pb_opb::Instance;
 use pb_proof::Stage;
-use pb_propagate::{Engine, share_each};
+use pb_propagate::{Engine, Shared, share_each};
 use pb_sums::{Linear, Relation, Term};
 use pb_text::{Limits, Sequence};
 use std::alloc::Global;
+
+/// A constraint with these terms. Its relation and degree have no meaning.
+fn with_terms(terms: Sequence<Term>) -> Linear
+    ensures terms { result.terms ≡ terms }
+    ensures degree { result.degree ≡ pos 0 }
+{
+    Linear {
+        terms,
+        relation: Relation::AtLeast,
+        degree: 0,
+    }
+}
+
+/// The terms of an objective, if there is one, as a constraint.
+pub(crate) fn as_linear(objective: Option<Sequence<Term>>) -> Option<Linear>
+    ensures { option_map (λ c. c.terms) result ≡ objective }
+{
+    match objective {
+        None => None,
+        Some(terms) => Some(with_terms(terms)),
+    }
+}
 
 /// The objective's terms as a constraint, once their names have numbers.
 fn objective_of_terms(
@@ -32,11 +54,7 @@ fn objective_of_terms(
     ensures fits { OnOk result (magnitude terms.now ≤ largest limits) }
     ensures overflow { result ≡ Err NormalFault.Overflow → largest limits < magnitude terms.now }
 {
-    let linear = Linear {
-        terms: Sequence::from_vec(Vec::from_clones(alloc, terms)?),
-        relation: Relation::AtLeast,
-        degree: 0,
-    };
+    let linear = with_terms(Sequence::from_vec(Vec::from_clones(alloc, terms)?));
     let _ = Normal::from_linear(alloc, names, &linear, Side::AtLeast, limits)?;
     Ok(linear)
 }
@@ -75,7 +93,7 @@ fn fits_all(instance: &Instance, limits: Limits) -> bool
 }
 
 /// Whether the coefficients of the objective, if there is one, fit together.
-fn objective_fits(objective: &Option<Sequence<Term>>, limits: Limits) -> bool
+pub(crate) fn objective_fits(objective: &Option<Sequence<Term>>, limits: Limits) -> bool
     ensures { IsTrue result ↔ (magnitude (objective_of objective.now) ≤ largest limits) }
 {
     match objective {
@@ -106,24 +124,6 @@ pub(crate) fn open(
     ensures memory { result ≡ Err Fault.Memory → FitsAll (largest limits) instance.now }
 {
     let running = load_tested(alloc, keys, instance, limits)?;
-    with_engine(running)
-}
-
-/// The same for an instance that nothing else needs. Its memory is free before the engine needs
-/// some.
-pub(crate) fn open_whole(
-    alloc: Global,
-    keys: HashKeys,
-    instance: Instance,
-    limits: Limits,
-) -> Result<Running, Fault>
-    ensures ok { IfOk result (IsOpened limits instance) }
-    ensures err { IfErr result (λ e. (e ≡ Fault.Memory) ⊎
-        Opened (largest limits) instance (Err e)) }
-    ensures memory { result ≡ Err Fault.Memory → FitsAll (largest limits) instance }
-{
-    let running = load_tested(alloc, keys, &instance, limits)?;
-    drop(instance);
     with_engine(running)
 }
 
@@ -169,8 +169,26 @@ fn load_instance(
         Err(fault) => return Err(Fault::from(fault)),
     };
     let loaded = share_each(alloc, forms)?;
+    Ok(started(alloc, limits, names, loaded, objective))
+}
+
+/// A replay of these forms before its first statement. The engine has no variable.
+pub(crate) fn started(
+    alloc: Global,
+    limits: Limits,
+    names: Names,
+    loaded: Vec<Shared>,
+    objective: Option<Linear>,
+) -> Running
+    ensures first { IsFirst limits result }
+    ensures problem { problem_of result ≡ record {
+      loaded = loaded.items;
+      objective = option_map (λ c. c.terms) objective;
+      names = names;
+    } }
+{
     let own = names.len();
-    Ok(Running {
+    Running {
         alloc,
         limits,
         names,
@@ -183,11 +201,11 @@ fn load_instance(
         concluded: None,
         visits: 0,
         memory: Memory::new(alloc),
-    })
+    }
 }
 
 /// The same replay, whose engine has a variable for each name and memory for each constraint.
-fn with_engine(running: Running) -> Result<Running, Fault>
+pub(crate) fn with_engine(running: Running) -> Result<Running, Fault>
     ensures ok { (i : AnInstance) → IsLoaded running.limits i running →
         IfOk result (IsOpened running.limits i) }
     ensures err { IfErr result (λ e. e ≡ Fault.Memory) }

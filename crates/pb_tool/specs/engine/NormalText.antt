@@ -1,27 +1,17 @@
 -- The normal form of an instance, built as its statements come.
-use Rattle.pb_normal.specs.meaning.{Constraints.AreFormsOf, Constraints.constraint_names, Constraints.sides_in, Form.Form, Written.linear_of, Written.names_of}
-use Rattle.{pb_normal.specs.meaning.Names.HasNames, pb_normal.specs.meaning.Names.with_names, pb_replay.specs.meaning.Problem.objective_of}
-use Rattle.{pb_opb.specs.declared.Instance.Instance, pb_tool.specs.engine.InstanceText.line, std.specs.List.flat_map}
-use Rattle.pb_opb.specs.declared.OpbEvent.{OpbEvent, TheVariants.Header, TheVariants.Comment, TheVariants.Objective, TheVariants.Constraint}
-use Rattle.pb_opb.specs.meaning.Values.{IsValueOf, last_or, variables_in, objectives_in, constraints_in}
+use Rattle.pb_normal.specs.meaning.{Constraints.AreFormsOf, Constraints.constraint_names, Constraints.sides_in, Form.Form, Written.linear_of}
+use Rattle.{pb_normal.specs.meaning.Names.HasNames, pb_normal.specs.meaning.Names.with_names, pb_replay.specs.contract.Loading.names_on}
+use Rattle.{pb_tool.specs.engine.InstanceText.line, std.specs.List.flat_map}
+use Rattle.pb_opb.specs.declared.OpbEvent.{OpbEvent, TheVariants.Objective, TheVariants.Constraint}
+use Rattle.pb_opb.specs.meaning.Values.{last_or, variables_in, objectives_in, constraints_in}
 use Rattle.{pb_sums.specs.declared.Linear.Linear, pb_sums.specs.declared.Term.Term, pb_text.specs.declared.Limits.Limits, pb_text.specs.meaning.Limits.largest}
 use Rattle.pb_tool.specs.{contract.Normalised.SomePasses, declared.commands.tidy.form_lines.FormLines.FormLines, declared.commands.tidy.normal_text.Forms.Forms}
 use Rattle.pb_tool.specs.declared.commands.tidy.normal_text.Standing.{Standing, TheVariants.Stored, TheVariants.Lost, TheVariants.Overflows}
-use Rattle.std.specs.Prelude.{◌≡◌, ℕ, List, [], ◌∷◌, ◌++◌, length, Option, Some, None}
+use Rattle.std.specs.Prelude.{◌≡◌, ℕ, List, [], length, Option, Some, None}
 
 -- the lines of forms, written out with the names
 abbrev pub form_lines : List (List ℕ) → List Form → List ℕ
 form_lines names = flat_map (λ f. line (Constraint (linear_of names f)))
-
--- the names of a statement, in the order of its terms, and those of statements
-abbrev pub names_at : OpbEvent → List (List ℕ)
-names_at (Header variables constraints tail) = []
-names_at (Comment text) = []
-names_at (Objective terms) = names_of terms
-names_at (Constraint linear) = names_of linear.terms
-
-abbrev pub names_on : List OpbEvent → List (List ℕ)
-names_on = flat_map names_at
 
 -- the forms of constraints as lines, over the names that have appeared
 pub record AreLines (named : List (List ℕ)) (cs : List Linear) (t : FormLines) : Type 0 where
@@ -51,11 +41,3 @@ pub record IsNoted (events : List OpbEvent) (variables : ℕ) (objective : Optio
   pub variables_are : variables ≡ last_or 0 (variables_in events)
   pub objective_is : objective ≡ as_statement (last_or None (objectives_in events))
   pub made : AreMade (names_on events) (constraints_in events) forms
-
--- the statements with one more
-abbrev pub noted : Limits × List OpbEvent → OpbEvent → Limits × List OpbEvent
-noted t e = (t.0, t.1 ++ e ∷ [])
-
--- v is the value of the statements, and their names come in the order of its objective and its constraints
-abbrev pub NamesInOrder : List OpbEvent → Instance → Type 0
-NamesInOrder events v = IsValueOf events v × (names_on events ≡ names_of (objective_of v.objective) ++ constraint_names v.constraints)

@@ -11,7 +11,7 @@ ghost use Rattle.pb_tool.specs.meaning.Verified.{called, ChecksFiles};
 ghost use Rattle.pb_tool.specs.contract.Watched.{IsWatched, IsWatchedGiven};
 
 pub(crate) mod checker;
-mod instance;
+pub(crate) mod instance;
 mod proof;
 mod step;
 mod verdict;

@@ -12,7 +12,6 @@ ghost use Rattle.pb_tool.specs.contract.Seen.{SawFile};
 mod form_lines;
 mod instance_text;
 mod normal_text;
-mod notes;
 mod page;
 mod proof_text;
 

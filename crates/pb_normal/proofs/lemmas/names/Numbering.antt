@@ -1,6 +1,6 @@
 -- A name keeps its number, and names appear one by one. Offered to other crates.
-use Rattle.pb_normal.proofs.Common.{ℕ, ◌++◌, ◌<◌, ◌∙◌, ◌∷◌, ◌≡◌, [], ap, arith, Bool, Err, false, length, List, map, Ok, OnErr, refl, Result, slice_get, Some}
-use Rattle.pb_normal.proofs.Common.{suc, sym, take, true, zero, or_from, or_right, map-append, take-map, slice_get_within, bytes_eq-Decides, list_any}
+use Rattle.pb_normal.proofs.Common.{ℕ, ◌++◌, ◌<◌, ◌∙◌, ◌∷◌, ◌≡◌, [], ap, arith, Bool, Err, false, List, map, Ok, OnErr, refl, Result, slice_get, Some}
+use Rattle.pb_normal.proofs.Common.{◌+◌, get_or, length, suc, sym, take, take_read, true, zero, or_from, or_right, map-append, take-map, slice_get_within, bytes_eq-Decides, list_any}
 use Rattle.pb_normal.proofs.Common.{position_or_len, bytes_eq, Term, Entry, Side, entry_of, raw_of, AfterPrefix, AreDistinct, has_name, HasNames, number_in}
 use Rattle.pb_normal.proofs.Common.{with_name, with_names, names_of, side_number, side_terms}
 
@@ -92,6 +92,10 @@ Numbering-push side old ks new ts t out n h e p = record {
   names = grind (arith, map-append, with_names-push, h.names);
   entries = grind (arith, map-append, raw-with side t.literal.name ks ts h.named, h.entries);
 }
+
+-- the names of one more term
+pub names-read : (old ks new : List (List ℕ)) (ts : List Term) (i : ℕ) (t : Term) → i < length ts → t ≡ get_or ts i t → ks ≡ with_names old (names_of (take i ts)) → new ≡ with_name ks t.literal.name → new ≡ with_names old (names_of (take (i + 1) ts))
+names-read old ks new ts i t lt e before k = rw (take_read ts i t t lt e) (grind (arith, map-append, with_names-push, before, k))
 
 pub OnErr-always : {A E : Type 0} (r : Result A E) (P : Type 0) → P → OnErr r P
 OnErr-always (Ok _) P p = tt

@@ -309,19 +309,17 @@ ready_first limits i r opened =
 
 -- what an instance opens as
 pub opened_ok : (limit : ℕ) (i : Instance) (forms : List Form) (o : Option (List Term)) (start names : List (List ℕ)) (cs : List Linear) → cs ≡ i.constraints → o ≡ i.objective → start ≡ with_names [] (names_of (objective_of i.objective)) → names ≡ with_names start (constraint_names cs)
-    → AllOf (Fits limit) cs → magnitude (objective_of i.objective) ≤ limit → AreFormsOf names (sides_in cs) forms
-    → (own : ℕ) → own ≡ length names → Opened limit i (Ok (record { loaded = forms; objective = o; names = take own names }))
-opened_ok limit i forms o start names cs same objective begins grown fits magnitudes are own all =
+    → AllOf (Fits limit) cs → magnitude (objective_of i.objective) ≤ limit → AreFormsOf names (sides_in cs) forms → Opened limit i (Ok (record { loaded = forms; objective = o; names = names }))
+opened_ok limit i forms o start names cs same objective begins grown fits magnitudes are =
     let ns = names_of (objective_of i.objective) in
     let over : names ≡ names_in i =
     grown ∙ ap (λ (ks : List (List ℕ)). with_names ks (constraint_names cs)) begins ∙ sym (in_turn [] ns (constraint_names cs)) ∙ ap (λ (xs : List Linear). with_names [] (ns ++ constraint_names xs)) same in
-    let whole : take own names ≡ names_in i = ap (λ n. take n names) all ∙ take-length names ∙ over in
     let all_fit : AllOf (Fits limit) i.constraints = rw same at fits in
     let P : List (List ℕ) → List Linear → Type 0 = λ ks xs. AreFormsOf ks (sides_in xs) forms in let first : P names cs = are in
     let last : P (names_in i) i.constraints = rw (over, same) at first in
     inl (
       record { constraints = λ c k. All-contains (Fits limit) i.constraints c all_fit k; objective = magnitudes },
-      (forms, last, let to : Problem → Result Problem Fault = λ v. Ok v in ap to (same_fields forms forms o i.objective (take own names) (names_in i) refl objective whole)),
+      (forms, last, let to : Problem → Result Problem Fault = λ v. Ok v in ap to (same_fields forms forms o i.objective names (names_in i) refl objective over)),
     )
 
 -- an instance does not open because of a constraint that does not fit

@@ -1,4 +1,4 @@
--- What is ensured for the bytes that the calls of a source have given. Offered to other crates.
+-- What is ensured for the bytes that the calls of a source have given.
 use Rattle.{pb_proof.specs.contract.Gather.MayKeep, pb_tool.specs.contract.Show.InText, pb_tool.specs.meaning.Files.IsRefused.InText as in_text}
 use Rattle.pb_tool.proofs.Common.{ℕ, ◌++◌, ◌<◌, ◌^◌, ◌∙◌, ◌∷◌, ◌≡◌, ◌≢◌, ◌⊎◌, [], ap, append-nil, append_assoc, arith, Err, false, IfErr, inl, inr, List, None}
 use Rattle.pb_tool.proofs.Common.{Ok, Option, refl, Result, rules, Some, subst, sym, true, unwrap_or, IfSome, IsErrAnd, eqb_tells, append_cancel_right, Keeps}

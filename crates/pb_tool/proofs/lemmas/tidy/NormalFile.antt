@@ -2,11 +2,11 @@
 use Rattle.pb_normal.{proofs.lemmas.names.Loaded.are_named, specs.declared.Side.TheVariants.AtLeast as least, specs.declared.Side.TheVariants.AtMost as most}
 use Rattle.{pb_normal.proofs.lemmas.names.Loaded.forms_more, pb_normal.proofs.lemmas.names.Loaded.forms_then, std.proofs.lemmas.List.Folds.flat_map-map}
 use Rattle.pb_sums.specs.declared.Relation.{Relation, TheVariants.AtLeast, TheVariants.Equal}
-use Rattle.pb_tool.proofs.Common.{ℕ, ◌++◌, ◌+◌, ◌<◌, ◌∙◌, ◌∷◌, ◌≡◌, ◌⊎◌, [], ap, append-nil, ap₂, arith, Contains, get_or, inl, inr, length, length-append}
-use Rattle.pb_tool.proofs.Common.{List, None, Option, refl, Some, subst, suc, sym, take, zero, flat_map-append, map-append, Contains-append_cases}
+use Rattle.pb_tool.proofs.Common.{ℕ, ◌++◌, ◌+◌, ◌∙◌, ◌∷◌, ◌≡◌, ◌⊎◌, [], ap, append-nil, ap₂, arith, Contains, inl, inr, length, length-append}
+use Rattle.pb_tool.proofs.Common.{List, None, Option, refl, Some, subst, suc, sym, zero, flat_map-append, Contains-append_cases}
 use Rattle.pb_tool.proofs.Common.{Contains-append_right, distinct, in_turn, named, prefix, written_alike, HasNames-append, Side, AreFormsOf, constraint_names}
-use Rattle.pb_tool.proofs.Common.{Fits, sides_in, with_sides, Form, AreDistinct, HasNames, with_name, with_names, linear_of, names_of, OpbEvent, Comment}
-use Rattle.pb_tool.proofs.Common.{Constraint, Header, Objective, constraints_in, last_or, objectives_in, variables_in, Linear, Term, take_read, SomePasses}
+use Rattle.pb_tool.proofs.Common.{Fits, sides_in, with_sides, Form, AreDistinct, HasNames, with_names, linear_of, names_of, OpbEvent, Comment}
+use Rattle.pb_tool.proofs.Common.{Constraint, Header, Objective, constraints_in, last_or, objectives_in, variables_in, Linear, Term, SomePasses}
 use Rattle.pb_tool.proofs.Common.{Forms, line, AreLines, AreMade, as_statement, form_lines, IsNoted, names_at, names_on, ℤ, ◌↔◌, append_assoc, Bool, Err, false}
 use Rattle.pb_tool.proofs.Common.{IsTrue, map, Ok, Result, rules, true, length-map, All-contains, All-contains_itself, All-from_recursion, All-weaker}
 use Rattle.pb_tool.proofs.Common.{recursion_from_All, AllByRecursion, flat_map, names_split, same_forms, HoldsWritten, IsFormOf, IsSideOf, SameAsForm}
@@ -15,16 +15,9 @@ use Rattle.pb_tool.proofs.Common.{Instance, MayKeep, IsBegun, IsValueOf, names_i
 use Rattle.pb_tool.proofs.Common.{gathered, faults_reported, AreLoaded, IsNormalised, SawFile, File, ToolFault, Memory, Overflow, Text, Write, IsGathered}
 use Rattle.pb_tool.proofs.Common.{IsNotGathered, line_if, NamesInOrder, noted, AsksInInstanceText, HasNormalForm, is_bare, IsInstanceFile, IsInstanceText}
 use Rattle.pb_tool.proofs.Common.{IsNoInstanceFile, IsNoNormalFile, IsNormalFile, LacksNormalForm, tidied, WritesText}
+use Rattle.pb_replay.proofs.lemmas.rules.Loading.{constraints_more, has_both, last_more, names_more, objectives_more}
 use Rattle.pb_tool.proofs.lemmas.tidy.InstanceLines.{tidied_bare, Follows, follows, headed, is_value, mains_in, value_of, file_as, refused_as}
 use Rattle.pb_tool.specs.declared.commands.tidy.{form_lines.FormLines.FormLines, normal_text.Standing.TheVariants.Stored}
-
--- the names of some terms, and of one more
-pub named_at : (old names new : List (List ℕ)) (ts : List Term) (i : ℕ) (t : Term) → i < length ts → t ≡ get_or ts i t → names ≡ with_names old (names_of (take i ts)) → new ≡ with_name names t.literal.name
-    → new ≡ with_names old (names_of (take (i + 1) ts))
-named_at old names new ts i t lt e before k =
-    let all : names_of (take (i + 1) ts) ≡ names_of (take i ts) ++ t.literal.name ∷ [] =
-    ap names_of (take_read ts i t t lt e) ∙ map-append (λ (x : Term). x.literal.name) (take i ts) (t ∷ []) in
-    k ∙ ap (λ (ks : List (List ℕ)). with_name ks t.literal.name) before ∙ sym (in_turn old (names_of (take i ts)) (t.literal.name ∷ [])) ∙ ap (with_names old) (sym all)
 
 -- the lines of forms, over more names
 lines_alike : (names more : List (List ℕ)) (sides : List (Side × Linear)) (forms : List Form) → AreFormsOf names sides forms → form_lines (names ++ more) forms ≡ form_lines names forms
@@ -32,10 +25,6 @@ lines_alike names more [] [] h = refl
 lines_alike names more (side ∷ sides) (f ∷ forms) h =
     ap₂ (λ (l : Linear) (rest : List ℕ). line (Constraint l) ++ rest) (written_alike names more f h.0.named) (lines_alike names more sides forms h.1)
 lines_alike names more sides forms h = absurd h
-
-has_both : (names xs ys : List (List ℕ)) → HasNames names xs → HasNames names ys → HasNames names (xs ++ ys)
-has_both names [] ys h k = k
-has_both names (x ∷ xs) ys h k = (h.0, has_both names xs ys h.1 k)
 
 -- what is stored of the constraints, after these names have appeared too
 module _ (seen : List (List ℕ)) (cs : List Linear) (others : List (List ℕ)) (old : FormLines) (h : AreLines seen cs old) (new : List (List ℕ)) (e : new ≡ with_names old.names others) where
@@ -111,24 +100,9 @@ passes_not limit cs c none fits (x, in_all, large) = by_place (Contains-append_c
 
 -- ---- what is stored of statements for their normal form, and one more statement
 
-last_more : {A : Type 0} (x y : A) (xs : List A) → last_or x (xs ++ y ∷ []) ≡ y
-last_more x y [] = refl
-last_more x y (z ∷ xs) = last_more z y xs
-
 variables_more : (events : List OpbEvent) (e : OpbEvent) → variables_in (events ++ e ∷ []) ≡ variables_in events ++ variables_in (e ∷ [])
 variables_more [] e = refl
 variables_more (d ∷ events) e = grind (arith, variables_more events e)
-
-objectives_more : (events : List OpbEvent) (e : OpbEvent) → objectives_in (events ++ e ∷ []) ≡ objectives_in events ++ objectives_in (e ∷ [])
-objectives_more [] e = refl
-objectives_more (d ∷ events) e = grind (arith, objectives_more events e)
-
-constraints_more : (events : List OpbEvent) (e : OpbEvent) → constraints_in (events ++ e ∷ []) ≡ constraints_in events ++ constraints_in (e ∷ [])
-constraints_more [] e = refl
-constraints_more (d ∷ events) e = grind (arith, constraints_more events e)
-
-names_more : (events : List OpbEvent) (e : OpbEvent) → names_on (events ++ e ∷ []) ≡ names_on events ++ names_at e
-names_more events e = flat_map-append names_at events (e ∷ []) ∙ ap (λ (ns : List (List ℕ)). names_on events ++ ns) (append-nil (names_at e))
 
 -- the invariant of the statements with one more
 noted_next : (events : List OpbEvent) (e : OpbEvent) (n : ℕ) (o : Option OpbEvent) (f : Forms) → n ≡ last_or 0 (variables_in events ++ variables_in (e ∷ [])) → o ≡ as_statement (last_or None (objectives_in events ++ objectives_in (e ∷ [])))
@@ -336,7 +310,7 @@ module _ (limits : Limits) where
   -- ---- the file
 
   module _ (longest : ℕ) (accepted : List (Item OpbEvent) → Type 0) (same : (items : List (Item OpbEvent)) → accepted items ↔ IsInstanceText limits items) (before after : Option (List ℕ)) where
-    noted_file : (t : Limits × List OpbEvent) → IsGathered accepted longest noted empty before after t → (v : Instance) × IsInstanceFile limits longest before after v × IsNotedOf limits t v
+    pub noted_file : (t : Limits × List OpbEvent) → IsGathered accepted longest noted empty before after t → (v : Instance) × IsInstanceFile limits longest before after v × IsNotedOf limits t v
     noted_file t f = file_as accepted (IsInstanceText limits) same longest noted empty IsValueOf (IsNotedOf limits) has_value before after t f
 
     module _ (may_ask : List ℕ → ℕ → Type 0) (to : (used : List ℕ) (b : ℕ) → may_ask used b → AsksInInstanceText limits used b) where

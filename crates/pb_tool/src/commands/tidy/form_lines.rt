@@ -11,7 +11,7 @@ ghost use Rattle.pb_tool.specs.engine.InstanceText.{line};
 ghost use Rattle.pb_tool.specs.engine.NormalText.{form_lines};
 
 use crate::commands::tidy::page::Page;
-use pb_normal::{HashKeys, Names, Normal, NormalFault, load};
+use pb_normal::{HashKeys, Names, Normal, NormalFault, load, number_names};
 use pb_opb::OpbEvent;
 use pb_sums::{Linear, Term};
 use pb_text::Limits;
@@ -119,16 +119,6 @@ impl FormLines {
             Err(_) => Err(AllocError),
         }
     }
-}
-
-/// Numbers the names of the terms in turn.
-fn number_names(names: &mut Names, terms: &[Term]) -> Result<(), AllocError>
-    ensures { OnOk result (names.new ≡ with_names names.old (names_of terms.now)) }
-{
-    for term in terms {
-        let _ = names.number(term.literal.name.as_str())?;
-    }
-    Ok(())
 }
 
 /// The forms of constraints that fit the limits, in turn.

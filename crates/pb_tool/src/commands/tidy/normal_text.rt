@@ -8,16 +8,16 @@ ghost use Rattle.pb_normal.specs.meaning.Written.{names_of};
 ghost use Rattle.pb_opb.specs.declared.Instance.{Instance};
 ghost use Rattle.pb_opb.specs.declared.OpbEvent.TheVariants.{Header};
 ghost use Rattle.pb_tool.specs.engine.InstanceText.{line, line_if};
-ghost use Rattle.pb_tool.specs.engine.NormalText.{AreMade, NamesInOrder};
+ghost use Rattle.pb_replay.specs.contract.Loading.{NamesInOrder};
+ghost use Rattle.pb_tool.specs.engine.NormalText.{AreMade};
 ghost use Rattle.pb_tool.specs.contract.Tidy.{HasNormalForm, LacksNormalForm, WritesText, tidied};
 
 use crate::canonical::write_line;
 use crate::commands::tidy::form_lines::FormLines;
 use crate::commands::tidy::instance_text::write_line_if;
-use crate::commands::tidy::notes::Notes;
 use crate::fault::{Input, ToolFault};
 use pb_normal::{HashKeys, fits};
-use pb_opb::OpbEvent;
+use pb_opb::{Notes, OpbEvent};
 use pb_sums::{Linear, Term};
 use pb_text::{Bytes, Failed, Gather, Limits, Sink, write_bytes};
 use std::alloc::{AllocError, Global};
@@ -159,7 +159,7 @@ fn write_normal<W: Sink>(
 }
 
 impl Gather for NormalText {
-    ghost use Rattle.pb_tool.specs.engine.NormalText.{noted};
+    ghost use Rattle.pb_replay.specs.contract.Loading.{noted};
 
     type Event = OpbEvent;
 

@@ -1,5 +1,5 @@
-use Rattle.pb_tool.proofs.Common.{◌≡◌, take, with_names, names_of}
-use Rattle.pb_tool.proofs.commands.tidy.form_lines.number_names.Given as goal
+use Rattle.pb_normal.proofs.Common.{◌≡◌, take, with_names, names_of}
+use Rattle.pb_normal.proofs.linear.number_names.Given as goal
 
 -- the names of the terms so far are numbered
 abbrev pub invariant-loop-term : goal.invariant-loop-term

@@ -2,17 +2,17 @@
 
 ghost use Rattle.std.specs.Prelude.{◌≡◌, List, [], ◌∷◌, ◌++◌};
 ghost use Rattle.std.specs.Borrow.{ftrue};
-ghost use Rattle.pb_opb.specs.declared.OpbEvent.{OpbEvent as Event};
+ghost use Rattle.pb_opb.specs.declared.event.OpbEvent.{OpbEvent as Event};
 
-use pb_opb::OpbEvent;
+use crate::event::OpbEvent;
 use std::marker::{Model, PhantomData};
 
 /// The statements so far, seen by contracts only. It takes no memory, and its methods do nothing at
 /// run time.
 #[derive(Drop)]
-pub(crate) struct Notes {
+pub struct Notes {
     marker: PhantomData<u8>,
-    pub(crate) ghost events: { List Event },
+    pub ghost events: { List Event },
 }
 
 impl Model for Notes {
@@ -21,7 +21,7 @@ impl Model for Notes {
 
 impl Notes {
     /// No statements.
-    pub(crate) fn new() -> Notes
+    pub fn new() -> Notes
         ensures { result.events ≡ [] }
     {
         Notes {
@@ -30,7 +30,7 @@ impl Notes {
     }
 
     /// These statements and one more.
-    pub(crate) fn and(&self, _event: &OpbEvent) -> Notes
+    pub fn and(&self, _event: &OpbEvent) -> Notes
         ensures { result.events ≡ self.now.events ++ _event.now ∷ [] }
     {
         Notes {

@@ -1,6 +1,6 @@
 -- `and` makes the empty struct, with the statements that its clause names.
-use Rattle.pb_tool.proofs.Common.{◌++◌, ◌∷◌, [], List, refl, Notes}
-use Rattle.pb_tool.specs.contracts.commands.tidy.notes.Notes.and.Key.{name as #self}
+use Rattle.pb_opb.{proofs.Common.◌++◌, proofs.Common.◌∷◌, proofs.Common.[], proofs.Common.List, proofs.Common.refl, specs.declared.notes.Notes.Notes}
+use Rattle.pb_opb.specs.contracts.notes.Notes.and.Key.{name as #self}
 use base.Logic.{SProp, ent}
 use contract.{Monad.Fun, Running.tables, Running.tables_of}
 use denote.{Builtin.RefOf, Exit.yes, RattleType.owns, Shadow.pure_i, Signature.plain, Signature.types_at, Steps.nothing}
@@ -14,10 +14,10 @@ use types.{Logic.Logic, Part.agg, Run.enter, Run.returns, Run.and_then, Run.no_m
 use types.ByLocal.{alloc_all, pass_all, free_all, look_at, get, sets}
 use types.Kit.{‵, raw, ◌⊛◌, prop, ◌$◌, ◌∵◌, !, qed, move, keep, drop, split, fsplit, fjoin, feq_l, regoal, suffices, done}
 use Rattle.pb_opb.specs.contracts.event.OpbEvent as E
-use Rattle.pb_tool.specs.contracts.commands.tidy.notes.Notes as T
-use Rattle.pb_tool.specs.contracts.commands.tidy.notes.Notes.and as F
-use Rattle.pb_tool.proofs.commands.tidy.notes.Notes.and.Statement as stated
-use Rattle.pb_tool.proofs.commands.tidy.notes.Notes.and.Code as code
+use Rattle.pb_opb.specs.contracts.notes.Notes as T
+use Rattle.pb_opb.specs.contracts.notes.Notes.and as F
+use Rattle.pb_opb.proofs.notes.Notes.and.Statement as stated
+use Rattle.pb_opb.proofs.notes.Notes.and.Code as code
 
 abbrev stayed : Stays (F.ended).signature.params (F.ended).kept
 stayed = (stay_dropped (RefOf (0 ∷ []) tt (plain (λ _. T.the_row)) (λ _. tt)) yes, (stay_dropped (RefOf (1 ∷ []) tt (plain (λ _. E.the_row)) (λ _. tt)) yes, tt))

@@ -1,5 +1,5 @@
 -- `new` makes a value of no statements, at the empty list.
-use Rattle.pb_tool.{proofs.Common.Notes, specs.contracts.commands.tidy.notes.Notes.new.Key.name as #it}
+use Rattle.pb_opb.{specs.contracts.notes.Notes.new.Key.name as #it, specs.declared.notes.Notes.Notes}
 use base.Logic.{SProp}
 use contract.{Monad.Fun, Running.tables, Running.tables_of}
 use denote.{Shadow.pure_i, Steps.nothing}
@@ -11,10 +11,10 @@ use seplogic.Ra.Ura.{Ura}
 use sound.WpLaws.{WpFn-mono}
 use types.{ByLocal.alloc_all, ByLocal.pass_all, ByLocal.free_all, ByLocal.look_at, ByLocal.get, ByLocal.sets, Kit.raw, Kit.◌$◌, Kit.◌∵◌, Kit.!, Kit.qed}
 use types.{Kit.keep, Kit.join, Kit.suffices, Kit.done, Logic.Logic, Part.agg, Run.no_more, Run.and_then, Run.returns, Run.enter}
-use Rattle.pb_tool.specs.contracts.commands.tidy.notes.Notes as T
-use Rattle.pb_tool.specs.contracts.commands.tidy.notes.Notes.new as it
-use Rattle.pb_tool.proofs.commands.tidy.notes.Notes.new.Statement as stated
-use Rattle.pb_tool.proofs.commands.tidy.notes.Notes.new.Code as code
+use Rattle.pb_opb.specs.contracts.notes.Notes as T
+use Rattle.pb_opb.specs.contracts.notes.Notes.new as it
+use Rattle.pb_opb.proofs.notes.Notes.new.Statement as stated
+use Rattle.pb_opb.proofs.notes.Notes.new.Code as code
 
 abbrev v : Val
 v = vstruct (vcons (vstruct vnil) vnil)
