@@ -32,6 +32,19 @@ def run(words, given=b"", folder=None, setting=None):
     return ended.returncode, ended.stdout, ended.stderr
 
 
+def all_of(terminal):
+    """All that was written to a terminal whose other end is closed. Its bytes may come in parts, and the end is an error."""
+    text = b""
+    while True:
+        try:
+            part = os.read(terminal, 4096)
+        except OSError:
+            return text
+        if not part:
+            return text
+        text += part
+
+
 def faulty(folder):
     """The library that lets calls fail, made in a folder: faulty.c has its settings."""
     library = os.path.join(folder, "faulty.so")
