@@ -3,3 +3,5 @@ pub mod store
 pub mod clauses
 pub mod root
 pub mod Parts
+pub mod Spans
+pub mod Columns

@@ -2,3 +2,4 @@
 pub mod clauses
 pub mod engine
 pub mod Parts
+pub mod Columns

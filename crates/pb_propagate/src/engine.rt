@@ -17,6 +17,7 @@ ghost use Rattle.pb_propagate.specs.engine.engine.Live.{Live, Gives, terms_in, o
 ghost use Rattle.pb_propagate.specs.meaning.Propagation.{With, MeetsConflict, IsCompletion, IsRup};
 
 use crate::clauses::Clauses;
+use crate::column::Column;
 use crate::engine::completion::extend;
 use crate::engine::conflict::Conflict;
 use crate::engine::question::ask;
@@ -85,7 +86,7 @@ impl Engine {
         Engine {
             store: Store {
                 stored: Vec::new(alloc),
-                spots: Vec::new(alloc),
+                spots: Column::new(alloc),
                 occurrences: Lists::new(alloc),
                 variables: 0,
             },

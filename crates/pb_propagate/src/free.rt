@@ -5,6 +5,7 @@
 ghost use Rattle.std.specs.Prelude.{◌≡◌, ℕ, ◌<◌, [], List, length, IfOk, OnOk, IfSome, IfNone};
 ghost use Rattle.pb_propagate.specs.engine.engine.Free.{Holds, HasPut, HasTaken, IsSizeOf};
 
+use crate::column::Column;
 use std::alloc::{AllocError, Global};
 
 /// Slots to use again. Each is in the list of its size, so that a clause finds a slot whose block
@@ -14,7 +15,7 @@ pub struct Free {
     // For each size the last slot of its list.
     last: [usize; 65],
     // For each slot the one before it in its list.
-    before: Vec<usize>,
+    before: Column<usize>,
     // How many slots there are. If there are none, the lists need not be read.
     count: usize,
 }
@@ -42,7 +43,7 @@ impl Free {
     pub fn new(alloc: Global) -> Free
         ensures { (size : ℕ) → Holds result size [] }
     {
-        let before = Vec::new(alloc);
+        let before = Column::new(alloc);
         Free {
             last: [usize::MAX; 65],
             before,
@@ -54,7 +55,7 @@ impl Free {
     pub fn with_capacity(alloc: Global, slots: usize) -> Result<Free, AllocError>
         ensures { IfOk result (λ free. (size : ℕ) → Holds free size []) }
     {
-        let before = Vec::with_capacity(alloc, slots)?;
+        let before = Column::with_capacity(alloc, slots)?;
         Ok(Free {
             last: [usize::MAX; 65],
             before,
@@ -70,20 +71,20 @@ impl Free {
         if slot < self.before.len() {
             return Ok(());
         }
-        self.before.push(usize::MAX)?;
+        self.before.push_empty()?;
         Ok(())
     }
 
     /// Adds a slot whose block has that room. One for which there is no room is lost.
     pub fn put(&mut self, slot: usize, room: usize)
-        ensures { (size : ℕ) × IsSizeOf room size × (slot < length self.old.before.items →
+        ensures { (size : ℕ) × IsSizeOf room size × (slot < length self.old.before →
             HasPut slot size self.old self.new) }
     {
         let size = size_of(room);
         if slot >= self.before.len() {
             return;
         }
-        self.before[slot] = self.last[size];
+        self.before.set(slot, self.last[size]);
         self.last[size] = slot;
         self.count = self.count.saturating_add(1);
     }
@@ -99,7 +100,7 @@ impl Free {
         if slot >= self.before.len() {
             return None;
         }
-        self.last[size] = self.before[slot];
+        self.last[size] = self.before.get(slot);
         self.count = self.count.saturating_sub(1);
         Some(slot)
     }

@@ -5,11 +5,13 @@
 mod assignment;
 mod clause;
 mod clauses;
+mod column;
 mod engine;
 mod free;
 mod heads;
 pub mod laws;
 mod lists;
+mod parts;
 mod rests;
 mod run;
 mod shared;

@@ -1,25 +1,11 @@
 //! Many lists in one vector. Each has a part of it, so that short lists take little memory.
 
-ghost use Rattle.std.specs.Prelude.{◌≡◌, ℕ, ◌+◌, ◌<◌, ◌≤◌, ◌^◌, ◌++◌, ◌∷◌, [], List, length, slice_set, ◌-◌, slice_index_or, swap_remove, get_or, OnOk, OnErr, IfOk, IfSome, IfNone};
-ghost use Rattle.pb_propagate.specs.engine.Parts.{nothing, padded, part_of, IsPart};
+ghost use Rattle.std.specs.Prelude.{◌≡◌, ◌+◌, ◌*◌, ◌<◌, ◌≤◌, ◌^◌, ◌++◌, ◌∷◌, [], List, length, slice_set, ◌-◌, slice_index_or, swap_remove, get_or, OnOk, OnErr, IfOk, IfSome, IfNone};
+ghost use Rattle.pb_propagate.specs.engine.Parts.{part_of, IsPart};
 
+use crate::parts::{Part, Parts};
 use std::alloc::{AllocError, Global};
 use std::marker::Model;
-
-/// The part of a list: its items begin at `start`, and there is memory for `room` of them.
-#[derive(Clone, Copy)]
-pub struct Part {
-    start: u32,
-    len: u32,
-    room: u32,
-}
-
-// The part of an empty list.
-const NOTHING: Part = Part {
-    start: 0,
-    len: 0,
-    room: 0,
-};
 
 /// An item that was removed from a list, and the one that has moved to its position.
 #[derive(Drop)]
@@ -32,22 +18,18 @@ pub struct Removed<T> {
 #[derive(Drop)]
 pub struct Lists<T> {
     items: Vec<T>,
-    // The parts of the first lists. The others are empty.
-    parts: Vec<Part>,
-    // How many lists there are.
-    count: usize,
+    parts: Parts,
 }
 
 impl<T> Model for Lists<T> {
-    ghost use Rattle.std.specs.Prelude.{List, ◌≤◌, length};
-    ghost use Rattle.pb_propagate.specs.engine.Parts.{lists_of, padded, AreParts};
+    ghost use Rattle.std.specs.Prelude.{List, length};
+    ghost use Rattle.pb_propagate.specs.engine.Parts.{lists_of, AreParts};
 
     ghost Value = { List (List T) };
 
-    ghost view = { λ l. lists_of l.items.items (padded l.count l.parts.items) };
+    ghost view = { λ l. lists_of l.items.items l.parts };
 
-    ghost invariant = { λ l. AreParts (length l.items.items) (padded l.count l.parts.items) ×
-        (length l.parts.items ≤ l.count) };
+    ghost invariant = { λ l. AreParts (length l.items.items) l.parts };
 }
 
 // A part with one more item.
@@ -80,7 +62,7 @@ fn copy_part<T: Copy>(items: &mut Vec<T>, part: Part) -> Result<(), AllocError>
 
 // How many items a larger part has memory for.
 fn larger(room: u32) -> usize
-    ensures { room < result }
+    ensures { result ≡ 2 * room + 1 }
 {
     2 * room as usize + 1
 }
@@ -90,7 +72,7 @@ fn moved<T: Copy>(items: &mut Vec<T>, part: Part, item: T) -> Result<Part, Alloc
     requires part { IsPart (length items.old.items) part }
     ensures longer { (more : List T) × (items.new.items ≡ items.old.items ++ more) }
     ensures part { IfOk result (λ p. (p.start ≡ length items.old.items) ×
-        IsPart (length items.new.items) p ×
+        IsPart (length items.new.items) p × (p.room ≡ 2 * part.room + 1) ×
         (part_of items.new.items p ≡ part_of items.old.items part ++ item ∷ [])) }
 {
     let start = items.len();
@@ -119,33 +101,6 @@ fn moving<T: Copy>(index: usize, last: usize, item: T) -> Option<T>
     Some(item)
 }
 
-// The part of a list.
-#[inline]
-fn part_at(parts: &[Part], list: usize) -> Part
-    ensures { result ≡ slice_index_or parts.now list nothing }
-{
-    match parts.get(list) {
-        Some(part) => *part,
-        None => NOTHING,
-    }
-}
-
-// Adds parts up to that of a list.
-#[inline]
-fn reach(parts: &mut Vec<Part>, list: usize) -> Result<(), AllocError>
-    requires { list + 1 < 2 ^ 64 }
-    ensures ok { OnOk result (list < length parts.new.items) }
-    ensures same { (count : ℕ) → list < count → length parts.old.items ≤ count →
-        (padded count parts.new.items ≡ padded count parts.old.items) ×
-        (length parts.new.items ≤ count) }
-{
-    if list < parts.len() {
-        return Ok(());
-    }
-    parts.resize(list + 1, NOTHING)?;
-    Ok(())
-}
-
 impl<T: Copy> Lists<T> {
     /// No list.
     pub fn new(alloc: Global) -> Self
@@ -153,8 +108,7 @@ impl<T: Copy> Lists<T> {
     {
         Lists {
             items: Vec::new(alloc),
-            parts: Vec::new(alloc),
-            count: 0,
+            parts: Parts::new(alloc),
         }
     }
 
@@ -162,7 +116,7 @@ impl<T: Copy> Lists<T> {
     pub fn len(&self) -> usize
         ensures { result ≡ length self.now }
     {
-        self.count
+        self.parts.len()
     }
 
     /// Adds an empty list after the others.
@@ -170,7 +124,7 @@ impl<T: Copy> Lists<T> {
         requires { length self.old + 1 < 2 ^ 64 }
         ensures { self.new ≡ self.old ++ [] ∷ [] }
     {
-        self.count += 1;
+        self.parts.add();
     }
 
     /// The items of a list.
@@ -179,7 +133,7 @@ impl<T: Copy> Lists<T> {
         requires { list < length self.now }
         ensures { result.now ≡ slice_index_or self.now list [] }
     {
-        let part = part_at(self.parts.as_slice(), list);
+        let part = self.parts.get(list);
         let start = part.start as usize;
         &self.items[start..start + part.len as usize]
     }
@@ -190,7 +144,7 @@ impl<T: Copy> Lists<T> {
         requires { list < length self.now }
         ensures { result ≡ length (slice_index_or self.now list []) }
     {
-        part_at(self.parts.as_slice(), list).len as usize
+        self.parts.get(list).len as usize
     }
 
     /// An item of a list.
@@ -200,7 +154,7 @@ impl<T: Copy> Lists<T> {
         requires index { index < length (slice_index_or self.now list []) }
         ensures { (d : T) → result ≡ get_or (slice_index_or self.now list []) index d }
     {
-        let part = part_at(self.parts.as_slice(), list);
+        let part = self.parts.get(list);
         self.items[part.start as usize + index]
     }
 
@@ -212,7 +166,7 @@ impl<T: Copy> Lists<T> {
         ensures { self.new ≡ slice_set self.old list
             (slice_set (slice_index_or self.old list []) index item) }
     {
-        let part = part_at(self.parts.as_slice(), list);
+        let part = self.parts.get(list);
         self.items[part.start as usize + index] = item;
     }
 
@@ -225,9 +179,9 @@ impl<T: Copy> Lists<T> {
             (slice_index_or self.old list [] ++ item ∷ [])) }
         ensures err { OnErr result (self.new ≡ self.old) }
     {
-        reach(&mut self.parts, list)?;
-        let part = self.parts[list];
-        self.parts[list] = moved(&mut self.items, part, item)?;
+        let part = self.parts.get(list);
+        let new = moved(&mut self.items, part, item)?;
+        self.parts.put(list, new)?;
         Ok(part.len as usize)
     }
 
@@ -240,9 +194,9 @@ impl<T: Copy> Lists<T> {
             (slice_index_or self.old list [] ++ item ∷ [])) }
         ensures err { OnErr result (self.new ≡ self.old) }
     {
-        let part = part_at(self.parts.as_slice(), list);
+        let part = self.parts.get(list);
         if part.len < part.room {
-            self.parts[list] = longer(part);
+            self.parts.set(list, longer(part));
             self.items[part.start as usize + part.len as usize] = item;
             return Ok(part.len as usize);
         }
@@ -264,13 +218,14 @@ impl<T: Copy> Lists<T> {
         ensures lists { self.new ≡ slice_set self.old list
             (swap_remove (slice_index_or self.old list []) index result.item) }
     {
-        let part = self.parts[list];
+        let part = self.parts.get(list);
         let last = part.len - 1;
-        self.parts[list] = Part {
+        let shorter = Part {
             start: part.start,
             len: last,
             room: part.room,
         };
+        self.parts.set(list, shorter);
         let start = part.start as usize;
         let removed = self.items[start + index];
         let end = self.items[start + last as usize];

@@ -16,6 +16,7 @@ ghost use Rattle.pb_propagate.specs.engine.clauses.Shapes.{all_of};
 
 use crate::assignment::Assignment;
 use crate::clauses::Clauses;
+use crate::column::Column;
 use crate::engine::visits::Visits;
 use crate::heads::{Heads, Order, mark, next_walk};
 use crate::rests::Rests;
@@ -28,8 +29,8 @@ use std::alloc::AllocError;
 /// A propagation in progress.
 #[derive(Drop)]
 pub struct Run {
-    pub opens: Vec<u128>,
-    pub candidates: Vec<usize>,
+    pub opens: Column<u128>,
+    pub candidates: Column<usize>,
     pub assignment: Assignment,
     pub work: Vec<usize>,
     pub next: usize,
@@ -65,7 +66,7 @@ pub fn queue(work: &mut Vec<usize>, form: usize, left: u128, bound: u128) -> Res
 fn lower(store: &Store, rests: &Rests, run: &mut Run, entry: Visited) -> Result<bool, AllocError>
     requires form { entry.form < length store.now.stored.items }
     requires index { entry.index < length (terms_at (shapes_of store.now.stored.items) entry.form) }
-    requires inside { entry.form < length run.old.opens.items }
+    requires inside { entry.form < length run.old.opens }
     requires fits { RunFits store.now entry run.old }
     ensures lowers { OnOk result (RunLowers store.now rests.now entry run.old run.new) }
     ensures falsified { IfFound result (RunIsShort store.now rests.now entry.form run.new) }
@@ -76,12 +77,12 @@ fn lower(store: &Store, rests: &Rests, run: &mut Run, entry: Visited) -> Result<
 {
     let kept = &store.stored[entry.form];
     let sums = kept.sums();
-    let opened = run.opens[entry.form];
+    let opened = run.opens.get(entry.form);
     let rest = rests.open(entry.form, sums.total);
     note(&mut run.trail, entry.form, opened, rest)?;
     let left = opened - weight_of(kept, &entry);
     queue(&mut run.work, entry.form, left, sums.bound)?;
-    run.opens[entry.form] = left;
+    run.opens.set(entry.form, left);
     Ok(is_below(left, sums.degree))
 }
 
@@ -179,18 +180,17 @@ fn visit_form(
     ensures counted { IfNotFound result (RunIsCounted store.now run.new) }
     ensures tidy { IfNotFound result (RunIsCalm store.now rests.now waiting.now run.new) }
     ensures conflict { IfFound result (Conflicts (shapes_in store.now) (list_of run.new)) }
-    ensures bounded { sum run.new.candidates.items ≤
-        sum_by (λ f. length f.terms) (shapes_in store.now) }
+    ensures bounded { sum run.new.candidates ≤ sum_by (λ f. length f.terms) (shapes_in store.now) }
 {
     let kept = &store.stored[form];
     let degree = kept.degree();
     'terms: loop {
-        let opened = run.opens[form];
+        let opened = run.opens.get(form);
         let falsified = is_below(opened, degree);
         if falsified {
             return Ok(true);
         }
-        let candidate = run.candidates[form];
+        let candidate = run.candidates.get(form);
         if candidate >= kept.len() {
             return Ok(false);
         }
@@ -200,7 +200,7 @@ fn visit_form(
             return Ok(false);
         }
         let found = try_put(store, rests, run, term.literal, form)?;
-        run.candidates[form] = candidate + 1;
+        run.candidates.set(form, candidate + 1);
         if found {
             return Ok(true);
         }
@@ -268,11 +268,11 @@ pub fn propagate(
 /// Restores the forms that the propagation changed. No other form is visited, and nothing is
 /// allocated.
 pub fn undo_forms(store: &Store, rests: &Rests, run: &mut Run)
-    requires opens { length run.old.opens.items ≡ length store.now.stored.items }
-    requires candidates { length run.old.candidates.items ≡ length store.now.stored.items }
+    requires opens { length run.old.opens ≡ length store.now.stored.items }
+    requires candidates { length run.old.candidates ≡ length store.now.stored.items }
     requires undone { RunIsUndone store.now rests.now 0 run.old }
-    ensures opens { length run.new.opens.items ≡ length store.now.stored.items }
-    ensures candidates { length run.new.candidates.items ≡ length store.now.stored.items }
+    ensures opens { length run.new.opens ≡ length store.now.stored.items }
+    ensures candidates { length run.new.candidates ≡ length store.now.stored.items }
     ensures work { run.new.work ≡ run.old.work }
     ensures trail { run.new.trail ≡ run.old.trail }
     ensures assignment { run.new.assignment ≡ run.old.assignment }
@@ -282,7 +282,7 @@ pub fn undo_forms(store: &Store, rests: &Rests, run: &mut Run)
     'forms: for i in 0..run.trail.len() {
         let form = run.trail[i];
         let opened = rests.open(form, store.stored[form].total());
-        run.opens[form] = opened;
-        run.candidates[form] = rests.start(form);
+        run.opens.set(form, opened);
+        run.candidates.set(form, rests.start(form));
     }
 }

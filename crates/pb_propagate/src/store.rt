@@ -17,6 +17,7 @@ ghost use Rattle.pb_propagate.specs.declared.term.Term.{Term};
 ghost use Rattle.pb_propagate.specs.engine.engine.Stored.{stored_terms};
 ghost use Rattle.pb_propagate.specs.engine.engine.Fields.{entry_at};
 
+use crate::column::Column;
 use crate::engine::visits::Visits;
 use crate::lists::Lists;
 use crate::store::spots::Spots;
@@ -44,7 +45,7 @@ pub struct Visited {
 pub struct Store {
     pub stored: Vec<StoredForm>,
     // For each form, the position of the entry of each of its terms in the list of its literal.
-    pub spots: Vec<Spots>,
+    pub spots: Column<Spots>,
     pub occurrences: Lists<Occurrence>,
     pub variables: usize,
 }
@@ -53,12 +54,12 @@ impl Store {
     /// No forms, over no variables, with memory for that many forms.
     pub fn with_capacity(alloc: Global, forms: usize) -> Result<Store, AllocError>
         ensures stored { IfOk result (λ store. store.stored.items ≡ []) }
-        ensures spots { IfOk result (λ store. store.spots.items ≡ []) }
+        ensures spots { IfOk result (λ store. store.spots ≡ []) }
         ensures occurrences { IfOk result (λ store. store.occurrences ≡ []) }
         ensures variables { IfOk result (λ store. store.variables ≡ 0) }
     {
         let stored = Vec::with_capacity(alloc, forms)?;
-        let spots = Vec::with_capacity(alloc, forms)?;
+        let spots = Column::with_capacity(alloc, forms)?;
         Ok(Store {
             stored,
             spots,

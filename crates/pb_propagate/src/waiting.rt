@@ -6,6 +6,7 @@ ghost use Rattle.std.specs.Prelude.{◌≡◌, ℕ, ◌<◌, ◌≤◌, ◌+◌,
 ghost use Rattle.pb_propagate.specs.engine.engine.Counts.{IsAbsent};
 ghost use Rattle.pb_propagate.specs.engine.engine.Waiting.{IsWithout};
 
+use crate::column::Column;
 use std::alloc::{AllocError, Global};
 
 /// Some of the forms, each once. The list has room for all of them. A form is removed without a
@@ -14,30 +15,29 @@ use std::alloc::{AllocError, Global};
 pub struct Waiting {
     pub list: Vec<usize>,
     // For each form on the list, its position there.
-    pub positions: Vec<usize>,
+    pub positions: Column<usize>,
     pub ghost positioned: { (i s : ℕ) → slice_get list.items i ≡ Some s →
-        slice_get positions.items s ≡ Some i },
-    pub ghost room: { length positions.items ≤ vec_capacity list },
+        slice_get positions s ≡ Some i },
+    pub ghost room: { length positions ≤ vec_capacity list },
 }
 
 impl Waiting {
     /// An empty list, over no forms.
     pub fn new(alloc: Global) -> Waiting
-        ensures { (result.list.items ≡ []) × (result.positions.items ≡ []) }
+        ensures { (result.list.items ≡ []) × (result.positions ≡ []) }
     {
         Waiting {
             list: Vec::new(alloc),
-            positions: Vec::new(alloc),
+            positions: Column::new(alloc),
         }
     }
 
     /// An empty list, over no forms, with memory for this many.
     pub fn with_capacity(alloc: Global, forms: usize) -> Result<Waiting, AllocError>
-        ensures { IfOk result (λ waiting.
-            (waiting.list.items ≡ []) × (waiting.positions.items ≡ [])) }
+        ensures { IfOk result (λ waiting. (waiting.list.items ≡ []) × (waiting.positions ≡ [])) }
     {
         let list = Vec::with_capacity(alloc, forms)?;
-        let positions = Vec::with_capacity(alloc, forms)?;
+        let positions = Column::with_capacity(alloc, forms)?;
         Ok(Waiting { list, positions })
     }
 
@@ -45,33 +45,33 @@ impl Waiting {
     pub fn widen(&mut self) -> Result<(), AllocError>
         ensures list { self.new.list.items ≡ self.old.list.items }
         ensures positions { OnOk result
-            (length self.new.positions.items ≡ length self.old.positions.items + 1) }
+            (length self.new.positions ≡ length self.old.positions + 1) }
     {
         let count = self.positions.len() + 1;
         self.list.reserve(count.saturating_sub(self.list.len()))?;
-        self.positions.push(0)?;
+        self.positions.push_empty()?;
         Ok(())
     }
 
     /// Adds a form to the list. Nothing is allocated.
     pub fn put(&mut self, form: usize)
-        requires inside { form < length self.old.positions.items }
+        requires inside { form < length self.old.positions }
         requires absent { IsAbsent self.old.list.items 0 form }
         ensures list { self.new.list.items ≡ self.old.list.items ++ form ∷ [] }
-        ensures positions { length self.new.positions.items ≡ length self.old.positions.items }
+        ensures positions { length self.new.positions ≡ length self.old.positions }
     {
         let position = self.list.len();
         self.list.push_reserved(form);
-        self.positions[form] = position;
+        self.positions.set(form, position);
     }
 
     /// Whether the form is on the list.
     pub fn contains(&self, form: usize) -> bool
-        requires inside { form < length self.now.positions.items }
+        requires inside { form < length self.now.positions }
         ensures yes { result ≡ true → IsAbsent self.now.list.items 0 form → ⊥ }
         ensures no { result ≡ false → IsAbsent self.now.list.items 0 form }
     {
-        match self.list.get(self.positions[form]) {
+        match self.list.get(self.positions.get(form)) {
             Some(other) => *other == form,
             None => false,
         }
@@ -79,9 +79,9 @@ impl Waiting {
 
     /// Removes a form from the list if it is there.
     pub fn remove(&mut self, form: usize)
-        requires inside { form < length self.old.positions.items }
+        requires inside { form < length self.old.positions }
         ensures left { IsWithout form self.old.list.items self.new.list.items }
-        ensures positions { length self.new.positions.items ≡ length self.old.positions.items }
+        ensures positions { length self.new.positions ≡ length self.old.positions }
     {
         if self.contains(form) {
             self.take(form);
@@ -101,14 +101,14 @@ impl Waiting {
         requires there { IsAbsent self.old.list.items 0 form → ⊥ }
         ensures list { (position : ℕ) × (slice_get self.old.list.items position ≡ Some form) ×
             (self.new.list.items ≡ swap_remove self.old.list.items position form) }
-        ensures positions { length self.new.positions.items ≡ length self.old.positions.items }
+        ensures positions { length self.new.positions ≡ length self.old.positions }
     {
-        let position = self.positions[form];
+        let position = self.positions.get(form);
         self.list.swap_remove(position);
         if position >= self.list.len() {
             return;
         }
         let moved = self.list[position];
-        self.positions[moved] = position;
+        self.positions.set(moved, position);
     }
 }

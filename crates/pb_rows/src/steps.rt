@@ -39,19 +39,25 @@ impl Named for Replay {
 /// and `visits-most` it reports whether the visits of the last `rup` are in that range.
 pub(crate) fn run_steps(alloc: Global, call: &Call, text: &[u8]) -> Result<Done, Broken> {
     let (instance, lines) = inputs_of(text)?;
-    let mut reported = page(alloc);
     let Ok(mut replay) = replay_for(alloc, call, instance)? else {
+        let mut reported = page(alloc);
         write_bytes(b"no replay\n", &mut reported)?;
         return Ok(answered(alloc, reported));
     };
+    run_over(alloc, call, &mut replay, lines)
+}
+
+// The same, over a replay.
+fn run_over(alloc: Global, call: &Call, replay: &mut Replay, lines: &[u8]) -> Result<Done, Broken> {
+    let mut reported = page(alloc);
     let mut out = page(alloc);
     let statements = statements_of(alloc, call, lines)?;
-    match step_all(&mut replay, statements.as_slice())? {
+    match step_all(replay, statements.as_slice())? {
         Ok(()) => {
-            write_live(&replay, &mut out)?;
-            report_state(&replay, &mut reported)?;
+            write_live(replay, &mut out)?;
+            report_state(replay, &mut reported)?;
         }
-        Err((place, fault)) => report_refusal(alloc, &mut replay, place, fault, &mut reported)?,
+        Err((place, fault)) => report_refusal(alloc, replay, place, fault, &mut reported)?,
     }
     report_visit_range(call, replay.visits(), &mut reported)?;
     Ok(finished(out, reported))

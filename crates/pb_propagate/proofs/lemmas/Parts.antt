@@ -1,11 +1,11 @@
 -- Many lists in one.
-use Rattle.pb_propagate.specs.engine.Parts.{AreApart, AreParts, IsPart, lists_of, nothing, padded, part_of}
-use Rattle.pb_propagate.specs.declared.lists.Part.{Part}
+use Rattle.pb_propagate.specs.engine.Parts.{AreApart, AreParts, IsPart, lists_of, nothing, part_of}
+use Rattle.pb_propagate.specs.declared.parts.Part.{Part}
 use Rattle.std.proofs.Common.{arith, ℕ, zero, suc, ◌+◌, ◌-◌, ◌<◌, ◌≤◌, ◌≡◌, ◌⊎◌, ◌∙◌, ◌++◌, ◌∷◌, [], List, None, Option, Some, IfNone, ap, ap₂, sym, subst, refl, inl, inr, length, map, take, drop, get_or, set, length-append, append_assoc}
-use Rattle.std.proofs.lemmas.{Bool.cases_eq, Bool.cases_lt, List.get_or-set_other, List.get_or-set_same, List.get_or_read, List.set-get_or, List.take-take, List.take_more_set, Option.get_or_from_slice_get, Option.same_Some, Option.slice_get-get_or, Option.slice_get_past, Option.slice_get_read, Option.slice_get_within}
+use Rattle.std.proofs.lemmas.{Bool.cases_eq, Bool.cases_lt, List.get_or-set_other, List.get_or-set_same, List.get_or_read, List.set-get_or, List.take-take, List.take_more_set, Option.get_or_from_slice_get, Option.same_Some, Option.slice_get-get_or, Option.slice_get_past, Option.slice_get_within}
 use Rattle.std.proofs.lemmas.List.{drop-append-le, drop-set-add, drop-set-lt, get_or-drop, get_or-map, get_or-take, length-drop, length-map, length-set, length-take-le, map-set, take-append-le, take-set-le}
-use Rattle.std.proofs.lemmas.List.{get_or-append-add, get_or-replicate, get_or_append_left, get_or_past, length-replicate, map-append}
-use Rattle.std.proofs.lemmas.List.{replicate-append-replicate, replicate_more, set-append_left, take_all, take-replicate}
+use Rattle.std.proofs.lemmas.List.{length-replicate, map-append}
+use Rattle.std.proofs.lemmas.List.{take_all, take-replicate}
 use Rattle.std.proofs.Math.Seq.{take-set-lt, drop-append_seam, take-append-add}
 use Rattle.std.specs.Prelude.{replicate, slice_get, swap_remove}
 
@@ -34,8 +34,8 @@ part_length items p h = length-take-le p.len (drop p.start items) (omega (arith,
 pub part_get : {T : Type 0} (items : List T) (p : Part) (k : ℕ) (d : T) → k < p.len → get_or (part_of items p) k d ≡ get_or items (p.start + k) d
 part_get items p k d h = get_or-take p.len (drop p.start items) k d h ∙ get_or-drop p.start items k d
 
--- all parts but one
-map-same : {P X : Type 0} (f g : P → X) (ps : List P) → ((j : ℕ) (q : P) → slice_get ps j ≡ Some q → f q ≡ g q) → map f ps ≡ map g ps
+-- Two functions give the same of all.
+pub map-same : {P X : Type 0} (f g : P → X) (ps : List P) → ((j : ℕ) (q : P) → slice_get ps j ≡ Some q → f q ≡ g q) → map f ps ≡ map g ps
 map-same f g [] h = refl
 map-same f g (p ∷ ps) h = ap₂ (λ x xs. x ∷ xs) (h 0 p refl) (map-same f g ps (λ j q e. h (suc j) q e))
 
@@ -82,14 +82,6 @@ longer_parts items more parts are = (
   map-same (part_of (items ++ more)) (part_of items) parts (λ j q e. append_outside items more q (are.each j q e)),
 )
 
--- a list has a part
-pub has_part : {T : Type 0} (items : List T) (parts : List Part) (now : List (List T)) (i : ℕ) → lists_of items parts ≡ now → i < length now → i < length parts
-has_part items parts now i e h = omega (arith, h, ap length e, length-map parts (part_of items))
-
--- the part that was read
-pub read_part : (parts : List Part) (i n : ℕ) (p : Part) → n ≡ length parts → i < n → p ≡ get_or parts i p → slice_get parts i ≡ Some p
-read_part parts i n p = slice_get_read parts n i p
-
 get-set_at : {X : Type 0} (xs : List X) (j k : ℕ) (y : X) → k ≡ j → j < length xs → slice_get (set xs j y) k ≡ Some y
 get-set_at xs j k y e h = rw e (slice_get-get_or (set xs j y) j y (omega (arith, length-set xs j y, h)) ∙ ap (λ x. Some x) (get_or-set_same xs j y y h))
 
@@ -103,12 +95,6 @@ module _ {T : Type 0} (items : List T) (parts : List Part) (i : ℕ) (p : Part) 
 
   pub list_is : get_or (lists_of items parts) i [] ≡ part_of items p
   list_is = get_or-map (part_of items) parts i p [] (slice_get_within parts i p here) ∙ ap (part_of items) (get_or_from_slice_get parts i p p here)
-
-  pub list_length : length (get_or (lists_of items parts) i []) ≡ p.len
-  list_length = ap length list_is ∙ part_length items p within
-
-  pub list_get : (k : ℕ) (d : T) → k < p.len → get_or (get_or (lists_of items parts) i []) k d ≡ get_or items (p.start + k) d
-  list_get k d h = ap (λ l. get_or l k d) list_is ∙ part_get items p k d h
 
   same_parts : set parts i p ≡ parts
   same_parts = ap (set parts i) (sym (get_or_from_slice_get parts i p p here)) ∙ set-get_or parts i p
@@ -203,151 +189,74 @@ module _ {T : Type 0} (items : List T) (parts : List Part) (i : ℕ) (p : Part) 
   pub moved_parts : (size : ℕ) (new : Part) → length items ≤ size → IsPart size new → new.start ≡ length items → AreParts size (set parts i new)
   moved_parts size new le fits e = changed size new le fits (λ q w a. inr (omega (arith, w.inside, e)))
 
--- ---- The parts of all lists, of which the first ones are stored.
-pub padded-length : (n : ℕ) (parts : List Part) → length parts ≤ n → length (padded n parts) ≡ n
-padded-length n parts h = omega (arith, h, length-append parts (replicate (n - length parts) nothing), length-replicate (n - length parts) nothing)
-
-pub padded-get : (n i : ℕ) (parts : List Part) → length parts ≤ n → i < n → get_or (padded n parts) i nothing ≡ get_or parts i nothing
-padded-get n i parts h inside = by_case (cases_lt i (length parts))
-  where
-    by_case : (i < length parts) ⊎ (length parts ≤ i) → get_or (padded n parts) i nothing ≡ get_or parts i nothing
-    by_case (inl low) = get_or_append_left parts (replicate (n - length parts) nothing) nothing i low
-    by_case (inr high) =
-        let k = i - length parts in
-        let e : length parts + k ≡ i = omega (arith, high) in
-        subst (λ j. get_or (padded n parts) j nothing ≡ get_or parts i nothing) e
-        (get_or-append-add parts (replicate (n - length parts) nothing) k nothing
-        ∙ (get_or-replicate (n - length parts) k nothing nothing (omega (arith, high, inside)) ∙ sym (get_or_past parts i nothing high)))
-
-pub padded-set : (n i : ℕ) (parts : List Part) (p : Part) → i < length parts → padded n (set parts i p) ≡ set (padded n parts) i p
-padded-set n i parts p h = ap (λ k. set parts i p ++ replicate (n - k) nothing) (length-set parts i p) ∙ sym (set-append_left parts (replicate (n - length parts) nothing) i p h)
-
-pub padded-more : (n k : ℕ) (parts : List Part) → length parts + k ≤ n → padded n (parts ++ replicate k nothing) ≡ padded n parts
-padded-more n k parts h =
-    let long = length (parts ++ replicate k nothing) in
-    append_assoc parts (replicate k nothing) (replicate (n - long) nothing)
-    ∙ ap (λ l. parts ++ l) (replicate-append-replicate k (n - long) nothing
-    ∙ ap (λ m. replicate m nothing) (omega (arith, h, length-append parts (replicate k nothing), length-replicate k nothing)))
-
-pub padded-next : (n : ℕ) (parts : List Part) → length parts ≤ n → padded (n + 1) parts ≡ padded n parts ++ nothing ∷ []
-padded-next n parts h =
-    let more : (n + 1) - length parts ≡ (n - length parts) + 1 = omega (arith, h) in
-    ap (λ m. parts ++ replicate m nothing) more ∙ (ap (λ l. parts ++ l) (sym (replicate_more (n - length parts) nothing)) ∙ sym (append_assoc parts (replicate (n - length parts) nothing) (nothing ∷ [])))
-
--- parts up to that of a list
-pub reached : (parts new : List Part) (list : ℕ) → new ≡ take (list + 1) parts ++ replicate ((list + 1) - length parts) nothing → length parts ≤ list → (count : ℕ) → list < count → length parts ≤ count
-    → (padded count new ≡ padded count parts) × (length new ≤ count)
-reached parts new list is short count inside few =
-    let k = (list + 1) - length parts in
-    let all : new ≡ parts ++ replicate k nothing = is ∙ ap (λ l. l ++ replicate k nothing) (take_all (list + 1) parts (omega (arith, short))) in (
-      ap (padded count) all ∙ padded-more count k parts (omega (arith, short, inside)),
-      omega (arith, ap length all, length-append parts (replicate k nothing), length-replicate k nothing, short, inside),
-    )
-
--- the part of a list
-pub padded_part : (n i : ℕ) (parts : List Part) (p : Part) → length parts ≤ n → i < n → p ≡ get_or parts i nothing → slice_get (padded n parts) i ≡ Some p
-padded_part n i parts p few inside is =
-    slice_get-get_or (padded n parts) i nothing (omega (arith, padded-length n parts few, inside))
-    ∙ ap (λ x. Some x) (padded-get n i parts few inside ∙ sym is)
-
--- A list with an item has a part.
-pub stored_part : {T : Type 0} (items : List T) (parts : List Part) (n i k : ℕ) {now : List (List T)} → length parts ≤ n → lists_of items (padded n parts) ≡ now → i < length now → k < length (get_or now i []) → i < length parts
-stored_part items parts n i k {now} few view inside low = by_case (cases_lt i (length parts))
-  where
-    less : i < n
-    less = omega (arith, inside, ap length view, length-map (padded n parts) (part_of items), padded-length n parts few)
-
-    none : length parts ≤ i → get_or now i [] ≡ []
-    none high =
-        ap (λ l. get_or l i []) (sym view)
-        ∙ (get_or-map (part_of items) (padded n parts) i nothing [] (omega (arith, padded-length n parts few, less))
-        ∙ ap (part_of items) (padded-get n i parts few less ∙ get_or_past parts i nothing high))
-
-    by_case : (i < length parts) ⊎ (length parts ≤ i) → i < length parts
-    by_case (inl h) = h
-    by_case (inr high) = absurd (omega (arith, ap length (none high), low))
-
+-- ---- The part of a list.
 -- One more list, which is empty.
-pub lists-next : {T : Type 0} (n : ℕ) (items : List T) (parts : List Part) → length parts ≤ n → lists_of items (padded (n + 1) parts) ≡ lists_of items (padded n parts) ++ [] ∷ []
-lists-next n items parts h = ap (lists_of items) (padded-next n parts h) ∙ map-append (part_of items) (padded n parts) (nothing ∷ [])
+pub lists-next : {T : Type 0} (items : List T) (parts : List Part) {now : List (List T)} → lists_of items parts ≡ now → lists_of items (parts ++ nothing ∷ []) ≡ now ++ [] ∷ []
+lists-next items parts view = map-append (part_of items) parts (nothing ∷ []) ∙ ap (λ l. l ++ [] ∷ []) view
 
+-- A part after one more is one of the others, or nothing.
 next-part : (parts : List Part) (i : ℕ) (p : Part) → slice_get (parts ++ nothing ∷ []) i ≡ Some p → (slice_get parts i ≡ Some p) ⊎ (p ≡ nothing)
 next-part [] zero p e = inr (sym (same_Some nothing p e))
 next-part [] (suc i) p e = inl e
 next-part (q ∷ parts) zero p e = inl e
 next-part (q ∷ parts) (suc i) p e = next-part parts i p e
 
-pub parts-next : (size n : ℕ) (parts : List Part) → length parts ≤ n → AreParts size (padded n parts) → AreParts size (padded (n + 1) parts)
-parts-next size n parts h are =
-    rw (padded-next n parts h)
-    (record {
-      each = λ i p e. each i p (next-part (padded n parts) i p e);
-      apart = λ i j p q e f m. both i j p q m (next-part (padded n parts) i p e) (next-part (padded n parts) j q f);
-    })
+-- The parts with that of one more list, which is empty.
+pub parts-next : (size : ℕ) (parts : List Part) → AreParts size parts → AreParts size (parts ++ nothing ∷ [])
+parts-next size parts are = record {
+  each = λ i p e. each i p (next-part parts i p e);
+  apart = λ i j p q e f m. both i j p q m (next-part parts i p e) (next-part parts j q f);
+}
   where
-    each : (i : ℕ) (p : Part) → (slice_get (padded n parts) i ≡ Some p) ⊎ (p ≡ nothing) → IsPart size p
+    each : (i : ℕ) (p : Part) → (slice_get parts i ≡ Some p) ⊎ (p ≡ nothing) → IsPart size p
     each i p (inl g) = are.each i p g
     each i p (inr z) = subst (IsPart size) (sym z) (record { room = omega arith; inside = omega arith })
 
-    both : (i j : ℕ) (p q : Part) → (i ≡ j → ⊥) → (slice_get (padded n parts) i ≡ Some p) ⊎ (p ≡ nothing) → (slice_get (padded n parts) j ≡ Some q) ⊎ (q ≡ nothing) → AreApart p q
+    both : (i j : ℕ) (p q : Part) → (i ≡ j → ⊥) → (slice_get parts i ≡ Some p) ⊎ (p ≡ nothing) → (slice_get parts j ≡ Some q) ⊎ (q ≡ nothing) → AreApart p q
     both i j p q m (inl g) (inl f) = are.apart i j p q g f m
     both i j p q m (inl g) (inr z) = subst (λ a. AreApart p a) (sym z) (inr (omega arith))
     both i j p q m (inr z) f = subst (λ a. AreApart a q) (sym z) (inl (omega arith))
+
+-- There is no part.
+pub no_parts : (size : ℕ) → AreParts size []
+no_parts size = record { each = λ i p e. absurd (none i p e); apart = λ i j p q e f m. absurd (none i p e) }
+  where
+    none : (i : ℕ) (p : Part) → slice_get [] i ≡ Some p → ⊥
+    none i p e = omega (arith, slice_get_within [] i p e)
+
+-- There are as many parts as lists.
+pub part_count : {T : Type 0} (items : List T) (parts : List Part) {now : List (List T)} → lists_of items parts ≡ now → length now ≡ length parts
+part_count items parts view = sym (ap length view) ∙ length-map parts (part_of items)
 
 -- what is known of a list by its part
 pub record Reads {T : Type 0} (items : List T) (parts : List Part) (now : List (List T)) (i : ℕ) (p : Part) : Type 0 where
   pub part : slice_get parts i ≡ Some p
   pub items_are : get_or now i [] ≡ part_of items p
   pub count : length (get_or now i []) ≡ p.len
+  pub within : IsPart (length items) p
   pub ends : p.start + p.len ≤ length items
 
-pub reads : {T : Type 0} (items : List T) (parts : List Part) (n : ℕ) {now : List (List T)} (i : ℕ) (p : Part) → AreParts (length items) (padded n parts) × (length parts ≤ n) → lists_of items (padded n parts) ≡ now → i < length now → p ≡ get_or parts i nothing → Reads items (padded n parts) now i p
-reads items parts n {now} i p (are, few) view inside is = record { part = part; items_are = items_are; count = ap length items_are ∙ part_length items p (are.each i p part); ends = let w = are.each i p part in omega (arith, w.room, w.inside) }
+-- A list is read by its part.
+pub reads : {T : Type 0} (items : List T) (parts : List Part) {now : List (List T)} (i : ℕ) (p : Part) → AreParts (length items) parts → lists_of items parts ≡ now → i < length now → p ≡ get_or parts i nothing → Reads items parts now i p
+reads items parts {now} i p are view inside is = record { part = part; items_are = items_are; count = ap length items_are ∙ part_length items p (are.each i p part); within = are.each i p part; ends = let w = are.each i p part in omega (arith, w.room, w.inside) }
   where
-    part : slice_get (padded n parts) i ≡ Some p
-    part = padded_part n i parts p few (omega (arith, inside, ap length view, length-map (padded n parts) (part_of items), padded-length n parts few)) is
+    part : slice_get parts i ≡ Some p
+    part = slice_get-get_or parts i nothing (omega (arith, inside, part_count items parts view)) ∙ ap (λ x. Some x) (sym is)
 
     items_are : get_or now i [] ≡ part_of items p
-    items_are = ap (λ l. get_or l i []) (sym view) ∙ list_is items (padded n parts) i p are part
+    items_are = ap (λ l. get_or l i []) (sym view) ∙ list_is items parts i p are part
 
+-- An item of a list that was read.
 pub read_item : {T : Type 0} (items : List T) (parts : List Part) {now : List (List T)} (i : ℕ) (p : Part) (k : ℕ) (x : T) → Reads items parts now i p → k < length (get_or now i []) → x ≡ get_or items (p.start + k) x → (d : T) → x ≡ get_or (get_or now i []) k d
 read_item items parts {now} i p k x r h is d =
     get_or_read items (p.start + k) x (omega (arith, h, r.count, r.ends)) is d
     ∙ (sym (part_get items p k d (omega (arith, h, r.count))) ∙ ap (λ l. get_or l k d) (sym r.items_are))
-
--- what is known of a list once there is a part for it
-pub record Reached {T : Type 0} (items : List T) (parts new : List Part) (n : ℕ) (now : List (List T)) (i : ℕ) (p : Part) : Type 0 where
-  pub same : padded n new ≡ padded n parts
-  pub few : length new ≤ n
-  pub are : AreParts (length items) (padded n new)
-  pub view : lists_of items (padded n new) ≡ now
-  pub part : slice_get (padded n new) i ≡ Some p
-
-pub reaches : {T : Type 0} (items : List T) (parts new : List Part) (n : ℕ) {now : List (List T)} (i : ℕ) (p : Part) → AreParts (length items) (padded n parts) × (length parts ≤ n) → lists_of items (padded n parts) ≡ now → i < length now
-    → ((count : ℕ) → i < count → length parts ≤ count → (padded count new ≡ padded count parts) × (length new ≤ count)) → i < length new → p ≡ get_or new i p → Reached items parts new n now i p
-reaches items parts new n {now} i p (are, few) view inside reach low is =
-    let less : i < n = omega (arith, inside, ap length view, length-map (padded n parts) (part_of items), padded-length n parts few) in
-    let r = reach n less few in
-    record { same = r.0; few = r.1; are = rw r.0 are; view = rw r.0 view; part = padded_part n i new p r.1 less (get_or_read new i p low is nothing) }
-
-pub reached_count : {T : Type 0} (items : List T) (parts new : List Part) (n : ℕ) {now : List (List T)} (i : ℕ) (p : Part) → Reached items parts new n now i p → (p.len ≡ length (get_or now i [])) × (p.len ≤ length items)
-reached_count items parts new n {now} i p r =
-    let w = r.are.each i p r.part in
-    (sym (ap length (ap (λ l. get_or l i []) (sym r.view) ∙ list_is items (padded n new) i p r.are r.part) ∙ part_length items p w), omega (arith, w.room, w.inside))
 
 -- what follows from what a clause says if there is no value
 pub none-then : {T : Type 0} {P Q : Type 0} (r : Option T) → IfNone r P → (P → Q) → IfNone r Q
 none-then None p f = f p
 none-then (Some x) p f = tt
 
--- a list with memory for more has a part
-pub stored_room : (parts : List Part) (i : ℕ) (p : Part) → p ≡ get_or parts i nothing → p.len < p.room → i < length parts
-stored_room parts i p is room =
-    elim (cases_lt i (length parts)) [
-      | inl less ↦ less
-      | inr past ↦ omega (arith, room, ap (λ (x : Part). x.room) (is ∙ get_or_past parts i nothing past))
-    ]
-
--- the part that is read of a list with an item
-pub here : {T : Type 0} (items : List T) (parts : List Part) (n : ℕ) {now : List (List T)} (i k : ℕ) (p : Part) → AreParts (length items) (padded n parts) × (length parts ≤ n) → lists_of items (padded n parts) ≡ now → i < length now → k < length (get_or now i []) → p ≡ get_or parts i p → p ≡ get_or parts i nothing
-here items parts n i k p (are, few) view inside low is = get_or_read parts i p (stored_part items parts n i k few view inside low) is nothing
+-- A part with memory is not nothing.
+pub has_room : (parts : List Part) (i : ℕ) (p : Part) → p ≡ get_or parts i nothing → 0 < p.room → get_or parts i nothing ≡ nothing → ⊥
+has_room parts i p is room none = omega (arith, room, ap (λ (x : Part). x.room) (is ∙ none))

@@ -3,9 +3,9 @@ use Rattle.pb_propagate.proofs.lemmas.{engine.Runs.place-inside, root.Added.pair
 use Rattle.pb_propagate.proofs.lemmas.{root.Added.no-watch, clauses.Literals.marked-start, clauses.Literals.marked-wider, clauses.Shapes.slots-vacant}
 use Rattle.pb_propagate.proofs.lemmas.engine.Literals.{open_part-falsified, open_part-open, Agree-cleared, Agree-push, Agree-widen, says-none, vacancy-none}
 use Rattle.pb_propagate.proofs.lemmas.root.Retracted.{needless-terms, other-then, released-same, released-then, same-reasons, some-sized, terms-inside}
-use Rattle.pb_propagate.proofs.lemmas.store.{Changes.forms-filled, Changes.forms-more, Changes.slots-bare, Positions.room-widened, Positions.same-without}
+use Rattle.pb_propagate.proofs.lemmas.store.{Changes.forms-filled, Changes.forms-more, Changes.slots-bare, Positions.same-without}
 use Rattle.pb_propagate.proofs.lemmas.store.{Gets.get-map, Gets.get-set_same, Links.entries-length, Links.taken-last}
-use Rattle.pb_propagate.proofs.lemmas.store.Positions.{chain-push, free-put, moved-last, position-got, positioned-moved, positioned-put, positioned-widened}
+use Rattle.pb_propagate.proofs.lemmas.store.Positions.{chain-push, free-put, moved-last, position-got, positioned-moved, positioned-put}
 use Rattle.pb_propagate.proofs.lemmas.store.Stored.{degree-read, equal-even, even-falls, form-order, kept-size, order-none, order-some, picked-even}
 use Rattle.pb_propagate.proofs.lemmas.store.Stored.{picked-order, placed-inside, ranked-same, standing-all, total-each, unit-size}
 use Rattle.std.proofs.{Common.get_or-set_same, Common.length-append, Common.length-set, lemmas.Bool.cases_eq, lemmas.Option.slice_get_within}
@@ -43,6 +43,6 @@ pub ruleset standing = (standing-all)
 
 pub ruleset unit_form = (degree-read, unit-size)
 
-pub ruleset waiting = (length-set, moved-last, position-got, positioned-moved, positioned-put, positioned-widened, room-widened, same-without, slice_get_within)
+pub ruleset waiting = (length-set, moved-last, position-got, positioned-moved, positioned-put, same-without, slice_get_within)
 
 pub ruleset widen = (Agree-widen, length-append, marked-wider, sum_by_push)

@@ -107,10 +107,10 @@ impl Root {
         ensures { HasRemoved store.now clauses.now slot self.new }
     {
         self.release(store, clauses, slot);
-        self.run.opens[slot] = 0;
-        self.run.candidates[slot] = 0;
-        self.rests.opens[slot] = 0;
-        self.rests.starts[slot] = 0;
+        self.run.opens.set_empty(slot);
+        self.run.candidates.set_empty(slot);
+        self.rests.opens.set_empty(slot);
+        self.rests.starts.set_empty(slot);
         self.waiting.remove(slot);
     }
 }

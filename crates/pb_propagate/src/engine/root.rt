@@ -16,6 +16,7 @@ ghost use Rattle.pb_propagate.specs.engine.clauses.Shapes.{AreJoined, clauses_of
 
 use crate::assignment::Assignment;
 use crate::clauses::Clauses;
+use crate::column::Column;
 use crate::engine::conflict::Conflict;
 use crate::engine::visits::Visits;
 use crate::heads::{Heads, Order, Walked};
@@ -51,10 +52,10 @@ pub struct Root {
 pub fn open_form(store: &Store, run: &mut Run, form: usize) -> Result<(), AllocError>
     requires store { IsSound store.now }
     requires form { form < length store.now.stored.items }
-    requires opens { length run.old.opens.items ≡ length store.now.stored.items }
+    requires opens { length run.old.opens ≡ length store.now.stored.items }
     requires values { length run.old.assignment.values.items ≡ store.now.variables }
     ensures opens { OnOk result ((d : Shape) →
-        run.new.opens.items ≡ slice_set run.old.opens.items form
+        run.new.opens ≡ slice_set run.old.opens form
         (open_sum run.old.assignment.list.items
         (slice_index_or (shapes_of store.now.stored.items) form d).terms)) }
     ensures trail { OnOk result (run.new.trail.items ≡ run.old.trail.items ++ form ∷ []) }
@@ -72,7 +73,7 @@ pub fn open_form(store: &Store, run: &mut Run, form: usize) -> Result<(), AllocE
     let opened = open_under(kept, run.assignment.values.as_slice());
     run.trail.push(form)?;
     queue(&mut run.work, form, opened, kept.bound())?;
-    run.opens[form] = opened;
+    run.opens.set(form, opened);
     Ok(())
 }
 
@@ -89,21 +90,21 @@ fn widen_run(
     if slot < run.opens.len() {
         return Ok(());
     }
-    run.opens.push(0)?;
-    run.candidates.push(0)?;
-    rests.opens.push(0)?;
-    rests.starts.push(0)?;
+    run.opens.push_empty()?;
+    run.candidates.push_empty()?;
+    rests.opens.push_empty()?;
+    rests.starts.push_empty()?;
     waiting.widen()?;
     Ok(())
 }
 
 // The form waits if it is on the work list.
 fn defer(waiting: &mut Waiting, work: &[usize], slot: usize)
-    requires inside { slot < length waiting.old.positions.items }
+    requires inside { slot < length waiting.old.positions }
     requires absent { IsAbsent waiting.old.list.items 0 slot }
     ensures list { ((work.now ≡ []) × (waiting.new.list.items ≡ waiting.old.list.items)) ⊎
         (waiting.new.list.items ≡ waiting.old.list.items ++ slot ∷ []) }
-    ensures positions { length waiting.new.positions.items ≡ length waiting.old.positions.items }
+    ensures positions { length waiting.new.positions ≡ length waiting.old.positions }
 {
     if work.is_empty() {
         return;
@@ -113,18 +114,17 @@ fn defer(waiting: &mut Waiting, work: &[usize], slot: usize)
 
 // Questions return to the state of the run from now on.
 fn save(run: &mut Run, rests: &mut Rests)
-    requires opens { length rests.old.opens.items ≡ length run.old.opens.items }
-    requires starts { length rests.old.starts.items ≡ length run.old.candidates.items }
-    requires sizes { length run.old.candidates.items ≡ length run.old.opens.items }
-    requires undone { (forms : List Shape) × (length forms ≡ length run.old.opens.items) ×
-        IsUndone rests.old forms run.old.opens.items run.old.candidates.items run.old.trail.items
-        0 }
+    requires opens { length rests.old.opens ≡ length run.old.opens }
+    requires starts { length rests.old.starts ≡ length run.old.candidates }
+    requires sizes { length run.old.candidates ≡ length run.old.opens }
+    requires undone { (forms : List Shape) × (length forms ≡ length run.old.opens) ×
+        IsUndone rests.old forms run.old.opens run.old.candidates run.old.trail.items 0 }
     ensures { IsSaved run.old run.new rests.new }
 {
     'forms: for i in 0..run.trail.len() {
         let form = run.trail[i];
-        rests.opens[form] = run.opens[form];
-        rests.starts[form] = run.candidates[form];
+        rests.opens.set(form, run.opens.get(form));
+        rests.starts.set(form, run.candidates.get(form));
     }
     run.trail.clear();
     run.work.clear();
@@ -133,16 +133,16 @@ fn save(run: &mut Run, rests: &mut Rests)
 
 // A run over no forms and no variables, with memory for that many of both.
 fn run_for(alloc: Global, variables: usize, forms: usize) -> Result<Run, AllocError>
-    ensures opens { IfOk result (λ run. run.opens.items ≡ []) }
-    ensures candidates { IfOk result (λ run. run.candidates.items ≡ []) }
+    ensures opens { IfOk result (λ run. run.opens ≡ []) }
+    ensures candidates { IfOk result (λ run. run.candidates ≡ []) }
     ensures assignment { IfOk result (λ run. (run.assignment.values.items ≡ []) ×
         (run.assignment.list.items ≡ [])) }
     ensures work { IfOk result (λ run. run.work.items ≡ []) }
     ensures trail { IfOk result (λ run. run.trail.items ≡ []) }
     ensures next { IfOk result (λ run. run.next ≡ 0) }
 {
-    let opens = Vec::with_capacity(alloc, forms)?;
-    let candidates = Vec::with_capacity(alloc, forms)?;
+    let opens = Column::with_capacity(alloc, forms)?;
+    let candidates = Column::with_capacity(alloc, forms)?;
     let assignment = Assignment::with_capacity(alloc, variables)?;
     Ok(Run {
         opens,
@@ -163,8 +163,8 @@ impl Root {
     {
         Root {
             run: Run {
-                opens: Vec::new(alloc),
-                candidates: Vec::new(alloc),
+                opens: Column::new(alloc),
+                candidates: Column::new(alloc),
                 assignment: Assignment::new(alloc),
                 work: Vec::new(alloc),
                 next: 0,
@@ -287,8 +287,8 @@ impl Root {
 
 /// Undoes a question, back to the first literals of the list.
 pub fn back(store: &Store, rests: &Rests, clauses: &mut Clauses, run: &mut Run, count: usize)
-    requires opens { length run.old.opens.items ≡ length store.now.stored.items }
-    requires candidates { length run.old.candidates.items ≡ length store.now.stored.items }
+    requires opens { length run.old.opens ≡ length store.now.stored.items }
+    requires candidates { length run.old.candidates ≡ length store.now.stored.items }
     requires undone { RunIsUndone store.now rests.now 0 run.old }
     requires running { IsRunning run.old.assignment.values.items clauses.old }
     ensures { GoesBack store.now rests.now clauses.old clauses.new count run.old run.new }

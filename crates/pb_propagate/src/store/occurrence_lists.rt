@@ -5,6 +5,7 @@
 ghost use Rattle.std.specs.Prelude.{◌≡◌, ℕ, List, All, Some, None, ◌+◌, ◌-◌, ◌*◌, ◌/◌, ◌<◌, ◌≤◌, ◌^◌, ◌++◌, ◌∷◌, [], true, length, take, sum_by, IfOk, OnOk, OnErr, slice_get, slice_index_or, slice_set, swap_remove};
 ghost use Rattle.pb_propagate.specs.declared.term.Term.{Term};
 ghost use Rattle.pb_propagate.specs.declared.store.Occurrence.{Occurrence};
+ghost use Rattle.pb_propagate.specs.declared.store.spots.Spots.{Spots};
 ghost use Rattle.pb_propagate.specs.declared.store.stored_form.StoredForm.{StoredForm};
 ghost use Rattle.pb_propagate.specs.engine.engine.Lists.{Shape};
 ghost use Rattle.pb_propagate.specs.engine.engine.Counts.{AreFalling, IsCalm, place};
@@ -20,6 +21,7 @@ ghost use Rattle.pb_propagate.specs.engine.clauses.Shapes.{clauses_of, codes_of_
 
 use crate::clauses::Clauses;
 use crate::clauses::watched::Pair;
+use crate::column::Column;
 use crate::lists::Lists;
 use crate::run::{Run, place_of};
 use crate::shared::Shared;
@@ -114,25 +116,40 @@ fn link(
 }
 
 // Removes an entry from a list. The last entry of the list moves to its position.
-fn take_out(lists: &mut Lists<Occurrence>, spots: &mut Vec<Spots>, place: usize, spot: usize)
+fn take_out(lists: &mut Lists<Occurrence>, spots: &mut Column<Spots>, place: usize, spot: usize)
     requires place { place < length lists.old }
     requires spot { spot < length (slice_index_or lists.old place []) }
     requires named { (e : Occurrence) →
         slice_get (slice_index_or lists.old place [])
         (length (slice_index_or lists.old place []) - 1) ≡ Some e →
-        (e.form < length spots.old.items) ×
-        (e.index < length (slice_index_or (spots_of spots.old.items) e.form [])) }
-    ensures sizes { length spots.new.items ≡ length spots.old.items }
+        (e.form < length spots.old) ×
+        (e.index < length (slice_index_or (spots_of spots.old) e.form [])) }
+    ensures sizes { length spots.new ≡ length spots.old }
     ensures lists { (e : Occurrence) ×
         (e ≡ slice_index_or (slice_index_or lists.old place []) spot e) ×
         (lists.new ≡ slice_set lists.old place
         (swap_remove (slice_index_or lists.old place []) spot e)) }
     ensures spots { Moved (slice_index_or lists.old place []) spot
-        (spots_of spots.old.items) (spots_of spots.new.items) }
+        (spots_of spots.old) (spots_of spots.new) }
 {
     let removed = lists.swap_remove(place, spot);
     if let Some(moved) = removed.moved {
-        spots[moved.form].set(moved.index, spot);
+        let mut kept = spots.take(moved.form);
+        kept.set(moved.index, spot);
+        spots.set(moved.form, kept);
+    }
+}
+
+// The position of the entry of a form's term.
+fn spot_at(spots: &Column<Spots>, form: usize, index: usize) -> usize
+    requires form { form < length spots.now }
+    requires index { index < length (slice_index_or (spots_of spots.now) form []) }
+    ensures { (kept : Spots) × (kept ≡ slice_index_or spots.now form kept) ×
+        (result ≡ slice_index_or (spots_in kept) index result) }
+{
+    match spots.peek(form) {
+        Some(kept) => kept.get(index),
+        None => unreachable!(),
     }
 }
 
@@ -143,10 +160,10 @@ fn unlink(store: &mut Store, form: usize)
     ensures kept { store.new.stored ≡ store.old.stored }
     ensures variables { store.new.variables ≡ store.old.variables }
     ensures lists { length store.new.occurrences ≡ length store.old.occurrences }
-    ensures rooms { (s : ℕ) → length (slice_index_or (spots_of store.new.spots.items) s []) ≡ length
-        (slice_index_or (spots_of store.old.spots.items) s []) }
+    ensures rooms { (s : ℕ) → length (slice_index_or (spots_of store.new.spots) s []) ≡ length
+        (slice_index_or (spots_of store.old.spots) s []) }
     ensures linked { IsLinked (cut (shapes_of store.new.stored.items) form 0)
-        (spots_of store.new.spots.items)
+        (spots_of store.new.spots)
         (entries_of (shapes_of store.new.stored.items) store.new.occurrences) }
 {
     // There are fewer than 2^64 lists.
@@ -155,7 +172,7 @@ fn unlink(store: &mut Store, form: usize)
     'terms: while left > 0 {
         left -= 1;
         let term = store.stored[form].term(left);
-        let spot = store.spots[form].get(left);
+        let spot = spot_at(&store.spots, form, left);
         let place = place_of(term.literal);
         take_out(&mut store.occurrences, &mut store.spots, place, spot);
     }
@@ -214,7 +231,7 @@ pub fn widen(store: &mut Store) -> Result<(), AllocError>
     ensures occurrences { store.new.occurrences ≡ store.old.occurrences }
     ensures variables { store.new.variables ≡ store.old.variables }
 {
-    store.spots.push(Spots::Empty)?;
+    store.spots.push_empty()?;
     store.stored.push(empty_stored())?;
     Ok(())
 }
@@ -237,7 +254,7 @@ pub fn fill(store: &mut Store, slot: usize, form: Shared) -> Result<(), AllocErr
     let kept = stored_of(alloc, form)?;
     let mut spots = Spots::for_terms(alloc, kept.len())?;
     link(alloc, &kept, slot, &mut store.occurrences, &mut spots)?;
-    store.spots[slot] = spots;
+    store.spots.set(slot, spots);
     store.stored[slot] = kept;
     Ok(())
 }
@@ -251,8 +268,8 @@ pub fn enter(store: &mut Store, run: &mut Run, form: Normal) -> Result<(), Alloc
         slice_index_or (forms_of store.new.stored.items) s None ≡ slice_index_or
         (forms_of store.old.stored.items) s None) }
     ensures entered { OnOk result
-        (HasEntered form store.old.stored.items store.new.stored.items run.old.opens.items
-        run.new.opens.items run.old.candidates.items run.new.candidates.items) }
+        (HasEntered form store.old.stored.items store.new.stored.items run.old.opens run.new.opens
+        run.old.candidates run.new.candidates) }
     ensures longer { OnOk result (
         AreLonger store.old.occurrences store.new.occurrences) }
     ensures variables { store.new.variables ≡ store.old.variables }
@@ -262,12 +279,12 @@ pub fn enter(store: &mut Store, run: &mut Run, form: Normal) -> Result<(), Alloc
 {
     let form = Shared::new(*store.stored.allocator(), form)?;
     let slot = store.stored.len();
-    run.opens.reserve(1)?;
-    run.candidates.reserve(1)?;
+    let last = run.opens.len();
+    run.opens.push_empty()?;
+    run.candidates.push_empty()?;
     widen(store)?;
     fill(store, slot, form)?;
-    run.opens.push_reserved(store.stored[slot].total());
-    run.candidates.push_reserved(0);
+    run.opens.set(last, store.stored[slot].total());
     Ok(())
 }
 
@@ -278,10 +295,9 @@ pub fn leave(store: &mut Store, run: &mut Run)
     ensures sound { IsSound store.new }
     ensures kept { store.new.stored.items ≡ take
         (length store.old.stored.items - 1) store.old.stored.items }
-    ensures opens { run.new.opens.items ≡ take
-        (length run.old.opens.items - 1) run.old.opens.items }
-    ensures candidates { run.new.candidates.items ≡ take
-        (length run.old.candidates.items - 1) run.old.candidates.items }
+    ensures opens { run.new.opens ≡ take (length run.old.opens - 1) run.old.opens }
+    ensures candidates { run.new.candidates ≡ take
+        (length run.old.candidates - 1) run.old.candidates }
     ensures variables { store.new.variables ≡ store.old.variables }
     ensures trail { run.new.trail ≡ run.old.trail }
     ensures rest { (run.new.assignment ≡ run.old.assignment) × (run.new.work ≡ run.old.work) ×
@@ -306,5 +322,5 @@ pub fn clear_slot(store: &mut Store, form: usize)
 {
     unlink(store, form);
     store.stored[form] = empty_stored();
-    store.spots[form] = Spots::Empty;
+    store.spots.set_empty(form);
 }

@@ -17,14 +17,14 @@ use pb_normal::NumberedLiteral;
 
 // A form waits if its open sum is below its bound.
 fn wait_below(waiting: &mut Waiting, form: usize, opened: u128, bound: u128)
-    requires inside { form < length waiting.old.positions.items }
+    requires inside { form < length waiting.old.positions }
     ensures absent { (s : ℕ) → IsAbsent waiting.new.list.items 0 s →
         IsAbsent waiting.old.list.items 0 s }
     ensures above { IsAbsent waiting.new.list.items 0 form → bound ≤ opened }
     ensures older { (i s : ℕ) → slice_get waiting.new.list.items i ≡ Some s →
         ((s ≡ form) × (opened < bound)) ⊎
         ((j : ℕ) × (slice_get waiting.old.list.items j ≡ Some s)) }
-    ensures positions { length waiting.new.positions.items ≡ length waiting.old.positions.items }
+    ensures positions { length waiting.new.positions ≡ length waiting.old.positions }
 {
     if opened >= bound {
         return;
@@ -43,13 +43,13 @@ fn refresh(store: &Store, root: &mut Root, form: usize, opened: u128)
     requires sized { IsSized store.now root.old }
     ensures each { AreRefreshed store.now root.old root.new }
     ensures form { IsRefreshed store.now root.new form }
-    ensures opens { root.new.run.opens.items ≡ slice_set root.old.run.opens.items form opened }
+    ensures opens { root.new.run.opens ≡ slice_set root.old.run.opens form opened }
 {
     let kept = &store.stored[form];
-    root.run.opens[form] = opened;
-    root.run.candidates[form] = 0;
-    root.rests.opens[form] = opened;
-    root.rests.starts[form] = 0;
+    root.run.opens.set(form, opened);
+    root.run.candidates.set_empty(form);
+    root.rests.opens.set(form, opened);
+    root.rests.starts.set_empty(form);
     wait_below(&mut root.waiting, form, opened, kept.bound());
 }
 
@@ -62,12 +62,12 @@ pub fn refresh_all(store: &Store, root: &mut Root, literal: NumberedLiteral)
     ensures all { (j : ℕ) (e : Weighted) → slice_get (slice_index_or
         (entries_of (shapes_of store.now.stored.items) store.now.occurrences)
         (place literal) []) j ≡ Some e → IsRefreshed store.now root.new e.form }
-    ensures opens { root.new.run.opens.items ≡ root.old.run.opens.items }
+    ensures opens { root.new.run.opens ≡ root.old.run.opens }
 {
     let place = place_of(literal);
     'entries: for j in 0..store.occurrences.count(place) {
         let entry = store.occurrences.get(place, j);
-        let opened = root.run.opens[entry.form];
+        let opened = root.run.opens.get(entry.form);
         refresh(store, root, entry.form, opened);
     }
 }
@@ -91,7 +91,7 @@ pub fn lift_all(store: &Store, root: &mut Root, literal: NumberedLiteral)
     'entries: for j in 0..store.occurrences.count(place) {
         let entry = store.occurrences.get(place, j);
         let kept = &store.stored[entry.form];
-        let before = root.run.opens[entry.form];
+        let before = root.run.opens.get(entry.form);
         let opened = before + kept.term(entry.index).coefficient;
         refresh(store, root, entry.form, opened);
     }

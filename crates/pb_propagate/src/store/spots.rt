@@ -3,6 +3,7 @@
 ghost use Rattle.std.specs.Prelude.{◌≡◌, ◌<◌, ◌++◌, ◌∷◌, [], length, slice_index_or, slice_set, IfOk, OnOk};
 ghost use Rattle.pb_propagate.specs.engine.engine.Spots.{spots_in};
 
+use crate::column::Zero;
 use std::alloc::{AllocError, Global};
 
 /// For each term of a form the position of its entry in the list of its literal. A form of one term
@@ -15,6 +16,26 @@ pub enum Spots {
     One(usize),
     /// Those of several terms.
     Many(Box<Vec<usize>>),
+}
+
+impl Zero for Spots {
+    ghost use Rattle.pb_propagate.specs.declared.store.spots.Spots.TheVariants.{Empty};
+
+    ghost zero = { Empty };
+
+    #[inline]
+    fn zero() -> Spots {
+        Spots::Empty
+    }
+
+    #[inline]
+    fn is_zero(&self) -> bool {
+        match self {
+            Spots::Empty => true,
+            Spots::One(_) => false,
+            Spots::Many(_) => false,
+        }
+    }
 }
 
 impl Spots {

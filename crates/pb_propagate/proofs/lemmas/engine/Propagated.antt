@@ -93,7 +93,7 @@ pub idle-at : (keep : List StoredForm) (opens : List ℕ) (form : ℕ) (k : Stor
 idle-at keep opens form k o e inside is room open_is low d c =
     rw (shape-at keep form k inside is d, ← get_or_read opens form o room open_is 0) (stored-idle k (o - e) c low)
 
-pub changed-at : (rests : Rests) (keep : List StoredForm) (opens : List ℕ) (form : ℕ) (k : StoredForm) (o : ℕ) → form < length keep → k ≡ get_or keep form k → form < length opens → o ≡ get_or opens form o → (o ≡ get_or rests.opens.items form (stored_total k) → ⊥) → (d : Shape) → get_or opens form 0 ≡ rest_open rests form (get_or (shapes_of keep) form d) → ⊥
+pub changed-at : (rests : Rests) (keep : List StoredForm) (opens : List ℕ) (form : ℕ) (k : StoredForm) (o : ℕ) → form < length keep → k ≡ get_or keep form k → form < length opens → o ≡ get_or opens form o → (o ≡ get_or rests.opens form (stored_total k) → ⊥) → (d : Shape) → get_or opens form 0 ≡ rest_open rests form (get_or (shapes_of keep) form d) → ⊥
 changed-at rests keep opens form k o inside is room open_is other d e = grind (arith, get_or_read, shape-at, stored-sum)
 
 -- a coefficient that is read
@@ -101,7 +101,7 @@ pub weight-read : (keep : List StoredForm) (form index : ℕ) (k : StoredForm) (
 weight-read keep form index k w inside is read = grind (arith, shape-at)
 
 -- one form more is as it was
-pub undo-next : (rests : Rests) (keep : List StoredForm) (opens cands work : List ℕ) (i form opened back : ℕ) (k : StoredForm) → i < length work → form ≡ get_or work i form → k ≡ get_or keep form k → opened ≡ get_or rests.opens.items form (stored_total k) → back ≡ get_or rests.starts.items form 0 → length opens ≡ length keep → length cands ≡ length keep → IsUndone rests (shapes_of keep) opens cands work i → IsUndone rests (shapes_of keep) (set opens form opened) (set cands form back) work (i + 1)
+pub undo-next : (rests : Rests) (keep : List StoredForm) (opens cands work : List ℕ) (i form opened back : ℕ) (k : StoredForm) → i < length work → form ≡ get_or work i form → k ≡ get_or keep form k → opened ≡ get_or rests.opens form (stored_total k) → back ≡ get_or rests.starts form 0 → length opens ≡ length keep → length cands ≡ length keep → IsUndone rests (shapes_of keep) opens cands work i → IsUndone rests (shapes_of keep) (set opens form opened) (set cands form back) work (i + 1)
 undo-next rests keep opens cands work i form opened back k inside is at whole first o c u = record {
   clean = λ s d in_forms gone.
       let less = u.named i form inside in

@@ -107,7 +107,7 @@ Tidy-pass d aside busy now f c e at room is here done there r = record {
 }
 
 -- no form is on the work list or the trail, and each is as it is at rest
-pub Tidy-rest : {rests : Rests} {aside : List ℕ} {forms : List Shape} {opens cands : List ℕ} {list : List NumberedLiteral} {busy : ℕ} → opens ≡ rests.opens.items → cands ≡ rests.starts.items → length forms ≡ length opens →
+pub Tidy-rest : {rests : Rests} {aside : List ℕ} {forms : List Shape} {opens cands : List ℕ} {list : List NumberedLiteral} {busy : ℕ} → opens ≡ rests.opens → cands ≡ rests.starts → length forms ≡ length opens →
     ((s : ℕ) (d : Shape) → s < length forms → (s ≡ busy → ⊥) → IsAbsent aside 0 s → IsAbsent [] 0 s → IsCalm (get_or forms s d) (get_or opens s 0) (get_or cands s 0)) →
     ((s : ℕ) (d : Shape) → s < length forms → ArePassed (get_or forms s d).terms (get_or cands s 0) list) → ((s : ℕ) (d : Shape) → s < length forms → get_or cands s 0 ≤ length (get_or forms s d).terms) → IsTidy (beside rests aside) forms opens cands list [] [] 0 busy
 Tidy-rest {rests} {aside} {forms} {opens} {cands} {list} {busy} opened started long calm passed bounded = grind (arith, get_or_default)
@@ -209,7 +209,7 @@ entry-read store rests l q items j e sound inside at read item less =
     let es = get_or (entries_of forms store.occurrences) (place (negation l)) [] in
     let same : es ≡ map (weighted forms) items = entries-at forms store.occurrences (place (negation l)) q items read at in
     let named = form-within forms es items j (entry_at e) (length forms) same item less (sound.named (place (negation l))) in
-    let index = index-within forms (spots_of store.spots.items) store.occurrences (place (negation l)) j items (entry_at e) same item less sound.whole in
+    let index = index-within forms (spots_of store.spots) store.occurrences (place (negation l)) j items (entry_at e) same item less sound.whole in
     let entry = weighted forms (entry_at e) in
     let room : j < length es = omega (arith, less, ap length same, length-map items (weighted forms)) in
     search (rules, drop_more es j entry room ∙ ap (λ x. x ∷ drop (j + 1) es) (sym (item-weighted forms es items j (entry_at e) same item)))

@@ -24,13 +24,13 @@ bare-parts x (c ∷ codes) h = absurd (omega (arith, ap length h, length-map (c 
 
 -- the lists after an entry was added for a new slot
 pub record Arrived (before store : Store) (run run' : Run) (slot : ℕ) : Type 0 where
-  pub sizes : length run'.opens.items ≡ length store.stored.items
-  pub csizes : length run'.candidates.items ≡ length store.stored.items
+  pub sizes : length run'.opens ≡ length store.stored.items
+  pub csizes : length run'.candidates ≡ length store.stored.items
   pub older : (s : ℕ) → s < length store.stored.items → (s ≡ slot → ⊥) → s < length before.stored.items
-  pub opens : (s : ℕ) → s < length before.stored.items → (s ≡ slot → ⊥) → get_or run'.opens.items s 0 ≡ get_or run.opens.items s 0
-  pub cands : (s : ℕ) → s < length before.stored.items → (s ≡ slot → ⊥) → get_or run'.candidates.items s 0 ≡ get_or run.candidates.items s 0
-  pub open_none : get_or run'.opens.items slot 0 ≡ 0
-  pub cand_none : get_or run'.candidates.items slot 0 ≡ 0
+  pub opens : (s : ℕ) → s < length before.stored.items → (s ≡ slot → ⊥) → get_or run'.opens s 0 ≡ get_or run.opens s 0
+  pub cands : (s : ℕ) → s < length before.stored.items → (s ≡ slot → ⊥) → get_or run'.candidates s 0 ≡ get_or run.candidates s 0
+  pub open_none : get_or run'.opens slot 0 ≡ 0
+  pub cand_none : get_or run'.candidates slot 0 ≡ 0
 
 pub arrived : {run' : Run} {rests' : Rests} {waiting' : Waiting} (store : Store) (clauses : Clauses) (root : Root) (slot : ℕ) (g : WasRootOf store clauses slot root) →
     slot < length store.stored.items → RunIsWidened root.run run' root.rests rests' root.waiting waiting' slot → Arrived g.0 store root.run run' slot
@@ -89,7 +89,7 @@ pair-free values old new s literals p free set e here live = grind (arith, set.m
 -- a clause adds nothing to the occurrence lists
 pub clause-rooted : {store : Store} {clauses : Clauses} {run : Run} {rests : Rests} {waiting : Waiting} {walked : Walked} {slot : ℕ} → slot < length store.stored.items →
     ((d : Shape) → ((get_or (shapes_of store.stored.items) slot d).terms ≡ []) × ((get_or (shapes_of store.stored.items) slot d).degree ≡ 0)) →
-    get_or run.opens.items slot 0 ≡ 0 → IsRooted store clauses run rests waiting walked slot → IsRooted store clauses run rests waiting walked (length store.stored.items)
+    get_or run.opens slot 0 ≡ 0 → IsRooted store clauses run rests waiting walked slot → IsRooted store clauses run rests waiting walked (length store.stored.items)
 clause-rooted inside bare none r = grind (arith, r.counted, r.opens, r.starts, length-map, r.open_sizes, r.tidy.calm, r.tidy.passed, r.tidy.bounded)
 
 -- what a propagation needs once a form has its open sum under the root

@@ -120,7 +120,7 @@ root-few store clauses a sound j r =
     let shapes = shapes_of store.stored.items in
     let lists = entries_of shapes store.occurrences in
     let one : IsOneSided a.list.items = λ l. one_sided a.values.items a.list.items l a.agrees in
-    let short = root-short shapes (spots_of store.spots.items) lists store.variables (clauses_of clauses) a.list.items sound (reasons-derive r) in
+    let short = root-short shapes (spots_of store.spots) lists store.variables (clauses_of clauses) a.list.items sound (reasons-derive r) in
     let both = both-le lists a.list.items (derivation-single (all_of store clauses) [] a.list.items none (reasons-derive r)) one in
     omega (arith, short, both, killed-both (clauses_of clauses) a.list.items one, sound.whole.totals, joined-terms shapes (clauses_of clauses) j)
 
@@ -133,14 +133,14 @@ pub all-entered : (store store' : Store) (clauses : Clauses) (k : StoredForm) �
 all-entered store store' clauses k keeps j = grind (arith, entered-shapes store.stored.items store'.stored.items k keeps, joined-push, j.short)
 
 -- One form more, which may be anything: it is as at rest.
-pub entered-tidy : (rests : Rests) (forms : List Shape) (f : Shape) (list : List NumberedLiteral) → length rests.opens.items ≡ length forms →
-    length rests.starts.items ≡ length forms →
-    IsTidy (beside rests []) forms rests.opens.items rests.starts.items list [] [] 0 (length forms) →
-    IsTidy (beside rests []) (forms ++ (f ∷ [])) (rests.opens.items ++ (size f.terms ∷ [])) (rests.starts.items ++ (0 ∷ [])) list [] [] 0 (length forms)
+pub entered-tidy : (rests : Rests) (forms : List Shape) (f : Shape) (list : List NumberedLiteral) → length rests.opens ≡ length forms →
+    length rests.starts ≡ length forms →
+    IsTidy (beside rests []) forms rests.opens rests.starts list [] [] 0 (length forms) →
+    IsTidy (beside rests []) (forms ++ (f ∷ [])) (rests.opens ++ (size f.terms ∷ [])) (rests.starts ++ (0 ∷ [])) list [] [] 0 (length forms)
 entered-tidy rests forms f list long starts t = grind (arith, get_or_append_left, get_or_push, get_or_past, length-append, t.calm, t.passed, t.bounded)
 
 -- after a question each form is as it was
-pub undone-same : (rests : Rests) (forms : List Shape) (opens cands : List ℕ) (n : ℕ) → IsUndone rests forms opens cands [] 0 → length forms ≡ n + 1 → length opens ≡ n + 1 → length cands ≡ n + 1 → length rests.opens.items ≡ n → length rests.starts.items ≡ n → (take (length opens - 1) opens ≡ rests.opens.items) × (take (length cands - 1) cands ≡ rests.starts.items)
+pub undone-same : (rests : Rests) (forms : List Shape) (opens cands : List ℕ) (n : ℕ) → IsUndone rests forms opens cands [] 0 → length forms ≡ n + 1 → length opens ≡ n + 1 → length cands ≡ n + 1 → length rests.opens ≡ n → length rests.starts ≡ n → (take (length opens - 1) opens ≡ rests.opens) × (take (length cands - 1) cands ≡ rests.starts)
 undone-same rests forms opens cands n u long o c r s =
     let none : Shape = record { terms = []; degree = 0 } in
     (ext_get_or 0 _ _ (grind (arith, length-take)) (λ i less. grind (arith, get_or-take, length-take, u.clean i none, get_or_default)), ext_get_or 0 _ _ (grind (arith, length-take)) (λ i less. grind (arith, get_or-take, length-take, u.clean i none)))
@@ -157,7 +157,7 @@ pub question-most : (store : Store) (clauses : List (List ℕ)) (old new : List 
 question-most store clauses old new v w c sound j single one (more, e) d bounded upper =
     let shapes = shapes_of store.stored.items in
     let lists = entries_of shapes store.occurrences in
-    let short = root-short shapes (spots_of store.spots.items) lists store.variables clauses old sound d in
+    let short = root-short shapes (spots_of store.spots) lists store.variables clauses old sound d in
     let mine : owned lists old ≤ owned lists new = omega (arith, ap (owned lists) e, sum_by-append (λ l. length (get_or lists (place l) [])) old more) in
     omega (arith, upper, bounded, short, mine, killed-longer clauses (code_in Short) old new (more, e), killed-longer clauses (code_in Long) old new (more, e), both-le lists new single one, killed-both clauses new one, sound.whole.totals, joined-terms shapes clauses j)
 
@@ -181,7 +181,7 @@ spent-longer forms forms' occ occ' list h = sum_by-le-sum_by (λ l. length (get_
 pub updated-most : {store : Store} {clauses : Clauses} {old new : Root} → IsStanding store clauses old → old.run.visits ≡ length (list_of old.run) → UpdateCosts store clauses old new → new.run.visits ≤ 3 * terms_of_all store clauses + length old.waiting.list.items
 updated-most {store} {clauses} {old} {new} s visits costs =
     let done = costs.ended in let u = costs.spends in
-    let most = question-most store (clauses_of clauses) (list_of old.run) (list_of done) done.visits (length old.waiting.list.items) (sum done.candidates.items) s.sound s.joined u.single (λ l on. one_sided (values_of done) (list_of done) l done.assignment.agrees on) u.extends (reasons-derive s.rooted.reasoned) u.bounded (omega (arith, u.upper, visits, ap length s.rooted.work)) in
+    let most = question-most store (clauses_of clauses) (list_of old.run) (list_of done) done.visits (length old.waiting.list.items) (sum done.candidates) s.sound s.joined u.single (λ l on. one_sided (values_of done) (list_of done) l done.assignment.agrees on) u.extends (reasons-derive s.rooted.reasoned) u.bounded (omega (arith, u.upper, visits, ap length s.rooted.work)) in
     omega (arith, most, costs.visits)
 
 -- The visits of both parts of a question: what the first has read is not paid again.
@@ -189,14 +189,14 @@ pub posed-most : {store : Store} (store' : Store) {clauses between : Clauses} {o
     old.run.visits ≡ length (list_of old.run) → HasUpdated store clauses between old mid →
     clauses_of between ≡ clauses_of clauses → AreLonger store.occurrences store'.occurrences → IsSound store' →
     AreJoined (shapes_of store'.stored.items) (clauses_of clauses) → Derives (all_of store' clauses) [] (list_of old.run) →
-    list_of start ≡ list_of mid.run → sum start.candidates.items ≡ sum mid.run.candidates.items → start.visits ≡ mid.run.visits →
+    list_of start ≡ list_of mid.run → sum start.candidates ≡ sum mid.run.candidates → start.visits ≡ mid.run.visits →
     RunRefutes store' mid.rests between count start done → done.visits ≤ 3 * terms_of_all store' clauses + (length old.waiting.list.items + count)
 posed-most {store} store' {clauses} {between} {old} {mid} start done count s visits u same longer sound joined d list cands begun r =
     let more = spent-longer (shapes_of store.stored.items) (shapes_of store'.stored.items) store.occurrences store'.occurrences (list_of mid.run) longer in
     let extends = extends-then (list_of old.run) (list_of mid.run) (list_of done) u.pays.extends (rw list at r.extends) in
     let upper = rw (same, list) at r.upper in
     question-most store' (clauses_of clauses) (list_of old.run) (list_of done) done.visits (length old.waiting.list.items + count)
-    (sum done.candidates.items) sound joined r.single (λ l on. one_sided (values_of done) (list_of done) l done.assignment.agrees on) extends d r.bounded
+    (sum done.candidates) sound joined r.single (λ l on. one_sided (values_of done) (list_of done) l done.assignment.agrees on) extends d r.bounded
     (omega (arith, u.pays.upper, upper, more, cands, begun, visits, ap length s.rooted.work))
 
 -- the cost of a propagation from a list that is walked and a single form

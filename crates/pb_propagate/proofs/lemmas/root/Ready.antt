@@ -18,31 +18,31 @@ use Rattle.std.proofs.lemmas.Grind.{get_or-set_at}
 
 -- the forms of a root, and its open sums, with one form left out
 abbrev pub IsTidyRoot : Store → Run → Rests → Waiting → ℕ → Type 0
-IsTidyRoot store run rests waiting busy = IsTidy (beside rests waiting.list.items) (shapes_of store.stored.items) run.opens.items run.candidates.items run.assignment.list.items [] [] 0 busy
+IsTidyRoot store run rests waiting busy = IsTidy (beside rests waiting.list.items) (shapes_of store.stored.items) run.opens run.candidates run.assignment.list.items [] [] 0 busy
 
 -- one form more
-pub keep-next : (rests rests' : Rests) (forms : List Shape) (opens cands trail : List ℕ) (i form o c : ℕ) → i < length trail → form ≡ get_or trail i form → form < length opens → form < length cands → o ≡ get_or opens form o → c ≡ get_or cands form c → length rests.opens.items ≡ length opens → length rests.starts.items ≡ length cands →
-    rests'.opens.items ≡ set rests.opens.items form o → rests'.starts.items ≡ set rests.starts.items form c → IsUndone rests forms opens cands trail i → IsUndone rests' forms opens cands trail (i + 1)
+pub keep-next : (rests rests' : Rests) (forms : List Shape) (opens cands trail : List ℕ) (i form o c : ℕ) → i < length trail → form ≡ get_or trail i form → form < length opens → form < length cands → o ≡ get_or opens form o → c ≡ get_or cands form c → length rests.opens ≡ length opens → length rests.starts ≡ length cands →
+    rests'.opens ≡ set rests.opens form o → rests'.starts ≡ set rests.starts form c → IsUndone rests forms opens cands trail i → IsUndone rests' forms opens cands trail (i + 1)
 keep-next rests rests' forms opens cands trail i form o c inside is room roomc open_is cand_is sizes ssizes opened started u = record {
   clean = λ s d less gone.
       let sum = size (get_or forms s d).terms in
       let before = λ (other : s ≡ form → ⊥). u.clean s d less (absent-from trail i s (λ e. other (sym e ∙ sym (get_or_read trail i form inside is 0))) gone) in
-      grind (arith, before, ap (λ xs. get_or xs s sum) opened, ap (λ xs. get_or xs s 0) started, get_or_read opens form o room open_is 0, get_or_read cands form c roomc cand_is 0, get_or-set_at rests.opens.items form s o sum, get_or-set_other rests.opens.items form s o sum, get_or-set_at rests.starts.items form s c 0, get_or-set_other rests.starts.items form s c 0);
+      grind (arith, before, ap (λ xs. get_or xs s sum) opened, ap (λ xs. get_or xs s 0) started, get_or_read opens form o room open_is 0, get_or_read cands form c roomc cand_is 0, get_or-set_at rests.opens form s o sum, get_or-set_other rests.opens form s o sum, get_or-set_at rests.starts form s c 0, get_or-set_other rests.starts form s c 0);
   named = u.named;
 }
 
 -- all of them
-pub keep-all : (rests : Rests) (forms : List Shape) (opens cands trail : List ℕ) (i : ℕ) → length trail ≤ i → length forms ≡ length opens → length cands ≡ length opens → length rests.opens.items ≡ length opens → length rests.starts.items ≡ length cands → IsUndone rests forms opens cands trail i → (rests.opens.items ≡ opens) × (rests.starts.items ≡ cands)
+pub keep-all : (rests : Rests) (forms : List Shape) (opens cands trail : List ℕ) (i : ℕ) → length trail ≤ i → length forms ≡ length opens → length cands ≡ length opens → length rests.opens ≡ length opens → length rests.starts ≡ length cands → IsUndone rests forms opens cands trail i → (rests.opens ≡ opens) × (rests.starts ≡ cands)
 keep-all rests forms opens cands trail i end long sizes osizes ssizes u =
     let none : Shape = record { terms = []; degree = 0 } in
-    (ext_get_or 0 rests.opens.items opens osizes (λ s less. grind (arith, get_or_default, u.clean s none)), ext_get_or 0 rests.starts.items cands ssizes (λ s less. grind (arith, u.clean s none)))
+    (ext_get_or 0 rests.opens opens osizes (λ s less. grind (arith, get_or_default, u.clean s none)), ext_get_or 0 rests.starts cands ssizes (λ s less. grind (arith, u.clean s none)))
 
 -- the parts of a root that lists of forms that wait do not touch
 pub record IsEnded (store : Store) (clauses : Clauses) (run : Run) (walked : Walked) : Type 0 where
   pub values : length run.assignment.values.items ≡ store.variables
-  pub opens : length run.opens.items ≡ length store.stored.items
-  pub candidates : length run.candidates.items ≡ length store.stored.items
-  pub counted : IsCounted (shapes_of store.stored.items) run.opens.items run.assignment.list.items []
+  pub opens : length run.opens ≡ length store.stored.items
+  pub candidates : length run.candidates ≡ length store.stored.items
+  pub counted : IsCounted (shapes_of store.stored.items) run.opens run.assignment.list.items []
   pub reasoned : HaveReasons (all_of store clauses) run.assignment.reasons.items [] run.assignment.list.items
   pub walks : IsWalkedTo clauses run.assignment.list.items walked
 
@@ -50,26 +50,26 @@ pub record IsEnded (store : Store) (clauses : Clauses) (run : Run) (walked : Wal
 pub kept-rooted : (store : Store) (clauses : Clauses) (run run' : Run) (rests rests' : Rests) (aside : List ℕ) (waiting' : Waiting) (walked : Walked) → IsEnded store clauses run walked →
     RunIsCalm store rests aside run →
     ((s : ℕ) → IsAbsent waiting'.list.items 0 s → IsAbsent aside 0 s × IsAbsent run.work.items run.next s) → IsSaved run run' rests' →
-    length waiting'.positions.items ≡ length store.stored.items → ((i s : ℕ) → slice_get waiting'.list.items i ≡ Some s → HasForm store s) →
+    length waiting'.positions ≡ length store.stored.items → ((i s : ℕ) → slice_get waiting'.list.items i ≡ Some s → HasForm store s) →
     IsRooted store clauses run' rests' waiting' walked (length store.stored.items)
 kept-rooted store clauses run run' rests rests' aside waiting' walked e tidy waits k positions live =
     let long = length-map store.stored.items stored_shape in
-    let counted = λ (s : ℕ) (d : Shape) (less : s < length store.stored.items). open-now (shapes_of store.stored.items) run.opens.items run.assignment.list.items s d (omega (arith, less, long)) e.counted in
+    let counted = λ (s : ℕ) (d : Shape) (less : s < length store.stored.items). open-now (shapes_of store.stored.items) run.opens run.assignment.list.items s d (omega (arith, less, long)) e.counted in
     let calm : IsTidyRoot store run rests' waiting' (length store.stored.items) =
     Tidy-rest (sym k.rest_opens) (sym k.rest_starts) (long ∙ sym e.opens) (λ s d less idle off gone. let w = waits s off in tidy.calm s d less idle w.0 w.1) tidy.passed tidy.bounded in
     search (rules, k.opens, k.candidates, k.assignment, counted)
 
 -- the root of no forms over no variables
-pub new-rooted : (store : Store) (clauses : Clauses) (run : Run) (rests : Rests) (waiting : Waiting) (walked : Walked) → store.stored.items ≡ [] → store.variables ≡ 0 → run.assignment.values.items ≡ [] → run.assignment.list.items ≡ [] → run.opens.items ≡ [] → run.candidates.items ≡ [] → run.work.items ≡ [] → run.trail.items ≡ [] → run.next ≡ 0 →
-    rests.opens.items ≡ [] → rests.starts.items ≡ [] → waiting.list.items ≡ [] → waiting.positions.items ≡ [] → walked.heads ≡ heads_at 0 → walked.marks.items ≡ [] → IsRooted store clauses run rests waiting walked (length store.stored.items)
+pub new-rooted : (store : Store) (clauses : Clauses) (run : Run) (rests : Rests) (waiting : Waiting) (walked : Walked) → store.stored.items ≡ [] → store.variables ≡ 0 → run.assignment.values.items ≡ [] → run.assignment.list.items ≡ [] → run.opens ≡ [] → run.candidates ≡ [] → run.work.items ≡ [] → run.trail.items ≡ [] → run.next ≡ 0 →
+    rests.opens ≡ [] → rests.starts ≡ [] → waiting.list.items ≡ [] → waiting.positions ≡ [] → walked.heads ≡ heads_at 0 → walked.marks.items ≡ [] → IsRooted store clauses run rests waiting walked (length store.stored.items)
 new-rooted store clauses run rests waiting walked forms variables values list opens cands work trail next rest_opens rest_starts waits positions heads marks =
     grind (arith, slice_get_within, walks-none, from_given)
 
 -- the root again, over the same forms: its literals may have other reasons, and be walked otherwise
 pub rooted-again : {store store' : Store} {clauses clauses' : Clauses} {run run' : Run} {rests : Rests} {waiting : Waiting} {walked walked' : Walked} →
     IsRooted store clauses run rests waiting walked (length store.stored.items) →
-    store'.stored.items ≡ store.stored.items → length run'.assignment.values.items ≡ store'.variables → run'.opens.items ≡ rests.opens.items →
-    run'.candidates.items ≡ rests.starts.items → run'.assignment.list.items ≡ run.assignment.list.items →
+    store'.stored.items ≡ store.stored.items → length run'.assignment.values.items ≡ store'.variables → run'.opens ≡ rests.opens →
+    run'.candidates ≡ rests.starts → run'.assignment.list.items ≡ run.assignment.list.items →
     run'.work.items ≡ [] → run'.trail.items ≡ [] → run'.next ≡ 0 → KeepsReasons run.assignment.list.items run.assignment.reasons.items run'.assignment.reasons.items →
     clauses'.blocks.literals ≡ clauses.blocks.literals → IsWalkedTo clauses' run.assignment.list.items walked' →
     IsRooted store' clauses' run' rests waiting walked' (length store'.stored.items)
@@ -84,7 +84,7 @@ fallen-extends : (clauses : List (List ℕ)) (a b : List NumberedLiteral) → Ex
 fallen-extends clauses a b more = omega (arith, killed-longer clauses (falsified_code Short) a b more, killed-longer clauses (falsified_code Long) a b more)
 
 -- literals were assigned, and nothing was propagated
-pub refutes-short : (store : Store) (rests : Rests) (c : Clauses) (count : ℕ) (old new : Run) → AreWithin (passed_of c) (clauses_of c) → AreSingle old.assignment.list.items → sum new.candidates.items ≤ sum_by (λ f. length f.terms) (shapes_of store.stored.items) → Costs (database store rests) 0 count (progress old) (progress new) → RunRefutes store rests c count old new
+pub refutes-short : (store : Store) (rests : Rests) (c : Clauses) (count : ℕ) (old new : Run) → AreWithin (passed_of c) (clauses_of c) → AreSingle old.assignment.list.items → sum new.candidates ≤ sum_by (λ f. length f.terms) (shapes_of store.stored.items) → Costs (database store rests) 0 count (progress old) (progress new) → RunRefutes store rests c count old new
 refutes-short store rests c count old new within single bounded costs = grind (arith, passed-most, fallen-extends, costs.extends, spent-extends, costs.single)
 
 -- and then what follows was propagated
@@ -98,7 +98,7 @@ refutes-long store rests c count from old mid new start work next a s =
 pub back-rooted : (root : Root) {store : Store} {between mid after : Clauses} {done last : Run} {walked' : Walked} {count : ℕ} → IsRootOf store between root → Propagates store root.rests between mid root.run done → GoesBack store root.rests mid after count done last → count ≡ length (list_of root.run) → mid.blocks.literals ≡ between.blocks.literals → IsWalkedTo after (list_of root.run) walked' → IsRooted store after last root.rests root.waiting walked' (length store.stored.items)
 back-rooted root {store} {between} {mid} {after} {done} {last} {walked'} {count} r p b count_is literals walks =
     let long = length-map store.stored.items stored_shape in
-    let same = keep-all root.rests (shapes_of store.stored.items) last.opens.items last.candidates.items [] 0 (omega arith) (omega (arith, long, b.opens)) (omega (arith, b.opens, b.candidates)) (grind (arith, r.opens, r.open_sizes, b.opens)) (grind (arith, r.starts, r.start_sizes, b.candidates)) b.undone in
+    let same = keep-all root.rests (shapes_of store.stored.items) last.opens last.candidates [] 0 (omega arith) (omega (arith, long, b.opens)) (omega (arith, b.opens, b.candidates)) (grind (arith, r.opens, r.open_sizes, b.opens)) (grind (arith, r.starts, r.start_sizes, b.candidates)) b.undone in
     let list_is : list_of last ≡ list_of root.run = grind (arith, b.list, p.extends, take-append_seam) in
     rooted-again r refl (b.values ∙ p.values ∙ r.values) (sym same.0) (sym same.1) list_is b.work b.trail b.next (rw b.reasons p.reasons) (b.literals ∙ literals) walks
 
@@ -154,7 +154,7 @@ left-then {store} {rests} {before} {after} {n} {old} {mid} {new} p q = search (r
 -- a root may be propagated, and so may one that was updated
 pub root-ready : {store : Store} {clauses : Clauses} {run : Run} {rests : Rests} {waiting : Waiting} {walked : Walked} → IsRooted store clauses run rests waiting walked (length store.stored.items) → AreJoined (shapes_in store) (clauses_of clauses) → IsRunning (values_of run) clauses → IsReadyRun store rests clauses waiting.list.items walked.heads run
 root-ready {store} {clauses} {run} {rests} {waiting} {walked} r joined running =
-    let counted : IsCounted (shapes_in store) run.opens.items (list_of run) [] = grind (arith, length-map, r.counted) in
+    let counted : IsCounted (shapes_in store) run.opens (list_of run) [] = grind (arith, length-map, r.counted) in
     let single = derivation-single (all_of store clauses) [] (list_of run) none (reasons-derive r.reasoned) in
     search (rules, r.work, r.trail, r.next)
 

@@ -109,7 +109,7 @@ retracted-rooted store clauses old new a walked last l sound slots r f cut mine 
     (length-map store.stored.items stored_shape ∙ sym f.sized.opens)
     (λ s d less idle off gone. elim (f.each s) [
       | inl u ↦ rw (u.opened, u.passed) (r.tidy.calm s d less idle (u.absent off) gone)
-      | inr n ↦ n.calm off d (get_or new.run.candidates.items s 0)
+      | inr n ↦ n.calm off d (get_or new.run.candidates s 0)
     ])
     (λ s d less k t early within.
     let m = get_or (get_or shapes s d).terms k t in
@@ -139,7 +139,7 @@ occurrence-read store l q v j o sound inside at read item less =
     let forms = shapes_of store.stored.items in
     let same = listed-entries store l q v sound inside at read in
     let form = form-within forms (get_or (entries_of forms store.occurrences) (place l) []) v j o (length forms) same item less (sound.named (place l)) in
-    let index = index-within forms (spots_of store.spots.items) store.occurrences (place l) j v o same item less sound.whole in
+    let index = index-within forms (spots_of store.spots) store.occurrences (place l) j v o same item less sound.whole in
     search (rules, length-map store.stored.items stored_shape)
 
 -- one more entry is refreshed
@@ -161,11 +161,11 @@ unfolding open_part
 open_sum-small list terms = sum_by-le-sum_by (open_part list) (λ t. t.coefficient) terms (λ t. grind arith)
 
 -- a coefficient that an open sum lacks fits beside it
-pub lacks-fits : (store : Store) (a : Root) (e : Weighted) (rest : List Weighted) (d : Shape) → e.form < length store.stored.items → Lacks store a (e ∷ rest) → get_or a.run.opens.items e.form 0 + e.coefficient ≤ size (get_or (shapes_of store.stored.items) e.form d).terms
+pub lacks-fits : (store : Store) (a : Root) (e : Weighted) (rest : List Weighted) (d : Shape) → e.form < length store.stored.items → Lacks store a (e ∷ rest) → get_or a.run.opens e.form 0 + e.coefficient ≤ size (get_or (shapes_of store.stored.items) e.form d).terms
 lacks-fits store a e rest d less lacks = grind (arith, sum_by-cons, entry_weight-same, open_sum-small, a.run)
 
 -- what is still to be added after one more entry
-pub lacks-next : (store : Store) (l : NumberedLiteral) (items : List Occurrence) (a b : Root) (j : ℕ) (o : Occurrence) → IsOccurrence store l items j o → IsSized store a → b.run.opens.items ≡ set a.run.opens.items o.form (get_or a.run.opens.items o.form 0 + coefficient_at (shapes_of store.stored.items) o.form o.index) → b.run.assignment ≡ a.run.assignment →
+pub lacks-next : (store : Store) (l : NumberedLiteral) (items : List Occurrence) (a b : Root) (j : ℕ) (o : Occurrence) → IsOccurrence store l items j o → IsSized store a → b.run.opens ≡ set a.run.opens o.form (get_or a.run.opens o.form 0 + coefficient_at (shapes_of store.stored.items) o.form o.index) → b.run.assignment ≡ a.run.assignment →
     Lacks store a (drop j (map (weighted (shapes_of store.stored.items)) items)) → Lacks store b (drop (j + 1) (map (weighted (shapes_of store.stored.items)) items))
 lacks-next store l items a b j o there sized opens same lacks s d less =
     let ahead = subst (Lacks store a) (ahead-entry store items j o there.read there.inside) lacks in

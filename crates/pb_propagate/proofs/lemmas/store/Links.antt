@@ -191,8 +191,17 @@ pub record IsUnlinking (store now : Store) (form left : ℕ) : Type 0 where
   pub variables : now.variables ≡ store.variables
   pub lists : length now.occurrences ≡ length store.occurrences
   pub within : left ≤ length (terms_at (shapes_of store.stored.items) form)
-  pub rooms : (s : ℕ) → length (get_or (spots_of now.spots.items) s []) ≡ length (get_or (spots_of store.spots.items) s [])
-  pub linked : IsLinked (cut (shapes_of store.stored.items) form left) (spots_of now.spots.items) (entries_of (shapes_of store.stored.items) now.occurrences)
+  pub rooms : (s : ℕ) → length (get_or (spots_of now.spots) s []) ≡ length (get_or (spots_of store.spots) s [])
+  pub linked : IsLinked (cut (shapes_of store.stored.items) form left) (spots_of now.spots) (entries_of (shapes_of store.stored.items) now.occurrences)
+
+-- the position of the last term's entry is there
+pub unlink-inside : {store now : Store} {form left : ℕ} → IsSound store → IsUnlinking store now form left → 0 < left → form < length store.stored.items → (form < length now.spots) × (left - 1 < length (get_or (spots_of now.spots) form []))
+unlink-inside {store} {now} {form} {left} sound u some inside =
+    let base = shapes_of store.stored.items in
+    let inside_base : form < length base = omega (arith, inside, length-map store.stored.items stored_shape) in (
+      omega (arith, u.linked.sizes, cut-length base form left, inside_base, length-map now.spots spots_in),
+      omega (arith, u.within, some, u.rooms form, sound.rooms form inside_base),
+    )
 
 -- what a term's removal needs and does
 pub record UnlinkRead (base : List Shape) (spots : List (List ℕ)) (occ : List (List Occurrence)) (form j q p : ℕ) : Type 0 where
@@ -201,8 +210,8 @@ pub record UnlinkRead (base : List Shape) (spots : List (List ℕ)) (occ : List 
   pub named : (o : Occurrence) → slice_get (get_or occ p []) (length (get_or occ p []) - 1) ≡ Some o → (o.form < length spots) × (o.index < length (get_or spots o.form []))
   pub next : (spots' : List (List ℕ)) (occ' : List (List Occurrence)) → ((o : Occurrence) × (o ≡ get_or (get_or occ p []) q o) × (occ' ≡ set occ p (swap_remove (get_or occ p []) q o))) → Moved (get_or occ p []) q spots spots' → IsLinked (cut base form j) spots' (entries_of base occ')
 
-pub unlink-read : {store now : Store} {form left : ℕ} (k : StoredForm) (t : Term) (w : Spots) (q p : ℕ) → IsSound store → IsUnlinking store now form left → 0 < left → form < length store.stored.items → k ≡ get_or now.stored.items form k → t ≡ get_or (stored_terms k) (left - 1) t → w ≡ get_or now.spots.items form w → q ≡ get_or (spots_in w) (left - 1) q → p ≡ place t.literal →
-    UnlinkRead (shapes_of store.stored.items) (spots_of now.spots.items) now.occurrences form (left - 1) q p
+pub unlink-read : {store now : Store} {form left : ℕ} (k : StoredForm) (t : Term) (w : Spots) (q p : ℕ) → IsSound store → IsUnlinking store now form left → 0 < left → form < length store.stored.items → k ≡ get_or now.stored.items form k → t ≡ get_or (stored_terms k) (left - 1) t → w ≡ get_or now.spots form w → q ≡ get_or (spots_in w) (left - 1) q → p ≡ place t.literal →
+    UnlinkRead (shapes_of store.stored.items) (spots_of now.spots) now.occurrences form (left - 1) q p
 unlink-read {store} {now} {form} {left} k t w q p0 sound u some inside kept_is item spots_is spot_is place_is =
     let keep = store.stored.items in
     let base = shapes_of keep in
@@ -214,18 +223,18 @@ unlink-read {store} {now} {form} {left} k t w q p0 sound u some inside kept_is i
     let within : j < length (terms_at base form) = omega (arith, u.within, some) in
     let those : terms_at base form ≡ (stored_terms k) = ap (λ (f : Shape). f.terms) (shape-at keep form k inside kept_here (record { terms = []; degree = 0 })) in
     let x : IsTerm base form j t = record { inside = inside_base; within = within; is = rw those item } in
-    let inside_sp : form < length now.spots.items = omega (arith, u.linked.sizes, cut-length base form left, inside_base, length-map now.spots.items spots_in) in
-    let spots_here : get_or (spots_of now.spots.items) form [] ≡ spots_in w = get_or-map spots_in now.spots.items form w [] inside_sp ∙ ap spots_in (sym spots_is) in
+    let inside_sp : form < length now.spots = omega (arith, u.linked.sizes, cut-length base form left, inside_base, length-map now.spots spots_in) in
+    let spots_here : get_or (spots_of now.spots) form [] ≡ spots_in w = get_or-map spots_in now.spots form w [] inside_sp ∙ ap spots_in (sym spots_is) in
     let within_w : j < length (spots_in w) = omega (arith, within, u.rooms form, sound.rooms form inside_base, ap length spots_here) in
-    let spot : slice_get (get_or (spots_of now.spots.items) form []) j ≡ Some q = ap (λ (xs : List ℕ). slice_get xs j) spots_here ∙ slice_get-get_or (spots_in w) j q within_w ∙ ap (λ y. Some y) (sym spot_is) in
-    let linked : IsLinked (cut base form (j + 1)) (spots_of now.spots.items) (entries_of base occ) = subst (λ n. IsLinked (cut base form n) (spots_of now.spots.items) (entries_of base occ)) (omega (arith, some)) u.linked in
+    let spot : slice_get (get_or (spots_of now.spots) form []) j ≡ Some q = ap (λ (xs : List ℕ). slice_get xs j) spots_here ∙ slice_get-get_or (spots_in w) j q within_w ∙ ap (λ y. Some y) (sym spot_is) in
+    let linked : IsLinked (cut base form (j + 1)) (spots_of now.spots) (entries_of base occ) = subst (λ n. IsLinked (cut base form n) (spots_of now.spots) (entries_of base occ)) (omega (arith, some)) u.linked in
     let variable : t.literal.variable < store.variables = term-inside keep store.variables form k (stored_terms k) j t inside kept_here refl (omega (arith, within, ap length those)) item sound.inside in
     let room : p < length occ = omega (arith, place-inside t.literal store.variables variable, sound.places, u.lists, entries-length base store.occurrences) in
-    let entry : slice_get (get_or (entries_of base occ) p []) q ≡ Some (entry_for form j t) = named-entry (spots_of now.spots.items) (entries_of base occ) q x spot linked in
+    let entry : slice_get (get_or (entries_of base occ) p []) q ≡ Some (entry_for form j t) = named-entry (spots_of now.spots) (entries_of base occ) q x spot linked in
     rw place_is (record {
       room = room;
       spot_in = omega (arith, slice_get_within (get_or (entries_of base occ) p []) q (entry_for form j t) entry, entries-size base occ p);
-      named = λ o h. named-spot (cut base form (j + 1)) (spots_of now.spots.items) (entries_of base occ) p (length (get_or occ p []) - 1) (weighted base o) (entry-weighted base occ p (length (get_or occ p []) - 1) o h) linked;
+      named = λ o h. named-spot (cut base form (j + 1)) (spots_of now.spots) (entries_of base occ) p (length (get_or occ p []) - 1) (weighted base o) (entry-weighted base occ p (length (get_or occ p []) - 1) o h) linked;
       next = λ spots' occ' taken moved. unlink-next occ occ' taken.0 x spot room taken.1 taken.2 linked spots' moved;
     })
 

@@ -45,6 +45,11 @@ position-got list positions form position there old is =
     let same : position ≡ at.0 = is ∙ get_or_from_slice_get positions form at.0 position (old at.0 form at.1) in
     ap (slice_get list) same ∙ at.1
 
+-- the position that was read is where the form is on the list
+pub position-is : (list positions : List ℕ) (form position i d : ℕ) → ArePositioned list positions → position ≡ get_or positions form i → i < length list → get_or list i d ≡ form → position ≡ i
+position-is list positions form position i d old is less at =
+    is ∙ get_or_from_slice_get positions form i i (old i form (slice_get-get_or list i d less ∙ ap (λ z. Some z) at))
+
 -- the element that is removed is the form
 pub taken-is : {X : Type 0} (list : List X) (position : ℕ) (form x : X) → slice_get list position ≡ Some form → x ≡ get_or list position x → x ≡ form
 taken-is list position form x got is = is ∙ get_or_from_slice_get list position form x got
@@ -109,12 +114,12 @@ chain-set before s x _ _ apart (linked {slots} slot inside rest) =
     (subst (λ n. IsChain (set before s x) n slots) (sym (get_or-set_other before s slot x nobody other))
     (chain-set before s x _ slots (λ c. apart (suc c.0, omega (arith, c.1), c.2)) rest))
 
-pub free-put : (old new : Free) (size slot : ℕ) → size < length old.last → slot < length old.before.items → new.before.items ≡ set old.before.items slot (get_or old.last size nobody) → new.last ≡ set old.last size slot → HasPut slot size old new
+pub free-put : (old new : Free) (size slot : ℕ) → size < length old.last → slot < length old.before → new.before ≡ set old.before slot (get_or old.last size nobody) → new.last ≡ set old.last size slot → HasPut slot size old new
 free-put old new size slot listed inside befores lasts = record {
   others = λ s slots apart out h.
-      rw (befores, lasts, get_or-set_other old.last size s slot nobody apart) (chain-set old.before.items slot (get_or old.last size nobody) (get_or old.last s nobody) slots out h);
+      rw (befores, lasts, get_or-set_other old.last size s slot nobody apart) (chain-set old.before slot (get_or old.last size nobody) (get_or old.last s nobody) slots out h);
   here = λ slots out h.
       rw (befores, lasts, get_or-set_same old.last size slot nobody listed)
-      (linked {slots = slots} slot (omega (arith, inside, length-set old.before.items slot (get_or old.last size nobody)))
-      (rw (get_or-set_same old.before.items slot (get_or old.last size nobody) nobody inside) (chain-set old.before.items slot (get_or old.last size nobody) (get_or old.last size nobody) slots out h)));
+      (linked {slots = slots} slot (omega (arith, inside, length-set old.before slot (get_or old.last size nobody)))
+      (rw (get_or-set_same old.before slot (get_or old.last size nobody) nobody inside) (chain-set old.before slot (get_or old.last size nobody) (get_or old.last size nobody) slots out h)));
 }

@@ -1,4 +1,4 @@
-use Rattle.pb_propagate.proofs.Common.{rules, ◌≡◌, AreSettled, ℕ, ◌+◌, ◌<◌, ◌∙◌, ◌≤◌, ap, arith, drop, get_or, Global, inl, inr, length, refl, subst, Vec, sum}
+use Rattle.pb_propagate.proofs.Common.{rules, ◌≡◌, AreSettled, ◌+◌, ◌<◌, ◌∙◌, ◌≤◌, ap, arith, drop, get_or, inl, inr, length, refl, subst, sum}
 use Rattle.pb_propagate.proofs.Common.{drop_all, get_or_default, length-map, take_rest, passed_of, all_of, clauses_of, heads_at, IsAhead, shapes_in}
 use Rattle.pb_propagate.proofs.{Common.stored_shape, Common.database, Common.progress, Common.list_of, Common.values_of, lemmas.root.Ready.gains-then}
 use Rattle.pb_propagate.proofs.lemmas.clauses.{Walks.running-grow, Walks.grows-refl, Walks.grows-trans, Walks.kept-then, Walks.never, Shapes.joined-source}
@@ -37,7 +37,7 @@ work-preserved-in-Some c =
     let reported = c.in_ok-walk.ensures in let walks = reported.walks in
     let walked = reported.walked c.if-branch-2.false in
     let more = walks.advances.costs.extends in
-    let same = ap (λ (v : Vec ℕ Global). v.items) c.walk.ensures.candidates in
+    let same = c.walk.ensures.candidates in
     let reaches = reached-ahead (list_of done) (i.state.costs.single c.requires.ready.single) ahead more w in
     let watching = watching-next c.walk.new.clauses c.work.run done ahead more reported.literals walks.running walked.1 w in
     let moved = marking-grow (marking-found i.marking _ c.walk.new.clauses c.work.run.assignment.agrees reported.literals walks.kept) (list_of done) more in
@@ -101,12 +101,12 @@ returns-in_err-visit_form-clause-costs c = form-stopped c.args.clauses.now c.wor
 pub returns-in_err-walk-clause-costs : goal.returns-in_err-walk-clause-costs
 returns-in_err-walk-clause-costs c =
     let a = subst (λ xs. IsAhead c.work.heads xs c.in-Some.ahead) c.as_slice.ensures.value c.in-Some.ensures.some in
-    walk-stopped c.args.clauses.now c.work.clauses c.walk.new.clauses c.work.heads c.in-Some.ahead (progress c.walk.new.run) c.work.invariant.state c.work.invariant.watching a c.walk.ensures.bounded (ap (λ (v : Vec ℕ Global). v.items) c.walk.ensures.candidates) c.in_err-walk.ensures.costs
+    walk-stopped c.args.clauses.now c.work.clauses c.walk.new.clauses c.work.heads c.in-Some.ahead (progress c.walk.new.run) c.work.invariant.state c.work.invariant.watching a c.walk.ensures.bounded (c.walk.ensures.candidates) c.in_err-walk.ensures.costs
 
 pub returns-in_err-mark-clause-costs : goal.returns-in_err-mark-clause-costs
 returns-in_err-mark-clause-costs c =
     let a = subst (λ xs. IsAhead c.work.heads xs c.in-Some.ahead) c.as_slice.ensures.value c.in-Some.ensures.some in
-    walk-stopped c.args.clauses.now c.work.clauses c.walk.new.clauses c.work.heads c.in-Some.ahead (progress c.walk.new.run) c.work.invariant.state c.work.invariant.watching a c.walk.ensures.bounded (ap (λ (v : Vec ℕ Global). v.items) c.walk.ensures.candidates) c.in_ok-walk.ensures.walks.advances.costs
+    walk-stopped c.args.clauses.now c.work.clauses c.walk.new.clauses c.work.heads c.in-Some.ahead (progress c.walk.new.run) c.work.invariant.state c.work.invariant.watching a c.walk.ensures.bounded (c.walk.ensures.candidates) c.in_ok-walk.ensures.walks.advances.costs
 
 -- a form that is visited is falsified
 pub returns-then-branch : goal.returns-then-branch
@@ -134,7 +134,7 @@ returns-then-branch-2 c =
     let i = c.work.invariant in let s = i.state in let walks = c.in_ok-walk.ensures.walks in let a = walks.advances in
     let more = a.costs.extends in
     let next = rw c.as_slice.ensures.value at c.in-Some.ensures.some in
-    let same = ap (λ (v : Vec ℕ Global). v.items) c.walk.ensures.candidates in
+    let same = c.walk.ensures.candidates in
     let before = s.costs.extends in
     let t = walks.tidy (drop c.work.taken c.args.waiting.now) (length c.args.store.now.stored.items) s.tidy in
     let reasons = run-reasons-then i.reasons (rw i.watching.literals at walks.reasons) in

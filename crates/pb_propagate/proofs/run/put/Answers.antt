@@ -1,5 +1,5 @@
 use Rattle.pb_propagate.proofs.{lemmas.engine.Runs.place-read, run.put.Goals.After-visit-entry, run.put.Goals.In_ok-lower, run.put.Goals.In_ok-put}
-use Rattle.pb_propagate.proofs.Common.{rules, Run, RunPuts, RunRecords, ◌≡◌, ℕ, ◌+◌, ◌∙◌, ap, arith, Global, refl, sym, Vec, length-map, Assignment, place}
+use Rattle.pb_propagate.proofs.Common.{rules, Run, RunPuts, RunRecords, ◌≡◌, ℕ, ◌+◌, ◌∙◌, ap, arith, refl, sym, length-map, Assignment, place}
 use Rattle.pb_propagate.proofs.Common.{shapes_of, stored_shape, database, entries_against, progress}
 use Rattle.pb_propagate.proofs.lemmas.engine.{Advances.costs-none, Advances.on-err, Reasoned.run-records, Runs.Assigns, Runs.IsPutting, Runs.IsRead}
 use Rattle.pb_propagate.proofs.lemmas.engine.Runs.{putting-fits, putting-next, putting-advances, putting-costs, assigned-tidy, counted-conflict, entry-read}
@@ -35,7 +35,7 @@ returns-in_err-put-clause-costs c = on-err _ (costs-none (progress c.args.run.no
 
 pub returns-in_err-lower-clause-costs : goal.returns-in_err-lower-clause-costs
 returns-in_err-lower-clause-costs c =
-    on-err _ (putting-costs (progress c.lower.new.run) (record { list_is = c.in_ok-put.ensures.ok; absent = c.requires.absent; sizes = c.put.ensures.values }) (ap (λ (a : Assignment). a.list.items) c.lower.ensures.assignment) (ap (λ (v : Vec ℕ Global). v.items) c.lower.ensures.candidates) (omega (arith, c.lower.ensures.visits, c.visit-entry.ensures.count, (read (goal.at.returns-in_err-lower-clause-costs c).After-visit-entry).inside)) c.entries.invariant.putting)
+    on-err _ (putting-costs (progress c.lower.new.run) (record { list_is = c.in_ok-put.ensures.ok; absent = c.requires.absent; sizes = c.put.ensures.values }) (ap (λ (a : Assignment). a.list.items) c.lower.ensures.assignment) c.lower.ensures.candidates (omega (arith, c.lower.ensures.visits, c.visit-entry.ensures.count, (read (goal.at.returns-in_err-lower-clause-costs c).After-visit-entry).inside)) c.entries.invariant.putting)
 
 -- what is left once some entries were subtracted
 left : (c : In_ok-put) (run : Run) (j : ℕ) → run.assignment ≡ c.put.new.self → IsPutting (database c.args.store.now c.args.rests.now)
@@ -70,4 +70,4 @@ returns-then-branch-clause-reason c = (left (goal.at.returns-then-branch-clause-
 
 pub returns-then-branch-clause-conflict : goal.returns-then-branch-clause-conflict
 returns-then-branch-clause-conflict c = λ found.
-    counted-conflict (shapes_of c.args.store.now.stored.items) c.lower.new.run.opens.items c.lower.new.run.assignment.list.items _ c.visit-entry.result.form (read (goal.at.returns-then-branch-clause-conflict c).After-visit-entry).form (lowered (goal.at.returns-then-branch-clause-conflict c).In_ok-lower).counted (c.in_ok-lower.ensures.falsified c.if-branch.true)
+    counted-conflict (shapes_of c.args.store.now.stored.items) c.lower.new.run.opens c.lower.new.run.assignment.list.items _ c.visit-entry.result.form (read (goal.at.returns-then-branch-clause-conflict c).After-visit-entry).form (lowered (goal.at.returns-then-branch-clause-conflict c).In_ok-lower).counted (c.in_ok-lower.ensures.falsified c.if-branch.true)

@@ -66,10 +66,10 @@ pub data Grown (needless : Type 0) (x : ℕ) (old : List ℕ) : List ℕ → Typ
 
 -- the open sum and the candidate to which a form returns
 abbrev pub rest_open : Rests → ℕ → Shape → ℕ
-rest_open rests s f = slice_index_or rests.opens.items s (size f.terms)
+rest_open rests s f = slice_index_or rests.opens s (size f.terms)
 
 abbrev pub rest_start : Rests → ℕ → ℕ
-rest_start rests s = slice_index_or rests.starts.items s 0
+rest_start rests s = slice_index_or rests.starts s 0
 
 -- the forms that are set aside, and the state to which forms return
 pub record Aside : Type 0 where

@@ -32,7 +32,7 @@ spots_of spots = map spots_in spots
 
 -- the store's parts belong together
 abbrev pub IsSound : Store → Type 0
-IsSound s = IsStored (shapes_of s.stored.items) (spots_of s.spots.items) (entries_of (shapes_of s.stored.items) s.occurrences) s.variables
+IsSound s = IsStored (shapes_of s.stored.items) (spots_of s.spots) (entries_of (shapes_of s.stored.items) s.occurrences) s.variables
 
 -- a form is added after the others, with its open sum and its candidate as at rest
 pub record HasEntered (f : Form) (keep keep' : List StoredForm) (opens opens' cands cands' : List ℕ) : Type 0 where

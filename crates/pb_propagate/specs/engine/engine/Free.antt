@@ -13,7 +13,7 @@ pub data IsChain (before : List ℕ) : ℕ → List ℕ → Type 0 where
 
 -- the slots of a size are these
 abbrev pub Holds : Free → ℕ → List ℕ → Type 0
-Holds free size slots = IsChain free.before.items (slice_index_or free.last size nobody) slots
+Holds free size slots = IsChain free.before (slice_index_or free.last size nobody) slots
 
 -- a slot was added to the list of a size, if it was in no list
 pub record HasPut (slot size : ℕ) (old new : Free) : Type 0 where

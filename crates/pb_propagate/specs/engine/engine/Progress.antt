@@ -21,8 +21,8 @@ pub record Progress : Type 0 where
 
 abbrev pub progress : Run → Progress
 progress r = record {
-  opens = r.opens.items;
-  candidates = r.candidates.items;
+  opens = r.opens;
+  candidates = r.candidates;
   work = r.work.items;
   trail = r.trail.items;
   values = r.assignment.values.items;
@@ -132,7 +132,7 @@ values_of run = run.assignment.values.items
 
 -- the open sums of the run are those of its literals
 abbrev pub RunIsCounted : Store → Run → Type 0
-RunIsCounted store run = IsCounted (shapes_in store) run.opens.items (list_of run) []
+RunIsCounted store run = IsCounted (shapes_in store) run.opens (list_of run) []
 
 -- the lists have an entry for each variable and each form, and the open sums are those of the literals
 pub record AreOpen (store : Store) (os cs work : List ℕ) (at : ℕ) (vs : List (Option Bool)) (list : List NumberedLiteral) : Type 0 where
@@ -143,25 +143,25 @@ pub record AreOpen (store : Store) (os cs work : List ℕ) (at : ℕ) (vs : List
   pub counted : IsCounted (shapes_in store) os list []
 
 abbrev pub RunIsOpen : Store → Run → Type 0
-RunIsOpen store run = AreOpen store run.opens.items run.candidates.items run.work.items run.next (values_of run) (list_of run)
+RunIsOpen store run = AreOpen store run.opens run.candidates run.work.items run.next (values_of run) (list_of run)
 
 -- no form is being visited
 abbrev pub RunIsCalm : Store → Rests → List ℕ → Run → Type 0
 RunIsCalm store rests aside run = RunIsTidy store rests aside (length store.stored.items) run
 
 abbrev pub RunIsUndone : Store → Rests → ℕ → Run → Type 0
-RunIsUndone store rests from run = IsUndone rests (shapes_of store.stored.items) run.opens.items run.candidates.items run.trail.items from
+RunIsUndone store rests from run = IsUndone rests (shapes_of store.stored.items) run.opens run.candidates run.trail.items from
 
 abbrev pub RunVisitsEach : Run → Run → Type 0
 RunVisitsEach old new = VisitsEach (progress old) (progress new)
 
 -- the form's open sum is below its degree
 abbrev pub RunIsShort : Store → Rests → ℕ → Run → Type 0
-RunIsShort store rests form run = (f : Shape) → slice_index run.opens.items form < (slice_index_or (shapes_in store) form f).degree
+RunIsShort store rests form run = (f : Shape) → slice_index run.opens form < (slice_index_or (shapes_in store) form f).degree
 
 -- the entry's coefficient can be subtracted
 abbrev pub RunFits : Store → Visited → Run → Type 0
-RunFits store e run = coefficient_at (shapes_in store) e.form e.index ≤ slice_index run.opens.items e.form
+RunFits store e run = coefficient_at (shapes_in store) e.form e.index ≤ slice_index run.opens e.form
 
 -- the reasons of literals, by variable
 abbrev pub reasons_of : Run → List ℕ

@@ -43,8 +43,8 @@ pub record Propagates (store : Store) (rests : Rests) (before after : Clauses) (
   pub running : IsRunning (values_of new) after
   pub kept : KeepsWalked (values_of old) before after
   pub values : length (values_of new) ≡ length (values_of old)
-  pub opens : length new.opens.items ≡ length store.stored.items
-  pub candidates : length new.candidates.items ≡ length store.stored.items
+  pub opens : length new.opens ≡ length store.stored.items
+  pub candidates : length new.candidates ≡ length store.stored.items
   pub undone : RunIsUndone store rests 0 new
   pub extends : Extends (list_of old) (list_of new)
   pub reasons : RunKeepsReasons old new
@@ -72,8 +72,8 @@ pub record IsSaved (old new : Run) (rests : Rests) : Type 0 where
   pub trail : new.trail.items ≡ []
   pub next : new.next ≡ 0
   pub visits : new.visits ≡ old.visits
-  pub rest_opens : rests.opens.items ≡ old.opens.items
-  pub rest_starts : rests.starts.items ≡ old.candidates.items
+  pub rest_opens : rests.opens ≡ old.opens
+  pub rest_starts : rests.starts ≡ old.candidates
 
 -- a question was undone, back to the first literals of its list
 pub record GoesBack (store : Store) (rests : Rests) (before after : Clauses) (count : ℕ) (old new : Run) : Type 0 where
@@ -81,9 +81,9 @@ pub record GoesBack (store : Store) (rests : Rests) (before after : Clauses) (co
   pub literals : after.blocks.literals ≡ before.blocks.literals
   pub lists : after.lists ≡ before.lists
   pub watches : after.blocks.watches ≡ before.blocks.watches
-  pub opens : length new.opens.items ≡ length store.stored.items
-  pub candidates : length new.candidates.items ≡ length store.stored.items
-  pub undone : IsUndone rests (shapes_in store) new.opens.items new.candidates.items [] 0
+  pub opens : length new.opens ≡ length store.stored.items
+  pub candidates : length new.candidates ≡ length store.stored.items
+  pub undone : IsUndone rests (shapes_in store) new.opens new.candidates [] 0
   pub values : length (values_of new) ≡ length (values_of old)
   pub list : list_of new ≡ take count (list_of old)
   pub reasons : new.assignment.reasons ≡ old.assignment.reasons

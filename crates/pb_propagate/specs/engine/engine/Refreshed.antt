@@ -8,13 +8,13 @@ use Rattle.std.specs.Prelude.{◌≡◌, ℕ, ◌+◌, ◌<◌, ◌⊎◌, List,
 
 -- the form has its first term as candidate; it waits, or is calm
 pub record IsRefreshed (store : Store) (root : Root) (s : ℕ) : Type 0 where
-  pub passed : slice_index_or root.run.candidates.items s 0 ≡ 0
-  pub calm : IsAbsent root.waiting.list.items 0 s → (d : Shape) (c : ℕ) → IsCalm (slice_index_or (shapes_of store.stored.items) s d) (slice_index_or root.run.opens.items s 0) c
+  pub passed : slice_index_or root.run.candidates s 0 ≡ 0
+  pub calm : IsAbsent root.waiting.list.items 0 s → (d : Shape) (c : ℕ) → IsCalm (slice_index_or (shapes_of store.stored.items) s d) (slice_index_or root.run.opens s 0) c
 
 -- the form is as it was
 pub record IsUntouched (old new : Root) (s : ℕ) : Type 0 where
-  pub opened : slice_index_or new.run.opens.items s 0 ≡ slice_index_or old.run.opens.items s 0
-  pub passed : slice_index_or new.run.candidates.items s 0 ≡ slice_index_or old.run.candidates.items s 0
+  pub opened : slice_index_or new.run.opens s 0 ≡ slice_index_or old.run.opens s 0
+  pub passed : slice_index_or new.run.candidates s 0 ≡ slice_index_or old.run.candidates s 0
   pub absent : IsAbsent new.waiting.list.items 0 s → IsAbsent old.waiting.list.items 0 s
 
 -- some forms are refreshed, and nothing else has changed
@@ -26,13 +26,13 @@ pub record AreRefreshed (store : Store) (old new : Root) : Type 0 where
   pub trail : new.run.trail ≡ old.run.trail
   pub next : new.run.next ≡ old.run.next
   pub walked : new.walked ≡ old.walked
-  pub opens : old.run.opens.items ≡ old.rests.opens.items → new.run.opens.items ≡ new.rests.opens.items
-  pub starts : old.run.candidates.items ≡ old.rests.starts.items → new.run.candidates.items ≡ new.rests.starts.items
+  pub opens : old.run.opens ≡ old.rests.opens → new.run.opens ≡ new.rests.opens
+  pub starts : old.run.candidates ≡ old.rests.starts → new.run.candidates ≡ new.rests.starts
   pub live : (i s : ℕ) → slice_get new.waiting.list.items i ≡ Some s → (0 < length (terms_at (shapes_of store.stored.items) s)) ⊎ ((j : ℕ) × (slice_get old.waiting.list.items j ≡ Some s))
 
 -- the open sums are those under the list, but for the entries that are still to be added
 abbrev pub Lacks : Store → Root → List Weighted → Type 0
-Lacks store root rest = (s : ℕ) (d : Shape) → s < length store.stored.items → slice_index root.run.opens.items s + weight_in s rest ≡ open_sum (list_of root.run) (slice_index_or (shapes_of store.stored.items) s d).terms
+Lacks store root rest = (s : ℕ) (d : Shape) → s < length store.stored.items → slice_index root.run.opens s + weight_in s rest ≡ open_sum (list_of root.run) (slice_index_or (shapes_of store.stored.items) s d).terms
 
 -- the root is one of the store's forms and of some clauses
 abbrev pub IsSomeRoot : Store → Root → Type 0

@@ -20,18 +20,18 @@ HasForm store s = (f : Form) × (form_at (forms_of store.stored.items) s ≡ Som
 -- none is if `busy` is no form's number.
 pub record IsRooted (store : Store) (clauses : Clauses) (run : Run) (rests : Rests) (waiting : Waiting) (walked : Walked) (busy : ℕ) : Type 0 where
   pub values : length run.assignment.values.items ≡ store.variables
-  pub opens : run.opens.items ≡ rests.opens.items
-  pub starts : run.candidates.items ≡ rests.starts.items
-  pub open_sizes : length run.opens.items ≡ length store.stored.items
-  pub start_sizes : length run.candidates.items ≡ length store.stored.items
-  pub counted : (s : ℕ) (d : Shape) → s < length store.stored.items → (s ≡ busy → ⊥) → slice_index run.opens.items s ≡ open_sum run.assignment.list.items (slice_index_or (shapes_of store.stored.items) s d).terms
-  pub tidy : IsTidy (beside rests waiting.list.items) (shapes_of store.stored.items) run.opens.items run.candidates.items run.assignment.list.items [] [] 0 busy
+  pub opens : run.opens ≡ rests.opens
+  pub starts : run.candidates ≡ rests.starts
+  pub open_sizes : length run.opens ≡ length store.stored.items
+  pub start_sizes : length run.candidates ≡ length store.stored.items
+  pub counted : (s : ℕ) (d : Shape) → s < length store.stored.items → (s ≡ busy → ⊥) → slice_index run.opens s ≡ open_sum run.assignment.list.items (slice_index_or (shapes_of store.stored.items) s d).terms
+  pub tidy : IsTidy (beside rests waiting.list.items) (shapes_of store.stored.items) run.opens run.candidates run.assignment.list.items [] [] 0 busy
   pub work : run.work.items ≡ []
   pub trail : run.trail.items ≡ []
   pub next : run.next ≡ 0
   pub reasoned : HaveReasons (all_of store clauses) run.assignment.reasons.items [] run.assignment.list.items
   pub walks : IsWalkedTo clauses run.assignment.list.items walked
-  pub positions : length waiting.positions.items ≡ length store.stored.items
+  pub positions : length waiting.positions ≡ length store.stored.items
   pub live : (i s : ℕ) → slice_get waiting.list.items i ≡ Some s → HasForm store s
 
 -- the same of the program's root, with no form left out
@@ -145,11 +145,11 @@ pub record HasCleared (before : Store) (old : Clauses) (store : Store) (clauses 
 -- the lists have an entry for each form and each variable
 pub record IsSized (store : Store) (root : Root) : Type 0 where
   pub values : length root.run.assignment.values.items ≡ store.variables
-  pub opens : length root.run.opens.items ≡ length store.stored.items
-  pub candidates : length root.run.candidates.items ≡ length store.stored.items
-  pub rest_opens : length root.rests.opens.items ≡ length store.stored.items
-  pub rest_starts : length root.rests.starts.items ≡ length store.stored.items
-  pub positions : length root.waiting.positions.items ≡ length store.stored.items
+  pub opens : length root.run.opens ≡ length store.stored.items
+  pub candidates : length root.run.candidates ≡ length store.stored.items
+  pub rest_opens : length root.rests.opens ≡ length store.stored.items
+  pub rest_starts : length root.rests.starts ≡ length store.stored.items
+  pub positions : length root.waiting.positions ≡ length store.stored.items
 
 -- there was a root of the same forms that does not need the one of the slot, and the lists have the entry of an empty form
 -- for it
@@ -161,12 +161,12 @@ pub record HasRemoved (store : Store) (clauses : Clauses) (slot : ℕ) (root : R
   pub work : root.run.work ≡ mid.run.work
   pub trail : root.run.trail ≡ mid.run.trail
   pub next : root.run.next ≡ mid.run.next
-  pub opens : root.run.opens.items ≡ slice_set mid.run.opens.items slot 0
-  pub candidates : root.run.candidates.items ≡ slice_set mid.run.candidates.items slot 0
-  pub rest_opens : root.rests.opens.items ≡ slice_set mid.rests.opens.items slot 0
-  pub rest_starts : root.rests.starts.items ≡ slice_set mid.rests.starts.items slot 0
+  pub opens : root.run.opens ≡ slice_set mid.run.opens slot 0
+  pub candidates : root.run.candidates ≡ slice_set mid.run.candidates slot 0
+  pub rest_opens : root.rests.opens ≡ slice_set mid.rests.opens slot 0
+  pub rest_starts : root.rests.starts ≡ slice_set mid.rests.starts slot 0
   pub waiting : IsWithout slot mid.waiting.list.items root.waiting.list.items
-  pub positions : length root.waiting.positions.items ≡ length mid.waiting.positions.items
+  pub positions : length root.waiting.positions ≡ length mid.waiting.positions
   pub walked : root.walked ≡ mid.walked
 
 -- a form came into a slot that was empty, or into a new one
@@ -187,14 +187,14 @@ WasRootOf store clauses slot root = (before : Store) × (old : Clauses) × IsRoo
 -- each list has an entry for the slot
 pub record RunIsWidened (run run' : Run) (rests rests' : Rests) (waiting waiting' : Waiting) (slot : ℕ) : Type 0 where
   pub waits : waiting'.list.items ≡ waiting.list.items
-  pub positions : length waiting.positions.items ≡ length run.opens.items → length waiting'.positions.items ≡ length run'.opens.items
+  pub positions : length waiting.positions ≡ length run.opens → length waiting'.positions ≡ length run'.opens
   pub assignment : run'.assignment ≡ run.assignment
   pub work : run'.work ≡ run.work
   pub trail : run'.trail ≡ run.trail
   pub next : run'.next ≡ run.next
   pub lists :
-      ((slot < length run.opens.items) × (run'.opens.items ≡ run.opens.items) × (run'.candidates.items ≡ run.candidates.items) × (rests'.opens.items ≡ rests.opens.items) × (rests'.starts.items ≡ rests.starts.items)) ⊎
-      ((length run.opens.items ≤ slot) × (run'.opens.items ≡ run.opens.items ++ (0 ∷ [])) × (run'.candidates.items ≡ run.candidates.items ++ (0 ∷ [])) × (rests'.opens.items ≡ rests.opens.items ++ (0 ∷ [])) × (rests'.starts.items ≡ rests.starts.items ++ (0 ∷ [])))
+      ((slot < length run.opens) × (run'.opens ≡ run.opens) × (run'.candidates ≡ run.candidates) × (rests'.opens ≡ rests.opens) × (rests'.starts ≡ rests.starts)) ⊎
+      ((length run.opens ≤ slot) × (run'.opens ≡ run.opens ++ (0 ∷ [])) × (run'.candidates ≡ run.candidates ++ (0 ∷ [])) × (rests'.opens ≡ rests.opens ++ (0 ∷ [])) × (rests'.starts ≡ rests.starts ++ (0 ∷ [])))
 
 -- nothing changed, or an empty slot came after the others
 pub record HasWidened (before : Store) (old : Clauses) (store : Store) (clauses : Clauses) (slot : ℕ) : Type 0 where

@@ -11,7 +11,7 @@ invariant_of-self-2 c = λ ready.
     let lit : clauses_of c.widen.new.self ≡ clauses_of e.clauses = c.widen.ensures.literals in
     let watches = c.widen.ensures.watches in
     let count = half c.len-2.result (length c.add-2.new.self) e.store.variables c.len-2.ensures (omega (arith, ap length c.add.ensures, ap length c.add-2.ensures, length-append occ ([] ∷ []), length-append c.add.new.self ([] ∷ []), entries-length (shapes_of e.store.stored.items) occ, r.sound.places)) in
-    let sound = widened-stored (shapes_of e.store.stored.items) (spots_of e.store.spots.items) occ c.add.new.self c.add-2.new.self e.store.variables _ c.add.ensures c.add-2.ensures count r.sound in (
+    let sound = widened-stored (shapes_of e.store.stored.items) (spots_of e.store.spots) occ c.add.new.self c.add-2.new.self e.store.variables _ c.add.ensures c.add-2.ensures count r.sound in (
       grind (arith, sound, lit, r.slots, r.joined, c.in_ok-widen.ensures, r.widths, count, r.known),
       both.1,
       rooted-again both.2 refl (omega (arith, c.in_ok-widen-2.ensures.values, both.2.values, count)) both.2.opens both.2.starts c.widen-2.ensures.list both.2.work

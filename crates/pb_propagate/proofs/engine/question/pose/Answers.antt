@@ -43,7 +43,7 @@ most c =
     let d : Derives (all_of c.enter.new.store c.args.clauses.now) [] (list_of c.args.root.now.run) = rw all (derives-within _ _ _ _ (Contains-append_left _ (stored_shape h.kept ∷ [])) (reasons-derive standing.rooted.reasoned)) in
     let work : length start.work.items ≤ 1 = grind (arith, grown-length _ _ _ c.in_ok-open_form.ensures.work, c.enter.ensures.rest.1, c.in_ok-update.ensures.rooted.work) in
     let begun = heads-now c.at.result _ (length (list_of run)) c.at.ensures (omega (arith, c.len-count.ensures, run.assignment.list.ok.0)) in
-    let cands : sum start.candidates.items ≡ sum run.candidates.items = grind (arith, c.open_form.ensures.candidates, h.candidates, sum_by_push) in
+    let cands : sum start.candidates ≡ sum run.candidates = grind (arith, c.open_form.ensures.candidates, h.candidates, sum_by_push) in
     let refutes = spends-refutes c.enter.new.store c.update.new.self.rests c.update.new.clauses start c.propagate.new.run c.at.result (rw same begun) work (rw (c.as_slice.ensures.value ∙ c.new-none.ensures.items) at c.propagate.ensures.costs) in
     let few = posed-most c.enter.new.store start c.propagate.new.run 1 standing c.requires.visits (c.in_ok-update.ensures.updated c.if-branch.false) c.update.ensures.literals c.in_ok-enter.ensures.longer c.in_ok-enter.ensures.sound
     (joined-entered _ _ h.kept (clauses_of c.args.clauses.now) h.keeps standing.joined) d (ap (λ (a : Assignment). a.list.items) same) cands (c.open_form.ensures.visits ∙ c.enter.ensures.rest.3) refutes in
@@ -76,7 +76,7 @@ returns-clause-left c =
     let same : c.open_form.new.run.assignment ≡ run.assignment = c.open_form.ensures.assignment ∙ c.enter.ensures.rest.0 in
     let kept_is = l.kept ∙ prefix-of c.enter.new.store.stored.items keep h.kept h.keeps in
     let long : length c.enter.new.store.stored.items ≡ length keep + 1 = grind (arith, h.keeps, length-append) in
-    let back = undone-same root.rests (shapes_of c.enter.new.store.stored.items) c.back.new.run.opens.items c.back.new.run.candidates.items (length keep) b.undone
+    let back = undone-same root.rests (shapes_of c.enter.new.store.stored.items) c.back.new.run.opens c.back.new.run.candidates (length keep) b.undone
     (grind (arith, length-map)) (b.opens ∙ long) (b.candidates ∙ long) (ap length (sym r.opens) ∙ r.open_sizes) (ap length (sym r.starts) ∙ r.start_sizes) in
     let list : list_of c.leave.new.run ≡ list_of run = grind (arith, l.rest.0, b.list, c.len-count.ensures, run.assignment.list.ok.0, same, left.extends, take-append_seam) in
     let values : length (values_of c.leave.new.run) ≡ c.leave.new.store.variables = grind (arith, l.rest.0, b.values, left.values, same, r.values, l.variables, c.enter.ensures.variables) in
@@ -104,16 +104,16 @@ propagate-requires-clause-ready c =
     let long = length-map keep stored_shape in
     let n_is : n ≡ length (shapes_of keep) = omega (arith, c.len-number.ensures, c.args.store.now.stored.ok.0, long) in
     let more : length new.store.stored.items ≡ length keep + 1 = grind (arith, h.keeps, length-append) in
-    let opens : length new.run.opens.items ≡ length keep + 1 = grind (arith, h.opened, length_push, r.open_sizes) in
+    let opens : length new.run.opens ≡ length keep + 1 = grind (arith, h.opened, length_push, r.open_sizes) in
     let size : length shapes ≡ length keep + 1 = length-map new.store.stored.items stored_shape ∙ more in
     let low = rw e.rest.0 at o.opens in
-    let entered : IsTidy (beside root.rests []) shapes new.run.opens.items new.run.candidates.items run.assignment.list.items [] [] 0 n =
+    let entered : IsTidy (beside root.rests []) shapes new.run.opens new.run.candidates run.assignment.list.items [] [] 0 n =
     rw (entered-shapes keep new.store.stored.items h.kept h.keeps, h.opened, h.candidates, r.opens, r.starts, n_is, stored-sum h.kept)
     (entered-tidy root.rests (shapes_of keep) (stored_shape h.kept) (list_of run) (grind (arith, r.opens, r.open_sizes, long)) (grind (arith, r.starts, r.start_sizes, long)) (rw (u.none, r.opens, r.starts, ← long) at r.tidy)) in
-    let room : n < length new.run.opens.items = omega (arith, n_is, long, opens) in
-    let tidy = slot-tidy root.rests [] shapes new.run.opens.items new.run.candidates.items now.opens.items (list_of run) now.work.items now.trail.items n
+    let room : n < length new.run.opens = omega (arith, n_is, long, opens) in
+    let tidy = slot-tidy root.rests [] shapes new.run.opens new.run.candidates now.opens (list_of run) now.work.items now.trail.items n
     (omega (arith, n_is, long, size)) room entered low (rw (e.rest.0, e.rest.1, r.work) at o.work) (rw (e.trail, r.trail) at o.trail) in
-    let counted = slot-counted shapes new.run.opens.items now.opens.items (list_of run) n room (λ s d inside other.
+    let counted = slot-counted shapes new.run.opens now.opens (list_of run) n room (λ s d inside other.
     grind (arith, n_is, long, size, r.open_sizes, entered-shapes keep new.store.stored.items h.kept h.keeps, h.opened, get_or_append_left, r.counted s d)) low in
     let begun = heads-now c.at.result _ (length (list_of run)) c.at.ensures (omega (arith, c.len-count.ensures, run.assignment.list.ok.0)) in
     let single = derivation-single _ [] (list_of run) none (reasons-derive r.reasoned) in

@@ -3,4 +3,4 @@ use Rattle.pb_propagate.specs.engine.engine.Free.{ended, IsChain, nobody}
 use Rattle.pb_propagate.proofs.free.Free.new.Goals as goal
 
 pub returns : goal.returns
-returns c = λ size. subst (λ n. IsChain c.new-before.result.items n []) (sym (same-everywhere 65 size nobody)) ended
+returns c = λ size. subst (λ n. IsChain c.new-before.result n []) (sym (same-everywhere 65 size nobody)) ended

@@ -13,6 +13,6 @@ pub returns-clause-sound : goal.returns-clause-sound
 returns-clause-sound c =
     let store = c.args.store.now in let k = c.in_ok-kept.kept in
     let inside = kept-inside (stored_terms k) c.args.form.terms store.variables c.in_ok-kept.ensures.is.terms c.requires.inside in
-    filled-stored store.stored.items k store.spots.items c.link.new.spots store.occurrences c.link.new.lists store.variables c.args.slot
+    rw c.set.ensures (filled-stored store.stored.items k store.spots c.link.new.spots store.occurrences c.link.new.lists store.variables c.args.slot
     c.requires.slot c.requires.empty c.in_ok-link.ensures.sizes
-    c.in_ok-link.ensures.count inside c.in_ok-link.ensures.linked c.requires.sound
+    c.in_ok-link.ensures.count inside c.in_ok-link.ensures.linked c.requires.sound)

@@ -1,4 +1,4 @@
-use Rattle.pb_propagate.proofs.Common.{◌+◌, ◌-◌, ◌≡◌, ap, arith, Global, length, take, Vec, length-map, StoredForm, shapes_of, spots_in, stored_shape}
+use Rattle.pb_propagate.proofs.Common.{◌∙◌, ◌+◌, ◌-◌, ◌≡◌, ap, arith, Global, length, take, Vec, length-map, StoredForm, shapes_of, spots_in, stored_shape}
 use Rattle.pb_propagate.proofs.lemmas.store.{Changes.emptied-take, Changes.emptied-stored, Links.cut-length}
 use Rattle.pb_propagate.proofs.store.occurrence_lists.leave.Goals as goal
 
@@ -9,10 +9,10 @@ returns-clause-sound c =
     let same = ap (λ (v : Vec StoredForm Global). v.items) c.unlink.ensures.kept in
     let linked = rw same at c.unlink.ensures.linked in
     let count : length keep ≡ number + 1 = omega (arith, c.requires.some, c.len-number.ensures, store.stored.ok.0) in
-    let sizes : length less.spots.items ≡ length keep =
-    omega (arith, linked.sizes, cut-length (shapes_of keep) number 0, length-map keep stored_shape, length-map less.spots.items spots_in) in
+    let sizes : length less.spots ≡ length keep =
+    omega (arith, linked.sizes, cut-length (shapes_of keep) number 0, length-map keep stored_shape, length-map less.spots spots_in) in
     let kept : c.pop.new.self.items ≡ take number keep = grind (arith, c.pop.ensures.rest, same, count, less.stored.ok.0) in
-    let spots : c.pop-2.new.self.items ≡ take number less.spots.items = grind (arith, c.pop-2.ensures.rest, sizes, count, less.spots.ok.0) in
+    let spots : c.pop-2.new.self ≡ take number less.spots = c.pop-2.ensures ∙ ap (λ n. take n less.spots) (omega (arith, sizes, count)) in
     let emptied = emptied-take kept spots sizes count in
     rw c.unlink.ensures.variables
-    (emptied-stored store.spots.items less.occurrences store.occurrences emptied c.unlink.ensures.lists c.unlink.ensures.rooms linked c.requires.sound)
+    (emptied-stored store.spots less.occurrences store.occurrences emptied c.unlink.ensures.lists c.unlink.ensures.rooms linked c.requires.sound)

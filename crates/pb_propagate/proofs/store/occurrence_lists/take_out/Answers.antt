@@ -1,5 +1,7 @@
-use Rattle.pb_propagate.proofs.Common.{◌+◌, ◌-◌, ◌<◌, ◌≡◌, [], ap, arith, get_or, get_or-map, length, refl, slice_get, Some}
+use Rattle.pb_propagate.proofs.Common.{◌+◌, ◌-◌, ◌<◌, ◌≡◌, [], ap, arith, get_or, get_or-map, length, length-set, refl, slice_get, Some}
 use Rattle.pb_propagate.proofs.lemmas.store.Links.{taken-last, spots-moved}
+use Rattle.pb_propagate.specs.declared.store.spots.Spots.TheVariants.{Empty}
+use Rattle.std.proofs.lemmas.List.{set-set}
 use Rattle.std.proofs.lemmas.Option.{slice_get_read}
 use Rattle.pb_propagate.specs.engine.engine.Spots.{spots_in}
 use Rattle.pb_propagate.proofs.store.occurrence_lists.take_out.Goals.{In-Some}
@@ -23,19 +25,25 @@ pub returns-in_default-clause-spots : goal.returns-in_default-clause-spots
 returns-in_default-clause-spots c =
     taken-last (get_or c.args.lists.now c.args.place []) c.args.spot _ (rw c.in_default.is at c.swap_remove-removed.ensures.none)
 
-pub index_mut-requires : goal.index_mut-requires
-index_mut-requires c =
-    let m = moves (goal.at.index_mut-requires c).In-Some in
-    omega (arith, (c.requires.named c.in-Some.moved m.1).0, c.args.spots.now.ok.0)
+pub take-kept-requires : goal.take-kept-requires
+take-kept-requires c =
+    let m = moves (goal.at.take-kept-requires c).In-Some in
+    (c.requires.named c.in-Some.moved m.1).0
 
 pub set-requires : goal.set-requires
 set-requires c =
     let m = moves (goal.at.set-requires c).In-Some in
     let named = c.requires.named c.in-Some.moved m.1 in
-    omega (arith, named.1, ap length (get_or-map spots_in c.args.spots.now.items c.in-Some.moved.form c.index_mut.result.now [] named.0), ap (λ w. length (spots_in w)) c.index_mut.ensures.value)
+    omega (arith, named.1, ap length (get_or-map spots_in c.args.spots.now c.in-Some.moved.form c.take-kept.result [] named.0), ap (λ w. length (spots_in w)) (c.take-kept.ensures.was c.take-kept.result))
+
+pub set-requires-in-Some : goal.set-requires-in-Some
+set-requires-in-Some c =
+    let m = moves (goal.at.set-requires-in-Some c).In-Some in
+    omega (arith, (c.requires.named c.in-Some.moved m.1).0, ap length c.take-kept.ensures.zero, length-set c.args.spots.now c.in-Some.moved.form Empty)
 
 pub returns-in-Some-clause-spots : goal.returns-in-Some-clause-spots
 returns-in-Some-clause-spots c =
     let m = moves (goal.at.returns-in-Some-clause-spots c).In-Some in
     let named = c.requires.named c.in-Some.moved m.1 in
-    spots-moved c.args.spots.now.items (get_or c.args.lists.now c.args.place []) c.args.spot c.in-Some.moved c.index_mut.result.now c.set.new.self named.0 c.index_mut.ensures.value c.set.ensures m.0 m.1
+    rw (c.set-in-Some.ensures, c.take-kept.ensures.zero, set-set c.args.spots.now c.in-Some.moved.form Empty c.set.new.self)
+    (spots-moved c.args.spots.now (get_or c.args.lists.now c.args.place []) c.args.spot c.in-Some.moved c.take-kept.result c.set.new.self named.0 (c.take-kept.ensures.was c.take-kept.result) c.set.ensures m.0 m.1)

@@ -1,5 +1,5 @@
 use Rattle.pb_propagate.{proofs.lemmas.store.Stored.stored-small, proofs.store.refresh.lift_all.Goals.After-get-entry, specs.engine.engine.Refreshed.Lacks}
-use Rattle.pb_propagate.proofs.Common.{ℕ, ◌+◌, ◌∙◌, [], refl, drop, get_or, get_or_read, map, set, size, stored_shape, subst, Shape, Term, ap, arith, length, length-map}
+use Rattle.pb_propagate.proofs.Common.{ℕ, ◌+◌, ◌∙◌, [], refl, drop, get_or, map, set, size, stored_shape, subst, Shape, Term, ap, arith, length, length-map}
 use Rattle.pb_propagate.proofs.Common.{shapes_of, weighted, slice_get_within}
 use Rattle.pb_propagate.proofs.lemmas.{engine.Propagated.shape-at, engine.Propagated.weight-read, root.Retracted.ahead-entry}
 use Rattle.pb_propagate.proofs.lemmas.root.Retracted.{all-next, lacks-fits, lacks-next, listed-entries, IsOccurrence, occurrence-read, refreshed-then}
@@ -19,13 +19,13 @@ entries-preserved c =
     let v = (get_or c.args.store.now.occurrences c.place_of-place.result []) in
     let o = read (goal.at.entries-preserved c).After-get-entry in
     let form = c.get-entry.result.form in
-    let read = get_or_read c.entries.root.run.opens.items form c.index-before.result.now (omega (arith, o.form, c.entries.invariant.each.sized.opens)) c.index-before.ensures 0 in
+    let read = c.get-before.ensures 0 in
     let weight = weight-read c.args.store.now.stored.items form c.get-entry.result.index c.index-kept.result.now c.term.result.coefficient o.form c.index-kept.ensures (λ d. ap (λ (t : Term). t.coefficient) (c.term.ensures d)) in
     record {
       each = refreshed-then c.args.store.now c.args.root.now c.entries.root c.refresh.new.root c.entries.invariant.each c.refresh.ensures.each;
       all = all-next c.args.store.now c.args.literal v c.entries.root c.refresh.new.root c.entries.j c.get-entry.result o c.refresh.ensures.each c.refresh.ensures.form c.entries.invariant.all;
       lacks = lacks-next c.args.store.now c.args.literal v c.entries.root c.refresh.new.root c.entries.j c.get-entry.result o c.entries.invariant.each.sized
-          (c.refresh.ensures.opens ∙ ap (set c.entries.root.run.opens.items c.get-entry.result.form) (ap (λ (n : ℕ). n + c.term.result.coefficient) read ∙ ap (λ n. get_or c.entries.root.run.opens.items form 0 + n) weight)) c.refresh.ensures.each.assignment c.entries.invariant.lacks;
+          (c.refresh.ensures.opens ∙ ap (set c.entries.root.run.opens c.get-entry.result.form) (ap (λ (n : ℕ). n + c.term.result.coefficient) read ∙ ap (λ n. get_or c.entries.root.run.opens form 0 + n) weight)) c.refresh.ensures.each.assignment c.entries.invariant.lacks;
     }
 
 pub returns-clause-all : goal.returns-clause-all
@@ -35,9 +35,9 @@ returns-clause-all c = λ j e at.
     let inside = slice_get_within _ j e at in
     c.entries.invariant.all j e (omega (arith, inside, ap length same, length-map v (weighted (shapes_of c.args.store.now.stored.items)), c.entries-test.false, c.count-j-end.ensures)) at
 
-pub index-before-requires : goal.index-before-requires
-index-before-requires c =
-    let o = read (goal.at.index-before-requires c).After-get-entry in omega (arith, o.form, c.entries.invariant.each.sized.opens, c.entries.root.run.opens.ok.0)
+pub get-before-requires : goal.get-before-requires
+get-before-requires c =
+    let o = read (goal.at.get-before-requires c).After-get-entry in omega (arith, o.form, c.entries.invariant.each.sized.opens)
 
 pub term-requires : goal.term-requires
 term-requires c =
@@ -50,7 +50,7 @@ overflow_add-opened c =
     let store = c.args.store.now in
     let forms = shapes_of store.stored.items in
     let form = c.get-entry.result.form in let k = c.index-kept.result.now in
-    let read = get_or_read c.entries.root.run.opens.items form c.index-before.result.now (omega (arith, o.form, c.entries.invariant.each.sized.opens)) c.index-before.ensures 0 in
+    let read = c.get-before.ensures 0 in
     let weight = weight-read store.stored.items form c.get-entry.result.index k c.term.result.coefficient o.form c.index-kept.ensures (λ d. ap (λ (t : Term). t.coefficient) (c.term.ensures d)) in
     let lacks = subst (Lacks store c.entries.root) (ahead-entry store v c.entries.j c.get-entry.result o.read o.inside) c.entries.invariant.lacks in
     let fits = lacks-fits store c.entries.root (weighted forms c.get-entry.result) (drop (c.entries.j + 1) (map (weighted forms) v)) (stored_shape k) o.form lacks in

@@ -1,4 +1,4 @@
-use Rattle.pb_propagate.proofs.Common.{◌∙◌, [], get_or, refl, get_or_read, set, set-get_or, ap, arith, length, length-map, shapes_of, weighted, slice_get_within}
+use Rattle.pb_propagate.proofs.Common.{◌∙◌, [], get_or, refl, set, set-get_or, ap, arith, length, length-map, shapes_of, weighted, slice_get_within}
 use Rattle.pb_propagate.proofs.lemmas.root.Retracted.{all-next, listed-entries, IsOccurrence, occurrence-read, refreshed-then}
 use Rattle.pb_propagate.proofs.store.refresh.refresh_all.Goals.{After-get-entry}
 use Rattle.pb_propagate.proofs.store.refresh.refresh_all.Goals as goal
@@ -21,8 +21,8 @@ entries-preserved c =
       all = all-next c.args.store.now c.args.literal v c.entries.root c.refresh.new.root c.entries.j c.get-entry.result o c.refresh.ensures.each c.refresh.ensures.form c.entries.invariant.all;
       opens =
           let form = c.get-entry.result.form in
-          let read = get_or_read c.entries.root.run.opens.items form c.index-opened.result.now (omega (arith, o.form, c.entries.invariant.each.sized.opens)) c.index-opened.ensures 0 in
-          c.refresh.ensures.opens ∙ ap (set c.entries.root.run.opens.items form) read ∙ set-get_or c.entries.root.run.opens.items form 0 ∙ c.entries.invariant.opens;
+          let read = c.get-opened.ensures 0 in
+          c.refresh.ensures.opens ∙ ap (set c.entries.root.run.opens form) read ∙ set-get_or c.entries.root.run.opens form 0 ∙ c.entries.invariant.opens;
     }
 
 pub returns-clause-all : goal.returns-clause-all
@@ -32,5 +32,5 @@ returns-clause-all c = λ j e at.
     let inside = slice_get_within _ j e at in
     c.entries.invariant.all j e (omega (arith, inside, ap length same, length-map v (weighted (shapes_of c.args.store.now.stored.items)), c.entries-test.false, c.count-j-end.ensures)) at
 
-pub index-opened-requires : goal.index-opened-requires
-index-opened-requires c = omega (arith, (read (goal.at.index-opened-requires c).After-get-entry).form, c.entries.invariant.each.sized.opens, c.entries.root.run.opens.ok.0)
+pub get-opened-requires : goal.get-opened-requires
+get-opened-requires c = omega (arith, (read (goal.at.get-opened-requires c).After-get-entry).form, c.entries.invariant.each.sized.opens)

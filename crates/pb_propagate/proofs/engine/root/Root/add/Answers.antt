@@ -21,9 +21,9 @@ opened c =
     let shapes = shapes_of store.stored.items in
     let long = length-map store.stored.items stored_shape in
     let list = run.assignment.list.items in
-    let room : slot < length run.opens.items = omega (arith, c.requires.slot, r.open_sizes) in
-    let counted = slot-counted shapes run.opens.items new.opens.items list slot room (λ s e less apart. r.counted s e (omega (arith, less, long)) apart) o.opens in
-    let tidy = slot-tidy c.widen_run.new.rests c.widen_run.new.waiting.list.items shapes run.opens.items run.candidates.items new.opens.items list new.work.items
+    let room : slot < length run.opens = omega (arith, c.requires.slot, r.open_sizes) in
+    let counted = slot-counted shapes run.opens new.opens list slot room (λ s e less apart. r.counted s e (omega (arith, less, long)) apart) o.opens in
+    let tidy = slot-tidy c.widen_run.new.rests c.widen_run.new.waiting.list.items shapes run.opens run.candidates new.opens list new.work.items
     new.trail.items slot (omega (arith, c.requires.slot, long)) room r.tidy o.opens (rw r.work at o.work) (o.trail ∙ ap (λ (xs : List ℕ). xs ++ (slot ∷ [])) r.trail) in
     grind (arith, counted, tidy, c.open_form.ensures, r.values, r.start_sizes, r.open_sizes, r.reasoned, r.walks, r.next, long, o.opens (record { terms = []; degree = 0 }), length-set)
 
@@ -50,7 +50,7 @@ save-requires c =
     let r = added (goal.at.save-requires c).In_ok-widen_run in
     let o = opened (goal.at.save-requires c).In_ok-open_form in
     let run = c.open_form.new.run in
-    let undone : IsUndone c.widen_run.new.rests (shapes_of c.args.store.now.stored.items) run.opens.items run.candidates.items run.trail.items 0 = search (rules, o.1.clean, o.1.marked) in
+    let undone : IsUndone c.widen_run.new.rests (shapes_of c.args.store.now.stored.items) run.opens run.candidates run.trail.items 0 = search (rules, o.1.clean, o.1.marked) in
     search (rules, ap length r.opens, ap length r.starts, r.open_sizes, r.start_sizes, o.0.opens, o.0.candidates, undone, length-map c.args.store.now.stored.items stored_shape)
 
 pub returns : goal.returns

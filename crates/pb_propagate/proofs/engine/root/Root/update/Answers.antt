@@ -1,5 +1,5 @@
 use Rattle.pb_propagate.proofs.{lemmas.clauses.Heads.heads-is, lemmas.clauses.Heads.visits-back, lemmas.clauses.Heads.walks-back}
-use Rattle.pb_propagate.proofs.Common.{both_ways, ℕ, ◌∙◌, ◌≡◌, [], ap, arith, Global, length, refl, take, Vec, slice_get_within, all_of, ◌++◌, ◌-◌, Assignment, heads_at}
+use Rattle.pb_propagate.proofs.Common.{both_ways, ◌∙◌, ◌≡◌, [], ap, arith, length, refl, take, slice_get_within, all_of, ◌++◌, ◌-◌, Assignment, heads_at}
 use Rattle.pb_propagate.proofs.lemmas.{clauses.Heads.walks-ended, clauses.Heads.ready-running, engine.Reasoned.run-reasons-rooted, root.Kept.conflicts-kept}
 use Rattle.pb_propagate.proofs.lemmas.root.{Kept.conflict-same, Ready.back-rooted, Ready.rooted-waiting, Ready.root-ready, Ready.kept-rooted}
 use Rattle.std.proofs.Math.ListN.{replicate}
@@ -52,7 +52,7 @@ returns-clause-rooted c =
     settled.tidy
     (λ s off. (λ i from less at. absurd (omega (arith, less)), λ i from less at. let end_is = settled.done in absurd (omega (arith, from, less, end_is))))
     c.save.ensures
-    (ap (λ (v : Vec ℕ Global). length v.items) c.clear.ensures.positions ∙ r.positions)
+    (ap length c.clear.ensures.positions ∙ r.positions)
     (λ i s at. absurd (omega (arith, slice_get_within c.clear.new.self.list.items i s at, ap length c.clear.ensures.list)))
 
 pub returns-in_err-finish-clause-costs : goal.returns-in_err-finish-clause-costs
