@@ -1,5 +1,6 @@
 -- What private functions ensure, and what bodies and proofs need.
 pub mod Adds
+pub mod Bodies
 pub mod Codes
 pub mod Compact
 pub mod Growing

@@ -47,7 +47,10 @@ impl<'a> Listing<'a> {
     pub(crate) fn spend(self, memory: &mut Memory) -> Result<(), AllocError> {
         match self {
             Listing::Held(_) => Ok(()),
-            Listing::Made(form) => form.terms.spend(memory),
+            Listing::Made(form) => {
+                let (terms, _) = form.into_parts();
+                terms.spend(memory)
+            }
         }
     }
 }
@@ -86,7 +89,7 @@ impl<'a> Kind<'a> {
         ensures degree { result ≡ (kind_form self.now).degree }
     {
         match self {
-            Kind::Listing(listing) => listing.form().degree,
+            Kind::Listing(listing) => listing.form().unsigned_degree(),
             Kind::Tree(tree) => tree.degree(),
         }
     }
@@ -122,7 +125,7 @@ impl<'a> Kind<'a> {
         ensures { Cancels list.now.terms (kind_form self.now).terms result }
     {
         match self {
-            Kind::Listing(listing) => cancelled(&list.terms, &listing.form().terms),
+            Kind::Listing(listing) => cancelled(list.terms(), listing.form().terms()),
             Kind::Tree(tree) => tree.cancelled(list),
         }
     }

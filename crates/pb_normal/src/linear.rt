@@ -56,10 +56,8 @@ impl Normal {
         let (collected_terms, gone) = side_terms(alloc, names, terms, side)?;
         let (up, down) = split(signed(linear.degree, side));
         let degree = (up + shift_of(terms, side)).saturating_sub(down + gone);
-        Ok(Normal {
-            terms: collected_terms,
-            degree,
-        })
+        let form = Normal::of(collected_terms, degree)?;
+        Ok(form)
     }
 }
 

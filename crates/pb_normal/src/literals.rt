@@ -31,7 +31,8 @@ impl Normal {
         let (once, _) = collected(alloc, raw.as_mut_slice())?;
         let counted = counted_once(alloc, &once)?;
         let terms = Terms::wide(counted).compact()?;
-        Ok(Normal { terms, degree })
+        let form = Normal::of(terms, degree)?;
+        Ok(form)
     }
 }
 

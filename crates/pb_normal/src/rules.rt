@@ -35,12 +35,10 @@ impl Normal {
         if size > limit || degree > limit {
             return Err(NormalFault::Overflow);
         }
-        let alloc = self.terms.allocator();
-        let (terms, _) = merged(Vec::new(alloc), &self.terms, &other.terms)?;
-        Ok(Normal {
-            terms: Terms::wide(terms),
-            degree,
-        })
+        let alloc = self.terms().allocator();
+        let (terms, _) = merged(Vec::new(alloc), self.terms(), other.terms())?;
+        let form = Normal::of(Terms::wide(terms), degree)?;
+        Ok(form)
     }
 
     // The sum of two forms, which is normal. Its terms are put into an empty list.
@@ -50,12 +48,9 @@ impl Normal {
         ensures sum { IfOk result (λ r. IsSum self.now other.now r) }
         ensures normal { IfOk result (λ r. IsNormal r) }
     {
-        let (terms, gone) = merged(empty, &self.terms, &other.terms)?;
-        let degree = (self.degree + other.degree).saturating_sub(gone);
-        Ok(Normal {
-            terms: Terms::wide(terms),
-            degree,
-        })
+        let (terms, gone) = merged(empty, self.terms(), other.terms())?;
+        let degree = (self.unsigned_degree() + other.unsigned_degree()).saturating_sub(gone);
+        Normal::of(Terms::wide(terms), degree)
     }
 
     /// The form with all coefficients and the degree multiplied. `Overflow` comes if and only if
@@ -72,15 +67,13 @@ impl Normal {
     {
         let k = factor.unsigned_abs();
         let most = limits.largest() / k;
-        if size_of(&self.terms) > most || self.degree > most {
+        if size_of(self.terms()) > most || self.unsigned_degree() > most {
             return Err(NormalFault::Overflow);
         }
-        let terms = multiplied_terms(Vec::new(self.terms.allocator()), &self.terms, k)?;
-        let degree = self.degree * k;
-        Ok(Normal {
-            terms: Terms::wide(terms),
-            degree,
-        })
+        let terms = multiplied_terms(Vec::new(self.terms().allocator()), self.terms(), k)?;
+        let degree = self.unsigned_degree() * k;
+        let form = Normal::of(Terms::wide(terms), degree)?;
+        Ok(form)
     }
 
     // The form with all coefficients and the degree multiplied, which is normal. Its terms are put
@@ -91,12 +84,9 @@ impl Normal {
         requires empty { empty.items ≡ [] }
         ensures product { IfOk result (λ r. r ≡ multiplied k self.now) }
     {
-        let terms = multiplied_terms(empty, &self.terms, k)?;
-        let degree = self.degree * k;
-        Ok(Normal {
-            terms: Terms::wide(terms),
-            degree,
-        })
+        let terms = multiplied_terms(empty, self.terms(), k)?;
+        let degree = self.unsigned_degree() * k;
+        Normal::of(Terms::wide(terms), degree)
     }
 
     /// The form with all coefficients and the degree divided and rounded up.
@@ -120,13 +110,10 @@ impl Normal {
         ensures quotient { IfOk result (λ r. r ≡ divided k self) }
         ensures normal { IfOk result (λ r. IsNormal r) }
     {
-        let Normal { terms, degree } = self;
+        let (terms, degree) = self.into_parts();
         let mut terms = terms.into_entries()?;
         divide_all(&mut terms, k);
-        Ok(Normal {
-            terms: Terms::wide(terms),
-            degree: degree.div_ceil(k),
-        })
+        Normal::of(Terms::wide(terms), degree.div_ceil(k))
     }
 
     /// The form with every coefficient reduced to at most the degree.
@@ -148,13 +135,10 @@ impl Normal {
         ensures saturated { IfOk result (λ r. r ≡ saturated self) }
         ensures normal { IfOk result (λ r. IsNormal r) }
     {
-        let Normal { terms, degree } = self;
+        let (terms, degree) = self.into_parts();
         let mut terms = terms.into_entries()?;
         saturate_all(&mut terms, degree);
-        Ok(Normal {
-            terms: Terms::wide(terms),
-            degree,
-        })
+        Normal::of(Terms::wide(terms), degree)
     }
 
     /// The form without the term on a variable, whose coefficient is subtracted from the degree.
@@ -164,7 +148,7 @@ impl Normal {
         ensures sound { IfOk result (λ r. Follows self.now r) }
         ensures memory { IfErr result (λ e. e ≡ NormalFault.Memory) }
     {
-        let weakening = self.weakened(variable, Vec::new(self.terms.allocator()))?;
+        let weakening = self.weakened(variable, Vec::new(self.terms().allocator()))?;
         Ok(weakening)
     }
 
@@ -174,13 +158,10 @@ impl Normal {
         ensures weakened { IfOk result (λ r. r ≡ weakened variable self.now) }
         ensures normal { IfOk result (λ r. IsNormal r) }
     {
-        let terms = terms_without(empty, &self.terms, variable)?;
-        let dropped = total_of(&self.terms, &OnVariable { variable });
-        let degree = self.degree.saturating_sub(dropped);
-        Ok(Normal {
-            terms: Terms::wide(terms),
-            degree,
-        })
+        let terms = terms_without(empty, self.terms(), variable)?;
+        let dropped = total_of(self.terms(), &OnVariable { variable });
+        let degree = self.unsigned_degree().saturating_sub(dropped);
+        Normal::of(Terms::wide(terms), degree)
     }
 
     /// A literal with coefficient 1 and degree 0, which always holds.
@@ -195,7 +176,8 @@ impl Normal {
             coefficient: 1,
         };
         let terms = Terms::of(alloc, &[literal])?;
-        Ok(Normal { terms, degree: 0 })
+        let form = Normal::of(terms, 0)?;
+        Ok(form)
     }
 
     /// The form that holds if and only if this one, of degree at least 1, does not.
@@ -206,12 +188,10 @@ impl Normal {
         ensures opposite { IfOk result (λ r. IsOpposite self.now r) }
         ensures memory { IfErr result (λ e. e ≡ NormalFault.Memory) }
     {
-        let terms = opposite_terms(self.terms.allocator(), &self.terms)?;
-        let degree = (size_of(&self.terms) + 1).saturating_sub(self.degree);
-        Ok(Normal {
-            terms: Terms::wide(terms),
-            degree,
-        })
+        let terms = opposite_terms(self.terms().allocator(), self.terms())?;
+        let degree = (size_of(self.terms()) + 1).saturating_sub(self.unsigned_degree());
+        let form = Normal::of(Terms::wide(terms), degree)?;
+        Ok(form)
     }
 
     /// Whether the sum of the two, in unbounded integers, is a contradiction. It allocates nothing.
@@ -227,9 +207,9 @@ impl Normal {
 fn measures_of_sum(left: &Normal, right: &Normal) -> (u128, u128)
     ensures { SumMeasures left.now right.now result.0 result.1 }
 {
-    let gone = cancelled(&left.terms, &right.terms);
-    let sizes = size_of(&left.terms) + size_of(&right.terms);
-    let degrees = left.degree + right.degree;
+    let gone = cancelled(left.terms(), right.terms());
+    let sizes = size_of(left.terms()) + size_of(right.terms());
+    let degrees = left.unsigned_degree() + right.unsigned_degree();
     (sizes - 2 * gone, degrees.saturating_sub(gone))
 }
 

@@ -41,11 +41,11 @@ impl Tree {
         ensures same { IfOk result (λ r. r ≡ form.now) }
     {
         let mut terms = BTreeMap::new(alloc);
-        let _ = put_all(&mut terms, &form.terms)?;
+        let _ = put_all(&mut terms, form.terms())?;
         Ok(Tree {
             terms,
-            size: size_of(&form.terms),
-            degree: form.degree,
+            size: size_of(form.terms()),
+            degree: form.unsigned_degree(),
         })
     }
 
@@ -62,10 +62,7 @@ impl Tree {
     {
         let Tree { terms, degree, .. } = self;
         let terms = terms.into_values().collect(alloc)?;
-        Ok(Normal {
-            terms: Terms::wide(terms),
-            degree,
-        })
+        Normal::of(Terms::wide(terms), degree)
     }
 
     /// The sum of the coefficients.
@@ -87,7 +84,7 @@ impl Tree {
     pub(crate) fn cancelled(&self, other: &Normal) -> u128
         ensures { Cancels self.now.terms other.now.terms result }
     {
-        cancelled_by_list(&self.terms, &other.terms)
+        cancelled_by_list(&self.terms, other.terms())
     }
 
     /// How much cancels in the sum with another tree. It allocates nothing.
@@ -107,9 +104,9 @@ impl Tree {
             size,
             degree,
         } = self;
-        let gone = put_all(&mut terms, &other.terms)?;
-        let size = size + size_of(&other.terms) - 2 * gone;
-        let degree = (degree + other.degree).saturating_sub(gone);
+        let gone = put_all(&mut terms, other.terms())?;
+        let size = size + size_of(other.terms()) - 2 * gone;
+        let degree = (degree + other.unsigned_degree()).saturating_sub(gone);
         Ok(Tree {
             terms,
             size,

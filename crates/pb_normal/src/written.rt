@@ -20,11 +20,11 @@ impl Normal {
         ensures linear { IfOk result (λ r. r ≡ linear_of names.now self.now) }
         ensures memory { IfErr result (λ e. e ≡ NormalFault.Memory) }
     {
-        let terms = named_terms(self.terms.allocator(), names, &self.terms)?;
+        let terms = named_terms(self.terms().allocator(), names, self.terms())?;
         Ok(Linear {
             terms: Sequence::from_vec(terms),
             relation: Relation::AtLeast,
-            degree: self.degree as i128,
+            degree: self.degree(),
         })
     }
 }

@@ -5,3 +5,4 @@ pub mod root
 pub mod Parts
 pub mod Spans
 pub mod Columns
+pub mod OpenSums

@@ -3,3 +3,4 @@ pub mod clauses
 pub mod engine
 pub mod Parts
 pub mod Columns
+pub mod OpenSums

@@ -1,6 +1,6 @@
 //! A list of values, most of which are zero. It stores only the pages that were written.
 
-ghost use Rattle.std.specs.Prelude.{◌≡◌, ℕ, ◌+◌, ◌-◌, ◌*◌, ◌/◌, ◌^◌, ◌<◌, ◌≤◌, ◌++◌, ◌∷◌, [], length, replicate, take, slice_index_or, slice_set, vec_capacity, IfOk, OnOk, OnErr, IfSome, IfNone, true};
+ghost use Rattle.std.specs.Prelude.{◌≡◌, ℕ, ◌+◌, ◌-◌, ◌*◌, ◌/◌, ◌^◌, ◌<◌, ◌≤◌, ◌++◌, ◌∷◌, [], length, replicate, take, slice_index_or, slice_set, vec_capacity, IfOk, OnOk, OnErr, IfSome, IfNone, true, false};
 ghost use Rattle.pb_propagate.specs.engine.Columns.{nowhere, start_of, value_at, values_of, ArePages};
 
 use std::alloc::{AllocError, Global};
@@ -22,7 +22,8 @@ pub trait Zero: Drop {
 
     /// Whether it is that value.
     fn is_zero(&self) -> bool
-        ensures { result ≡ true → self.now ≡ zero };
+        ensures yes { result ≡ true → self.now ≡ zero }
+        ensures no { result ≡ false → self.now ≡ zero → ⊥ };
 }
 
 impl Zero for u128 {
@@ -30,6 +31,20 @@ impl Zero for u128 {
 
     #[inline]
     fn zero() -> u128 {
+        0
+    }
+
+    #[inline]
+    fn is_zero(&self) -> bool {
+        *self == 0
+    }
+}
+
+impl Zero for u32 {
+    ghost zero = { 0 };
+
+    #[inline]
+    fn zero() -> u32 {
         0
     }
 

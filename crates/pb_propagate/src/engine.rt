@@ -32,6 +32,9 @@ use pb_normal::{Normal, NumberedLiteral};
 use std::alloc::{AllocError, Global};
 use std::marker::Model;
 
+// What is stored in place of a slot for a number whose form was removed.
+const NO_SLOT: u32 = u32::MAX;
+
 /// Forms by number. Propagation over the live ones visits only what it touches.
 #[derive(Drop)]
 pub struct Engine {
@@ -39,9 +42,9 @@ pub struct Engine {
     clauses: Clauses,
     root: Root,
     conflict: Conflict,
-    // For each number the slot of its form, or no slot if the form was removed. The slot of a
+    // For each number the slot of its form, or `NO_SLOT` if the form was removed. The slot of a
     // removed form is used again.
-    places: Vec<usize>,
+    places: Vec<u32>,
     // The slots of removed forms.
     free: Free,
     // Those of the last question.
@@ -160,6 +163,10 @@ impl Engine {
         ensures visits { OnOk result (self.new.visits ≡ self.old.visits) }
         ensures ready { OnOk result (self.new.spent ≡ false) }
     {
+        // The form gets a slot below `NO_SLOT`, and so does the goal of a question after it.
+        if self.store.stored.len() >= NO_SLOT as usize - 1 {
+            return Err(AllocError);
+        }
         self.spent = true;
         let slot = empty_slot(
             &mut self.store,
@@ -171,7 +178,7 @@ impl Engine {
         add_form(&mut self.store, &mut self.clauses, assigned, slot, form)?;
         self.root.note(&self.store, slot)?;
         self.root.add(&self.store, &self.clauses, slot)?;
-        self.places.push(slot)?;
+        self.places.push(slot as u32)?;
         self.spent = false;
         Ok(())
     }
@@ -185,11 +192,11 @@ impl Engine {
         ensures visits { self.new.visits ≡ self.old.visits }
         ensures ready { self.new.spent ≡ false }
     {
-        let slot = self.places[number];
+        let slot = self.places[number] as usize;
         if slot >= self.store.stored.len() {
             return;
         }
-        self.places[number] = usize::MAX;
+        self.places[number] = NO_SLOT;
         self.root.remove(&self.store, &self.clauses, slot);
         let units = self.root.units.as_slice();
         self.conflict
@@ -204,7 +211,7 @@ impl Engine {
         ensures some { IfSome result (λ f. slice_index_or self.now.forms number None ≡ Some f.now) }
         ensures none { IfNone result (slice_index_or self.now.forms number None ≡ None) }
     {
-        match self.store.stored.get(self.places[number]) {
+        match self.store.stored.get(self.places[number] as usize) {
             Some(kept) => kept.form(),
             None => None,
         }
@@ -215,7 +222,7 @@ impl Engine {
         requires { number < length self.now.forms }
         ensures { IfOk result (λ f. f ≡ slice_index_or self.now.forms number None) }
     {
-        match self.store.stored.get(self.places[number]) {
+        match self.store.stored.get(self.places[number] as usize) {
             Some(kept) => kept.shared(),
             None => Ok(None),
         }

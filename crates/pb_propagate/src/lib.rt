@@ -11,6 +11,7 @@ mod free;
 mod heads;
 pub mod laws;
 mod lists;
+mod open_sums;
 mod parts;
 mod rests;
 mod run;

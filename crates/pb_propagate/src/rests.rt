@@ -3,13 +3,14 @@
 ghost use Rattle.std.specs.Prelude.{◌≡◌, [], slice_index_or, IfOk};
 
 use crate::column::Column;
+use crate::open_sums::OpenSums;
 use std::alloc::{AllocError, Global};
 
 /// The open sum and the candidate of each form between two questions. A form that has none here
 /// returns to its total, and to its first term.
 #[derive(Drop)]
 pub struct Rests {
-    pub opens: Column<u128>,
+    pub opens: OpenSums,
     pub starts: Column<usize>,
 }
 
@@ -20,7 +21,7 @@ impl Rests {
         ensures starts { result.starts ≡ [] }
     {
         Rests {
-            opens: Column::new(alloc),
+            opens: OpenSums::new(alloc),
             starts: Column::new(alloc),
         }
     }
@@ -30,7 +31,7 @@ impl Rests {
         ensures opens { IfOk result (λ rests. rests.opens ≡ []) }
         ensures starts { IfOk result (λ rests. rests.starts ≡ []) }
     {
-        let opens = Column::with_capacity(alloc, forms)?;
+        let opens = OpenSums::with_capacity(alloc, forms)?;
         let starts = Column::with_capacity(alloc, forms)?;
         Ok(Rests { opens, starts })
     }

@@ -19,6 +19,7 @@ use crate::clauses::Clauses;
 use crate::column::Column;
 use crate::engine::visits::Visits;
 use crate::heads::{Heads, Order, mark, next_walk};
+use crate::open_sums::OpenSums;
 use crate::rests::Rests;
 use crate::store::stored_form::is_below;
 use crate::store::{Store, Visited, visit, visit_term, weight_of};
@@ -29,7 +30,7 @@ use std::alloc::AllocError;
 /// A propagation in progress.
 #[derive(Drop)]
 pub struct Run {
-    pub opens: Column<u128>,
+    pub opens: OpenSums,
     pub candidates: Column<usize>,
     pub assignment: Assignment,
     pub work: Vec<usize>,

@@ -29,8 +29,27 @@ use std::alloc::{AllocError, Global};
 /// other modules learn them only by `visit`.
 #[derive(Clone, Copy)]
 pub struct Occurrence {
-    form: usize,
-    index: usize,
+    form: u32,
+    index: u32,
+}
+
+impl Occurrence {
+    ghost use Rattle.std.specs.Prelude.{◌≡◌, ◌≤◌, ◌^◌, ◌⊎◌, IfOk, OnErr};
+
+    // An entry for a term of a form. Both numbers must fit in 4 bytes.
+    fn of(form: usize, index: usize) -> Result<Occurrence, AllocError>
+        ensures ok { IfOk result (λ entry. entry ≡ record { form = form; index = index }) }
+        ensures err { OnErr result ((2 ^ 32 ≤ form) ⊎ (2 ^ 32 ≤ index)) }
+    {
+        let largest = u32::MAX as usize;
+        if form > largest || index > largest {
+            return Err(AllocError);
+        }
+        Ok(Occurrence {
+            form: form as u32,
+            index: index as u32,
+        })
+    }
 }
 
 /// An entry that was visited. Only `visit` makes one.
@@ -80,8 +99,8 @@ pub fn visit(entries: &[Occurrence], i: usize, visits: &mut Visits) -> Visited
     visits.count();
     let entry = entries[i];
     Visited {
-        form: entry.form,
-        index: entry.index,
+        form: entry.form as usize,
+        index: entry.index as usize,
     }
 }
 

@@ -20,6 +20,7 @@ use crate::column::Column;
 use crate::engine::conflict::Conflict;
 use crate::engine::visits::Visits;
 use crate::heads::{Heads, Order, Walked};
+use crate::open_sums::OpenSums;
 use crate::rests::Rests;
 use crate::run::{Run, place_of, propagate, queue, undo_forms};
 use crate::store::Store;
@@ -141,7 +142,7 @@ fn run_for(alloc: Global, variables: usize, forms: usize) -> Result<Run, AllocEr
     ensures trail { IfOk result (λ run. run.trail.items ≡ []) }
     ensures next { IfOk result (λ run. run.next ≡ 0) }
 {
-    let opens = Column::with_capacity(alloc, forms)?;
+    let opens = OpenSums::with_capacity(alloc, forms)?;
     let candidates = Column::with_capacity(alloc, forms)?;
     let assignment = Assignment::with_capacity(alloc, variables)?;
     Ok(Run {
@@ -163,7 +164,7 @@ impl Root {
     {
         Root {
             run: Run {
-                opens: Column::new(alloc),
+                opens: OpenSums::new(alloc),
                 candidates: Column::new(alloc),
                 assignment: Assignment::new(alloc),
                 work: Vec::new(alloc),

@@ -2,7 +2,7 @@
 
 #![tactic(auto, using(crate::proofs::rulesets::Store::occurrence_lists))]
 
-ghost use Rattle.std.specs.Prelude.{◌≡◌, ℕ, List, All, Some, None, ◌+◌, ◌-◌, ◌*◌, ◌/◌, ◌<◌, ◌≤◌, ◌^◌, ◌++◌, ◌∷◌, [], true, length, take, sum_by, IfOk, OnOk, OnErr, slice_get, slice_index_or, slice_set, swap_remove};
+ghost use Rattle.std.specs.Prelude.{◌≡◌, ℕ, List, All, Some, None, ◌+◌, ◌-◌, ◌*◌, ◌/◌, ◌<◌, ◌≤◌, ◌^◌, ◌++◌, ◌∷◌, [], length, take, sum_by, IfOk, OnOk, OnErr, slice_get, slice_index_or, slice_set, swap_remove};
 ghost use Rattle.pb_propagate.specs.declared.term.Term.{Term};
 ghost use Rattle.pb_propagate.specs.declared.store.Occurrence.{Occurrence};
 ghost use Rattle.pb_propagate.specs.declared.store.spots.Spots.{Spots};
@@ -31,7 +31,7 @@ use crate::store::spots::Spots;
 use crate::store::stored_form::StoredForm;
 use crate::store::unit_form::UnitForm;
 use crate::store::{Occurrence, Store};
-use pb_normal::{Normal, NumberedLiteral};
+use pb_normal::Normal;
 use std::alloc::{AllocError, Global};
 
 // The degree plus the largest coefficient. With an open sum of that size a form propagates nothing
@@ -109,14 +109,15 @@ fn link(
     'terms: for i in 0..kept.len() {
         let term = kept.term(i);
         let place = place_of(term.literal);
-        let spot = lists.push(place, Occurrence { form, index: i })?;
+        let entry = Occurrence::of(form, i)?;
+        let spot = lists.push(place, entry)?;
         spots.add(alloc, spot)?;
     }
     Ok(())
 }
 
 // Removes an entry from a list. The last entry of the list moves to its position.
-fn take_out(lists: &mut Lists<Occurrence>, spots: &mut Column<Spots>, place: usize, spot: usize)
+fn take_out(lists: &mut Lists<Occurrence>, spots: &mut Column<Spots>, place: usize, spot: u32)
     requires place { place < length lists.old }
     requires spot { spot < length (slice_index_or lists.old place []) }
     requires named { (e : Occurrence) →
@@ -132,16 +133,17 @@ fn take_out(lists: &mut Lists<Occurrence>, spots: &mut Column<Spots>, place: usi
     ensures spots { Moved (slice_index_or lists.old place []) spot
         (spots_of spots.old) (spots_of spots.new) }
 {
-    let removed = lists.swap_remove(place, spot);
+    let removed = lists.swap_remove(place, spot as usize);
     if let Some(moved) = removed.moved {
-        let mut kept = spots.take(moved.form);
-        kept.set(moved.index, spot);
-        spots.set(moved.form, kept);
+        let form = moved.form as usize;
+        let mut kept = spots.take(form);
+        kept.set(moved.index as usize, spot);
+        spots.set(form, kept);
     }
 }
 
 // The position of the entry of a form's term.
-fn spot_at(spots: &Column<Spots>, form: usize, index: usize) -> usize
+fn spot_at(spots: &Column<Spots>, form: usize, index: usize) -> u32
     requires form { form < length spots.now }
     requires index { index < length (slice_index_or (spots_of spots.now) form []) }
     ensures { (kept : Spots) × (kept ≡ slice_index_or spots.now form kept) ×

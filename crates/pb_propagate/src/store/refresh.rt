@@ -67,8 +67,9 @@ pub fn refresh_all(store: &Store, root: &mut Root, literal: NumberedLiteral)
     let place = place_of(literal);
     'entries: for j in 0..store.occurrences.count(place) {
         let entry = store.occurrences.get(place, j);
-        let opened = root.run.opens.get(entry.form);
-        refresh(store, root, entry.form, opened);
+        let form = entry.form as usize;
+        let opened = root.run.opens.get(form);
+        refresh(store, root, form, opened);
     }
 }
 
@@ -90,9 +91,10 @@ pub fn lift_all(store: &Store, root: &mut Root, literal: NumberedLiteral)
     let place = place_of(literal);
     'entries: for j in 0..store.occurrences.count(place) {
         let entry = store.occurrences.get(place, j);
-        let kept = &store.stored[entry.form];
-        let before = root.run.opens.get(entry.form);
-        let opened = before + kept.term(entry.index).coefficient;
-        refresh(store, root, entry.form, opened);
+        let form = entry.form as usize;
+        let kept = &store.stored[form];
+        let before = root.run.opens.get(form);
+        let opened = before + kept.term(entry.index as usize).coefficient;
+        refresh(store, root, form, opened);
     }
 }

@@ -1,6 +1,6 @@
 //! The positions of a form's entries in the occurrence lists.
 
-ghost use Rattle.std.specs.Prelude.{◌≡◌, ◌<◌, ◌++◌, ◌∷◌, [], length, slice_index_or, slice_set, IfOk, OnOk};
+ghost use Rattle.std.specs.Prelude.{◌≡◌, ◌<◌, ◌≤◌, ◌^◌, ◌++◌, ◌∷◌, [], length, slice_index_or, slice_set, IfOk, OnOk, OnErr};
 ghost use Rattle.pb_propagate.specs.engine.engine.Spots.{spots_in};
 
 use crate::column::Zero;
@@ -13,9 +13,20 @@ pub enum Spots {
     /// Those of no term.
     Empty,
     /// That of the only term.
-    One(usize),
+    One(u32),
     /// Those of several terms.
-    Many(Box<Vec<usize>>),
+    Many(Box<Vec<u32>>),
+}
+
+// A position as it is stored. It must fit in 4 bytes.
+fn narrow(spot: usize) -> Result<u32, AllocError>
+    ensures ok { IfOk result (λ s. s ≡ spot) }
+    ensures err { OnErr result (2 ^ 32 ≤ spot) }
+{
+    if spot > u32::MAX as usize {
+        return Err(AllocError);
+    }
+    Ok(spot as u32)
 }
 
 impl Zero for Spots {
@@ -55,6 +66,7 @@ impl Spots {
     pub fn add(&mut self, alloc: Global, spot: usize) -> Result<(), AllocError>
         ensures { OnOk result (spots_in self.new ≡ spots_in self.old ++ spot ∷ []) }
     {
+        let spot = narrow(spot)?;
         match self {
             Spots::Empty => *self = Spots::One(spot),
             Spots::One(first) => {
@@ -70,7 +82,7 @@ impl Spots {
     }
 
     /// The position of a term's entry.
-    pub fn get(&self, index: usize) -> usize
+    pub fn get(&self, index: usize) -> u32
         requires { index < length (spots_in self.now) }
         ensures { result ≡ slice_index_or (spots_in self.now) index result }
     {
@@ -82,7 +94,7 @@ impl Spots {
     }
 
     /// Writes the position of a term's entry.
-    pub fn set(&mut self, index: usize, spot: usize)
+    pub fn set(&mut self, index: usize, spot: u32)
         requires { index < length (spots_in self.old) }
         ensures { spots_in self.new ≡ slice_set (spots_in self.old) index spot }
     {

@@ -6,7 +6,7 @@ use Rattle.pb_propagate.proofs.column.store.Goals as goal
 pub returns-then-is_zero-clause-values : goal.returns-then-is_zero-clause-values
 returns-then-is_zero-clause-values g c =
     let items = c.args.items.now in let pages = c.args.pages.now.items in
-    rw (c.is_zero.ensures c.if-is_zero.true) (no_write g.T.Zero.zero pages items.items items.cap c.args.index (start_of pages (c.args.index / 64)) c.requires.pages items.small refl c.requires.absent)
+    rw (c.is_zero.ensures.yes c.if-is_zero.true) (no_write g.T.Zero.zero pages items.items items.cap c.args.index (start_of pages (c.args.index / 64)) c.requires.pages items.small refl c.requires.absent)
 
 pub returns-clause-values : goal.returns-clause-values
 returns-clause-values g c =

@@ -2,7 +2,7 @@
 use Rattle.pb_propagate.proofs.Common.{pushed, get_or_default, All-push, stored_form, ℕ, ◌/◌, ◌<◌, ◌∙◌, ◌∷◌, ◌≡◌, [], ap, arith, Bool, get_or, get_or-set_other}
 use Rattle.pb_propagate.proofs.lemmas.{clauses.Heads.KeepsFallen, clauses.Heads.walks-kept, root.Ready.IsTidyRoot, engine.Literals.get_or-push_default}
 use Rattle.pb_propagate.proofs.Common.{length, length-append, List, set, subst, sym, true, both_ways, Option, slice_get, Some, cases_eq, get_or_append_left}
-use Rattle.pb_propagate.proofs.Common.{get_or_push, length-map, get_or_from_slice_get, slice_get-get_or, slice_get_within, NumberedLiteral, Clauses, Watch, ◌+◌}
+use Rattle.pb_propagate.proofs.Common.{get_or_push, length-map, get_or_from_slice_get, slice_get-get_or, slice_get_within, NumberedLiteral, Clauses, Watch, ◌+◌, ◌≤◌}
 use Rattle.pb_propagate.proofs.Common.{Waiting, Rests, Run, Store, StoredForm, list_at, watch_at, AreStored, all_of, clauses_of, joined, one_term, slot_shape}
 use Rattle.pb_propagate.proofs.Common.{Walked, beside, Grown, IsCalm, IsCounted, IsTidy, shapes_of, stored_shape, HaveReasons, open_sum, Shape, HasForm, Form}
 use Rattle.pb_propagate.proofs.Common.{HasGained, RunIsWidened, IsRooted, AreFree, AreSet, IsFreePair, None, Pair, map, slice_get-map, length-set, IsAbsent}
@@ -131,6 +131,10 @@ gained-filled before store old clauses slot k variables keeps filled watched v n
     let bare : (x : Shape) → slice_get (all_of before old) slot ≡ Some x → x.terms ≡ [] = λ x at.
     grind (arith, get_or_from_slice_get (all_of before old) slot x x at, joined-at (shapes_of before.stored.items) (clauses_of old) slot x v.inside, v.clause, v.terms x) in
     grind (arith, full, empty, bare, length-set, get-set_other)
+
+-- at most one slot came
+pub widened-length : (before mid : Store) (old between : Clauses) (slot : ℕ) → HasWidened before old mid between slot → length (forms_of mid.stored.items) ≤ length before.stored.items + 1
+widened-length before mid old between slot w = grind (arith, w.kept, length-append, forms-length)
 
 -- a slot came, and then a form
 pub gained-both : (before mid store : Store) (old between clauses : Clauses) (slot : ℕ) → mid.variables ≡ before.variables → HasWidened before old mid between slot → HasGained mid between store clauses slot → HasGained before old store clauses slot

@@ -1,9 +1,10 @@
 -- The forms by number, which are stored by slot.
-use Rattle.pb_propagate.proofs.Common.{ℕ, ◌++◌, ◌-◌, ◌<◌, ◌^◌, ◌∙◌, ◌∷◌, ◌≡◌, ◌≤◌, [], ap, arith, get_or, get_or-set_other, get_or-set_same, inl, inr, length}
+use Rattle.pb_propagate.proofs.Common.{ℕ, ◌++◌, ◌<◌, ◌∙◌, ◌∷◌, ◌≡◌, ◌≤◌, [], ap, arith, get_or, get_or-set_other, get_or-set_same, inl, inr, length}
 use Rattle.pb_propagate.proofs.Common.{length-append, length-set, List, None, refl, set, suc, sym, zero, Option, slice_get, Some, sum_by, cases_eq, get_or-map}
 use Rattle.pb_propagate.proofs.Common.{get_or_append_left, get_or_past, length-map, map-append, set-get_or, sum_by-cons, sum_by-set, sum_by_push, numbered}
 use Rattle.pb_propagate.proofs.Common.{get_or_from_slice_get, slice_get-get_or, slice_get_within, Form, StoredForm, forms_of, Shape, Live, ArePlaced, form_at}
 use Rattle.{pb_propagate.proofs.Common.With, pb_propagate.proofs.lemmas.engine.Bridge.AreKept, std.proofs.lemmas.Grind.get_or-set_at}
+use Rattle.pb_propagate.specs.engine.engine.Slots.{no_slot}
 use Rattle.pb_propagate.proofs.lemmas.store.Gets.{get-set_at, get-set_other, get-push_less, get-push_other, get-push_same}
 
 pub at-inside : (forms : List (Option Form)) (s : ℕ) (f : Form) → form_at forms s ≡ Some f → s < length forms
@@ -58,30 +59,30 @@ agree-sum w z e [] (y ∷ ys) h = omega (arith, agree-sum w z e [] ys (λ s. h (
 agree-sum w z e (x ∷ xs) [] h = omega (arith, agree-sum w z e xs [] (λ s. h (suc s)), sum_by-cons w x xs, h 0, e)
 agree-sum w z e (x ∷ xs) (y ∷ ys) h = omega (arith, agree-sum w z e xs ys (λ s. h (suc s)), sum_by-cons w x xs, sum_by-cons w y ys, h 0)
 
-pub placed-agree : (forms forms' : List (Option Form)) (places : List ℕ) → ((s : ℕ) → form_at forms' s ≡ form_at forms s) → ArePlaced forms places → ArePlaced forms' places
-placed-agree forms forms' places h p =
+pub placed-agree : (forms forms' : List (Option Form)) (places : List ℕ) → ((s : ℕ) → form_at forms' s ≡ form_at forms s) → length forms' < no_slot → ArePlaced forms places → ArePlaced forms' places
+placed-agree forms forms' places h short p =
     let sums : (w : Option Form → ℕ) → w None ≡ 0 → sum_by w forms' ≡ sum_by w forms = λ w z. agree-sum w None z forms' forms (λ s. ap w (h s)) in
-    grind (arith, p.live, p.single, p.placed, numbered-same, p.alike, sums)
+    grind (arith, p.live, p.single, p.placed, numbered-same, p.alike, sums, short)
 
 -- a form is stored in an empty slot
 slot-empty : (forms : List (Option Form)) (slot : ℕ) → slice_get forms slot ≡ Some None → form_at forms slot ≡ None
 slot-empty forms slot h = get_or_from_slice_get forms slot None None h
 
-slot-free : (forms : List (Option Form)) (places : List ℕ) (slot n : ℕ) → slice_get forms slot ≡ Some None → slot < 2 ^ 64 - 1 → ArePlaced forms places → slice_get places n ≡ Some slot → ⊥
-slot-free forms places slot n none small p h = grind (arith, p.live n slot h, slot-empty forms slot none, small)
+slot-free : (forms : List (Option Form)) (places : List ℕ) (slot n : ℕ) → slice_get forms slot ≡ Some None → ArePlaced forms places → slice_get places n ≡ Some slot → ⊥
+slot-free forms places slot n none p h = grind (arith, p.live n slot h, slot-empty forms slot none, slice_get_within forms slot None none, p.short)
 
-pub numbered-filled : (forms : List (Option Form)) (places : List ℕ) (slot : ℕ) (f : Form) → slice_get forms slot ≡ Some None → slot < 2 ^ 64 - 1 → ArePlaced forms places → numbered (set forms slot (Some f)) places ≡ numbered forms places
-numbered-filled forms places slot f none small p =
-    numbered-same forms (set forms slot (Some f)) places (λ n s h. get_or-set_other forms slot s (Some f) None (λ e. slot-free forms places slot n none small p (h ∙ ap (λ z. Some z) e)))
+pub numbered-filled : (forms : List (Option Form)) (places : List ℕ) (slot : ℕ) (f : Form) → slice_get forms slot ≡ Some None → ArePlaced forms places → numbered (set forms slot (Some f)) places ≡ numbered forms places
+numbered-filled forms places slot f none p =
+    numbered-same forms (set forms slot (Some f)) places (λ n s h. get_or-set_other forms slot s (Some f) None (λ e. slot-free forms places slot n none p (h ∙ ap (λ z. Some z) e)))
 
-pub numbered-grown : (forms : List (Option Form)) (places : List ℕ) (slot : ℕ) (f : Form) → slice_get forms slot ≡ Some None → slot < 2 ^ 64 - 1 → ArePlaced forms places → numbered (set forms slot (Some f)) (places ++ (slot ∷ [])) ≡ numbered forms places ++ (Some f ∷ [])
-numbered-grown forms places slot f none small p = grind (arith, get_or-set_same, slice_get_within, map-append, numbered-filled)
+pub numbered-grown : (forms : List (Option Form)) (places : List ℕ) (slot : ℕ) (f : Form) → slice_get forms slot ≡ Some None → ArePlaced forms places → numbered (set forms slot (Some f)) (places ++ (slot ∷ [])) ≡ numbered forms places ++ (Some f ∷ [])
+numbered-grown forms places slot f none p = grind (arith, get_or-set_same, slice_get_within, map-append, numbered-filled)
 
-pub placed-filled : (forms : List (Option Form)) (places : List ℕ) (slot : ℕ) (f : Form) → slice_get forms slot ≡ Some None → slot < 2 ^ 64 - 1 → ArePlaced forms places → ArePlaced (set forms slot (Some f)) (places ++ (slot ∷ []))
-placed-filled forms places slot f none small p =
+pub placed-filled : (forms : List (Option Form)) (places : List ℕ) (slot : ℕ) (f : Form) → slice_get forms slot ≡ Some None → ArePlaced forms places → ArePlaced (set forms slot (Some f)) (places ++ (slot ∷ []))
+placed-filled forms places slot f none p =
     let inside = slice_get_within forms slot None none in
     let here = get_or-set_same forms slot (Some f) None inside in
-    let free : (n : ℕ) → slice_get places n ≡ Some slot → ⊥ = λ n h. slot-free forms places slot n none small p h in
+    let free : (n : ℕ) → slice_get places n ≡ Some slot → ⊥ = λ n h. slot-free forms places slot n none p h in
     let kept : (n s : ℕ) → slice_get places n ≡ Some s → form_at (set forms slot (Some f)) s ≡ form_at forms s =
     λ n s h. get_or-set_other forms slot s (Some f) None (λ e. free n (h ∙ ap (λ z. Some z) e)) in
     record {
@@ -103,7 +104,8 @@ placed-filled forms places slot f none small p =
       ];
       alike = λ w z.
           let change = sum_by-set w forms slot (Some f) None inside in
-          omega (arith, ap (sum_by w) (numbered-grown forms places slot f none small p), sum_by_push w (numbered forms places) (Some f), p.alike w z, change, ap w (slot-empty forms slot none), z);
+          omega (arith, ap (sum_by w) (numbered-grown forms places slot f none p), sum_by_push w (numbered forms places) (Some f), p.alike w z, change, ap w (slot-empty forms slot none), z);
+      short = omega (arith, p.short, length-set forms slot (Some f));
     }
 
 -- a form is removed from its slot
@@ -116,24 +118,24 @@ pub record IsTaken (forms : List (Option Form)) (places : List ℕ) (number slot
   pub form : Form
   pub got : slice_get places number ≡ Some slot
   pub at : form_at forms slot ≡ Some form
-  pub short : length forms ≤ 2 ^ 64 - 1
+  pub short : length forms < no_slot
 
-pub taken-by : (forms : List (Option Form)) (places : List ℕ) (number s : ℕ) → number < length places → s ≡ get_or places number s → s < length forms → length forms ≤ 2 ^ 64 - 1 → ArePlaced forms places → IsTaken forms places number s
-taken-by forms places number s inside is less short p = grind (arith, slice_get-get_or, p.live)
+pub taken-by : (forms : List (Option Form)) (places : List ℕ) (number s : ℕ) → number < length places → s ≡ get_or places number s → s < length forms → ArePlaced forms places → IsTaken forms places number s
+taken-by forms places number s inside is less p = grind (arith, slice_get-get_or, p.live, p.short)
 
-none-past : (forms : List (Option Form)) (s : ℕ) → length forms ≤ 2 ^ 64 - 1 → form_at (set forms s None) (2 ^ 64 - 1) ≡ None
-none-past forms s short = get_or_past (set forms s None) (2 ^ 64 - 1) None (omega (arith, short, length-set forms s None))
+none-past : (forms : List (Option Form)) (s : ℕ) → length forms < no_slot → form_at (set forms s None) no_slot ≡ None
+none-past forms s short = get_or_past (set forms s None) no_slot None (omega (arith, short, length-set forms s None))
 
-pub numbered-left : (forms : List (Option Form)) (places : List ℕ) (number slot : ℕ) → (t : IsTaken forms places number slot) → ArePlaced forms places → numbered (set forms slot None) (set places number (2 ^ 64 - 1)) ≡ set (numbered forms places) number None
+pub numbered-left : (forms : List (Option Form)) (places : List ℕ) (number slot : ℕ) → (t : IsTaken forms places number slot) → ArePlaced forms places → numbered (set forms slot None) (set places number no_slot) ≡ set (numbered forms places) number None
 numbered-left forms places number slot t p = grind (arith, numbered-set, none-past, t.short, get_or-set_other, p.single, t.got, t.at)
 
-pub placed-left : (forms : List (Option Form)) (places : List ℕ) (number slot : ℕ) → (t : IsTaken forms places number slot) → ArePlaced forms places → ArePlaced (set forms slot None) (set places number (2 ^ 64 - 1))
+pub placed-left : (forms : List (Option Form)) (places : List ℕ) (number slot : ℕ) → (t : IsTaken forms places number slot) → ArePlaced forms places → ArePlaced (set forms slot None) (set places number no_slot)
 placed-left forms places number slot t p =
     let inside = slice_get_within places number slot t.got in
     let within = at-inside forms slot t.form t.at in
     let before : (s : ℕ) (g : Form) → form_at (set forms slot None) s ≡ Some g → form_at forms s ≡ Some g =
     λ s g e. grind (arith, cases_eq s slot, get_or-set_at, get_or-set_other, within) in
-    let still : (n s : ℕ) (g : Form) → slice_get (set places number (2 ^ 64 - 1)) n ≡ Some s → form_at (set forms slot None) s ≡ Some g → slice_get places n ≡ Some s =
+    let still : (n s : ℕ) (g : Form) → slice_get (set places number no_slot) n ≡ Some s → form_at (set forms slot None) s ≡ Some g → slice_get places n ≡ Some s =
     λ n s g h e. grind (arith, cases_eq n number, get-set_at, get-set_other, inside, none-past forms slot t.short) in
     record {
       live = λ n s h.
@@ -145,6 +147,7 @@ placed-left forms places number slot t p =
           let one = sum_by-set w (numbered forms places) number None None room in
           let two = sum_by-set w forms slot None None within in
           omega (arith, ap (sum_by w) (numbered-left forms places number slot t p), one, two, p.alike w z, ap w (numbered-at forms places number slot None t.got));
+      short = omega (arith, t.short, length-set forms slot None);
     }
 
 -- removing the form of a number without a slot changes nothing
@@ -155,8 +158,8 @@ numbered-none forms places number s inside is past =
     sym (ap (set (numbered forms places) number) (sym none) ∙ set-get_or (numbered forms places) number None)
 
 -- one more form, which no number names
-numbered-more : (forms : List (Option Form)) (o : Option Form) (places : List ℕ) → length forms < 2 ^ 64 - 1 → ArePlaced forms places → numbered (forms ++ (o ∷ [])) places ≡ numbered forms places
-numbered-more forms o places small p = numbered-same forms (forms ++ (o ∷ [])) places (λ n s h. grind (arith, p.live n s h, at-inside forms s, get_or_past, get_or_append_left, length-append, small))
+numbered-more : (forms : List (Option Form)) (o : Option Form) (places : List ℕ) → ArePlaced forms places → numbered (forms ++ (o ∷ [])) places ≡ numbered forms places
+numbered-more forms o places p = numbered-same forms (forms ++ (o ∷ [])) places (λ n s h. grind (arith, p.live n s h, at-inside forms s, get_or_past, get_or_append_left, length-append, p.short))
 
-pub numbered-entered : (keep keep' : List StoredForm) (k : StoredForm) (places : List ℕ) → keep' ≡ keep ++ (k ∷ []) → length keep < 2 ^ 64 - 1 → ArePlaced (forms_of keep) places → numbered (forms_of keep') places ≡ numbered (forms_of keep) places
-numbered-entered keep keep' k places same small p = grind (arith, map-append, numbered-more, length-map)
+pub numbered-entered : (keep keep' : List StoredForm) (k : StoredForm) (places : List ℕ) → keep' ≡ keep ++ (k ∷ []) → ArePlaced (forms_of keep) places → numbered (forms_of keep') places ≡ numbered (forms_of keep) places
+numbered-entered keep keep' k places same p = grind (arith, map-append, numbered-more)

@@ -11,12 +11,17 @@ form_at forms s = slice_index_or forms s None
 abbrev pub numbered : List (Option Form) → List ℕ → List (Option Form)
 numbered forms places = map (form_at forms) places
 
--- each form has one number; the number of a removed form has no slot
+-- what stands for the slot of a removed form
+abbrev pub no_slot : ℕ
+no_slot = 2 ^ 32 - 1
+
+-- Each form has one number, and the number of a removed form has no slot. One more form has a slot below `no_slot`.
 pub record ArePlaced (forms : List (Option Form)) (places : List ℕ) : Type 0 where
-  pub live : (n s : ℕ) → slice_get places n ≡ Some s → (s ≡ 2 ^ 64 - 1) ⊎ ((f : Form) × (form_at forms s ≡ Some f))
+  pub live : (n s : ℕ) → slice_get places n ≡ Some s → (s ≡ no_slot) ⊎ ((f : Form) × (form_at forms s ≡ Some f))
   pub single : (m n s : ℕ) (f : Form) → slice_get places m ≡ Some s → slice_get places n ≡ Some s → form_at forms s ≡ Some f → m ≡ n
   pub placed : (s : ℕ) (f : Form) → form_at forms s ≡ Some f → (n : ℕ) × (slice_get places n ≡ Some s)
   pub alike : (w : Option Form → ℕ) → w None ≡ 0 → sum_by w (numbered forms places) ≡ sum_by w forms
+  pub short : length forms < no_slot
 
 -- a form may be stored in the slot as a clause of these codes, of which two are watched
 pub record MayHold (store : Store) (c : Clauses) (s : ℕ) (form : Form) (xs : List ℕ) (p : Pair) : Type 0 where

@@ -1,16 +1,14 @@
-use Rattle.pb_normal.proofs.{Common.Form, lemmas.terms.Maps.IsNormal-negation, lemmas.terms.Maps.Holds-negation, lemmas.terms.Maps.Holds-negation_back}
+use Rattle.pb_normal.proofs.lemmas.terms.Maps.{IsNormal-negation, Holds-negation, Holds-negation_back}
 use Rattle.pb_normal.proofs.form.Normal.negation.Goals as goal
 
-pub invariant_of-result : goal.invariant_of-result
-invariant_of-result c =
-    let degree = rw (← c.self.view_is) at c.requires in
-    rw (c.wide.ensures.same, c.in_ok-terms.ensures, c.saturating_sub-degree.ensures, c.size_of.ensures) (IsNormal-negation _ degree c.self.invariant)
+pub of-requires : goal.of-requires
+of-requires c = record {
+  normal = rw (c.wide.ensures.same, c.in_ok-terms.ensures, c.terms-2.ensures.terms, c.saturating_sub-degree.ensures, c.size_of.ensures, c.terms-3.ensures.terms, c.unsigned_degree.ensures.degree) (IsNormal-negation _ c.requires c.terms.ensures.normal);
+}
 
 pub returns-clause-normal : goal.returns-clause-normal
-returns-clause-normal c = invariant_of-result c
+returns-clause-normal c = rw (c.in_ok-form.ensures.same, c.wide.ensures.same, c.in_ok-terms.ensures, c.terms-2.ensures.terms, c.saturating_sub-degree.ensures, c.size_of.ensures, c.terms-3.ensures.terms, c.unsigned_degree.ensures.degree) (IsNormal-negation _ c.requires c.terms.ensures.normal)
 
 pub returns-clause-opposite : goal.returns-clause-opposite
 returns-clause-opposite c =
-    let f : Form = record { terms = c.self.inside.terms; degree = c.self.inside.degree } in
-    let degree = rw (← c.self.view_is) at c.requires in
-    rw (c.wide.ensures.same, c.in_ok-terms.ensures, c.saturating_sub-degree.ensures, c.size_of.ensures, ← c.self.view_is) (λ a. (Holds-negation a f degree, Holds-negation_back a f degree))
+    rw (c.in_ok-form.ensures.same, c.wide.ensures.same, c.in_ok-terms.ensures, c.terms-2.ensures.terms, c.saturating_sub-degree.ensures, c.size_of.ensures, c.terms-3.ensures.terms, c.unsigned_degree.ensures.degree) (λ a. (Holds-negation a c.args.self.now c.requires, Holds-negation_back a c.args.self.now c.requires))

@@ -1,8 +1,12 @@
+use Rattle.std.proofs.lemmas.Result.{IfOk-weaker}
+use Rattle.pb_normal.proofs.Common.{◌≡◌}
 use Rattle.pb_normal.proofs.lemmas.rules.Scales.{IsNormal-saturated}
 use Rattle.pb_normal.proofs.form.Normal.saturated.Goals as goal
 
-pub invariant_of-result : goal.invariant_of-result
-invariant_of-result c = rw (c.wide.ensures.same, c.saturate_all.ensures, c.in_ok-terms.ensures.same) (IsNormal-saturated _ c.self.invariant)
+pub of-requires : goal.of-requires
+of-requires c = record {
+  normal = rw (c.wide.ensures.same, c.saturate_all.ensures, c.in_ok-terms.ensures.same, c.into_parts-terms.ensures.terms, c.into_parts-terms.ensures.degree) (IsNormal-saturated _ c.into_parts-terms.ensures.normal);
+}
 
 pub returns-clause-normal : goal.returns-clause-normal
-returns-clause-normal c = invariant_of-result c
+returns-clause-normal c = IfOk-weaker _ (λ r. r ≡ record { terms = c.wide.result; degree = c.into_parts-terms.result.1 }) _ (λ r same. rw (same, c.wide.ensures.same, c.saturate_all.ensures, c.in_ok-terms.ensures.same, c.into_parts-terms.ensures.terms, c.into_parts-terms.ensures.degree) (IsNormal-saturated _ c.into_parts-terms.ensures.normal)) c.of.ensures.same

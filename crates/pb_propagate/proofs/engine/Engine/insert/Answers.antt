@@ -1,17 +1,17 @@
-use Rattle.pb_propagate.proofs.Common.{◌-◌, ◌<◌, ◌^◌, ◌∙◌, ◌≡◌, ap, arith, None, rules, slice_get_within, ArePlaced, forms_of, Standing, numbered, length-set}
+use Rattle.pb_propagate.proofs.Common.{◌∙◌, ◌≡◌, ap, arith, rules, slice_get_within, ArePlaced, forms_of, Standing, numbered, length-set}
 use Rattle.pb_propagate.proofs.engine.Engine.insert.Goals.{After-empty_slot, In_ok-slot}
-use Rattle.pb_propagate.proofs.lemmas.{root.Added.gained-both, root.Kept.gained-kept, store.Changes.forms-length}
+use Rattle.pb_propagate.proofs.lemmas.{root.Added.gained-both, root.Added.widened-length, root.Kept.gained-kept, store.Changes.forms-length}
 use Rattle.pb_propagate.proofs.lemmas.store.Placed.{numbered-same, numbered-filled, numbered-grown, placed-agree, placed-filled}
 use Rattle.pb_propagate.proofs.engine.Engine.insert.Goals as goal
 
--- the numbers have their slots still, and the new slot is none that says "no form"
-open-places : (c : In_ok-slot) → (c.in_ok-slot.slot < 2 ^ 64 - 1) × ArePlaced (forms_of c.empty_slot.new.store.stored.items) c.self.inside.places.items
+-- the numbers have their slots still
+open-places : (c : In_ok-slot) → ArePlaced (forms_of c.empty_slot.new.store.stored.items) c.self.inside.places.items
 open-places c =
-    let e = c.self.inside in
+    let e = c.self.inside in let mid = c.empty_slot.new in
     let r = c.self.invariant (ap (λ (v : Standing). v.spent) c.self.view_is ∙ c.requires.ready) in
-    let keep = c.empty_slot.new.store.stored in
-    let forms = forms_of keep.items in
-    (omega (arith, slice_get_within forms c.in_ok-slot.slot None c.in_ok-slot.ensures.slot, keep.ok.0, keep.ok.1, forms-length keep.items), placed-agree (forms_of e.store.stored.items) forms e.places.items c.empty_slot.ensures.forms r.1)
+    let longer = widened-length e.store mid.store e.clauses mid.clauses c.in_ok-slot.slot c.in_ok-slot.ensures.widened in
+    placed-agree (forms_of e.store.stored.items) (forms_of mid.store.stored.items) e.places.items c.empty_slot.ensures.forms
+    (omega (arith, longer, c.if-len.false, c.len.ensures, e.store.stored.ok.0)) r.1
 
 pub invariant_of-self-2 : goal.invariant_of-self-2
 invariant_of-self-2 c = λ ready.
@@ -20,7 +20,7 @@ invariant_of-self-2 c = λ ready.
     let forms = forms_of c.empty_slot.new.store.stored.items in
     let slot = c.in_ok-slot.slot in
     let places = open-places (goal.at.invariant_of-self-2 c).In_ok-slot in
-    (c.in_ok-add_form.ensures.rest, rw (c.in_ok-add_form.ensures.forms, c.in_ok-push.ensures.items) (placed-filled forms e.places.items slot c.args.form c.in_ok-slot.ensures.slot places.0 places.1), c.in_ok-add.ensures, gained-kept e.store c.add_form.new.store e.clauses c.add_form.new.clauses slot e.conflict r.0.slots (gained-both e.store c.empty_slot.new.store c.add_form.new.store e.clauses c.empty_slot.new.clauses c.add_form.new.clauses slot c.empty_slot.ensures.variables c.in_ok-slot.ensures.widened c.in_ok-add_form.ensures.gained) r.3)
+    (c.in_ok-add_form.ensures.rest, rw (c.in_ok-add_form.ensures.forms, c.in_ok-push.ensures.items) (placed-filled forms e.places.items slot c.args.form c.in_ok-slot.ensures.slot places), c.in_ok-add.ensures, gained-kept e.store c.add_form.new.store e.clauses c.add_form.new.clauses slot e.conflict r.0.slots (gained-both e.store c.empty_slot.new.store c.add_form.new.store e.clauses c.empty_slot.new.clauses c.add_form.new.clauses slot c.empty_slot.ensures.variables c.in_ok-slot.ensures.widened c.in_ok-add_form.ensures.gained) r.3)
 
 -- no number has another form yet
 same-forms : (c : After-empty_slot) → numbered (forms_of c.empty_slot.new.store.stored.items) c.self.inside.places.items ≡ c.args.self.now.forms

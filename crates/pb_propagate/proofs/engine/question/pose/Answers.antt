@@ -20,8 +20,7 @@ returns-in_err-open_form-clause-most c = omega (arith, updated-most c.requires.s
 same-forms : (c : In_ok-enter) → HasSameForms c.args.store.now c.enter.new.store
 same-forms c = λ places p.
     let h = c.in_ok-enter.ensures.entered in
-    numbered-entered c.args.store.now.stored.items c.enter.new.store.stored.items h.kept places h.keeps
-    (omega (arith, c.args.store.now.stored.ok.0, c.args.store.now.stored.ok.1)) p
+    numbered-entered c.args.store.now.stored.items c.enter.new.store.stored.items h.kept places h.keeps p
 
 pub returns-in_err-open_form-clause-forms : goal.returns-in_err-open_form-clause-forms
 returns-in_err-open_form-clause-forms c = let same = same-forms (goal.at.returns-in_err-open_form-clause-forms c).In_ok-enter in search (rules, same)

@@ -22,7 +22,7 @@ terms-preserved c =
     let room : p < length occ = omega (arith, c.requires.inside c.terms.i t within, at, ap (λ (x : Term). place x.literal) (c.term-term.ensures t), c.terms.invariant.sizes) in
     let spot : c.in_ok-spot.spot ≡ length (get_or occ (place t.literal) []) = c.in_ok-spot.ensures.position ∙ ap (λ n. length (get_or occ n [])) at in
     let o : Occurrence = record { form = c.args.form; index = c.terms.i } in
-    let pushed = c.in_ok-spot.ensures.ok in
+    let pushed = rw c.in_ok-entry.ensures.ok at c.in_ok-spot.ensures.ok in
     record {
       sizes = ap length pushed ∙ (length-set occ p (get_or occ p [] ++ o ∷ []) ∙ c.terms.invariant.sizes);
       longer = λ q. omega (arith, c.terms.invariant.longer q, longer-push occ c.push.new.self p o room pushed q);
