@@ -13,6 +13,7 @@ use std::alloc::{AllocError, Global};
 // Adds up the terms of each variable and sorts them by variable, where they lie. Also returns the
 // total that cancels, counted once for each pair of opposite literals. If the variables differ, a
 // sort is enough, and one list at most is allocated. If they rise already, nothing is sorted.
+#[inline(always)]
 pub(crate) fn collected(alloc: Global, raw: &mut [Entry]) -> Result<(Terms, u128), AllocError>
     requires { total each raw.old < 2 ^ 127 }
     ensures rising { IfOk result (λ r. IsRising 0 r.0) }

@@ -29,6 +29,7 @@ impl Normal {
     /// `Overflow` comes if and only if the magnitudes of all coefficients and of the degree add up
     /// to more than the limit. It leaves the names as they are. After `Memory` a prefix of the list
     /// of names has appeared.
+    #[inline(always)]
     pub fn from_linear(
         alloc: Global,
         names: &mut Names,
@@ -106,6 +107,7 @@ fn signed(number: i128, side: Side) -> i128
 
 // The terms of the form of that side, over the numbers of their names, and the total that cancels.
 // Up to `FEW` terms are collected without a list, others in a buffer of the names.
+#[inline(always)]
 fn side_terms(
     alloc: Global,
     names: &mut Names,
@@ -133,6 +135,7 @@ fn side_terms(
 }
 
 // The same with a buffer for as many terms.
+#[inline(always)]
 #[tactic(auto, using(crate::proofs::Rulesets::side_terms_in))]
 fn side_terms_in(
     alloc: Global,

@@ -145,6 +145,7 @@ impl Names {
     /// The number of a name. A name without a number gets the next one.
     ///
     /// If an allocation is refused, nothing has changed.
+    #[inline(always)]
     #[tactic(auto, using(crate::proofs::lemmas::names::Tables::added_at, crate::proofs::lemmas::names::Tables::added_has, crate::proofs::lemmas::names::Tables::added_number))]
     pub fn number(&mut self, name: &str) -> Result<usize, AllocError>
         ensures names { OnOk result (self.new ≡ with_name self.old name.now) }

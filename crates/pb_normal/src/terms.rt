@@ -56,7 +56,7 @@ impl Model for Terms {
 
 impl Terms {
     /// These terms, stored in as little memory as they allow. It allocates one list at most.
-    #[inline]
+    #[inline(always)]
     pub(crate) fn of(alloc: Global, terms: &[Entry]) -> Result<Terms, AllocError>
         ensures same { IfOk result (λ r. r ≡ terms.now) }
     {
@@ -240,6 +240,7 @@ fn compacted(mut terms: Vec<Entry>) -> Result<Stored, AllocError>
 }
 
 // These terms, stored in as little memory as they allow.
+#[inline(always)]
 fn stored_of(alloc: Global, terms: &[Entry]) -> Result<Stored, AllocError>
     ensures same { IfOk result (λ r. entries_of r ≡ terms.now) }
 {

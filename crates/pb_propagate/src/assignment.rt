@@ -130,6 +130,7 @@ impl Assignment {
     }
 
     /// Adds a variable.
+    #[inline(always)]
     #[tactic(auto, using(crate::proofs::rulesets::Store::widen))]
     pub fn widen(&mut self) -> Result<(), AllocError>
         ensures values { OnOk result

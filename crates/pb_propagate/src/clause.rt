@@ -33,6 +33,7 @@ fn is_light(entry: Entry) -> bool
 
 /// Whether the constraint is a clause of at least two literals, each with codes that fit in 4
 /// bytes.
+#[inline(always)]
 pub fn is_clause(form: &Normal) -> bool
     ensures yes { result ≡ true → IsClause form.now }
     ensures no { result ≡ false → IsClause form.now → ⊥ }

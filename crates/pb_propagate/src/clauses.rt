@@ -10,6 +10,7 @@ ghost use Rattle.pb_propagate.specs.engine.engine.Root.{IsFree};
 
 pub mod blocks;
 pub mod lists;
+pub mod numbers;
 pub mod reasons;
 pub mod search;
 pub mod visiting;

@@ -25,7 +25,6 @@ use crate::engine::root::Root;
 use crate::engine::visits::Visits;
 use crate::free::Free;
 use crate::lists::Lists;
-use crate::shared::Shared;
 use crate::slots::{add_form, clause_size, empty_slot, remove_form};
 use crate::store::Store;
 use pb_normal::{Normal, NumberedLiteral};
@@ -153,8 +152,8 @@ impl Engine {
         Ok(())
     }
 
-    /// Adds a form after the others. It may have other owners.
-    pub fn insert(&mut self, form: Shared) -> Result<(), AllocError>
+    /// Adds a form after the others.
+    pub fn insert(&mut self, form: Normal) -> Result<(), AllocError>
         requires ready { self.old.spent ≡ false }
         requires inside { All (λ t. t.variable < self.old.variables) form.terms }
         ensures forms { OnOk result (self.new.forms ≡ self.old.forms ++ Some form ∷ []) }
@@ -168,14 +167,17 @@ impl Engine {
             return Err(AllocError);
         }
         self.spent = true;
-        let slot = empty_slot(
+        let count = clause_size(&form);
+        let slot = empty_slot(&mut self.store, &mut self.clauses, &mut self.free, count)?;
+        let assigned = &self.root.run.assignment;
+        add_form(
             &mut self.store,
             &mut self.clauses,
-            &mut self.free,
-            clause_size(form.form()),
+            assigned,
+            slot,
+            count,
+            form,
         )?;
-        let assigned = &self.root.run.assignment;
-        add_form(&mut self.store, &mut self.clauses, assigned, slot, form)?;
         self.root.note(&self.store, slot)?;
         self.root.add(&self.store, &self.clauses, slot)?;
         self.places.push(slot as u32)?;
@@ -192,17 +194,31 @@ impl Engine {
         ensures visits { self.new.visits ≡ self.old.visits }
         ensures ready { self.new.spent ≡ false }
     {
+        self.take(number);
+    }
+
+    /// Removes a form, and returns it if there was one. Its number stays empty.
+    pub fn take(&mut self, number: usize) -> Option<Normal>
+        requires ready { self.old.spent ≡ false }
+        requires number { number < length self.old.forms }
+        ensures forms { self.new.forms ≡ slice_set self.old.forms number None }
+        ensures variables { self.new.variables ≡ self.old.variables }
+        ensures visits { self.new.visits ≡ self.old.visits }
+        ensures ready { self.new.spent ≡ false }
+        ensures was { result ≡ slice_index_or self.old.forms number None }
+    {
         let slot = self.places[number] as usize;
         if slot >= self.store.stored.len() {
-            return;
+            return None;
         }
         self.places[number] = NO_SLOT;
         self.root.remove(&self.store, &self.clauses, slot);
         let units = self.root.units.as_slice();
         self.conflict
             .remove(&self.store, &self.clauses, units, slot);
-        remove_form(&mut self.store, &mut self.clauses, slot);
+        let form = remove_form(&mut self.store, &mut self.clauses, slot);
         self.free.put(slot, self.clauses.room(slot));
+        form
     }
 
     /// The form with this number.
@@ -217,14 +233,17 @@ impl Engine {
         }
     }
 
-    /// One more owner of the form with this number.
-    pub fn shared(&self, number: usize) -> Result<Option<Shared>, AllocError>
+    /// A copy of the form with this number.
+    pub fn copy(&self, number: usize) -> Result<Option<Normal>, AllocError>
         requires { number < length self.now.forms }
         ensures { IfOk result (λ f. f ≡ slice_index_or self.now.forms number None) }
     {
-        match self.store.stored.get(self.places[number] as usize) {
-            Some(kept) => kept.shared(),
-            None => Ok(None),
+        let Some(form) = self.form(number) else {
+            return Ok(None);
+        };
+        match form.copy() {
+            Ok(copy) => Ok(Some(copy)),
+            Err(_) => Err(AllocError),
         }
     }
 

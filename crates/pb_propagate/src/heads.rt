@@ -6,6 +6,7 @@ ghost use Rattle.std.specs.Prelude.{◌≡◌, ◌+◌, ◌-◌, ◌*◌, ◌^�
 ghost use Rattle.pb_propagate.specs.engine.clauses.Walked.{IsAhead};
 
 use crate::clause::{Group, code_of};
+use crate::mark::Mark;
 use pb_normal::NumberedLiteral;
 use std::alloc::{AllocError, Global};
 
@@ -43,25 +44,26 @@ pub struct Walked {
     pub heads: Heads,
     // For each literal of the list, the heads from before it was put. They still hold if the list
     // is cut before that literal.
-    pub marks: Vec<Heads>,
+    pub marks: Vec<Mark>,
 }
 
 // Appends that many marks.
 #[inline(never)]
-fn push_marks(marks: &mut Vec<Heads>, count: usize, heads: Heads) -> Result<(), AllocError>
+fn push_marks(marks: &mut Vec<Mark>, count: usize, heads: Heads) -> Result<(), AllocError>
     ensures { OnOk result (marks.new.items ≡ marks.old.items ++ replicate count heads) }
 {
     let len = marks.len();
     if count > usize::MAX - len {
         return Err(AllocError);
     }
-    marks.resize(len + count, heads)?;
+    let mark = Mark::of(heads)?;
+    marks.resize(len + count, mark)?;
     Ok(())
 }
 
 /// Marks the next literals of a list: each was put when the list was walked up to these heads.
 #[inline]
-pub fn mark(marks: &mut Vec<Heads>, count: usize, heads: Heads) -> Result<(), AllocError>
+pub fn mark(marks: &mut Vec<Mark>, count: usize, heads: Heads) -> Result<(), AllocError>
     ensures { OnOk result (marks.new.items ≡ marks.old.items ++ replicate count heads) }
 {
     if count == 0 {
@@ -90,7 +92,7 @@ impl Walked {
         ensures marks { self.new.marks.items ≡ take count self.old.marks.items }
     {
         self.heads = match self.marks.get(count) {
-            Some(heads) => *heads,
+            Some(mark) => mark.heads(),
             None => Heads::at(0),
         };
         self.marks.truncate(count);

@@ -11,16 +11,16 @@ mod free;
 mod heads;
 pub mod laws;
 mod lists;
+mod mark;
 mod open_sums;
 mod parts;
 mod rests;
 mod run;
-mod shared;
 mod slots;
 mod store;
 mod term;
 mod waiting;
 mod walk;
 
+pub use column::{Column, Zero};
 pub use engine::Engine;
-pub use shared::{Shared, share_each};

@@ -65,13 +65,18 @@ fn room_of(exponent: u8) -> u32
     ((1u64 << exponent) - 1) as u32
 }
 
-// Adds values up to a position.
-fn reach<T: Copy>(items: &mut Vec<T>, at: usize, value: T) -> Result<(), AllocError>
+/// Adds values up to a position.
+#[inline(always)]
+pub fn reach<T: Copy>(items: &mut Vec<T>, at: usize, value: T) -> Result<(), AllocError>
     requires { at + 1 < 2 ^ 64 }
     ensures ok { OnOk result (at < length items.new.items) }
     ensures padded { IsPadded items.old.items items.new.items at value }
 {
     if at < items.len() {
+        return Ok(());
+    }
+    if at == items.len() {
+        items.push(value)?;
         return Ok(());
     }
     items.resize(at + 1, value)?;
@@ -138,6 +143,7 @@ impl Parts {
     }
 
     /// Writes the part of a list. It has the next larger room.
+    #[inline(always)]
     pub fn put(&mut self, list: usize, part: Part) -> Result<(), AllocError>
         requires list { list < length self.old }
         requires room { part.room ≡ 2 * (slice_index_or self.old list nothing).room + 1 }

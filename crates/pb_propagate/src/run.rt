@@ -19,6 +19,7 @@ use crate::clauses::Clauses;
 use crate::column::Column;
 use crate::engine::visits::Visits;
 use crate::heads::{Heads, Order, mark, next_walk};
+use crate::mark::Mark;
 use crate::open_sums::OpenSums;
 use crate::rests::Rests;
 use crate::store::stored_form::is_below;
@@ -221,7 +222,7 @@ pub fn propagate(
     waiting: &[usize],
     order: Order,
     from: Heads,
-    marks: &mut Vec<Heads>,
+    marks: &mut Vec<Mark>,
 ) -> Result<bool, AllocError>
     requires store { IsSound store.now }
     requires waiting { All (λ s. s < length store.now.stored.items) waiting.now }

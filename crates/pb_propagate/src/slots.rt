@@ -14,7 +14,6 @@ use crate::clause::{codes_of, is_clause};
 use crate::clauses::Clauses;
 use crate::clauses::watched::{Pair, pick};
 use crate::free::Free;
-use crate::shared::Shared;
 use crate::store::Store;
 use crate::store::occurrence_lists::{clear_slot, fill, watch, widen};
 use crate::store::stored_form::StoredForm;
@@ -37,6 +36,7 @@ fn left_slot(kept: &[StoredForm], free: &mut Free, count: usize) -> Option<usize
 pub fn clause_size(form: &Normal) -> usize
     ensures clause { IsClause form.now → result ≡ length form.now.terms }
     ensures other { (IsClause form.now → ⊥) → result ≡ 0 }
+    ensures found { 0 < result → IsClause form.now }
 {
     if !is_clause(form) {
         return 0;
@@ -82,25 +82,27 @@ struct Planned {
 }
 
 // How a form is stored if it is a clause that can be watched: it has two literals that the assigned
-// ones do not falsify, and the slot has room for it.
+// ones do not falsify, and the slot has room for it. A count of 0 says that it is no clause.
 fn plan(
     form: &Normal,
+    count: usize,
     assigned: &Assignment,
     clauses: &mut Clauses,
     slot: usize,
 ) -> Result<Option<Planned>, AllocError>
     requires ready { AreReady clauses.old }
     requires slot { slot < length clauses.old.blocks.literals }
+    requires clause { 0 < count → IsClause form.now }
     ensures planned { IfOk result (λ planned. IfSome planned (λ p. IsPlanned form.now p ×
         CanHold clauses.new slot (length p.codes.items))) }
     ensures free { IfOk result (λ planned. IfSome planned (λ p.
         IsFreePair assigned.now.values.items p.codes.items p.pair)) }
     ensures clauses { IsRefitted clauses.old clauses.new }
 {
-    if !is_clause(form) {
+    if count == 0 {
         return Ok(None);
     }
-    let empty = clauses.codes_for(form.len())?;
+    let empty = clauses.codes_for(count)?;
     let codes = codes_of(form.terms(), empty)?;
     let Some(pair) = pick(assigned, codes.as_slice()) else {
         return Ok(None);
@@ -112,17 +114,19 @@ fn plan(
 }
 
 /// Stores a form in an empty slot. A clause of which the assigned literals falsify all but one or
-/// all is stored with its entries.
+/// all is stored with its entries. The count is the form's `clause_size`.
 pub fn add_form(
     store: &mut Store,
     clauses: &mut Clauses,
     assigned: &Assignment,
     slot: usize,
-    form: Shared,
+    count: usize,
+    form: Normal,
 ) -> Result<(), AllocError>
     requires rest { IsAtRest store.old clauses.old (forms_of store.old.stored.items) }
     requires slot { slice_get (forms_of store.old.stored.items) slot ≡ Some None }
     requires inside { All (λ t. t.variable < store.old.variables) form.terms }
+    requires clause { 0 < count → IsClause form }
     ensures rest { OnOk result (
         IsAtRest store.new clauses.new (forms_of store.new.stored.items)) }
     ensures forms { OnOk result (forms_of store.new.stored.items ≡ slice_set
@@ -134,7 +138,7 @@ pub fn add_form(
         forms_of store.new.stored.items ≡ forms_of store.old.stored.items) }
     ensures variables { store.new.variables ≡ store.old.variables }
 {
-    if let Some(planned) = plan(form.form(), assigned, clauses, slot)? {
+    if let Some(planned) = plan(&form, count, assigned, clauses, slot)? {
         watch(store, clauses, slot, form, planned.codes, planned.pair)?;
         return Ok(());
     }
@@ -142,16 +146,17 @@ pub fn add_form(
     Ok(())
 }
 
-/// Removes the form of a slot, which is then empty.
-pub fn remove_form(store: &mut Store, clauses: &mut Clauses, slot: usize)
+/// Removes the form of a slot, which is then empty, and returns it.
+pub fn remove_form(store: &mut Store, clauses: &mut Clauses, slot: usize) -> Option<Normal>
     requires rest { IsAtRest store.old clauses.old (forms_of store.old.stored.items) }
     requires slot { slot < length store.old.stored.items }
     ensures rest { IsAtRest store.new clauses.new (forms_of store.new.stored.items) }
+    ensures was { result ≡ slice_index_or (forms_of store.old.stored.items) slot None }
     ensures forms { forms_of store.new.stored.items ≡ slice_set
         (forms_of store.old.stored.items) slot None }
     ensures vacated { HasCleared store.old clauses.old store.new clauses.new slot }
     ensures variables { store.new.variables ≡ store.old.variables }
 {
     clauses.empty(slot);
-    clear_slot(store, slot);
+    clear_slot(store, slot)
 }

@@ -43,7 +43,7 @@ pub use Rattle.pb_replay.specs.contract.Example.{other_proof, Refuses, short_pro
 pub use Rattle.pb_replay.specs.contract.Laws.{AcceptsMore, CompletionIsOne, FirstIsSound, HasConclusion, InList, IsSingle, MeaningsAgree, OpeningsAreSingle}
 pub use Rattle.pb_replay.specs.contract.Laws.{OpensMore, OrderIsFree, OutcomesAreSingle, ProblemsAreProper, SolutionsAreAccounted, StatementsAreSound}
 pub use Rattle.pb_replay.specs.contract.Laws.{UnvaluedAreOld, UnvaluedMayWant, VerdictsAreThere, VerdictsMean, WholeProofsConclude}
-pub use Rattle.pb_replay.specs.contract.ReplayModel.{Adding, Carries, Comes, does_in, Goes, GoesAt, HasNamed, IsBest, IsBetter, IsEngine, IsInside, IsKept}
+pub use Rattle.pb_replay.specs.contract.ReplayModel.{Adding, Carries, Comes, does_in, Goes, GoesAt, HasNamed, IsBest, IsBetter, IsInside, IsKept}
 pub use Rattle.pb_replay.specs.contract.ReplayModel.{IsLinked, IsOpened, IsProper, IsReady, Keeps, Logs, outcome_in, problem_of, Replaying, ReturnsValue}
 pub use Rattle.pb_replay.specs.contract.ReplayModel.{state_of, verdict_at, with_mentioned}
 pub use Rattle.pb_replay.specs.declared.fault.Fault.{Fault, TheVariants.Order, TheVariants.Overflow, TheVariants.SolutionLogged, TheVariants.Violates}
@@ -51,6 +51,7 @@ pub use Rattle.pb_replay.specs.declared.fault.Fault.TheVariants.{Conflict, IdsSp
 pub use Rattle.pb_replay.specs.{declared.state.Running.Running, declared.verdict.Verdict.Verdict, meaning.Replay.State, meaning.Replay.value}
 pub use Rattle.pb_replay.specs.engine.Bounds.{Both, Demands, HasObjective, IsBelow, IsNamed, IsReached, Lower, objective_at_least, ObjectiveShown, Reached}
 pub use Rattle.pb_replay.specs.engine.Bounds.{Refutes, ShownAs, ShownReaches, Upper, upper_of}
+pub use Rattle.pb_replay.specs.engine.Constraints.{AreLive}
 pub use Rattle.pb_replay.specs.engine.{Solutions.AllHold, Solutions.AreTotal, Solutions.AreValued, Solutions.Given, Solutions.Judged, Stack.Word, Stack.Words}
 pub use Rattle.pb_replay.specs.meaning.Answer.{after, Answer, each_below, found, gives, need, some}
 pub use Rattle.pb_replay.specs.meaning.Conclusions.{Concludes, contradicted, contradiction, IsShownBy, lower_bound, named, none_left, objective_with}

@@ -12,7 +12,7 @@ ghost use Rattle.pb_replay.specs.meaning.Problem.{FitsAll, Opened};
 use crate::fault::Fault;
 use crate::loading::forms::FormsSoFar;
 use crate::state::Running;
-use crate::state::load::{as_linear, objective_fits, started, with_engine};
+use crate::state::load::{as_linear, objective_fits, started, with_variables};
 use pb_normal::HashKeys;
 use pb_opb::{Notes, OpbEvent};
 use pb_sums::Term;
@@ -75,7 +75,7 @@ impl Loading {
             self.forms.forms,
             as_linear(self.objective),
         );
-        with_engine(running)
+        with_variables(running)
     }
 }
 
@@ -90,6 +90,7 @@ impl Gather for Loading {
     ghost asks = { λ l e. false };
 
     /// Adds a statement. Nothing of a header or a comment is stored.
+    #[inline(always)]
     fn add(&mut self, event: OpbEvent) -> Result<Option<OpbEvent>, AllocError> {
         self.notes = self.notes.and(&event);
         match event {

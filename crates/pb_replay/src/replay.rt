@@ -42,7 +42,7 @@ impl Model for Replay {
     ghost view = { λ r. record {
       limits = r.running.limits;
       problem = problem_of r.running;
-      live = r.running.engine.forms;
+      live = r.running.constraints.forms;
       names = r.running.names;
       best = r.running.best;
       next = r.running.next;
@@ -185,14 +185,14 @@ impl Replay {
         if id == 0 || id > self.newest() {
             return None;
         }
-        self.running.engine.form((id - 1) as usize)
+        self.running.constraints.form((id - 1) as usize)
     }
 
     /// The newest id, or 0 if none was given. After a fault the result has no meaning.
     pub fn newest(&self) -> u64
         ensures { result ≡ length self.now.live }
     {
-        self.running.engine.len() as u64
+        self.running.constraints.len() as u64
     }
 
     /// The name with this number, also after a fault.

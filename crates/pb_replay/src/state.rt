@@ -1,16 +1,19 @@
 //! What a replay stores.
 
+pub(crate) mod constraints;
 pub(crate) mod find;
+mod listed;
 pub(crate) mod literals;
 pub(crate) mod live;
 pub(crate) mod load;
 pub(crate) mod objective;
+mod removed;
 pub(crate) mod solution;
 
+use crate::state::constraints::Constraints;
 use crate::verdict::Verdict;
 use pb_normal::{Memory, Names};
 use pb_proof::Stage;
-use pb_propagate::{Engine, Shared};
 use pb_sums::Linear;
 use pb_text::Limits;
 use std::alloc::Global;
@@ -24,12 +27,10 @@ pub(crate) struct Running {
     pub(crate) names: Names,
     /// How many names the instance has.
     pub(crate) own: usize,
-    /// The constraints of the instance. The engine owns them too once they are live.
-    pub(crate) loaded: Vec<Shared>,
+    /// The constraints of the instance, and the live ones. The live one with id i has number i - 1.
+    pub(crate) constraints: Constraints,
     /// The objective's terms. Its relation and degree have no meaning.
     pub(crate) objective: Option<Linear>,
-    /// The live constraints. The one with id i is at index i - 1.
-    pub(crate) engine: Engine,
     /// The least value of a logged solution.
     pub(crate) best: Option<i128>,
     pub(crate) next: Stage,

@@ -51,19 +51,14 @@ fn load(running: &mut Running, count: Option<u64>) -> Result<(), Fault>
     ensures preserves { Preserves running.old result running.new }
     ensures memory { result ≡ Err Fault.Memory → Passes running.old (Statement.F count) }
 {
-    let number = running.loaded.len() as u64;
+    let number = running.constraints.count() as u64;
     if !is_count(count, number) {
         return Err(Fault::FormulaCount(number));
     }
     if number > running.limits.top() {
         return Err(Fault::IdsSpent);
     }
-    make_live(
-        &mut running.engine,
-        running.alloc,
-        running.loaded.as_slice(),
-        running.names.len(),
-    )?;
+    make_live(&mut running.constraints, running.alloc, running.names.len())?;
     running.next = Stage::Steps;
     Ok(())
 }
@@ -116,8 +111,8 @@ fn carry_out(running: &mut Running, statement: &Statement) -> Result<(), Fault>
     ensures goes { Goes running.old statement.now result running.new }
     ensures linked { OnOk result (IsLinked running.new) }
     ensures kept { Keeps running.old running.new }
-    ensures visits_made { StepVisits running.old.engine.forms running.old.names statement.now result
-        running.old.visits running.new.visits }
+    ensures visits_made { StepVisits running.old.constraints.forms running.old.names
+        statement.now result running.old.visits running.new.visits }
     ensures memory { result ≡ Err Fault.Memory → MayWant statement.now ×
         Passes running.old statement.now }
 {
@@ -143,8 +138,8 @@ pub(crate) fn apply(running: &mut Running, statement: &Statement) -> Result<(), 
     ensures comes { Comes running.old statement.now result running.new }
     ensures linked { OnOk result (IsLinked running.new) }
     ensures kept { Keeps running.old running.new }
-    ensures visits_made { StepVisits running.old.engine.forms running.old.names statement.now result
-        running.old.visits running.new.visits }
+    ensures visits_made { StepVisits running.old.constraints.forms running.old.names
+        statement.now result running.old.visits running.new.visits }
     ensures memory { result ≡ Err Fault.Memory →
         MayWantAt (largest running.old.limits) (top_of running.old.limits)
         (problem_of running.old) running.old.next statement.now }

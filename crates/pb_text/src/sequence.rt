@@ -72,6 +72,7 @@ impl<T> Sequence<T> {
     }
 
     /// Appends a value, or returns it if out of memory.
+    #[inline(always)]
     pub fn push(&mut self, value: T) -> Result<(), AllocFailed<T>>
         ensures items { self.new ≡ (if is_ok result then self.old ++ value ∷ [] else self.old) }
         ensures returned { IfErr result (λ failed. failed.value ≡ value) }

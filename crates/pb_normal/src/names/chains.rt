@@ -30,6 +30,7 @@ fn is_named(bytes: &[u8], entries: &[NameEntry], number: usize, hash: u32, name:
 }
 
 // The number of a name with this hash, if it has one.
+#[inline(always)]
 pub(crate) fn found(
     bytes: &[u8],
     entries: &[NameEntry],

@@ -35,6 +35,7 @@ pub(crate) fn hash_of(hasher: NameHasher, name: &[u8]) -> u32
 }
 
 /// The number of a name with this hash, or `None` if it has none.
+#[inline(always)]
 pub(crate) fn number_of(table: &NameTable, hash: u32, name: &str) -> Option<usize>
     requires table { IsTable table.now }
     requires hash { hash ≡ hash_by table.now.hasher name.now }
@@ -103,6 +104,7 @@ fn put(table: &mut NameTable, hash: u32, name: &str) -> Result<(), AllocError>
 }
 
 /// Adds a new name, and returns its number. If an allocation is refused, the names stay.
+#[inline(always)]
 pub(crate) fn add(table: &mut NameTable, hash: u32, name: &str) -> Result<usize, AllocError>
     requires table { IsTable table.old }
     requires absent { has_name (listed table.old) name.now ≡ false }

@@ -8,6 +8,7 @@ ghost use Rattle.pb_propagate.specs.engine.clauses.Runs.{search_at};
 ghost use Rattle.pb_propagate.specs.engine.clauses.Blocks.{begun, number_at, HasBlock, rewatched, searched, rewritten, passed_by, IsBare, IsRenewed};
 
 use crate::clauses::lists::Watch;
+use crate::clauses::numbers::{number_of, reach_both};
 use crate::clauses::search::Search;
 use pb_text::{Sequence, Spare};
 use std::alloc::{AllocError, Global};
@@ -19,16 +20,21 @@ use std::marker::Model;
 /// A block begins with the literal and the position of each watch, the position of the search, how
 /// many literals this has passed, the number of literals, and the number of the run of the search.
 /// The literals come last.
+///
+/// Slots after the last one that ever had a block take no memory.
 #[derive(Drop)]
 pub struct Blocks {
     words: Vec<u32>,
     // The number of this run. A search of another run has passed nothing in this one.
     run: u32,
     // For each slot, where its block begins. Slots that have none have a common one, which is first
-    // and is not written.
+    // and is not written. The last numbers may be left out. They are 0.
     starts: Vec<u32>,
-    // For each slot, how many literals its block has room for. A slot keeps its block.
+    // For each slot, how many literals its block has room for. A slot keeps its block. The last
+    // numbers may be left out. They are 0.
     rooms: Vec<u32>,
+    // How many slots there are.
+    count: usize,
     // Memory for the codes of the next clause.
     spare: Spare<u32>,
 }
@@ -38,9 +44,9 @@ impl Model for Blocks {
 
     ghost Value = { Contents };
 
-    ghost view = { λ b. contents b.words.items b.starts.items b.rooms.items b.run };
+    ghost view = { λ b. contents b.words.items b.starts.items b.rooms.items b.run b.count };
 
-    ghost invariant = { λ b. AreBlocks b.words.items b.starts.items b.rooms.items b.run };
+    ghost invariant = { λ b. AreBlocks b.words.items b.starts.items b.rooms.items b.run b.count };
 }
 
 /// A clause as it is read: its search and its literals.
@@ -51,12 +57,12 @@ pub struct Clause<'a> {
 }
 
 // Makes the common block, if there is no slot.
-fn begin(words: &mut Vec<u32>, starts: &[u32]) -> Result<(), AllocError>
-    ensures first { OnOk result (length starts.now ≡ 0 → (length words.new.items ≡ 8) ×
+fn begin(words: &mut Vec<u32>, slots: usize) -> Result<(), AllocError>
+    ensures first { OnOk result (slots ≡ 0 → (length words.new.items ≡ 8) ×
         IsBare words.new.items 0) }
-    ensures kept { 0 < length starts.now → words.new.items ≡ words.old.items }
+    ensures kept { 0 < slots → words.new.items ≡ words.old.items }
 {
-    if starts.len() > 0 {
+    if slots > 0 {
         return Ok(());
     }
     words.clear();
@@ -138,6 +144,7 @@ impl Blocks {
             run: 0,
             starts: Vec::new(alloc),
             rooms: Vec::new(alloc),
+            count: 0,
             spare: Spare::new(alloc),
         }
     }
@@ -155,6 +162,7 @@ impl Blocks {
             run: 0,
             starts,
             rooms,
+            count: 0,
             spare: Spare::new(alloc),
         })
     }
@@ -180,7 +188,7 @@ impl Blocks {
     pub fn len(&self) -> usize
         ensures { result ≡ length self.now.literals }
     {
-        self.starts.len()
+        self.count
     }
 
     /// Adds a slot with no clause.
@@ -191,11 +199,11 @@ impl Blocks {
             (self.new.watches ≡ (self.old.watches ++ idle ∷ []) ++ idle ∷ []) }
         ensures unchanged { OnErr result (self.new ≡ self.old) }
     {
-        self.starts.reserve(1)?;
-        self.rooms.reserve(1)?;
-        begin(&mut self.words, self.starts.as_slice())?;
-        self.starts.push_reserved(0);
-        self.rooms.push_reserved(0);
+        if self.count == usize::MAX {
+            return Err(AllocError);
+        }
+        begin(&mut self.words, self.count)?;
+        self.count += 1;
         Ok(())
     }
 
@@ -205,7 +213,7 @@ impl Blocks {
         ensures literals { result.now ≡ list_at self.now.literals slot }
         ensures small { length result.now < 2 ^ 32 }
     {
-        let start = self.starts[slot] as usize;
+        let start = number_of(self.starts.as_slice(), slot) as usize;
         let count = self.words[start + 6] as usize;
         &self.words[start + 8..start + 8 + count]
     }
@@ -218,7 +226,7 @@ impl Blocks {
         ensures literals { result.literals.now ≡ list_at self.now.literals slot }
         ensures small { length result.literals.now < 2 ^ 32 }
     {
-        let start = self.starts[slot] as usize;
+        let start = number_of(self.starts.as_slice(), slot) as usize;
         let header = &self.words[start..start + 8];
         let count = header[6] as usize;
         Clause {
@@ -300,7 +308,7 @@ impl Blocks {
         ensures { self.new ≡ searched self.old slot
             record { position = (search_at self.old.searches slot).position; passed = 0 } }
     {
-        let start = self.starts[slot] as usize;
+        let start = number_of(self.starts.as_slice(), slot) as usize;
         if start > 0 {
             self.words[start + 5] = 0;
         }
@@ -333,10 +341,7 @@ impl Blocks {
     pub fn room(&self, slot: usize) -> usize
         ensures { result ≡ number_at self.now.rooms slot }
     {
-        match self.rooms.get(slot) {
-            Some(room) => *room as usize,
-            None => 0,
-        }
+        number_of(self.rooms.as_slice(), slot) as usize
     }
 
     /// Makes a block for a clause with that number of literals, if the slot has none. Returns
@@ -354,7 +359,7 @@ impl Blocks {
         if count >= 2147483648 {
             return Ok(false);
         }
-        let held = self.rooms[slot] as usize;
+        let held = number_of(self.rooms.as_slice(), slot) as usize;
         if held > 0 {
             return Ok(count <= held);
         }
@@ -367,6 +372,7 @@ impl Blocks {
         if end >= 4294967296 {
             return Ok(false);
         }
+        reach_both(&mut self.starts, &mut self.rooms, slot)?;
         append(&mut self.words, room)?;
         self.starts[slot] = start as u32;
         self.rooms[slot] = room as u32;

@@ -87,7 +87,7 @@ pub fn block(lists: &mut Lists<Listed>, literal: usize, index: usize, entry: Lis
 }
 
 /// Removes the watch at a position of a literal's list. The last of the list moves to its position.
-#[inline]
+#[inline(always)]
 pub fn take_out(lists: &mut Lists<Listed>, blocks: &mut Blocks, literal: usize, index: usize)
     requires literal { literal < length lists.old }
     requires index { index < length (list_at (watch_lists lists.old) literal) }

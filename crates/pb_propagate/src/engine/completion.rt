@@ -17,6 +17,7 @@ use crate::clauses::Clauses;
 use crate::engine::conflict::Conflict;
 use crate::engine::root::{Root, back};
 use crate::heads::{Heads, Order};
+use crate::mark::Mark;
 use crate::rests::Rests;
 use crate::run::{Run, propagate, try_put};
 use crate::store::Store;
@@ -60,7 +61,7 @@ pub fn propagate_given(
     clauses: &mut Clauses,
     run: &mut Run,
     given: &[NumberedLiteral],
-    marks: &mut Vec<Heads>,
+    marks: &mut Vec<Mark>,
 ) -> Result<Option<Vec<Option<bool>>>, AllocError>
     requires store { IsSound store.now }
     requires inside { All (λ l. l.variable < store.now.variables) given.now }

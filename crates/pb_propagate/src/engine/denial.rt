@@ -17,6 +17,7 @@ ghost use Rattle.pb_propagate.specs.engine.clauses.Shapes.{all_of};
 
 use crate::clauses::Clauses;
 use crate::heads::{Heads, Order};
+use crate::mark::Mark;
 use crate::rests::Rests;
 use crate::run::{Run, propagate, try_put};
 use crate::store::Store;
@@ -107,7 +108,7 @@ pub fn refute(
     clauses: &mut Clauses,
     run: &mut Run,
     goal: &Terms,
-    marks: &mut Vec<Heads>,
+    marks: &mut Vec<Mark>,
 ) -> Result<bool, AllocError>
     requires store { IsSound store.now }
     requires inside { All (λ e. e.variable < store.now.variables) goal.now }

@@ -59,6 +59,7 @@ impl Root {
 
     /// A literal does not need the form of a slot from now on. If it has no other reason, it and
     /// those after it are taken off.
+    #[inline(always)]
     pub fn release_literal(&mut self, store: &Store, slot: usize, literal: NumberedLiteral)
         requires sound { IsSound store.now }
         requires rooted { IsSomeRoot store.now self.old }

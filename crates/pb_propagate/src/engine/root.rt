@@ -20,6 +20,7 @@ use crate::column::Column;
 use crate::engine::conflict::Conflict;
 use crate::engine::visits::Visits;
 use crate::heads::{Heads, Order, Walked};
+use crate::mark::Mark;
 use crate::open_sums::OpenSums;
 use crate::rests::Rests;
 use crate::run::{Run, place_of, propagate, queue, undo_forms};
@@ -42,7 +43,7 @@ pub struct Root {
     // How far the literals are walked.
     pub walked: Walked,
     // The marks of a question, which nobody reads.
-    pub spare: Vec<Heads>,
+    pub spare: Vec<Mark>,
     // For each literal, by its occurrence list, the last slot that took a form of one term for it.
     // There are none after the last literal with such a form.
     pub units: Vec<u32>,

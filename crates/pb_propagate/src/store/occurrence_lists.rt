@@ -24,7 +24,6 @@ use crate::clauses::watched::Pair;
 use crate::column::Column;
 use crate::lists::Lists;
 use crate::run::{Run, place_of};
-use crate::shared::Shared;
 use crate::store::counted_form::CountedForm;
 use crate::store::sorted_form::SortedForm;
 use crate::store::spots::Spots;
@@ -53,14 +52,13 @@ fn bound_of(terms: &SortedForm, degree: u128) -> u128
 }
 
 // A form with its sums.
-fn counted_of(alloc: Global, form: Shared) -> Result<CountedForm, AllocError>
+fn counted_of(alloc: Global, form: Normal) -> Result<CountedForm, AllocError>
     ensures is { IfOk result (λ kept.
         IsStoredAs form record { terms = terms_of kept.terms; degree = kept.degree }) }
     ensures form { IfOk result (λ kept. kept.terms.form ≡ form) }
 {
-    let normal = form.form();
-    let degree = normal.degree().unsigned_abs();
-    let total = normal.size();
+    let degree = form.degree().unsigned_abs();
+    let total = form.size();
     let terms = SortedForm::new(alloc, form)?;
     let bound = bound_of(&terms, degree);
     Ok(CountedForm {
@@ -72,12 +70,11 @@ fn counted_of(alloc: Global, form: Shared) -> Result<CountedForm, AllocError>
 }
 
 // A form as the engine stores it.
-fn stored_of(alloc: Global, form: Shared) -> Result<StoredForm, AllocError>
+fn stored_of(alloc: Global, form: Normal) -> Result<StoredForm, AllocError>
     ensures is { IfOk result (λ kept. IsStoredAs form (stored_shape kept)) }
     ensures form { IfOk result (λ kept. stored_form kept ≡ Some form) }
 {
-    let normal = form.form();
-    if normal.terms().len() == 1 {
+    if form.terms().len() == 1 {
         return Ok(StoredForm::Single(UnitForm::of(form)));
     }
     let counted = counted_of(alloc, form)?;
@@ -156,6 +153,7 @@ fn spot_at(spots: &Column<Spots>, form: usize, index: usize) -> u32
 }
 
 // Removes the entries of a form from the lists, that of the last term first.
+#[inline(always)]
 fn unlink(store: &mut Store, form: usize)
     requires sound { IsSound store.old }
     requires form { form < length store.old.stored.items }
@@ -188,7 +186,7 @@ fn empty_stored() -> StoredForm
 }
 
 // A form that is propagated by its watches. It has no entries in the occurrence lists.
-fn watched_stored(form: Shared) -> StoredForm
+fn watched_stored(form: Normal) -> StoredForm
     ensures form { stored_form result ≡ Some form }
     ensures unlisted { IsUnlisted result }
 {
@@ -200,7 +198,7 @@ pub fn watch(
     store: &mut Store,
     clauses: &mut Clauses,
     slot: usize,
-    form: Shared,
+    form: Normal,
     codes: Vec<u32>,
     pair: Pair,
 ) -> Result<(), AllocError>
@@ -239,7 +237,7 @@ pub fn widen(store: &mut Store) -> Result<(), AllocError>
 }
 
 /// Stores a form in the slot of an empty one.
-pub fn fill(store: &mut Store, slot: usize, form: Shared) -> Result<(), AllocError>
+pub fn fill(store: &mut Store, slot: usize, form: Normal) -> Result<(), AllocError>
     requires sound { IsSound store.old }
     requires inside { All (λ t. t.variable < store.old.variables) form.terms }
     requires slot { slot < length store.old.stored.items }
@@ -279,7 +277,6 @@ pub fn enter(store: &mut Store, run: &mut Run, form: Normal) -> Result<(), Alloc
     ensures rest { (run.new.assignment ≡ run.old.assignment) × (run.new.work ≡ run.old.work) ×
         (run.new.next ≡ run.old.next) × (run.new.visits ≡ run.old.visits) }
 {
-    let form = Shared::new(*store.stored.allocator(), form)?;
     let slot = store.stored.len();
     let last = run.opens.len();
     run.opens.push_empty()?;
@@ -313,16 +310,18 @@ pub fn leave(store: &mut Store, run: &mut Run)
     run.candidates.pop();
 }
 
-/// Removes a form. An empty one takes its slot.
-pub fn clear_slot(store: &mut Store, form: usize)
+/// Removes a form and returns it. An empty one takes its slot.
+pub fn clear_slot(store: &mut Store, form: usize) -> Option<Normal>
     requires sound { IsSound store.old }
     requires form { form < length store.old.stored.items }
+    ensures was { result ≡ slice_index_or (forms_of store.old.stored.items) form None }
     ensures sound { IsSound store.new }
     ensures kept { (k : StoredForm) × IsEmpty k ×
         (store.new.stored.items ≡ slice_set store.old.stored.items form k) }
     ensures variables { store.new.variables ≡ store.old.variables }
 {
     unlink(store, form);
-    store.stored[form] = empty_stored();
+    let kept = std::mem::replace(&mut store.stored[form], empty_stored());
     store.spots.set_empty(form);
+    kept.into_form()
 }

@@ -24,6 +24,7 @@ use pb_normal::NumberedLiteral;
 
 /// Gives a literal whose reason is the form of a slot a unit as its reason, if another slot has
 /// one. Returns whether the literal does not need the form.
+#[inline(always)]
 pub fn replace_reason(
     store: &Store,
     units: &[u32],
@@ -71,6 +72,7 @@ fn replace_by_terms(store: &Store, units: &[u32], assignment: &mut Assignment, s
 
 /// Gives each literal whose reason is the form of a slot another reason. Returns false if one has
 /// no other.
+#[inline(always)]
 pub fn replace_reasons(
     store: &Store,
     clauses: &Clauses,

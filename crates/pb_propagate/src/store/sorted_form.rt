@@ -4,16 +4,15 @@ ghost use Rattle.std.specs.Prelude.{◌≡◌, ℕ, ◌<◌, ◌^◌, [], true, 
 ghost use Rattle.pb_propagate.specs.engine.engine.Forms.{entry_of, as_term, picked, in_order, IsPlaced};
 ghost use Rattle.pb_propagate.specs.engine.engine.Counts.{AreEven, AreFalling};
 
-use crate::shared::Shared;
 use crate::term::{Rank, Term};
 use pb_normal::{Entry, Normal, NumberedLiteral, Terms};
 use std::alloc::{AllocError, Global};
 
 /// A form, and the positions of its terms in order of falling coefficient. Each term is stored
-/// once, and the form may have other owners.
+/// once.
 #[derive(Drop)]
 pub struct SortedForm {
-    form: Shared,
+    form: Normal,
     // Empty if all coefficients are equal: the terms are then in the order of the form.
     order: Vec<usize>,
     pub ghost inside: { All (λ p. p < length form.terms) order.items },
@@ -123,12 +122,12 @@ impl SortedForm {
 
     /// A form.
     #[tactic(auto, using(crate::proofs::rulesets::Store::totals))]
-    pub fn new(alloc: Global, form: Shared) -> Result<SortedForm, AllocError>
+    pub fn new(alloc: Global, form: Normal) -> Result<SortedForm, AllocError>
         ensures form { IfOk result (λ f. f.form ≡ form) }
         ensures same { IfOk result (λ f. IsPermutation (map entry_of (terms_of f)) form.terms) }
         ensures falling { IfOk result (λ f. AreFalling (terms_of f)) }
     {
-        let order = order_of(alloc, form.form().terms())?;
+        let order = order_of(alloc, form.terms())?;
         Ok(SortedForm { form, order })
     }
 
@@ -136,14 +135,14 @@ impl SortedForm {
     pub(super) fn form(&self) -> &Normal
         ensures { result.now ≡ self.now.form }
     {
-        self.form.form()
+        &self.form
     }
 
-    /// One more owner of the form.
-    pub(super) fn shared(&self) -> Result<Shared, AllocError>
-        ensures { IfOk result (λ f. f ≡ self.now.form) }
+    /// The form, which is then owned by the caller.
+    pub(super) fn into_form(self) -> Normal
+        ensures { result ≡ self.form }
     {
-        self.form.share()
+        self.form
     }
 
     /// Whether the terms are in the order of the form. Then all coefficients are equal.
@@ -160,7 +159,7 @@ impl SortedForm {
     {
         let count = self.order.len();
         if count == 0 {
-            return self.form.form().terms().len();
+            return self.form.terms().len();
         }
         count
     }
@@ -186,6 +185,6 @@ impl SortedForm {
         ensures { (d : Term) → result ≡ slice_index_or (terms_of self.now) index d }
     {
         let place = self.place_at(index);
-        term_of(self.form.form().terms().get(place))
+        term_of(self.form.terms().get(place))
     }
 }

@@ -2,13 +2,11 @@
 
 ghost use Rattle.std.specs.Prelude.{◌≡◌, ◌<◌, ◌≤◌, false, true};
 
-use crate::shared::Shared;
 use crate::store::counted_form::CountedForm;
 use crate::store::sums::Sums;
 use crate::store::unit_form::UnitForm;
 use crate::term::Term;
 use pb_normal::Normal;
-use std::alloc::AllocError;
 
 /// A form as the engine stores it. A slot has little memory of its own, as most forms are clauses
 /// that are watched.
@@ -17,7 +15,7 @@ pub enum StoredForm {
     /// No form.
     Vacant,
     /// A form that is propagated by its watches. It has no entries in the occurrence lists.
-    Watched(Shared),
+    Watched(Normal),
     /// A form of one term in the occurrence lists.
     Single(UnitForm),
     /// Another form in the occurrence lists.
@@ -25,7 +23,7 @@ pub enum StoredForm {
 }
 
 impl StoredForm {
-    ghost use Rattle.std.specs.Prelude.{◌≡◌, ◌<◌, Some, None, IfOk, IfSome, IfNone, is_some, length, slice_index_or};
+    ghost use Rattle.std.specs.Prelude.{◌≡◌, ◌<◌, Some, None, IfSome, IfNone, is_some, length, slice_index_or};
     ghost use Rattle.pb_propagate.specs.declared.term.Term.{Term};
     ghost use Rattle.pb_propagate.specs.engine.engine.Stored.{stored_form, stored_terms, stored_degree, stored_total, stored_bound};
 
@@ -48,21 +46,21 @@ impl StoredForm {
     {
         match self {
             StoredForm::Vacant => None,
-            StoredForm::Watched(form) => Some(form.form()),
+            StoredForm::Watched(form) => Some(form),
             StoredForm::Single(unit) => Some(unit.form()),
             StoredForm::Counted(kept) => Some(kept.as_ref().terms.form()),
         }
     }
 
-    /// One more owner of the form, if there is one.
-    pub fn shared(&self) -> Result<Option<Shared>, AllocError>
-        ensures { IfOk result (λ f. f ≡ stored_form self.now) }
+    /// The form, if there is one, which is then owned by the caller.
+    pub fn into_form(self) -> Option<Normal>
+        ensures { result ≡ stored_form self }
     {
         match self {
-            StoredForm::Vacant => Ok(None),
-            StoredForm::Watched(form) => Ok(Some(form.share()?)),
-            StoredForm::Single(unit) => Ok(Some(unit.shared()?)),
-            StoredForm::Counted(kept) => Ok(Some(kept.as_ref().terms.shared()?)),
+            StoredForm::Vacant => None,
+            StoredForm::Watched(normal) => Some(normal),
+            StoredForm::Single(unit) => Some(unit.into_form()),
+            StoredForm::Counted(kept) => Some(Box::into_inner(kept).terms.into_form()),
         }
     }
 

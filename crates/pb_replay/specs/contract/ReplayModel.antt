@@ -1,6 +1,6 @@
 -- What a replay stores, as a problem and a state
 use Rattle.pb_normal.specs.meaning.{Form.Form, Names.with_names, Written.magnitude}
-use Rattle.{pb_opb.specs.declared.Instance.Instance, pb_propagate.specs.engine.engine.Live.Standing, pb_propagate.specs.meaning.Propagation.Live}
+use Rattle.{pb_opb.specs.declared.Instance.Instance, pb_propagate.specs.meaning.Propagation.Live}
 use Rattle.pb_proof.specs.declared.{Stage.Stage, Stage.TheVariants.Complete, Statement.Statement}
 use Rattle.pb_replay.specs.declared.{verdict.Verdict.Verdict, fault.Fault.Fault, fault.Fault.TheVariants.Memory, fault.Fault.TheVariants.NotTotal}
 use Rattle.pb_replay.specs.meaning.{Answer.Answer, Statements.Does, Statements.Outcome, Statements.PassesFirst, Statements.mentioned}
@@ -20,11 +20,11 @@ abbrev pub IsInside : ℕ → Form → Type 0
 IsInside n f = All (λ t. t.variable < n) f.terms
 
 abbrev pub problem_of : Running → Problem
-problem_of r = record { loaded = r.loaded.items; objective = option_map (λ c. c.terms) r.objective; names = take r.own r.names }
+problem_of r = record { loaded = r.constraints.loaded; objective = option_map (λ c. c.terms) r.objective; names = take r.own r.names }
 
 -- the state in which these solutions were logged
 abbrev pub state_of : Running → List Logged → State
-state_of r logged = record { live = r.engine.forms; names = r.names; logged = logged; next = r.next; concluded = r.concluded }
+state_of r logged = record { live = r.constraints.forms; names = r.names; logged = logged; next = r.next; concluded = r.concluded }
 
 -- the state after a statement's names have appeared
 abbrev pub with_mentioned : State → Statement → State
@@ -78,7 +78,7 @@ Logs old z form (Err e) new = (e ≡ Memory) ⊎ ((before : List Logged) (g : Lo
 pub record Keeps (old new : Running) : Type 0 where
   pub limits : new.limits ≡ old.limits
   pub own : new.own ≡ old.own
-  pub loaded : new.loaded.items ≡ old.loaded.items
+  pub loaded : new.constraints.loaded ≡ old.constraints.loaded
   pub objective : option_map (λ c. c.terms) new.objective ≡ option_map (λ c. c.terms) old.objective
   pub names : IsNamePrefix old.names new.names
 
@@ -86,19 +86,13 @@ pub record Keeps (old new : Running) : Type 0 where
 abbrev pub Passes : Running → Statement → Type 0
 Passes r st = PassesFirst (largest r.limits) (top_of r.limits) (problem_of r) st
 
--- the engine is not spent, and has these forms and this many variables
-pub record IsEngine (live : List (Option Form)) (n : ℕ) (engine : Standing) : Type 0 where
-  pub forms : engine.forms ≡ live
-  pub variables : engine.variables ≡ n
-  pub ready : engine.spent ≡ false
-
--- the engine is not spent, has a variable for each name, and every live form lies within these
+-- no allocation has failed, and there is a variable for each name, within which every live form lies
 pub record IsLinked (r : Running) : Type 0 where
-  pub ready : r.engine.spent ≡ false
-  pub variables : r.engine.variables ≡ length r.names
-  pub inside : (f : Form) → Live r.engine.forms f → IsInside (length r.names) f
+  pub ready : r.constraints.spent ≡ false
+  pub variables : r.constraints.variables ≡ length r.names
+  pub inside : (f : Form) → Live r.constraints.forms f → IsInside (length r.names) f
 
--- what a call preserves: the links of the engine unless there is a fault, what is kept, and the number of visits
+-- what a call preserves: the links to the names unless there is a fault, what is kept, and the number of visits
 pub record Preserves {A : Type 0} (old : Running) (result : Result A Fault) (new : Running) : Type 0 where
   pub linked : OnOk result (IsLinked new)
   pub kept : Keeps old new
@@ -109,7 +103,7 @@ pub record IsProper (r : Running) : Type 0 where
   pub own : r.own ≤ length r.names
   pub problem : IsProblem (problem_of r)
   pub fits : magnitude (objective_of (problem_of r).objective) ≤ largest r.limits
-  pub loaded : (f : Form) → Contains r.loaded.items f → IsInside r.own f
+  pub loaded : (f : Form) → Contains r.constraints.loaded f → IsInside r.own f
 
 -- what is true before each statement
 pub record IsReady (r : Running) : Type 0 where
@@ -125,7 +119,7 @@ pub record IsKept (r : Running) (fault : Option Fault) : Type 0 where
 -- other names have appeared, and nothing else has changed
 pub record HasNamed (others : List (List ℕ)) (old new : Running) : Type 0 where
   pub names : new.names ≡ with_names old.names others
-  pub forms : new.engine.forms ≡ old.engine.forms
+  pub forms : new.constraints.forms ≡ old.constraints.forms
   pub best : new.best ≡ old.best
   pub next : new.next ≡ old.next
   pub concluded : new.concluded ≡ old.concluded
@@ -149,11 +143,11 @@ pub record IsLoaded (given : Limits) (i : Instance) (r : Running) : Type 0 where
   pub first : IsFirst given r
   pub fits : magnitude (objective_of (problem_of r).objective) ≤ largest given
 
--- the instance opened as this replay, whose engine has a variable for each name
+-- the instance opened as this replay, with a variable for each name
 pub record IsOpened (given : Limits) (i : Instance) (r : Running) : Type 0 where
   pub loaded : IsLoaded given i r
-  pub ready : r.engine.spent ≡ false
-  pub variables : r.engine.variables ≡ length r.names
+  pub ready : r.constraints.spent ≡ false
+  pub variables : r.constraints.variables ≡ length r.names
 
 -- what callers see of a replay; after a fault it is spent
 pub record Replaying : Type 0 where

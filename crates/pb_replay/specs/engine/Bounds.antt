@@ -45,7 +45,7 @@ ShownAs live f goal (Ok u) = IsShownBy live f goal
 ShownAs live f goal (Err e) = (e ≡ Memory) ⊎ ((e ≡ NotBound) × (IsShownBy live f goal → ⊥))
 
 abbrev pub objective_at_least : Running → Option Form → ℤ → List Term → Answer (Unit {0})
-objective_at_least r f b o = normal_form (largest r.limits) r.names least (objective_with o b) (λ g. need (IsShownBy r.engine.forms f g) NotBound (gives (tt {0})))
+objective_at_least r f b o = normal_form (largest r.limits) r.names least (objective_with o b) (λ g. need (IsShownBy r.constraints.forms f g) NotBound (gives (tt {0})))
 
 abbrev pub ObjectiveShown : Running → Option Form → ℤ → Result Unit Fault → Type 0
 ObjectiveShown r f b = Returns (λ result. (o : List Term) → (problem_of r).objective ≡ Some o → objective_at_least r f b o result)

@@ -11,7 +11,6 @@ ghost use Rattle.pb_replay.specs.engine.Loading.{Made};
 
 use crate::fault::Fault;
 use pb_normal::{HashKeys, Names, Normal, NormalFault, Side, fits, number_names};
-use pb_propagate::Shared;
 use pb_sums::{Linear, Relation, Term};
 use pb_text::Limits;
 use std::alloc::{AllocError, Global};
@@ -23,7 +22,7 @@ pub(crate) struct FormsSoFar {
     pub(crate) alloc: Global,
     pub(crate) limits: Limits,
     pub(crate) names: Names,
-    pub(crate) forms: Vec<Shared>,
+    pub(crate) forms: Vec<Normal>,
     /// `Memory` if memory ran out for a form or a name, and `Overflow` if a constraint exceeds the
     /// limit. Then no more is stored.
     pub(crate) made: Result<(), Fault>,
@@ -45,6 +44,7 @@ impl FormsSoFar {
     }
 
     /// Numbers the names of an objective.
+    #[inline(always)]
     pub(crate) fn number(&mut self, terms: &[Term])
         ensures limits { self.new.limits ≡ self.old.limits }
         ensures made { (named : List (List ℕ)) (cs : List Written) → Made named cs self.old →
@@ -78,6 +78,7 @@ impl FormsSoFar {
 
     // Adds the forms of a constraint that fits: that of its side "at least", and for an equality
     // then that of its side "at most".
+    #[inline(always)]
     fn add_sides(&mut self, constraint: &Linear) -> Result<(), AllocError>
         requires { Fits (largest self.old.limits) constraint.now }
         ensures limits { self.new.limits ≡ self.old.limits }
@@ -96,6 +97,7 @@ impl FormsSoFar {
     }
 
     // Adds the form of one side of a constraint that fits.
+    #[inline(always)]
     fn add_side(&mut self, constraint: &Linear, side: Side) -> Result<(), AllocError>
         requires { Fits (largest self.old.limits) constraint.now }
         ensures limits { self.new.limits ≡ self.old.limits }
@@ -109,7 +111,6 @@ impl FormsSoFar {
     {
         match Normal::from_linear(self.alloc, &mut self.names, constraint, side, self.limits) {
             Ok(form) => {
-                let form = Shared::new(self.alloc, form)?;
                 self.forms.push(form)?;
                 Ok(())
             }

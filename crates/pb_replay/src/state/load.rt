@@ -1,21 +1,22 @@
 //! An instance as forms.
 
-ghost use Rattle.std.specs.Prelude.{◌≡◌, ◌<◌, ◌≤◌, ◌↔◌, pos, option_map, All, OnOk, IfOk, IfErr, IsTrue, Err, None, Ok, ◌⊎◌};
+ghost use Rattle.std.specs.Prelude.{◌≡◌, ◌<◌, ◌≤◌, ◌↔◌, pos, option_map, [], All, OnOk, IfOk, IfErr, IsTrue, Err, None, Ok, ◌⊎◌};
 ghost use Rattle.pb_text.specs.meaning.Limits.{largest};
 ghost use Rattle.pb_normal.specs.meaning.Constraints.{Fits};
 ghost use Rattle.pb_normal.specs.meaning.Names.{with_names};
 ghost use Rattle.pb_normal.specs.meaning.Written.{names_of, magnitude};
 ghost use Rattle.pb_replay.specs.meaning.Problem.{FitsAll, Opened, objective_of};
 ghost use Rattle.pb_replay.specs.contract.ReplayModel.{IsFirst, IsLoaded, IsOpened, problem_of};
+ghost use Rattle.pb_replay.specs.engine.Constraints.{AreLive};
 ghost use Rattle.pb_opb.specs.declared.Instance.{Instance as AnInstance};
 
 use crate::fault::Fault;
 use crate::state::Running;
-use crate::state::live::engine_over;
+use crate::state::constraints::Constraints;
+use crate::state::live::prepare;
 use pb_normal::{HashKeys, Memory, Names, Normal, NormalFault, Side, fits, load, terms_fit};
 use pb_opb::Instance;
 use pb_proof::Stage;
-use pb_propagate::{Engine, Shared, share_each};
 use pb_sums::{Linear, Relation, Term};
 use pb_text::{Limits, Sequence};
 use std::alloc::Global;
@@ -124,10 +125,10 @@ pub(crate) fn open(
     ensures memory { result ≡ Err Fault.Memory → FitsAll (largest limits) instance.now }
 {
     let running = load_tested(alloc, keys, instance, limits)?;
-    with_engine(running)
+    with_variables(running)
 }
 
-/// The instance as forms, with the names hashed with these keys. The engine has no variable.
+/// The instance as forms, with the names hashed with these keys. There are no variables yet.
 fn load_tested(
     alloc: Global,
     keys: HashKeys,
@@ -135,6 +136,7 @@ fn load_tested(
     limits: Limits,
 ) -> Result<Running, Fault>
     ensures ok { IfOk result (IsLoaded limits instance.now) }
+    ensures live { IfOk result (λ r. AreLive [] 0 r.constraints) }
     ensures err { IfErr result (λ e. (e ≡ Fault.Memory) ⊎
         Opened (largest limits) instance.now (Err e)) }
     ensures memory { result ≡ Err Fault.Memory → FitsAll (largest limits) instance.now }
@@ -154,6 +156,7 @@ fn load_instance(
     limits: Limits,
 ) -> Result<Running, Fault>
     ensures ok { IfOk result (IsLoaded limits instance.now) }
+    ensures live { IfOk result (λ r. AreLive [] 0 r.constraints) }
     ensures err { IfErr result (λ e. (e ≡ Fault.Memory) ⊎
         Opened (largest limits) instance.now (Err e)) }
     ensures memory { instance.now.objective ≡ None → result ≡ Err Fault.Memory →
@@ -168,19 +171,19 @@ fn load_instance(
         Ok(forms) => forms,
         Err(fault) => return Err(Fault::from(fault)),
     };
-    let loaded = share_each(alloc, forms)?;
-    Ok(started(alloc, limits, names, loaded, objective))
+    Ok(started(alloc, limits, names, forms, objective))
 }
 
-/// A replay of these forms before its first statement. The engine has no variable.
+/// A replay of these forms before its first statement. There are no variables yet.
 pub(crate) fn started(
     alloc: Global,
     limits: Limits,
     names: Names,
-    loaded: Vec<Shared>,
+    loaded: Vec<Normal>,
     objective: Option<Linear>,
 ) -> Running
     ensures first { IsFirst limits result }
+    ensures live { AreLive [] 0 result.constraints }
     ensures problem { problem_of result ≡ record {
       loaded = loaded.items;
       objective = option_map (λ c. c.terms) objective;
@@ -193,9 +196,8 @@ pub(crate) fn started(
         limits,
         names,
         own,
-        loaded,
+        constraints: Constraints::new(alloc, loaded),
         objective,
-        engine: Engine::new(alloc),
         best: None,
         next: Stage::Opening,
         concluded: None,
@@ -204,13 +206,14 @@ pub(crate) fn started(
     }
 }
 
-/// The same replay, whose engine has a variable for each name and memory for each constraint.
-pub(crate) fn with_engine(running: Running) -> Result<Running, Fault>
+/// The same replay, with a variable for each name and memory for each constraint.
+pub(crate) fn with_variables(running: Running) -> Result<Running, Fault>
+    requires { AreLive [] 0 running.constraints }
     ensures ok { (i : AnInstance) → IsLoaded running.limits i running →
         IfOk result (IsOpened running.limits i) }
     ensures err { IfErr result (λ e. e ≡ Fault.Memory) }
 {
     let mut running = running;
-    running.engine = engine_over(running.alloc, running.own, running.loaded.len())?;
+    prepare(&mut running.constraints, running.alloc, running.own)?;
     Ok(running)
 }

@@ -23,7 +23,7 @@ pub(crate) fn objective_form(
         HasObjective (largest running.old.limits) running.old.names
         (problem_of running.old).objective side degree (Err e)) }
     ensures same { OnOk result (HasNamed [] running.old running.new) }
-    ensures engine { running.new.engine ≡ running.old.engine }
+    ensures constraints { running.new.constraints ≡ running.old.constraints }
     ensures kept { Keeps running.old running.new }
     ensures visits { running.new.visits ≡ running.old.visits }
 {

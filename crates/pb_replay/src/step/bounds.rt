@@ -5,31 +5,32 @@ ghost use Rattle.pb_normal.specs.meaning.Form.{Form};
 ghost use Rattle.pb_replay.specs.engine.Bounds.{IsBelow, IsNamed, IsReached, Lower, ObjectiveShown, Refutes, ShownAs, ShownReaches, Upper};
 ghost use Rattle.pb_replay.specs.meaning.Conclusions.{IsShownBy};
 ghost use Rattle.pb_replay.specs.meaning.Replay.{IsLive};
-ghost use Rattle.pb_replay.specs.contract.ReplayModel.{IsInside, IsLinked, IsProper, HasNamed, IsEngine, problem_of, Preserves};
+ghost use Rattle.pb_replay.specs.contract.ReplayModel.{IsInside, IsLinked, IsProper, HasNamed, problem_of, Preserves};
+ghost use Rattle.pb_replay.specs.engine.Constraints.{AreLive};
 
 use crate::fault::Fault;
 use crate::state::Running;
+use crate::state::constraints::Constraints;
 use crate::state::find::find;
 use crate::state::objective::objective_form;
 use crate::step::contradiction::none_is_left;
 use crate::step::shown::shown_value;
 use pb_normal::{Normal, NormalFault, NumberedLiteral, Side};
 use pb_proof::Bound;
-use pb_propagate::Engine;
 use std::alloc::AllocError;
 
 /// Whether the form with this id is a contradiction, or its sum with the negation of the goal is
 /// one.
-fn is_refuted(engine: &Engine, id: Option<i64>, goal: &Normal) -> Result<bool, Fault>
+fn is_refuted(constraints: &Constraints, id: Option<i64>, goal: &Normal) -> Result<bool, Fault>
     requires { 0 < goal.now.degree }
-    ensures ok { IfOk result (λ b. (f : Option Form) → IsNamed engine.now.forms id f →
+    ensures ok { IfOk result (λ b. (f : Option Form) → IsNamed constraints.now.forms id f →
         (IsTrue b ↔ Refutes f goal.now)) }
     ensures err { IfErr result (λ e. e ≡ Fault.Memory) }
 {
     let Some(id) = id else {
         return Ok(false);
     };
-    match find(engine, id) {
+    match find(constraints, id) {
         None => Ok(false),
         Some(form) => {
             let negation = goal.negation()?;
@@ -39,21 +40,23 @@ fn is_refuted(engine: &Engine, id: Option<i64>, goal: &Normal) -> Result<bool, F
 }
 
 /// Whether the goal is shown in one of the four ways.
-fn is_shown(engine: &mut Engine, id: Option<i64>, goal: &Normal) -> Result<bool, Fault>
-    requires ready { engine.old.spent ≡ false }
-    requires inside { IsInside engine.old.variables goal.now }
-    ensures ok { IfOk result (λ b. (f : Option Form) → IsNamed engine.old.forms id f →
-        (IsTrue b ↔ IsShownBy engine.old.forms f goal.now)) }
+fn is_shown(constraints: &mut Constraints, id: Option<i64>, goal: &Normal) -> Result<bool, Fault>
+    requires ready { constraints.old.spent ≡ false }
+    requires inside { IsInside constraints.old.variables goal.now }
+    ensures ok { IfOk result (λ b. (f : Option Form) → IsNamed constraints.old.forms id f →
+        (IsTrue b ↔ IsShownBy constraints.old.forms f goal.now)) }
     ensures err { IfErr result (λ e. e ≡ Fault.Memory) }
-    ensures engine { OnOk result (IsEngine engine.old.forms engine.old.variables engine.new) }
+    ensures loaded { constraints.new.loaded ≡ constraints.old.loaded }
+    ensures live { OnOk result (
+        AreLive constraints.old.forms constraints.old.variables constraints.new) }
 {
     if goal.degree() == 0 {
         return Ok(true);
     }
-    if is_refuted(engine, id, goal)? {
+    if is_refuted(constraints, id, goal)? {
         return Ok(true);
     }
-    let implied = engine.rup(goal)?;
+    let implied = constraints.rup(goal)?;
     Ok(implied)
 }
 
@@ -68,14 +71,14 @@ fn is_below_best(best: Option<i128>, bound: i128) -> bool
 }
 
 /// Whether the id, if there is one, is that of a live form.
-fn is_found(engine: &Engine, id: Option<i64>) -> Result<(), Fault>
-    ensures ok { OnOk result ((f : Option Form) × IsNamed engine.now.forms id f) }
+fn is_found(constraints: &Constraints, id: Option<i64>) -> Result<(), Fault>
+    ensures ok { OnOk result ((f : Option Form) × IsNamed constraints.now.forms id f) }
     ensures err { IfErr result (λ e. (i : ℤ) × (id ≡ Some i) × (e ≡ Fault.NoSuchId i) ×
-        ((f : Form) → IsLive engine.now.forms i f → ⊥)) }
+        ((f : Form) → IsLive constraints.now.forms i f → ⊥)) }
 {
     match id {
         None => Ok(()),
-        Some(id) => match find(engine, id) {
+        Some(id) => match find(constraints, id) {
             None => Err(Fault::NoSuchId(id)),
             Some(_) => Ok(()),
         },
@@ -83,14 +86,16 @@ fn is_found(engine: &Engine, id: Option<i64>) -> Result<(), Fault>
 }
 
 /// Whether the goal is shown.
-fn goal_shown(engine: &mut Engine, id: Option<i64>, goal: &Normal) -> Result<(), Fault>
-    requires ready { engine.old.spent ≡ false }
-    requires inside { IsInside engine.old.variables goal.now }
-    ensures shown { (f : Option Form) → IsNamed engine.old.forms id f →
-        ShownAs engine.old.forms f goal.now result }
-    ensures engine { OnOk result (IsEngine engine.old.forms engine.old.variables engine.new) }
+fn goal_shown(constraints: &mut Constraints, id: Option<i64>, goal: &Normal) -> Result<(), Fault>
+    requires ready { constraints.old.spent ≡ false }
+    requires inside { IsInside constraints.old.variables goal.now }
+    ensures shown { (f : Option Form) → IsNamed constraints.old.forms id f →
+        ShownAs constraints.old.forms f goal.now result }
+    ensures loaded { constraints.new.loaded ≡ constraints.old.loaded }
+    ensures live { OnOk result (
+        AreLive constraints.old.forms constraints.old.variables constraints.new) }
 {
-    if is_shown(engine, id, goal)? {
+    if is_shown(constraints, id, goal)? {
         return Ok(());
     }
     Err(Fault::NotBound)
@@ -100,13 +105,13 @@ fn goal_shown(engine: &mut Engine, id: Option<i64>, goal: &Normal) -> Result<(),
 fn objective_shown(running: &mut Running, bound: i128, id: Option<i64>) -> Result<(), Fault>
     requires proper { IsProper running.old }
     requires linked { IsLinked running.old }
-    ensures shown { (f : Option Form) → IsNamed running.old.engine.forms id f →
+    ensures shown { (f : Option Form) → IsNamed running.old.constraints.forms id f →
         ObjectiveShown running.old f bound result }
     ensures same { OnOk result (HasNamed [] running.old running.new) }
     ensures preserves { Preserves running.old result running.new }
 {
     let goal = objective_form(running, bound, Side::AtLeast)?;
-    goal_shown(&mut running.engine, id, &goal)
+    goal_shown(&mut running.constraints, id, &goal)
 }
 
 /// Whether a finite lower bound is shown.
@@ -120,7 +125,7 @@ fn shows_finite(running: &mut Running, bound: i128, id: Option<i64>) -> Result<(
     if !is_below_best(running.best, bound) {
         return Err(Fault::NotBound);
     }
-    is_found(&running.engine, id)?;
+    is_found(&running.constraints, id)?;
     objective_shown(running, bound, id)
 }
 
@@ -156,6 +161,7 @@ fn is_reached(best: Option<i128>, bound: i128) -> Result<(), Fault>
 
 /// Whether a shown solution reaches the bound.
 fn shown_reaches(running: &Running, bound: i128, given: &[NumberedLiteral]) -> Result<(), Fault>
+    requires ready { running.now.constraints.spent ≡ false }
     requires proper { IsProper running.now }
     requires inside { All (λ l. l.variable < length running.now.names) given.now }
     ensures { ShownReaches (problem_of running.now) given.now bound result }
@@ -172,6 +178,7 @@ pub(crate) fn shows_upper(
     upper: Bound,
     given: &Option<Vec<NumberedLiteral>>,
 ) -> Result<(), Fault>
+    requires ready { running.now.constraints.spent ≡ false }
     requires proper { IsProper running.now }
     requires inside { IfSome given.now (λ v.
         All (λ l. l.variable < length running.now.names) v.items) }

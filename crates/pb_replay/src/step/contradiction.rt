@@ -10,28 +10,28 @@ ghost use Rattle.pb_replay.specs.contract.ReplayModel.{IsBest, state_of};
 
 use crate::fault::Fault;
 use crate::state::Running;
+use crate::state::constraints::Constraints;
 use crate::state::find::find;
 use pb_normal::Normal;
-use pb_propagate::Engine;
 
 /// Whether the form with this number is a live contradiction.
-fn is_contradiction_at(engine: &Engine, number: usize) -> bool
-    requires { number < length engine.now.forms }
-    ensures { IsTrue result ↔ ((f : Form) × (get_or engine.now.forms number None ≡ Some f) ×
+fn is_contradiction_at(constraints: &Constraints, number: usize) -> bool
+    requires { number < length constraints.now.forms }
+    ensures { IsTrue result ↔ ((f : Form) × (get_or constraints.now.forms number None ≡ Some f) ×
         IsContradiction f) }
 {
-    match engine.form(number) {
+    match constraints.form(number) {
         Some(form) => form.is_contradiction(),
         None => false,
     }
 }
 
 /// Whether some live form is a contradiction.
-fn some_contradiction(engine: &Engine) -> Result<(), Fault>
-    ensures { has_contradiction engine.now.forms None result }
+fn some_contradiction(constraints: &Constraints) -> Result<(), Fault>
+    ensures { has_contradiction constraints.now.forms None result }
 {
-    for number in 0..engine.len() {
-        if is_contradiction_at(engine, number) {
+    for number in 0..constraints.len() {
+        if is_contradiction_at(constraints, number) {
             return Ok(());
         }
     }
@@ -39,10 +39,10 @@ fn some_contradiction(engine: &Engine) -> Result<(), Fault>
 }
 
 /// Whether the live form with this id is a contradiction.
-fn named_contradiction(engine: &Engine, id: i64) -> Result<(), Fault>
-    ensures { has_contradiction engine.now.forms (Some id) result }
+fn named_contradiction(constraints: &Constraints, id: i64) -> Result<(), Fault>
+    ensures { has_contradiction constraints.now.forms (Some id) result }
 {
-    match find(engine, id) {
+    match find(constraints, id) {
         None => Err(Fault::NoSuchId(id)),
         Some(form) => {
             if form.is_contradiction() {
@@ -64,7 +64,7 @@ pub(crate) fn none_is_left(running: &Running, id: Option<i64>) -> Result<(), Fau
         return Err(Fault::SolutionLogged);
     }
     match id {
-        None => some_contradiction(&running.engine),
-        Some(id) => named_contradiction(&running.engine, id),
+        None => some_contradiction(&running.constraints),
+        Some(id) => named_contradiction(&running.constraints, id),
     }
 }

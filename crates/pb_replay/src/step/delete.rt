@@ -6,28 +6,29 @@ ghost use Rattle.pb_replay.specs.contract.ReplayModel.{Goes, IsReady, Preserves}
 
 use crate::fault::Fault;
 use crate::state::Running;
+use crate::state::constraints::Constraints;
 use crate::state::find::{find, place_of};
 use pb_normal::Normal;
 use pb_proof::Statement;
-use pb_propagate::Engine;
 use pb_text::Sequence;
 
 /// Deletes the constraints with these ids in order, up to the first id that has none.
-fn delete_each(engine: &mut Engine, ids: &[i64]) -> Result<(), Fault>
-    requires { engine.old.spent ≡ false }
-    ensures ok { OnOk result (Deleted engine.old.forms ids.now (Ok engine.new.forms)) }
-    ensures err { IfErr result (λ e. Deleted engine.old.forms ids.now (Err e)) }
-    ensures variables { engine.new.variables ≡ engine.old.variables }
-    ensures ready { engine.new.spent ≡ false }
+fn delete_each(constraints: &mut Constraints, ids: &[i64]) -> Result<(), Fault>
+    requires { constraints.old.spent ≡ false }
+    ensures ok { OnOk result (Deleted constraints.old.forms ids.now (Ok constraints.new.forms)) }
+    ensures err { IfErr result (λ e. Deleted constraints.old.forms ids.now (Err e)) }
+    ensures loaded { constraints.new.loaded ≡ constraints.old.loaded }
+    ensures variables { constraints.new.variables ≡ constraints.old.variables }
+    ensures ready { constraints.new.spent ≡ false }
     ensures memory { result ≡ Err Fault.Memory → ⊥ }
 {
     for id in ids {
-        match find(engine, *id) {
+        match find(constraints, *id) {
             Some(_) => {}
             None => return Err(Fault::NoSuchId(*id)),
         }
-        let at = place_of(engine.len(), *id);
-        engine.remove(at);
+        let at = place_of(constraints.len(), *id);
+        constraints.remove(at);
     }
     Ok(())
 }
@@ -39,5 +40,5 @@ pub(crate) fn delete(running: &mut Running, ids: &Sequence<i64>) -> Result<(), F
     ensures preserves { Preserves running.old result running.new }
     ensures memory { result ≡ Err Fault.Memory → ⊥ }
 {
-    delete_each(&mut running.engine, ids.as_slice())
+    delete_each(&mut running.constraints, ids.as_slice())
 }

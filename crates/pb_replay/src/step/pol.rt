@@ -1,15 +1,14 @@
 //! The words of `pol` on a stack of forms.
 
-ghost use Rattle.std.specs.Prelude.{◌≡◌, ℤ, ◌<◌, ◌≤◌, ◌+◌, ◌-◌, ◌∷◌, ◌++◌, ◌⊎◌, [], pos, ◌≤ℤ◌, All, length, reverse, unsigned_abs, OnOk, OnErr, IfOk, IfErr, IfSome, Ok, Err};
+ghost use Rattle.std.specs.Prelude.{◌≡◌, ℤ, ◌<◌, ◌≤◌, ◌+◌, ◌-◌, ◌∷◌, ◌++◌, ◌⊎◌, [], pos, ◌≤ℤ◌, All, length, reverse, unsigned_abs, OnOk, OnErr, IfOk, IfErr, Ok, Err};
 ghost use Rattle.pb_text.specs.meaning.Limits.{largest, top_of};
-ghost use Rattle.pb_proof.specs.declared.PolWord.TheVariants.{Id};
 ghost use Rattle.pb_proof.specs.meaning.Postfix.{IsPostfix, words as words_of};
 ghost use Rattle.pb_proof.specs.contract.Values.{IsStatementValue, IsWord};
 ghost use Rattle.pb_normal.specs.meaning.Names.{HasNames, with_names};
 ghost use Rattle.pb_normal.specs.meaning.Rules.{IsSum, divided, multiplied, saturated, weakened};
 ghost use Rattle.pb_replay.specs.meaning.Answer.{some};
 ghost use Rattle.pb_replay.specs.meaning.Meaning.{IsNamePrefix};
-ghost use Rattle.pb_replay.specs.meaning.Replay.{IsLive, FormOfExpression, limited};
+ghost use Rattle.pb_replay.specs.meaning.Replay.{FormOfExpression, limited};
 ghost use Rattle.pb_replay.specs.contract.ReplayModel.{Goes, IsReady, Preserves};
 ghost use Rattle.pb_replay.specs.engine.Stack.{Word};
 ghost use Rattle.pb_proof.specs.contract.Leaving.{takes};
@@ -17,12 +16,12 @@ ghost use Rattle.pb_replay.specs.meaning.Statements.{word_names};
 
 use crate::fault::Fault;
 use crate::state::Running;
-use crate::state::find::{find, number_of, share};
-use crate::state::live::{add_shared, widen};
+use crate::state::constraints::Constraints;
+use crate::state::find::{find, number_of};
+use crate::state::live::{add, widen};
 use crate::step::stack::Stack;
 use pb_normal::{Memory, Names, Normal, Sum};
 use pb_proof::{PolWord, Statement};
-use pb_propagate::{Engine, Shared};
 use pb_text::{Limits, Sequence};
 use std::alloc::AllocError;
 
@@ -95,7 +94,7 @@ fn weakening_of<'a>(memory: &mut Memory, form: Sum<'a>, variable: usize) -> Resu
 fn form_of_word<'a>(
     memory: &mut Memory,
     names: &Names,
-    engine: &'a Engine,
+    constraints: &'a Constraints,
     word: &PolWord,
     stack: &mut Stack<'a>,
     limits: Limits,
@@ -103,15 +102,15 @@ fn form_of_word<'a>(
     requires takes { takes word.now ≤ length stack.old }
     requires named { HasNames names.now (word_names (word.now ∷ [])) }
     requires value { IsWord (largest limits) (top_of limits) word.now }
-    ensures ok { IfOk result (λ r. Word (largest limits) names.now engine.now.forms word.now
+    ensures ok { IfOk result (λ r. Word (largest limits) names.now constraints.now.forms word.now
         (reverse stack.old) (Ok (r ∷ reverse stack.new))) }
     ensures count { OnOk result (length stack.new + takes word.now ≡ length stack.old) }
     ensures err { IfErr result (λ e. (e ≡ Fault.Memory) ⊎
-        Word (largest limits) names.now engine.now.forms word.now (reverse stack.old)
+        Word (largest limits) names.now constraints.now.forms word.now (reverse stack.old)
         (Err e)) }
 {
     match word {
-        PolWord::Id(id) => match find(engine, *id) {
+        PolWord::Id(id) => match find(constraints, *id) {
             Some(form) => Ok(Sum::held(form)),
             None => Err(Fault::NoSuchId(*id)),
         },
@@ -173,7 +172,7 @@ fn number_words(names: &mut Names, words: &[PolWord]) -> Result<(), AllocError>
 fn form_of_words(
     memory: &mut Memory,
     names: &Names,
-    engine: &Engine,
+    constraints: &Constraints,
     words: &[PolWord],
     limits: Limits,
 ) -> Result<Normal, Fault>
@@ -181,57 +180,17 @@ fn form_of_words(
     requires values { All (IsWord (largest limits) (top_of limits)) words.now }
     requires named { HasNames names.now (word_names words.now) }
     ensures ok { IfOk result (λ r. some (λ tree. words.now ≡ words_of tree)
-        (FormOfExpression (largest limits) names.now engine.now.forms) (Ok r)) }
+        (FormOfExpression (largest limits) names.now constraints.now.forms) (Ok r)) }
     ensures err { IfErr result (λ e. (e ≡ Fault.Memory) ⊎
         some (λ tree. words.now ≡ words_of tree)
-        (FormOfExpression (largest limits) names.now engine.now.forms) (Err e)) }
+        (FormOfExpression (largest limits) names.now constraints.now.forms) (Err e)) }
 {
     let mut stack = Stack::new();
     for word in words {
-        let form = form_of_word(memory, names, engine, word, &mut stack, limits)?;
+        let form = form_of_word(memory, names, constraints, word, &mut stack, limits)?;
         stack.push(memory.allocator(), form)?;
     }
     let form = stack.pop().into_normal(memory)?;
-    Ok(form)
-}
-
-/// The constraint of the words, if they are one id and it is live. Its terms are not copied.
-fn constraint_of_id(engine: &Engine, words: &[PolWord]) -> Result<Option<Shared>, AllocError>
-    ensures { IfOk result (λ found. IfSome found (λ f. (id : ℤ) × (words.now ≡ Id id ∷ []) ×
-        IsLive engine.now.forms id f)) }
-{
-    match words {
-        [PolWord::Id(id)] => {
-            let found = share(engine, *id)?;
-            Ok(found)
-        }
-        _ => Ok(None),
-    }
-}
-
-/// The form of the expression of these words, or its fault. That of one id shares the terms of its
-/// constraint.
-fn shared_form(
-    memory: &mut Memory,
-    names: &Names,
-    engine: &Engine,
-    words: &[PolWord],
-    limits: Limits,
-) -> Result<Shared, Fault>
-    requires postfix { IsPostfix words.now }
-    requires values { All (IsWord (largest limits) (top_of limits)) words.now }
-    requires named { HasNames names.now (word_names words.now) }
-    ensures ok { IfOk result (λ r. some (λ tree. words.now ≡ words_of tree)
-        (FormOfExpression (largest limits) names.now engine.now.forms) (Ok r)) }
-    ensures err { IfErr result (λ e. (e ≡ Fault.Memory) ⊎
-        some (λ tree. words.now ≡ words_of tree)
-        (FormOfExpression (largest limits) names.now engine.now.forms) (Err e)) }
-{
-    if let Some(form) = constraint_of_id(engine, words)? {
-        return Ok(form);
-    }
-    let form = form_of_words(memory, names, engine, words, limits)?;
-    let form = Shared::new(memory.allocator(), form)?;
     Ok(form)
 }
 
@@ -247,14 +206,14 @@ pub(crate) fn pol(running: &mut Running, words: &Sequence<PolWord>) -> Result<()
     if let Err(_) = number_words(&mut running.names, words.as_slice()) {
         return Err(Fault::Memory);
     }
-    widen(&mut running.engine, before, running.names.len())?;
-    let form = shared_form(
+    widen(&mut running.constraints, before, running.names.len())?;
+    let form = form_of_words(
         &mut running.memory,
         &running.names,
-        &running.engine,
+        &running.constraints,
         words.as_slice(),
         running.limits,
     )?;
     running.memory.trim();
-    add_shared(running, form)
+    add(running, form)
 }

@@ -40,7 +40,7 @@ fn take_form(running: &mut Running, linear: &Linear) -> Result<Normal, Fault>
         Side::AtLeast,
         running.limits,
     )?;
-    widen(&mut running.engine, before, running.names.len())?;
+    widen(&mut running.constraints, before, running.names.len())?;
     Ok(form)
 }
 
@@ -49,24 +49,24 @@ fn is_implied(running: &mut Running, form: &Normal) -> Result<bool, Fault>
     requires linked { IsLinked running.old }
     requires inside { IsInside (length running.old.names) form.now }
     ensures implied { IfOk result (λ found. found ≡ true →
-        IsRup (Live running.old.engine.forms) form.now) }
+        IsRup (Live running.old.constraints.forms) form.now) }
     ensures not_implied { IfOk result (λ found. found ≡ false →
-        IsRup (Live running.old.engine.forms) form.now → ⊥) }
-    ensures few { IsFew running.old.engine.forms form.now running.new.visits }
+        IsRup (Live running.old.constraints.forms) form.now → ⊥) }
+    ensures few { IsFew running.old.constraints.forms form.now running.new.visits }
     ensures unasked { form.now.degree ≡ 0 → running.new.visits ≡ 0 }
     ensures conflict { IfOk result (λ found. found ≡ true → (form.now.degree ≡ 0) ⊎
-        ((m : MeetsConflict (With (Live running.old.engine.forms) (negation_of form.now)) []) ×
+        ((m : MeetsConflict (With (Live running.old.constraints.forms) (negation_of form.now)) []) ×
         (length m.list ≤ running.new.visits))) }
     ensures completion { IfOk result (λ found. found ≡ false → (list : List NumberedLiteral) ×
-        IsCompletion (With (Live running.old.engine.forms) (negation_of form.now)) [] list ×
+        IsCompletion (With (Live running.old.constraints.forms) (negation_of form.now)) [] list ×
         (length list ≤ running.new.visits)) }
     ensures err { IfErr result (λ e. e ≡ Fault.Memory) }
     ensures same { OnOk result (HasNamed [] running.old running.new) }
     ensures linked { OnOk result (IsLinked running.new) }
     ensures kept { Keeps running.old running.new }
 {
-    let found = running.engine.rup(form);
-    running.visits = running.engine.visits();
+    let found = running.constraints.rup(form);
+    running.visits = running.constraints.visits();
     let implied = found?;
     Ok(implied)
 }
@@ -94,7 +94,7 @@ pub(crate) fn rup(running: &mut Running, linear: &Linear) -> Result<(), Fault>
     ensures goes { Goes running.old (Statement.Rup linear.now) result running.new }
     ensures linked { OnOk result (IsLinked running.new) }
     ensures kept { Keeps running.old running.new }
-    ensures visits_made { RupVisits running.old.engine.forms
+    ensures visits_made { RupVisits running.old.constraints.forms
         (with_names running.old.names (names_of linear.now.terms)) linear.now result
         running.new.visits }
     ensures memory { result ≡ Err Fault.Memory → Fits (largest running.old.limits) linear.now }

@@ -1,48 +1,35 @@
 //! Solutions that a conclusion shows.
 
-ghost use Rattle.std.specs.Prelude.{◌≡◌, ◌<◌, ◌⊎◌, All, Contains, IfOk, IfErr, IfSome, OnOk, Ok, Err, Some, length, map, option_map};
+ghost use Rattle.std.specs.Prelude.{◌≡◌, ◌<◌, ◌⊎◌, All, Contains, IfOk, IfErr, IfSome, OnOk, Ok, Err, false, length, option_map};
 ghost use Rattle.pb_replay.specs.meaning.Statements.{shown_names};
 ghost use Rattle.pb_replay.specs.meaning.Replay.{Completed, Logged, Shown, numbered};
-ghost use Rattle.pb_replay.specs.contract.ReplayModel.{HasNamed, IsEngine, IsLinked, IsProper, problem_of, Preserves, ReturnsValue};
+ghost use Rattle.pb_replay.specs.contract.ReplayModel.{HasNamed, IsLinked, IsProper, problem_of, Preserves, ReturnsValue};
 
 use crate::fault::Fault;
 use crate::state::Running;
-use crate::state::live::engine_of;
+use crate::state::live::copies_of;
 use crate::state::solution::solution_value;
 use crate::step::solution::{completion, take_literals};
 use pb_normal::NumberedLiteral;
-use pb_propagate::Engine;
 use pb_sums::Literal;
 use pb_text::Sequence;
 
-/// An engine of the instance's own constraints, over all names.
-fn own_engine(running: &Running) -> Result<Engine, Fault>
-    requires { IsProper running.now }
-    ensures engine { IfOk result (IsEngine (map (λ f. Some f) running.now.loaded.items)
-        (length running.now.names)) }
-    ensures err { IfErr result (λ e. e ≡ Fault.Memory) }
-{
-    engine_of(
-        running.alloc,
-        running.loaded.as_slice(),
-        running.names.len(),
-    )
-}
-
 /// The value of the solution that the literals complete to over the instance's own constraints.
 fn own_value(running: &Running, given: &[NumberedLiteral]) -> Result<i128, Fault>
+    requires ready { running.now.constraints.spent ≡ false }
     requires proper { IsProper running.now }
     requires inside { All (λ l. l.variable < length running.now.names) given.now }
     ensures { ReturnsValue (Completed (problem_of running.now)
-        (Contains running.now.loaded.items) running.now.own given.now) result }
+        (Contains running.now.constraints.loaded) running.now.own given.now) result }
 {
-    let mut engine = own_engine(running)?;
-    let values = completion(&mut engine, given)?;
+    let mut copies = copies_of(running.alloc, &running.constraints, running.names.len())?;
+    let values = completion(&mut copies, given)?;
     solution_value(running, values.as_slice(), running.own)
 }
 
 /// The value of the solution that the literals show.
 pub(crate) fn shown_value(running: &Running, given: &[NumberedLiteral]) -> Result<i128, Fault>
+    requires ready { running.now.constraints.spent ≡ false }
     requires proper { IsProper running.now }
     requires inside { All (λ l. l.variable < length running.now.names) given.now }
     ensures ok { IfOk result (λ z. (g : Logged) × Shown (problem_of running.now) given.now g ×

@@ -6,20 +6,21 @@ ghost use Rattle.pb_normal.specs.meaning.Rules.{on};
 ghost use Rattle.pb_propagate.specs.engine.engine.Live.{Live, Gives};
 ghost use Rattle.pb_propagate.specs.meaning.Propagation.{MeetsConflict, IsCompletion};
 ghost use Rattle.pb_replay.specs.meaning.Replay.{Completed, Excludes, negations, numbered};
-ghost use Rattle.pb_replay.specs.contract.ReplayModel.{Goes, GoesAt, Logs, HasNamed, IsBetter, IsEngine, IsInside, IsLinked, IsProper, IsReady, problem_of, Passes, Preserves, ReturnsValue};
+ghost use Rattle.pb_replay.specs.contract.ReplayModel.{Goes, GoesAt, Logs, HasNamed, IsBetter, IsInside, IsLinked, IsProper, IsReady, problem_of, Passes, Preserves, ReturnsValue};
 ghost use Rattle.pb_replay.specs.meaning.Statements.{literal_names};
 ghost use Rattle.pb_sums.specs.declared.linear.Literal.{Literal as Written};
 ghost use Rattle.pb_replay.specs.engine.Bounds.{Demands};
+ghost use Rattle.pb_replay.specs.engine.Constraints.{AreLive};
 
 use crate::fault::Fault;
 use crate::state::Running;
+use crate::state::constraints::Constraints;
 use crate::state::literals::{number_names, numbered_literals};
 use crate::state::live::{add, widen};
 use crate::state::objective::objective_form;
 use crate::state::solution::solution_value;
 use pb_normal::{Normal, NormalFault, NumberedLiteral, Side};
 use pb_proof::Statement;
-use pb_propagate::Engine;
 use pb_sums::Literal;
 use pb_text::Sequence;
 use std::alloc::{AllocError, AllocFailed, Global};
@@ -38,26 +39,28 @@ pub(crate) fn take_literals(
 {
     let before = running.names.len();
     number_names(&mut running.names, given)?;
-    widen(&mut running.engine, before, running.names.len())?;
+    widen(&mut running.constraints, before, running.names.len())?;
     let numbers = numbered_literals(running.alloc, &running.names, given)?;
     Ok(numbers)
 }
 
 /// The values of the completion of the literals over the engine's forms.
 pub(crate) fn completion(
-    engine: &mut Engine,
+    constraints: &mut Constraints,
     given: &[NumberedLiteral],
 ) -> Result<Vec<Option<bool>>, Fault>
-    requires ready { engine.old.spent ≡ false }
-    requires inside { All (λ l. l.variable < engine.old.variables) given.now }
-    ensures free { IfOk result (λ v. MeetsConflict (Live engine.old.forms) given.now → ⊥) }
+    requires ready { constraints.old.spent ≡ false }
+    requires inside { All (λ l. l.variable < constraints.old.variables) given.now }
+    ensures free { IfOk result (λ v. MeetsConflict (Live constraints.old.forms) given.now → ⊥) }
     ensures list { IfOk result (λ v. (list : List ANumberedLiteral) ×
-        IsCompletion (Live engine.old.forms) given.now list × Gives list v.items) }
+        IsCompletion (Live constraints.old.forms) given.now list × Gives list v.items) }
     ensures err { IfErr result (λ e. (e ≡ Fault.Memory) ⊎
-        ((e ≡ Fault.Conflict) × MeetsConflict (Live engine.old.forms) given.now)) }
-    ensures engine { OnOk result (IsEngine engine.old.forms engine.old.variables engine.new) }
+        ((e ≡ Fault.Conflict) × MeetsConflict (Live constraints.old.forms) given.now)) }
+    ensures loaded { constraints.new.loaded ≡ constraints.old.loaded }
+    ensures live { OnOk result (
+        AreLive constraints.old.forms constraints.old.variables constraints.new) }
 {
-    match engine.complete(given)? {
+    match constraints.complete(given)? {
         Some(values) => Ok(values),
         None => Err(Fault::Conflict),
     }
@@ -81,13 +84,13 @@ pub(crate) fn completion_value(
     requires proper { IsProper running.old }
     requires linked { IsLinked running.old }
     requires inside { All (λ l. l.variable < length running.old.names) given.now }
-    ensures value { ReturnsValue (Completed (problem_of running.old) (Live running.old.engine.forms)
-        (length running.old.names) given.now) result }
+    ensures value { ReturnsValue (Completed (problem_of running.old)
+        (Live running.old.constraints.forms) (length running.old.names) given.now) result }
     ensures small { IfOk result (λ z. unsigned_abs z < 2 ^ 127) }
     ensures same { OnOk result (HasNamed [] running.old running.new) }
     ensures preserves { Preserves running.old result running.new }
 {
-    let values = completion(&mut running.engine, given)?;
+    let values = completion(&mut running.constraints, given)?;
     solution_value(running, values.as_slice(), running.names.len())
 }
 

@@ -19,7 +19,7 @@ returns-in-Some-clause-rest c =
     let keep = c.args.store.now.stored.items in
     rw (forms-filled keep c.watch.new.store.stored.items k.0 c.args.slot (Some c.args.form) k.3 k.1)
     (rest-watched c.args.store.now c.watch.new.store c.plan.new.clauses c.watch.new.clauses (forms_of keep) c.args.form k.0 c.args.slot c.requires.slot k.2 k.3
-    rest.0 rest.1 rest.2 (rw c.form-2.ensures at planned.0.normal) (rw c.form-2.ensures at planned.0.clause) reported.ready reported.literals reported.lists (rest-refitted c.args.store.now c.args.clauses.now c.plan.new.clauses (forms_of keep) c.plan.ensures.clauses c.requires.rest))
+    rest.0 rest.1 rest.2 planned.0.normal planned.0.clause reported.ready reported.literals reported.lists (rest-refitted c.args.store.now c.args.clauses.now c.plan.new.clauses (forms_of keep) c.plan.ensures.clauses c.requires.rest))
 
 pub returns-clause-gained : goal.returns-clause-gained
 returns-clause-gained c = search (rules, c.in_ok-fill.ensures.filled, slots-vacant, c.requires.rest.slots, c.requires.slot, gained-filled, c.fill.ensures.variables, c.plan.ensures.clauses.literals, c.plan.ensures.clauses.watches)
@@ -43,6 +43,5 @@ watch-requires c =
     let same = c.plan.ensures.clauses in let keep = c.args.store.now.stored.items in
     let vacant = slots-vacant (forms_of keep) (shapes_of keep) (clauses_of c.args.clauses.now) c.args.slot c.requires.rest.slots c.requires.slot in
     let bare = slots-bare (forms_of keep) keep (clauses_of c.args.clauses.now) c.args.slot c.requires.rest.slots c.requires.slot in
-    let codes = rw c.form-2.ensures at planned.0.codes in
     let rest = c.requires.rest in
-    search (rules, same.ready, same.literals, same.lists, bare.inside, vacant.clause, rest.known, rest.widths, codes, planned.1, planned.0.pair, c.requires.inside)
+    search (rules, same.ready, same.literals, same.lists, bare.inside, vacant.clause, rest.known, rest.widths, planned.0.codes, planned.1, planned.0.pair, c.requires.inside)

@@ -75,11 +75,12 @@ stored_search words starts run s = record {
 abbrev pub stored_clause : List ℕ → List ℕ → ℕ → List ℕ
 stored_clause words starts s = take (number_at words (number_at starts s + 6)) (drop (number_at starts s + 8) words)
 
-abbrev pub contents : List ℕ → List ℕ → List ℕ → ℕ → Contents
-contents words starts rooms run = record {
-  literals = table (length starts) (stored_clause words starts);
-  searches = table (length starts) (stored_search words starts run);
-  watches = table (2 * length starts) (stored_watch words starts);
+-- what the slots store; `starts` and `rooms` may leave out the last numbers, which are 0
+abbrev pub contents : List ℕ → List ℕ → List ℕ → ℕ → ℕ → Contents
+contents words starts rooms run count = record {
+  literals = table count (stored_clause words starts);
+  searches = table count (stored_search words starts run);
+  watches = table (2 * count) (stored_watch words starts);
   rooms = rooms;
 }
 
@@ -97,12 +98,13 @@ abbrev pub IsBefore : List ℕ → List ℕ → ℕ → ℕ → Type 0
 IsBefore starts rooms s t = number_at starts s + 8 + number_at rooms s ≤ number_at starts t
 
 -- Each slot has a block of its own, or a common one, which is first. A slot whose watches have numbers of 32 bits may have one.
-pub record AreBlocks (words starts rooms : List ℕ) (run : ℕ) : Type 0 where
-  pub sizes : length rooms ≡ length starts
-  pub common : 0 < length starts → IsBare words 0
+-- What is no slot yet has the common one.
+pub record AreBlocks (words starts rooms : List ℕ) (run count : ℕ) : Type 0 where
+  pub past : (s : ℕ) → count ≤ s → number_at starts s ≡ 0
+  pub common : 0 < count → IsBare words 0
   pub shared : (s : ℕ) → number_at rooms s ≡ 0 → number_at starts s ≡ 0
   pub small : (s : ℕ) → 0 < number_at rooms s → s < 2 ^ 31 - 1
   pub apart : (s t : ℕ) → (s ≡ t → ⊥) → 0 < number_at rooms s → IsBefore starts rooms t s ⊎ IsBefore starts rooms s t
-  pub inside : (s : ℕ) → s < length starts → number_at starts s + 8 + number_at rooms s ≤ length words
-  pub within : (s : ℕ) → s < length starts → number_at words (number_at starts s + 6) ≤ number_at rooms s
-  pub begun_by : (s : ℕ) → s < length starts → number_at words (number_at starts s + 7) ≤ run
+  pub inside : (s : ℕ) → s < count → number_at starts s + 8 + number_at rooms s ≤ length words
+  pub within : (s : ℕ) → s < count → number_at words (number_at starts s + 6) ≤ number_at rooms s
+  pub begun_by : (s : ℕ) → s < count → number_at words (number_at starts s + 7) ≤ run

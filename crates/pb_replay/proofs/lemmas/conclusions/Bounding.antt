@@ -64,7 +64,7 @@ refuted-shown live f goal (g, e, inl h) = contradiction g e h
 refuted-shown live f goal (g, e, inr h) = sum g e h
 
 module _ (r : Running) (b : ℤ) where
-  pub objective-ok : (f : Option Form) (goal : Form) (result : Result Unit Fault) → HasObjective (largest r.limits) r.names (problem_of r).objective Side.AtLeast b (Ok goal) → ShownAs r.engine.forms f goal result → ObjectiveShown r f b result
+  pub objective-ok : (f : Option Form) (goal : Form) (result : Result Unit Fault) → HasObjective (largest r.limits) r.names (problem_of r).objective Side.AtLeast b (Ok goal) → ShownAs r.constraints.forms f goal result → ObjectiveShown r f b result
   objective-ok f goal (Ok u) made shown = λ o has. let k = form-of (largest r.limits) r.names (problem_of r).objective Side.AtLeast b goal made o has in inl (k.0, (goal, k.1, inl (shown, refl)))
   objective-ok f goal (Err e) made (inl memory) = inl memory
   objective-ok f goal (Err e) made (inr (is, none)) = inr (λ o has. let k = form-of (largest r.limits) r.names (problem_of r).objective Side.AtLeast b goal made o has in inl (k.0, (goal, k.1, inr (none, let to : Fault → Result Unit Fault = λ d. Err d in ap to is))))
@@ -73,14 +73,14 @@ module _ (r : Running) (b : ℤ) where
     pub lower-late : (IsBelow r.best b → ⊥) → Lower r (Finite b) id (Err NotBound)
     lower-late late = inr (λ logged o best has. inr (λ all. late (below-back logged r.best b best all), refl))
 
-    pub lower-missing : IsBelow r.best b → (e : Fault) → (i : ℤ) × (id ≡ Some i) × (e ≡ NoSuchId i) × ((f : Form) → IsLive r.engine.forms i f → ⊥) → Lower r (Finite b) id (Err e)
+    pub lower-missing : IsBelow r.best b → (e : Fault) → (i : ℤ) × (id ≡ Some i) × (e ≡ NoSuchId i) × ((f : Form) → IsLive r.constraints.forms i f → ⊥) → Lower r (Finite b) id (Err e)
     lower-missing low e (i, is, bad, none) = inr (λ logged o best has.
-        inl (below-to logged r.best b best low, subst (λ (d : Fault). named r.engine.forms id (λ f. objective_at_least r f b o) (Err d)) (sym bad) (named-missing r.engine.forms id i (λ f. objective_at_least r f b o) is none)))
+        inl (below-to logged r.best b best low, subst (λ (d : Fault). named r.constraints.forms id (λ f. objective_at_least r f b o) (Err d)) (sym bad) (named-missing r.constraints.forms id i (λ f. objective_at_least r f b o) is none)))
 
-    pub lower-found : IsBelow r.best b → (f : Option Form) → IsNamed r.engine.forms id f → (result : Result Unit Fault) → ObjectiveShown r f b result → Lower r (Finite b) id result
-    lower-found low f is (Ok u) h = λ logged o best has. inl (below-to logged r.best b best low, named-go r.engine.forms id f (λ g. objective_at_least r g b o) (Ok tt) is (h o has))
+    pub lower-found : IsBelow r.best b → (f : Option Form) → IsNamed r.constraints.forms id f → (result : Result Unit Fault) → ObjectiveShown r f b result → Lower r (Finite b) id result
+    lower-found low f is (Ok u) h = λ logged o best has. inl (below-to logged r.best b best low, named-go r.constraints.forms id f (λ g. objective_at_least r g b o) (Ok tt) is (h o has))
     lower-found low f is (Err e) (inl memory) = inl memory
-    lower-found low f is (Err e) (inr h) = inr (λ logged o best has. inl (below-to logged r.best b best low, named-go r.engine.forms id f (λ g. objective_at_least r g b o) (Err e) is (h o has)))
+    lower-found low f is (Err e) (inr h) = inr (λ logged o best has. inl (below-to logged r.best b best low, named-go r.constraints.forms id f (λ g. objective_at_least r g b o) (Err e) is (h o has)))
 
 pub lower-infinite : (r : Running) (id : Option ℤ) (result : Result Unit Fault) → ((logged : List Logged) → IsBest logged r.best → none_left (state_of r logged) id (gives (tt {0})) result) → Lower r Infinite id result
 lower-infinite r id (Ok u) h = λ logged o best has. h logged best
@@ -107,7 +107,7 @@ module _ (old m new : Running) (lower : Bound) (id : Option ℤ) (upper : Bound)
       let after = upper-moves s r same (problem_of old) (state_of old logged) upper written (last logged) go up in
       lower-moves (Ok tt) r (λ e is. ok_or_err is) (largest old.limits) (state_of old logged) o lower id (upper_bound (problem_of old) (state_of old logged) upper written (last logged)) (λ is. after) k.0
 
-  pub bounds-ok : HasNamed [] old m → new.engine.forms ≡ m.engine.forms → new.names ≡ m.names → new.best ≡ m.best → new.next ≡ Closing → new.concluded ≡ Some (Verdict.Bounds lower upper) → Both old lower id upper given (Ok tt) → GoesAt old (Conclude (Bounds lower id upper written)) (Ok tt) new
+  pub bounds-ok : HasNamed [] old m → new.constraints.forms ≡ m.constraints.forms → new.names ≡ m.names → new.best ≡ m.best → new.next ≡ Closing → new.concluded ≡ Some (Verdict.Bounds lower upper) → Both old lower id upper given (Ok tt) → GoesAt old (Conclude (Bounds lower id upper written)) (Ok tt) new
   bounds-ok named f n b x d both = λ logged best.
       let done = let to : State → Result State Fault = λ s. Ok s in ap to (same-state {logged = logged} (f ∙ named.forms) (n ∙ named.names) x d) in
       (logged, subst (λ (y : Option ℤ). IsBest logged y) (sym (b ∙ named.best)) best, inl (o, has, moved logged (Ok tt) (Ok (state_of new logged)) (λ e is. ok_or_err is) (λ is. done) (both logged o best has)))

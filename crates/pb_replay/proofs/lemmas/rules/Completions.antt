@@ -157,26 +157,26 @@ pub apart : (v : Problem) (F : Form → Type 0) (n : ℕ) (given : List Numbered
 apart v F n given g h x t f = (needed h).0 (record { list = given; derived = begin; conflict = opposed x t f })
 
 module _ (old : Running) (given : List NumberedLiteral) (written : List Literal) (numbers : given ≡ numbered old.names written) where
-  over : (r : Result Logged Fault) → Completed (problem_of old) (Live old.engine.forms) (length old.names) given r → Completed (problem_of old) (Live old.engine.forms) (length old.names) (numbered old.names written) r
-  over r c = subst (λ (x : List NumberedLiteral). Completed (problem_of old) (Live old.engine.forms) (length old.names) x r) numbers c
+  over : (r : Result Logged Fault) → Completed (problem_of old) (Live old.constraints.forms) (length old.names) given r → Completed (problem_of old) (Live old.constraints.forms) (length old.names) (numbered old.names written) r
+  over r c = subst (λ (x : List NumberedLiteral). Completed (problem_of old) (Live old.constraints.forms) (length old.names) x r) numbers c
 
-  pub solx-ok : (z : ℤ) (form : Form) (result : Result Unit Fault) (new : Running) → (g : Logged) × Completed (problem_of old) (Live old.engine.forms) (length old.names) given (Ok g) × (g.value ≡ z) → Excludes given form → Logs old z form result new → GoesAt old (Solx written) result new
+  pub solx-ok : (z : ℤ) (form : Form) (result : Result Unit Fault) (new : Running) → (g : Logged) × Completed (problem_of old) (Live old.constraints.forms) (length old.names) given (Ok g) × (g.value ≡ z) → Excludes given form → Logs old z form result new → GoesAt old (Solx written) result new
   solx-ok z form (Ok u) new (g, done, value) clause h = λ logged best.
       let k = h logged g best value in
       (logged ++ g ∷ [], k.0, inl (g, over (Ok g) done, (form, subst (λ (x : List NumberedLiteral). Excludes x form) numbers clause, k.1)))
   solx-ok z form (Err e) new (g, done, value) clause (inl memory) = inl memory
   solx-ok z form (Err e) new (g, done, value) clause (inr h) = inr (λ logged best. inl (g, over (Ok g) done, (form, subst (λ (x : List NumberedLiteral). Excludes x form) numbers clause, h logged g)))
 
-  pub solx-err : (e : Fault) (new : Running) → Completed (problem_of old) (Live old.engine.forms) (length old.names) given (Err e) → GoesAt old (Solx written) (Err e) new
+  pub solx-err : (e : Fault) (new : Running) → Completed (problem_of old) (Live old.constraints.forms) (length old.names) given (Err e) → GoesAt old (Solx written) (Err e) new
   solx-err e new h = inr (λ logged best. inr (e, over (Err e) h, refl))
 
-  pub soli-ok : (z : ℤ) (o : List Term) (result : Result Unit Fault) (new : Running) → (problem_of old).objective ≡ Some o → (g : Logged) × Completed (problem_of old) (Live old.engine.forms) (length old.names) given (Ok g) × (g.value ≡ z) → Demands old z result new → GoesAt old (Soli written) result new
+  pub soli-ok : (z : ℤ) (o : List Term) (result : Result Unit Fault) (new : Running) → (problem_of old).objective ≡ Some o → (g : Logged) × Completed (problem_of old) (Live old.constraints.forms) (length old.names) given (Ok g) × (g.value ≡ z) → Demands old z result new → GoesAt old (Soli written) result new
   soli-ok z o (Ok u) new has (g, done, value) h = λ logged best.
       let k = h logged g o best value has in (logged ++ g ∷ [], k.0, inl (o, has, inl (g, over (Ok g) done, k.1)))
   soli-ok z o (Err e) new has (g, done, value) (inl memory) = inl memory
   soli-ok z o (Err e) new has (g, done, value) (inr h) = inr (λ logged best. inl (o, has, inl (g, over (Ok g) done, h logged g o value has)))
 
-  pub soli-err : (o : List Term) (e : Fault) (new : Running) → (problem_of old).objective ≡ Some o → Completed (problem_of old) (Live old.engine.forms) (length old.names) given (Err e) → GoesAt old (Soli written) (Err e) new
+  pub soli-err : (o : List Term) (e : Fault) (new : Running) → (problem_of old).objective ≡ Some o → Completed (problem_of old) (Live old.constraints.forms) (length old.names) given (Err e) → GoesAt old (Soli written) (Err e) new
   soli-err o e new has h = inr (λ logged best. inl (o, has, inr (e, over (Err e) h, refl)))
 
 pub negations-apart : (given : List NumberedLiteral) → ((x : ℕ) → on given x true ≡ true → on given x false ≡ true → ⊥) → (x : ℕ) → on (negations given) x true ≡ true → on (negations given) x false ≡ true → ⊥

@@ -42,7 +42,7 @@ inside-added n old new form h is e f c =
     ]
 
 -- the same forms over more names
-pub linked-wider : (old new : Running) → IsLinked old → length old.names ≤ length new.names → new.engine.forms ≡ old.engine.forms → new.engine.spent ≡ false → new.engine.variables ≡ length new.names → IsLinked new
+pub linked-wider : (old new : Running) → IsLinked old → length old.names ≤ length new.names → new.constraints.forms ≡ old.constraints.forms → new.constraints.spent ≡ false → new.constraints.variables ≡ length new.names → IsLinked new
 linked-wider old new linked le e ready variables = grind (arith, inside-more, old.names, new.names, linked.inside)
 
 pub linked-loaded : (n m : ℕ) (forms : List Form) (live : List (Option Form)) → n ≤ m → ((f : Form) → Contains forms f → IsInside n f) → live ≡ map (λ (f : Form). let o : Option Form = Some f in o) forms → (f : Form) → Live live f → IsInside m f

@@ -14,7 +14,9 @@ use Rattle.pb_replay.proofs.Common.{Logs, Demands, HasObjective, objective_with,
 use Rattle.pb_replay.proofs.lemmas.meaning.{Accepting.ok-same, Assigned.length-prefix, Relating.unvalued-old, Ruled.deletes-to}
 use Rattle.pb_replay.proofs.lemmas.meaning.Soundness.{problems-proper, loaded-inside, meanings-agree, Deletes-live, first-sound, statements-sound}
 use Rattle.{pb_replay.proofs.lemmas.rules.Live.inside-more, pb_replay.proofs.lemmas.rules.Words.tree-inside, std.specs.List.All as AllOf}
-use Rattle.pb_replay.specs.contract.{Faults.fault_of, ReplayModel.Preserves, Visits.RupVisits, Visits.IsFew, Visits.CoversConflict, Visits.CoversCompletion}
+use Rattle.pb_replay.proofs.Common.{AreLive, first_state, option_map}
+use Rattle.pb_replay.specs.engine.Constraints.{Constrained}
+use Rattle.pb_replay.specs.contract.{Faults.fault_of, ReplayModel.IsLoaded, ReplayModel.Preserves, Visits.RupVisits, Visits.IsFew, Visits.CoversConflict, Visits.CoversCompletion}
 
 -- states are equal if their fields are
 pub same-state : {l m : List (Option Form)} {ns ms : List (List ℕ)} {logged : List Logged} {x y : Stage} {c d : Option Verdict} → l ≡ m → ns ≡ ms → x ≡ y → c ≡ d
@@ -53,16 +55,16 @@ pub came : (old : Running) (visits : ℕ) (st : Statement) → old.next ≡ stag
 came old visits st next = carries-from old (record old { visits = visits }) (λ s. does_in old st (with_mentioned s st)) (outcome_in old st) refl (λ logged r h. inl (next, h))
 
 pub delete-goes : (old new : Running) (ids : List ℤ) (result : Result Unit Fault) → new.best ≡ old.best → new.names ≡ old.names → new.next ≡ old.next → new.concluded ≡ old.concluded
-    → OnOk result (Deleted old.engine.forms ids (Ok new.engine.forms)) → IfErr result (λ e. Deleted old.engine.forms ids (Err e)) → Goes old (Delete ids) result new
+    → OnOk result (Deleted old.constraints.forms ids (Ok new.constraints.forms)) → IfErr result (λ e. Deleted old.constraints.forms ids (Err e)) → Goes old (Delete ids) result new
 delete-goes old new ids (Ok u) b n x d done bad =
-    goes-ok old new (Delete ids) b (λ logged. inl (new.engine.forms, done, let to : State → Result State Fault = λ s. Ok s in ap to (same-state refl n x d)))
+    goes-ok old new (Delete ids) b (λ logged. inl (new.constraints.forms, done, let to : State → Result State Fault = λ s. Ok s in ap to (same-state refl n x d)))
 delete-goes old new ids (Err e) b n x d done bad = goes-err old new (Delete ids) e (λ logged. inr (e, bad, refl))
 
-pub delete-linked : (old new : Running) (ids : List ℤ) (result : Result Unit Fault) → IsLinked old → new.names ≡ old.names → OnOk result (Deleted old.engine.forms ids (Ok new.engine.forms)) → new.engine.variables ≡ old.engine.variables → new.engine.spent ≡ false → OnOk result (IsLinked new)
+pub delete-linked : (old new : Running) (ids : List ℤ) (result : Result Unit Fault) → IsLinked old → new.names ≡ old.names → OnOk result (Deleted old.constraints.forms ids (Ok new.constraints.forms)) → new.constraints.variables ≡ old.constraints.variables → new.constraints.spent ≡ false → OnOk result (IsLinked new)
 delete-linked old new ids (Ok u) linked n done variables ready = record {
   ready = ready;
   variables = variables ∙ linked.variables ∙ ap length (sym n);
-  inside = λ f c. subst (λ (ns : List (List ℕ)). IsInside (length ns) f) (sym n) (linked.inside f (Deletes-live old.engine.forms ids new.engine.forms (deletes-to old.engine.forms ids new.engine.forms done) f c));
+  inside = λ f c. subst (λ (ns : List (List ℕ)). IsInside (length ns) f) (sym n) (linked.inside f (Deletes-live old.constraints.forms ids new.constraints.forms (deletes-to old.constraints.forms ids new.constraints.forms done) f c));
 }
 delete-linked old new ids (Err e) linked n done variables ready = tt
 
@@ -70,17 +72,17 @@ delete-linked old new ids (Err e) linked n done variables ready = tt
 pub repeated-form : (limit : ℕ) (names : List (List ℕ)) (live : List (Option Form)) (ws : List PolWord) (form : Form) → (id : ℤ) × (ws ≡ Id id ∷ []) × IsLive live id form → some (λ tree. ws ≡ words tree) (FormOfExpression limit names live) (Ok form)
 repeated-form limit names live ws form (id, is, there) = (Constraint id, is, inl (form, there, refl))
 
-pub pol-inside : (old : Running) (names : List (List ℕ)) (live : List (Option Form)) (limit : ℕ) (ws : List PolWord) (form : Form) → IsLinked old → IsNamePrefix old.names names → live ≡ old.engine.forms → HasNames names (word_names ws)
+pub pol-inside : (old : Running) (names : List (List ℕ)) (live : List (Option Form)) (limit : ℕ) (ws : List PolWord) (form : Form) → IsLinked old → IsNamePrefix old.names names → live ≡ old.constraints.forms → HasNames names (word_names ws)
     → some (λ tree. ws ≡ words tree) (FormOfExpression limit names live) (Ok form) → IsInside (length names) form
 pol-inside old names live limit ws form linked begins same named (tree, is, made) = grind (arith, tree-inside, inside-more, old.names, length-prefix, linked.inside)
 
 module _ (old m : Running) (ws vs : List PolWord) (form : Form) (named : HasNamed (word_names ws) old m) where
-  made_over : (tree : Tree) → FormOfExpression (largest old.limits) m.names m.engine.forms tree (Ok form) → FormOfExpression (largest old.limits) (with_names old.names (word_names ws)) old.engine.forms tree (Ok form)
+  made_over : (tree : Tree) → FormOfExpression (largest old.limits) m.names m.constraints.forms tree (Ok form) → FormOfExpression (largest old.limits) (with_names old.names (word_names ws)) old.constraints.forms tree (Ok form)
   made_over tree made =
-      subst (λ (l : List (Option Form)). FormOfExpression (largest old.limits) (with_names old.names (word_names ws)) l tree (Ok form)) named.forms (subst (λ (ns : List (List ℕ)). FormOfExpression (largest old.limits) ns m.engine.forms tree (Ok form)) named.names made)
+      subst (λ (l : List (Option Form)). FormOfExpression (largest old.limits) (with_names old.names (word_names ws)) l tree (Ok form)) named.forms (subst (λ (ns : List (List ℕ)). FormOfExpression (largest old.limits) ns m.constraints.forms tree (Ok form)) named.names made)
 
   pub pol-goes : (result : Result Unit Fault) (new : Running) → ws ≡ vs → m.limits ≡ old.limits → new.best ≡ m.best
-      → some (λ tree. vs ≡ words tree) (FormOfExpression (largest old.limits) m.names m.engine.forms) (Ok form) → Adding m form result new → Goes old (Pol ws) result new
+      → some (λ tree. vs ≡ words tree) (FormOfExpression (largest old.limits) m.names m.constraints.forms) (Ok form) → Adding m form result new → Goes old (Pol ws) result new
   pol-goes result new w l best (tree, is, made) =
       carries-added old m form (λ s. does_in old (Pol ws) (with_mentioned s (Pol ws)))
       (λ logged r h. (tree, w ∙ is, inl (form, made_over tree made, added-over old.limits m.limits l (state_of m logged) (with_mentioned (state_of old logged) (Pol ws)) (same-state named.forms named.names named.next named.concluded) logged form r h)))
@@ -94,17 +96,17 @@ module _ (old entered : Running) (linear : Linear) (form : Form) (named : HasNam
   side_over : IsSideOf (with_names old.names (names_of linear.terms)) Side.AtLeast linear form
   side_over = rw named.names at is
 
-  pub rup_added : (middle new : Running) (result : Result Unit Fault) → HasNamed [] entered middle → middle.limits ≡ old.limits → new.best ≡ middle.best → IsRup (Live old.engine.forms) form → Adding middle form result new → Goes old (Rup linear) result new
+  pub rup_added : (middle new : Running) (result : Result Unit Fault) → HasNamed [] entered middle → middle.limits ≡ old.limits → new.best ≡ middle.best → IsRup (Live old.constraints.forms) form → Adding middle form result new → Goes old (Rup linear) result new
   rup_added middle new result same l best implied =
       carries-added old middle form (λ s. does_in old (Rup linear) (with_mentioned s (Rup linear)))
       (λ logged r h. inl (fits, (form, side_over, inl (implied, added-over old.limits middle.limits l (state_of middle logged) (with_mentioned (state_of old logged) (Rup linear)) (same-state (same.forms ∙ named.forms) (same.names ∙ named.names) (same.next ∙ named.next) (same.concluded ∙ named.concluded)) logged form r h))))
       result new (best ∙ same.best ∙ named.best)
 
-  pub rup_refused : (new : Running) → (IsRup (Live old.engine.forms) form → ⊥) → Goes old (Rup linear) (Err NotImplied) new
+  pub rup_refused : (new : Running) → (IsRup (Live old.constraints.forms) form → ⊥) → Goes old (Rup linear) (Err NotImplied) new
   rup_refused new none = goes-err old new (Rup linear) NotImplied (λ logged. inl (fits, (form, side_over, inr (none, refl))))
 
   pub rup_judged : (middle new : Running) (result : Result Unit Fault) → HasNamed [] entered middle → middle.limits ≡ old.limits → new.best ≡ middle.best
-      → (implied : Bool) → (implied ≡ true → IsRup (Live old.engine.forms) form) → (implied ≡ false → IsRup (Live old.engine.forms) form → ⊥)
+      → (implied : Bool) → (implied ≡ true → IsRup (Live old.constraints.forms) form) → (implied ≡ false → IsRup (Live old.constraints.forms) form → ⊥)
       → (implied ≡ true → Adding middle form result new) → (implied ≡ false → result ≡ Err NotImplied) → Goes old (Rup linear) result new
   rup_judged middle new result same l best true is none adding refused = rup_added middle new result same l best (is refl) (adding refl)
   rup_judged middle new result same l best false is none adding refused =
@@ -146,8 +148,8 @@ not_so b P e h p = grind arith
 pub is_so : (b : Bool) (P : Type 0) → b ≡ true → IsTrue b ↔ P → P
 is_so b P e h = grind arith
 
-pub loaded-goes : (old new : Running) (count : Option ℕ) → new.best ≡ old.best → new.names ≡ old.names → new.concluded ≡ old.concluded → new.next ≡ Steps → new.engine.forms ≡ map (λ (f : Form). let o : Option Form = Some f in o) old.loaded.items
-    → IsCount count (length old.loaded.items) → length old.loaded.items ≤ top_of old.limits → Goes old (F count) (Ok tt) new
+pub loaded-goes : (old new : Running) (count : Option ℕ) → new.best ≡ old.best → new.names ≡ old.names → new.concluded ≡ old.concluded → new.next ≡ Steps → new.constraints.forms ≡ map (λ (f : Form). let o : Option Form = Some f in o) old.constraints.loaded
+    → IsCount count (length old.constraints.loaded) → length old.constraints.loaded ≤ top_of old.limits → Goes old (F count) (Ok tt) new
 loaded-goes old new count b n d x f counted le =
     goes-ok old new (F count) b (λ logged. inl (counted, inl (le, let to : State → Result State Fault = λ s. Ok s in ap to (same-state f n x d))))
 
@@ -275,23 +277,23 @@ ready_after old new st value ready comes k linked =
     }
 
 -- a state that a replay represents
-pub stood : (r : Running) (s : State) → s.live ≡ r.engine.forms → s.names ≡ r.names → s.next ≡ r.next → s.concluded ≡ r.concluded → state_of r s.logged ≡ s
+pub stood : (r : Running) (s : State) → s.live ≡ r.constraints.forms → s.names ≡ r.names → s.next ≡ r.next → s.concluded ≡ r.concluded → state_of r s.logged ≡ s
 stood r s e f g h = sym (same-state e f g h)
 
-pub step-ok : (old new : Running) (st : Statement) → Comes old st (Ok tt) new → (s : State) → s.live ≡ old.engine.forms → s.names ≡ old.names → IsBest s.logged old.best → s.next ≡ old.next → s.concluded ≡ old.concluded
+pub step-ok : (old new : Running) (st : Statement) → Comes old st (Ok tt) new → (s : State) → s.live ≡ old.constraints.forms → s.names ≡ old.names → IsBest s.logged old.best → s.next ≡ old.next → s.concluded ≡ old.concluded
     → (more : List Logged) × IsBest more new.best × outcome_in old st s (Ok (state_of new more))
 step-ok old new st comes s e f best g h =
     let k = comes s.logged best in (k.0, k.1, subst (λ (x : State). outcome_in old st x (Ok (state_of new k.0))) (stood old s e f g h) k.2)
 
 pub step-err : (old new : Running) (st : Statement) (d : Fault) → (d ≡ Memory) ⊎ ((logged : List Logged) → IsBest logged old.best → outcome_in old st (state_of old logged) (Err d))
-    → (d ≡ Memory) ⊎ ((s : State) → s.live ≡ old.engine.forms → s.names ≡ old.names → IsBest s.logged old.best → s.next ≡ old.next → s.concluded ≡ old.concluded → outcome_in old st s (Err d))
+    → (d ≡ Memory) ⊎ ((s : State) → s.live ≡ old.constraints.forms → s.names ≡ old.names → IsBest s.logged old.best → s.next ≡ old.next → s.concluded ≡ old.concluded → outcome_in old st s (Err d))
 step-err old new st d (inl memory) = inl memory
 step-err old new st d (inr h) = inr (λ s e f best g k. subst (λ (x : State). outcome_in old st x (Err d)) (stood old s e f g k) (h s.logged best))
 
 pub ready_first : (limits : Limits) (i : Instance) (r : Running) → IsOpened limits i r → IsReady r
 ready_first limits i r opened =
     let first = opened.loaded.first in let proper = problems-proper (largest limits) i (problem_of r) opened.loaded.opened in
-    let none : r.engine.forms ≡ [] = ap (λ (s : State). s.live) first.state in
+    let none : r.constraints.forms ≡ [] = ap (λ (s : State). s.live) first.state in
     record {
       proper = record {
         own = omega (arith, first.own);
@@ -302,9 +304,31 @@ ready_first limits i r opened =
       linked = record {
         ready = opened.ready;
         variables = opened.variables;
-        inside = λ f c. absurd (contains-none r.engine.forms (Some f) none c);
+        inside = λ f c. absurd (contains-none r.constraints.forms (Some f) none c);
       };
       sound = ([], rw first.best refl, rw first.state (first-sound (problem_of r) proper));
+    }
+
+-- there is room for the variables and the constraints
+pub opened-prepared : (limits : Limits) (i : Instance) (old : Running) (constraints : Constrained) → IsLoaded limits i old → constraints.loaded ≡ old.constraints.loaded → AreLive [] old.own constraints → IsOpened limits i (record old { constraints = constraints })
+opened-prepared limits i old constraints is e live =
+    let first = is.first in
+    let same : problem_of (record old { constraints = constraints }) ≡ problem_of old =
+    ap (λ (forms : List Form). let v : Problem = record { loaded = forms; objective = option_map (λ (x : Linear). x.terms) old.objective; names = take old.own old.names } in v) e in
+    record {
+      loaded = record {
+        opened = subst (λ (v : Problem). Opened (largest limits) i (Ok v)) (sym same) is.opened;
+        first = record {
+          limits = first.limits;
+          own = first.own;
+          best = first.best;
+          state = same-state (live.forms ∙ sym (ap (λ (s : State). s.live) first.state)) refl refl refl ∙ first.state ∙ ap first_state (sym same);
+          visits = first.visits;
+        };
+        fits = is.fits;
+      };
+      ready = live.ready;
+      variables = live.variables ∙ first.own;
     }
 
 -- what an instance opens as

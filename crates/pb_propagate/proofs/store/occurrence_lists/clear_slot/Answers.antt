@@ -11,5 +11,5 @@ returns-clause-sound c =
     omega (arith, linked.sizes, cut-length (shapes_of keep) c.args.form 0, length-map keep stored_shape, length-map less.spots spots_in) in
     let emptied : IsEmptied keep (set keep c.args.form c.empty_stored.result) less.spots c.set_empty.new.self c.args.form =
     emptied-set c.empty_stored.result refl c.set_empty.ensures c.empty_stored.ensures.terms sizes c.requires.form in
-    rw (c.unlink.ensures.variables, same)
+    rw (c.unlink.ensures.variables, same, c.replace-kept.ensures.after)
     (emptied-stored store.spots less.occurrences store.occurrences emptied c.unlink.ensures.lists c.unlink.ensures.rooms linked c.requires.sound)

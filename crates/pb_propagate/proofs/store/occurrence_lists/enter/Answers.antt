@@ -1,4 +1,4 @@
-use Rattle.pb_propagate.proofs.Common.{◌∙◌, ◌≡◌, ap, arith, get_or-set_same, IsStoredAs, length, length-append, set, Some, stored_shape, stored_total, subst}
+use Rattle.pb_propagate.proofs.Common.{◌∙◌, ◌≡◌, ap, arith, get_or-set_same, length, length-append, set, stored_total}
 use Rattle.pb_propagate.proofs.lemmas.Columns.{last_set}
 use Rattle.std.proofs.lemmas.Grind.{common_steps}
 use Rattle.pb_propagate.proofs.store.occurrence_lists.enter.Goals as goal
@@ -23,8 +23,8 @@ returns-clause-entered c =
     let total : c.total.result ≡ stored_total f.kept = grind (arith, c.total.ensures, c.index.ensures, f.keeps, w.2, slot, get_or-set_same, length-append) in
     record {
       kept = f.kept;
-      is = subst (λ form. IsStoredAs form (stored_shape f.kept)) c.in_ok-form.ensures f.is;
-      form = f.form ∙ ap (λ form. Some form) c.in_ok-form.ensures;
+      is = f.is;
+      form = f.form;
       keeps = last_set keep.items c.widen.new.store.stored.items c.fill.new.store.stored.items w.0 f.kept c.len-slot.result w.2 slot f.keeps;
       opened = last_set run.opens c.push_empty.new.self c.set.new.self 0 (stored_total f.kept) c.len-last.result c.in_ok-push_empty.ensures.ok c.len-last.ensures.is
           (c.set.ensures ∙ ap (set c.push_empty.new.self c.len-last.result) total);

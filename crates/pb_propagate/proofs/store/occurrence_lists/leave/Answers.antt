@@ -12,7 +12,7 @@ returns-clause-sound c =
     let sizes : length less.spots ≡ length keep =
     omega (arith, linked.sizes, cut-length (shapes_of keep) number 0, length-map keep stored_shape, length-map less.spots spots_in) in
     let kept : c.pop.new.self.items ≡ take number keep = grind (arith, c.pop.ensures.rest, same, count, less.stored.ok.0) in
-    let spots : c.pop-2.new.self ≡ take number less.spots = c.pop-2.ensures ∙ ap (λ n. take n less.spots) (omega (arith, sizes, count)) in
+    let spots : c.pop-4.new.self ≡ take number less.spots = c.pop-4.ensures ∙ ap (λ n. take n less.spots) (omega (arith, sizes, count)) in
     let emptied = emptied-take kept spots sizes count in
     rw c.unlink.ensures.variables
     (emptied-stored store.spots less.occurrences store.occurrences emptied c.unlink.ensures.lists c.unlink.ensures.rooms linked c.requires.sound)

@@ -22,9 +22,9 @@ returns-clause-ok c =
     let same = rw c.as_linear.ensures at c.started-running.ensures.problem in
     let loaded : (v : Instance) → NamesInOrder l.notes.events v → IsLoaded l.forms.limits v r = λ v order. is-loaded l.notes.events l.objective l.forms c.self.invariant v order c.in_ok-self.was small r c.started-running.ensures.first same in
     let limits : r.limits ≡ l.forms.limits = c.started-running.ensures.first.limits in
-    let opened : (v : Instance) → IsLoaded l.forms.limits v r → IfOk c.with_engine.result (IsOpened l.forms.limits v) = λ v is.
-    subst (λ (k : Limits). IfOk c.with_engine.result (IsOpened k v)) limits (c.with_engine.ensures.ok v (subst (λ (k : Limits). IsLoaded k v r) (sym limits) is)) in
-    rw (← c.self.view_is) (for-each c.with_engine.result (NamesInOrder l.notes.events) (λ x v. IsOpened l.forms.limits v x) (λ v order. opened v (loaded v order)))
+    let opened : (v : Instance) → IsLoaded l.forms.limits v r → IfOk c.with_variables.result (IsOpened l.forms.limits v) = λ v is.
+    subst (λ (k : Limits). IfOk c.with_variables.result (IsOpened k v)) limits (c.with_variables.ensures.ok v (subst (λ (k : Limits). IsLoaded k v r) (sym limits) is)) in
+    rw (← c.self.view_is) (for-each c.with_variables.result (NamesInOrder l.notes.events) (λ x v. IsOpened l.forms.limits v x) (λ v order. opened v (loaded v order)))
 
 pub returns-clause-memory : goal.returns-clause-memory
 returns-clause-memory c =

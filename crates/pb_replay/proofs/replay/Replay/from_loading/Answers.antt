@@ -8,3 +8,6 @@ invariant_of-result c =
 
 pub returns-clause-running : goal.returns-clause-running
 returns-clause-running c = refl
+
+pub returns-clause-opened : goal.returns-clause-opened
+returns-clause-opened c = λ v order. (c.in_ok-running.ensures.ok v order).loaded.opened

@@ -1,6 +1,6 @@
-use Rattle.pb_replay.proofs.Common.{map, Some, take, Option, Form, IsEngine}
+use Rattle.pb_replay.proofs.Common.{map, Some, take, Option, Form, AreLive}
 use Rattle.pb_replay.proofs.state.live.fill.Given as goal
 
--- the forms so far were added
-abbrev pub invariant-loop-form : goal.invariant-loop-form
-invariant-loop-form l = IsEngine (map (λ (f : Form). let o : Option Form = Some f in o) (take l.form-index l.forms)) l.fn.engine.variables l.engine
+-- the constraints so far were added
+abbrev pub invariant-loop-at : goal.invariant-loop-at
+invariant-loop-at l = AreLive (map (λ (f : Form). let o : Option Form = Some f in o) (take l.at l.constraints.loaded)) l.fn.copies.variables l.copies

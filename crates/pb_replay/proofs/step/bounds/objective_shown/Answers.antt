@@ -2,4 +2,4 @@ use Rattle.pb_replay.proofs.{Common.to_z-of_z, Common.arith, lemmas.conclusions.
 use Rattle.pb_replay.proofs.step.bounds.objective_shown.Goals as goal
 
 pub returns-clause-shown : goal.returns-clause-shown
-returns-clause-shown c = grind (arith, objective-ok, to_z-of_z, c.in_ok-goal.ensures.ok, c.objective_form.ensures.engine, c.goal_shown.ensures.shown)
+returns-clause-shown c = grind (arith, objective-ok, to_z-of_z, c.in_ok-goal.ensures.ok, c.objective_form.ensures.constraints, c.goal_shown.ensures.shown)

@@ -3,4 +3,4 @@ use Rattle.pb_replay.proofs.step.pol.form_of_words.Given as goal
 
 -- the result of the rest is the result of the whole
 abbrev pub invariant-loop-word : goal.invariant-loop-word
-invariant-loop-word l = Standing (largest l.limits) (top_of l.limits) l.names l.engine.forms l.words l.word-index l.stack
+invariant-loop-word l = Standing (largest l.limits) (top_of l.limits) l.names l.constraints.forms l.words l.word-index l.stack

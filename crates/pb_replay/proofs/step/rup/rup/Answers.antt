@@ -33,11 +33,11 @@ returns-clause-goes c =
 pub returns-in_err-implied-clause-visits_made : goal.returns-in_err-implied-clause-visits_made
 returns-in_err-implied-clause-visits_made c =
     let named = c.in_ok-form.ensures.named in
-    visits-memory c.args.linear.now c.take_form.new.running.engine.forms c.args.running.now.engine.forms c.args.running.now.names c.take_form.new.running.names c.in_ok-form.form c.is_implied.new.running.visits c.is_implied.new.running.visits named.forms named.names
+    visits-memory c.args.linear.now c.take_form.new.running.constraints.forms c.args.running.now.constraints.forms c.args.running.now.names c.take_form.new.running.names c.in_ok-form.form c.is_implied.new.running.visits c.is_implied.new.running.visits named.forms named.names
     c.in_ok-form.ensures.form c.is_implied.ensures.few c.is_implied.ensures.unasked refl _ (search rules)
 
 pub returns-clause-visits_made : goal.returns-clause-visits_made
 returns-clause-visits_made c =
     let named = c.in_ok-form.ensures.named in let reported = c.in_ok-implied.ensures in
-    visits-judged c.args.linear.now c.take_form.new.running.engine.forms c.args.running.now.engine.forms c.args.running.now.names c.take_form.new.running.names c.in_ok-form.form c.is_implied.new.running.visits c.judge.new.running.visits named.forms named.names
+    visits-judged c.args.linear.now c.take_form.new.running.constraints.forms c.args.running.now.constraints.forms c.args.running.now.names c.take_form.new.running.names c.in_ok-form.form c.is_implied.new.running.visits c.judge.new.running.visits named.forms named.names
     c.in_ok-form.ensures.form c.is_implied.ensures.few c.is_implied.ensures.unasked c.judge.ensures.preserves.visits c.is_implied.new.running c.judge.new.running c.judge.result c.in_ok-implied.implied reported.conflict reported.completion c.judge.ensures.added c.judge.ensures.refused

@@ -17,7 +17,7 @@ widen-requires-clause-to c = omega (arith, c.len-before.ensures.length, c.len.en
 pub returns-in_err-widen-clause-preserves : goal.returns-in_err-widen-clause-preserves
 returns-in_err-widen-clause-preserves c = record {
   linked = search rules;
-  kept = record { limits = refl; own = refl; loaded = refl; objective = refl; names = prefix_after _ _ (names_of c.args.linear.now.terms) c.in_ok-form.ensures.names };
+  kept = record { limits = refl; own = refl; loaded = c.widen.ensures.loaded; objective = refl; names = prefix_after _ _ (names_of c.args.linear.now.terms) c.in_ok-form.ensures.names };
   visits = refl;
 }
 
@@ -26,7 +26,7 @@ returns-clause-fits c = fits_of _ _ _ _ c.in_ok-form.was c.from_linear.ensures.o
 
 pub returns-clause-preserves : goal.returns-clause-preserves
 returns-clause-preserves c = record {
-  linked = linked-wider c.args.running.now _ c.requires (grown c.args.running.now.names c.from_linear.new.names (names_of c.args.linear.now.terms) c.in_ok-form.ensures.names) c.in_ok-widen.ensures.engine.forms c.in_ok-widen.ensures.engine.ready (c.in_ok-widen.ensures.engine.variables ∙ c.len.ensures.length);
-  kept = record { limits = refl; own = refl; loaded = refl; objective = refl; names = prefix_after _ _ (names_of c.args.linear.now.terms) c.in_ok-form.ensures.names };
+  linked = linked-wider c.args.running.now _ c.requires (grown c.args.running.now.names c.from_linear.new.names (names_of c.args.linear.now.terms) c.in_ok-form.ensures.names) c.in_ok-widen.ensures.live.forms c.in_ok-widen.ensures.live.ready (c.in_ok-widen.ensures.live.variables ∙ c.len.ensures.length);
+  kept = record { limits = refl; own = refl; loaded = c.widen.ensures.loaded; objective = refl; names = prefix_after _ _ (names_of c.args.linear.now.terms) c.in_ok-form.ensures.names };
   visits = refl;
 }

@@ -13,9 +13,9 @@ returns-clause-demands c =
 
 pub log-requires-clause-linked : goal.log-requires-clause-linked
 log-requires-clause-linked c = record {
-  ready = rw c.objective_form.ensures.engine c.requires.linked.ready;
-  variables = rw (c.objective_form.ensures.engine, c.in_ok-demand.ensures.same.names) c.requires.linked.variables;
-  inside = rw (c.objective_form.ensures.engine, c.in_ok-demand.ensures.same.names) c.requires.linked.inside;
+  ready = rw c.objective_form.ensures.constraints c.requires.linked.ready;
+  variables = rw (c.objective_form.ensures.constraints, c.in_ok-demand.ensures.same.names) c.requires.linked.variables;
+  inside = rw (c.objective_form.ensures.constraints, c.in_ok-demand.ensures.same.names) c.requires.linked.inside;
 }
 
 pub returns-clause-preserves : goal.returns-clause-preserves

@@ -5,7 +5,7 @@ use Rattle.pb_replay.proofs.step.solution.exclude.Goals as goal
 pub clause_of-requires : goal.clause_of-requires
 clause_of-requires c =
     let done = c.in_ok-value.ensures.value in
-    apart (problem_of c.args.running.now) (Live c.args.running.now.engine.forms) (length c.args.running.now.names) c.args.given.now done.0 done.1
+    apart (problem_of c.args.running.now) (Live c.args.running.now.constraints.forms) (length c.args.running.now.names) c.args.given.now done.0 done.1
 
 pub returns-clause-goes : goal.returns-clause-goes
 returns-clause-goes c = λ written e.

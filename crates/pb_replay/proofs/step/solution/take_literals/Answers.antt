@@ -10,7 +10,7 @@ widen-requires-clause-to c = omega (arith, c.len-before.ensures.length, c.len.en
 
 pub returns-clause-preserves : goal.returns-clause-preserves
 returns-clause-preserves c = record {
-  linked = linked-wider c.args.running.now _ c.requires (grown c.args.running.now.names c.number_names.new.names (literal_names c.args.given.now) c.in_ok-number_names.ensures.names) c.in_ok-widen.ensures.engine.forms c.in_ok-widen.ensures.engine.ready (c.in_ok-widen.ensures.engine.variables ∙ c.len.ensures.length);
-  kept = record { limits = refl; own = refl; loaded = refl; objective = refl; names = c.number_names.ensures.prefix };
+  linked = linked-wider c.args.running.now _ c.requires (grown c.args.running.now.names c.number_names.new.names (literal_names c.args.given.now) c.in_ok-number_names.ensures.names) c.in_ok-widen.ensures.live.forms c.in_ok-widen.ensures.live.ready (c.in_ok-widen.ensures.live.variables ∙ c.len.ensures.length);
+  kept = record { limits = refl; own = refl; loaded = c.widen.ensures.loaded; objective = refl; names = c.number_names.ensures.prefix };
   visits = refl;
 }

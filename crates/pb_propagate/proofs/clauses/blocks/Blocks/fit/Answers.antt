@@ -1,16 +1,20 @@
-use Rattle.pb_propagate.proofs.Common.{ap, arith, Contents, get_or_read, set, get_or-set_same, leb-true}
+use Rattle.pb_propagate.proofs.Common.{◌∙◌, ap, arith, Contents, set, sym}
 use Rattle.pb_propagate.proofs.clauses.blocks.Blocks.fit.Goals.{In_ok-append}
-use Rattle.pb_propagate.proofs.lemmas.clauses.Blocks.{Store, slot-stored, fitted, roomed}
+use Rattle.pb_propagate.proofs.lemmas.clauses.Blocks.{Store, fitted, renumbered, roomed}
 use Rattle.pb_propagate.proofs.clauses.blocks.Blocks.fit.Goals as goal
 
 -- the block is new
-new : (c : In_ok-append) → Store c.append.new.words.items (set c.self.inside.starts.items c.args.slot c.len-start.result)
-    (set c.self.inside.rooms.items c.args.slot c.room_of-room.result) c.self.inside.run (roomed c.args.self.now c.args.slot c.room_of-room.result)
+new : (c : In_ok-append) → Store c.append.new.words.items (set c.reach_both.new.starts.items c.args.slot c.len-start.result)
+    (set c.reach_both.new.rooms.items c.args.slot c.room_of-room.result) c.self.inside.run c.self.inside.count
+    (roomed c.args.self.now (set c.reach_both.new.rooms.items c.args.slot c.room_of-room.result))
 new c =
-    let slot = slot-stored c.self.invariant c.self.view_is c.args.slot c.requires.slot in
-    let held = get_or_read c.self.inside.rooms.items c.args.slot c.index.result.now (omega (arith, slot, c.self.invariant.sizes)) c.index.ensures 0 in
-    fitted c.args.slot c.len-start.result c.room_of-room.result c.self.invariant c.self.view_is c.requires.slot
-    (omega (arith, c.if-held-gt0.false, held)) (omega (arith, c.if-slot-ge2147483647.false))
+    let s =
+    renumbered c.reach_both.new.starts.items c.reach_both.new.rooms.items c.self.invariant c.self.view_is c.reach_both.ensures.starts
+    c.reach_both.ensures.rooms in
+    let stored = c.in_ok-reach_both.ensures.stored in
+    let none = c.reach_both.ensures.rooms c.args.slot ∙ sym (rw c.as_slice.ensures.value at c.number_of-held.ensures) in
+    fitted c.args.slot c.len-start.result c.room_of-room.result s.blocks s.is c.requires.slot stored.0 stored.1
+    (omega (arith, c.if-held-gt0.false, none)) (omega (arith, c.if-slot-ge2147483647.false))
     (omega (arith, c.len-start.ensures, c.self.inside.words.ok.0)) c.in_ok-append.ensures.size c.in_ok-append.ensures.kept
     c.in_ok-append.ensures.bare (omega (arith, c.requires.some, c.room_of-room.ensures))
 
@@ -25,18 +29,3 @@ returns-clause-searches c = ap (λ (v : Contents). v.searches) (new (goal.at.ret
 
 pub returns-clause-watches : goal.returns-clause-watches
 returns-clause-watches c = ap (λ (v : Contents). v.watches) (new (goal.at.returns-clause-watches c).In_ok-append).is
-
-pub index-requires : goal.index-requires
-index-requires c = grind (arith, slot-stored)
-
-pub index_mut-requires : goal.index_mut-requires
-index_mut-requires c = grind (arith, slot-stored)
-
-pub index_mut-requires-2 : goal.index_mut-requires-2
-index_mut-requires-2 c = grind (arith, slot-stored)
-
-pub returns-then-held-gt0-clause-fits : goal.returns-then-held-gt0-clause-fits
-returns-then-held-gt0-clause-fits c = grind (arith, get_or_read, leb-true, slot-stored)
-
-pub returns-clause-fits : goal.returns-clause-fits
-returns-clause-fits c = grind (arith, get_or-set_same, leb-true, slot-stored)

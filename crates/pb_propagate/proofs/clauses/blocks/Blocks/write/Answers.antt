@@ -2,8 +2,8 @@ use Rattle.pb_propagate.proofs.{Common.ℕ, Common.arith, Common.length-set, Com
 use Rattle.pb_propagate.proofs.lemmas.clauses.Blocks.{own-slot, own-at, IsOwn, whole-written}
 use Rattle.pb_propagate.proofs.clauses.blocks.Blocks.write.Goals as goal
 
-own : (c : After-index) → IsOwn c.self.inside.words.items c.self.inside.starts.items c.self.inside.rooms.items c.self.inside.run c.args.self.now
-    c.args.slot c.index.result.now
+own : (c : After-index) → IsOwn c.self.inside.words.items c.self.inside.starts.items c.self.inside.rooms.items c.self.inside.run c.self.inside.count
+    c.args.self.now c.args.slot c.index.result.now
 own c = own-at c.self.invariant c.self.view_is c.args.slot c.index.result.now (inr (omega (arith, c.requires.room, c.requires.some))) c.index.ensures
 
 pub index-requires : goal.index-requires

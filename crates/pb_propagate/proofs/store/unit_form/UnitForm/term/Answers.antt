@@ -5,4 +5,4 @@ pub returns : goal.returns
 returns c = λ d.
     let none : Entry = record { variable = 0; negated = false; coefficient = 0 } in
     let at = get_or-map as_term c.args.self.now.form.terms 0 none d in
-    grind (arith, c.terms.ensures.terms, c.form.ensures, c.term_of.ensures, c.get.ensures.read none, at, c.args.self.now.single)
+    grind (arith, c.terms.ensures.terms, c.term_of.ensures, c.get.ensures.read none, at, c.args.self.now.single)

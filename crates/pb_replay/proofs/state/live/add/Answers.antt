@@ -1,5 +1,5 @@
 use Rattle.pb_replay.proofs.{Common.◌∙◌, Common.refl, Common.rules, lemmas.rules.Live.inside-added}
-use Rattle.pb_replay.proofs.state.live.add_shared.Goals as goal
+use Rattle.pb_replay.proofs.state.live.add.Goals as goal
 
 pub returns-in-Ok-clause-preserves : goal.returns-in-Ok-clause-preserves
 returns-in-Ok-clause-preserves c = record {
