@@ -41,9 +41,9 @@ pub extern "C" fn pb_checker_open(
     match Session::open(alloc, asked.keys, instance, asked.longest, asked.limits) {
         Ok(session) => {
             let place = session.place();
-            match Box::new(alloc, session) {
-                Ok(boxed) => {
-                    *checker = CheckerHandle::of(boxed);
+            match CheckerHandle::owning(alloc, session) {
+                Ok(handle) => {
+                    *checker = handle;
                     *report = Report::of_place(place);
                     0
                 }

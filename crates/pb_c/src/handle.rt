@@ -1,6 +1,6 @@
 //! A handle on a session, for programs in C.
 
-ghost use Rattle.std.specs.Prelude.{◌≡◌, None, Some, Option};
+ghost use Rattle.std.specs.Prelude.{◌≡◌, IfOk, None, Some, Option};
 ghost use Rattle.std.specs.Option.{MatchOption};
 ghost use Rattle.pb_pieces.specs.contracts.session.Session.{the_row};
 ghost use Rattle.pb_pieces.specs.declared.session.Session.{Session as ASession};
@@ -8,7 +8,7 @@ ghost use Rattle.pb_c.specs.Handle.{held_owns};
 
 use pb_loose::Loose;
 use pb_pieces::Session;
-use std::alloc::Global;
+use std::alloc::{AllocError, Global};
 use std::marker::Model;
 use std::{mem, ptr};
 
@@ -57,6 +57,14 @@ impl CheckerHandle {
                 alloc,
             })
         }
+    }
+
+    /// A handle that owns a session, for which it allocates.
+    pub(crate) fn owning(alloc: Global, session: Session) -> Result<CheckerHandle, AllocError>
+        ensures { IfOk result (λ h. h.value ≡ Some session) }
+    {
+        let boxed = Box::new(alloc, session)?;
+        Ok(CheckerHandle::of(boxed))
     }
 
     /// A handle that owns a session.

@@ -29,7 +29,9 @@ pub fn is_refuted_in_pieces(
     verdicts_are_true();
     replay.report_sound();
     let mut checker = Checker::new(alloc, replay, None);
-    is_unsat(&mut checker, pieces)
+    let answer = is_unsat(&mut checker, pieces);
+    drop(checker);
+    answer
 }
 
 /// Whether the verdict of a checker on all pieces in a row is UNSAT.

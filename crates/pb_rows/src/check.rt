@@ -134,7 +134,9 @@ fn report_end(
     cut: Cut,
     reported: &mut Page,
 ) -> Result<(), Broken> {
-    report_checker(alloc, &mut checker, proof, cut, reported)
+    let end = report_checker(alloc, &mut checker, proof, cut, reported);
+    drop(checker);
+    end
 }
 
 /// Feeds a proof to a checker, and reports its result.

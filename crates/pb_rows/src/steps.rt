@@ -44,7 +44,9 @@ pub(crate) fn run_steps(alloc: Global, call: &Call, text: &[u8]) -> Result<Done,
         write_bytes(b"no replay\n", &mut reported)?;
         return Ok(answered(alloc, reported));
     };
-    run_over(alloc, call, &mut replay, lines)
+    let done = run_over(alloc, call, &mut replay, lines);
+    drop(replay);
+    done
 }
 
 // The same, over a replay.

@@ -29,7 +29,9 @@ pub(crate) fn write_visits<S: Sink>(
     let Ok(mut replay) = replay_of(alloc, instance, Limits::full())? else {
         return Err(Broken::Value);
     };
-    count_visits(alloc, &mut replay, proof)?.write(out)?;
+    let visits = count_visits(alloc, &mut replay, proof);
+    drop(replay);
+    visits?.write(out)?;
     Ok(())
 }
 

@@ -3,6 +3,7 @@
 ghost use Rattle.std.specs.Prelude.{true, false, ◌≡◌, ◌<◌, Some, None, Ok, OnOk, IfErr};
 ghost use Rattle.pb_text.specs.contract.Automaton.{IsState};
 ghost use Rattle.pb_text.specs.contract.Feeding.{stop_of, state_of, place_of, halt_of, is_complete};
+ghost use Rattle.pb_text.specs.contract.Pouring.{drawn};
 ghost use Rattle.pb_text.specs.contract.Pulled.{IsPast, IsWanting, PullsInTurn, PullsOnce, StaysDone, StaysStopped};
 ghost use Rattle.pb_text.specs.meaning.Pulling.{Draws, faults_after};
 ghost use Rattle.pb_text.specs.meaning.Stopping.{IsShown};
@@ -48,58 +49,68 @@ pub fn pull<S: Source, M: Machine>(
         return Ok(None);
     }
     loop {
-        match draw(source, feeder) {
-            Ok(None) => {}
-            Ok(Some(event)) => return Ok(Some(event)),
+        let mut event = None;
+        match draw(source, feeder, &mut event) {
+            Ok(()) => {}
             Err(stop) => return Err(stop),
+        }
+        if event.is_some() {
+            return Ok(event);
         }
     }
 }
 
-/// Takes available bytes, at most through the end of a statement. If none ends there, it also takes
-/// the next byte.
+/// Takes available bytes, at most through the end of a statement, and puts its event into `event`,
+/// which is `None` before. If none ends there, it also takes the next byte.
 fn draw<S: Source, M: Machine>(
     source: &mut S,
     feeder: &mut Feeder<M>,
-) -> Result<Option<Spanned<M::Event>>, Stop>
+    event: &mut Option<Spanned<M::Event>>,
+) -> Result<(), Stop>
     requires unfinished { is_complete feeder.old ≡ false }
     requires running { halt_of feeder.old ≡ None }
     requires state { IsState M.automaton (state_of feeder.old) }
-    ensures draws { Draws feeder.old (S.left source.old) (S.history source.old) result feeder.new
-        (S.left source.new) (S.history source.new) }
+    requires none { event.old ≡ None }
+    ensures draws { Draws feeder.old (S.left source.old) (S.history source.old)
+        (drawn result event.new) feeder.new (S.left source.new) (S.history source.new) }
     ensures stop { halt_of feeder.new ≡ stop_of result }
-    ensures unfinished { result ≡ Ok None → is_complete feeder.new ≡ false }
+    ensures unfinished { OnOk result (event.new ≡ None → is_complete feeder.new ≡ false) }
     ensures onward { OnOk result ((place_of feeder.old).offset < (place_of feeder.new).offset) }
-    ensures past { (event : Spanned M.Event) → result ≡ Ok (Some event) →
-        event.past ≡ place_of feeder.new }
+    ensures past { (span : Spanned M.Event) → event.new ≡ Some span →
+        span.past ≡ place_of feeder.new }
     ensures faults { S.faults source.new ≡ faults_after None result (S.faults source.old) }
     ensures memory { IfErr result (IsWanting feeder.new) }
     ensures shown { IfErr result (λ stop.
         IsShown (S.shown source.new) (S.ended source.new) stop.why) }
     ensures state { IsState M.automaton (state_of feeder.new) }
 {
-    match source.pour(feeder) {
-        Ok(Some(event)) => Ok(Some(event)),
-        Ok(None) => take_next(source, feeder),
-        Err(Failed) => Err(feeder.halt(Why::Read)),
+    if let Err(Failed) = source.pour(feeder, event) {
+        return Err(feeder.halt(Why::Read));
     }
+    if event.is_some() {
+        return Ok(());
+    }
+    take_next(source, feeder, event)
 }
 
-/// Takes only the next byte of the source.
+/// Takes only the next byte of the source, and puts the event that ends with it, if any, into
+/// `event`.
 fn take_next<S: Source, M: Machine>(
     source: &mut S,
     feeder: &mut Feeder<M>,
-) -> Result<Option<Spanned<M::Event>>, Stop>
+    event: &mut Option<Spanned<M::Event>>,
+) -> Result<(), Stop>
     requires unfinished { is_complete feeder.old ≡ false }
     requires running { halt_of feeder.old ≡ None }
     requires state { IsState M.automaton (state_of feeder.old) }
-    ensures draws { Draws feeder.old (S.left source.old) (S.history source.old) result feeder.new
-        (S.left source.new) (S.history source.new) }
+    requires none { event.old ≡ None }
+    ensures draws { Draws feeder.old (S.left source.old) (S.history source.old)
+        (drawn result event.new) feeder.new (S.left source.new) (S.history source.new) }
     ensures stop { halt_of feeder.new ≡ stop_of result }
-    ensures unfinished { result ≡ Ok None → is_complete feeder.new ≡ false }
+    ensures unfinished { OnOk result (event.new ≡ None → is_complete feeder.new ≡ false) }
     ensures onward { OnOk result ((place_of feeder.old).offset < (place_of feeder.new).offset) }
-    ensures past { (event : Spanned M.Event) → result ≡ Ok (Some event) →
-        event.past ≡ place_of feeder.new }
+    ensures past { (span : Spanned M.Event) → event.new ≡ Some span →
+        span.past ≡ place_of feeder.new }
     ensures faults { S.faults source.new ≡ faults_after None result (S.faults source.old) }
     ensures memory { IfErr result (IsWanting feeder.new) }
     ensures shown { IfErr result (λ stop.
@@ -112,9 +123,10 @@ fn take_next<S: Source, M: Machine>(
         Err(Failed) => return Err(feeder.halt(Why::Read)),
     };
     match feeder.take(byte) {
-        Ok(event) => {
+        Ok(taken) => {
+            *event = taken;
             source.skip();
-            Ok(event)
+            Ok(())
         }
         Err(stop) => Err(stop),
     }

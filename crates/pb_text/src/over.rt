@@ -4,7 +4,7 @@ ghost use Rattle.std.specs.Prelude.{◌≡◌, [], None, false};
 ghost use Rattle.pb_text.specs.contract.Automaton.{IsState};
 ghost use Rattle.pb_text.specs.contract.Feeding.{state_of, halt_of, is_complete};
 ghost use Rattle.pb_text.specs.contract.Over.{Shows, reported};
-ghost use Rattle.pb_text.specs.contract.Pouring.{Pours, brought};
+ghost use Rattle.pb_text.specs.contract.Pouring.{Pours};
 
 use crate::feeder::Feeder;
 use crate::history::History;
@@ -90,16 +90,16 @@ impl<T: BufRead> Source for Over<T> {
     fn pour<M: Machine>(
         &mut self,
         feeder: &mut Feeder<M>,
-    ) -> Result<Option<Spanned<M::Event>>, Failed> {
+        event: &mut Option<Spanned<M::Event>>,
+    ) -> Result<(), Failed> {
         self.shown = None;
         match self.inner.fill_buf() {
             Ok(bytes) => {
                 let skipped = feeder.skip_line_feed(bytes);
-                let mut used: usize = 0;
-                let event = feeder.feed_statement(&bytes[skipped..], &mut used);
+                let used = feeder.feed_statement(&bytes[skipped..], event);
                 self.history.note(&bytes[..skipped + used]);
                 self.inner.consume(skipped + used);
-                Ok(event)
+                Ok(())
             }
             Err(_) => {
                 self.failures = self.failures.saturating_add(1);

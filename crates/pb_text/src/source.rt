@@ -3,7 +3,7 @@
 ghost use Rattle.std.specs.Prelude.{◌≡◌, ◌∷◌, ℕ, List, Bool, Option, Some, None, codes, false, OnOk, OnErr};
 ghost use Rattle.pb_text.specs.contract.Automaton.{IsState};
 ghost use Rattle.pb_text.specs.contract.Feeding.{state_of, halt_of, is_complete};
-ghost use Rattle.pb_text.specs.contract.Pouring.{Pours, brought};
+ghost use Rattle.pb_text.specs.contract.Pouring.{Pours};
 ghost use Rattle.pb_text.specs.contract.Source.{Peeks, Skips};
 ghost use Rattle.pb_text.specs.meaning.Writing.{one_more};
 
@@ -54,25 +54,29 @@ pub trait Source {
         ensures { Skips left shown ended history faults self.old self.new };
 
     /// Feeds available bytes to a feeder, at most through the end of a statement, and takes them.
-    /// It returns the event that ends there, if any. It may take no bytes; the default
-    /// implementation takes none.
+    /// It puts the event that ends there, if any, into `event`, which must be `None`. It may take no
+    /// bytes; the default implementation takes none.
     fn pour<M: Machine>(
         &mut self,
         feeder: &mut Feeder<M>,
-    ) -> Result<Option<Spanned<M::Event>>, Failed>
+        event: &mut Option<Spanned<M::Event>>,
+    ) -> Result<(), Failed>
         requires unfinished { is_complete feeder.old ≡ false }
         requires running { halt_of feeder.old ≡ None }
         requires state { IsState M.automaton (state_of feeder.old) }
+        requires none { event.old ≡ None }
         ensures pours { Pours feeder.old (left self.old) (history self.old)
-            (brought result) feeder.new (left self.new) (history self.new) }
-        ensures unfinished { brought result ≡ None → is_complete feeder.new ≡ false }
+            event.new feeder.new (left self.new) (history self.new) }
+        ensures unfinished { event.new ≡ None → is_complete feeder.new ≡ false }
         ensures running { halt_of feeder.new ≡ None }
         ensures state { IsState M.automaton (state_of feeder.new) }
         ensures ok { OnOk result (faults self.new ≡ faults self.old) }
-        ensures err { OnErr result (faults self.new ≡ one_more (faults self.old)) }
+        ensures err { OnErr result ((faults self.new ≡ one_more (faults self.old)) ×
+            (event.new ≡ None)) }
     {
         let _ = feeder.is_done();
-        Ok(None)
+        let _ = event;
+        Ok(())
     }
 
     /// How many times it has failed. The count saturates at `2^64 - 1`.

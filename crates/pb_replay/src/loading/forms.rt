@@ -1,12 +1,13 @@
 //! The forms of constraints that come one by one.
 
-ghost use Rattle.std.specs.Prelude.{◌≡◌, ◌++◌, ◌∷◌, [], List, ℕ, Ok, OnOk};
+ghost use Rattle.std.specs.Prelude.{◌≡◌, ◌↔◌, ◌+◌, ◌<◌, ◌++◌, ◌∷◌, [], List, ℕ, Err, Ok, OnOk};
+ghost use Rattle.std.specs.Int.RustNames.{unsigned_abs};
 ghost use Rattle.pb_text.specs.meaning.Limits.{largest};
 ghost use Rattle.pb_sums.specs.declared.Linear.{Linear as Written};
-ghost use Rattle.pb_normal.specs.meaning.Constraints.{AreFormsOf, Fits, with_sides};
+ghost use Rattle.pb_normal.specs.meaning.Constraints.{AreFormsOf, with_sides};
 ghost use Rattle.pb_normal.specs.meaning.Form.{Form};
 ghost use Rattle.pb_normal.specs.meaning.Names.{HasNames, with_names};
-ghost use Rattle.pb_normal.specs.meaning.Written.{names_of};
+ghost use Rattle.pb_normal.specs.meaning.Written.{magnitude, names_of};
 ghost use Rattle.pb_replay.specs.engine.Loading.{Made};
 
 use crate::fault::Fault;
@@ -64,25 +65,27 @@ impl FormsSoFar {
         ensures made { (named : List (List ℕ)) (cs : List Written) → Made named cs self.old →
             Made (named ++ names_of constraint.now.terms) (cs ++ constraint.now ∷ []) self.new }
     {
-        if !fits(constraint, self.limits) {
-            self.made = Err(Fault::Overflow);
-            return;
-        }
-        if let Ok(()) = self.made {
-            match self.add_sides(constraint) {
+        match self.made {
+            Ok(()) => match self.add_sides(constraint) {
                 Ok(()) => {}
-                Err(AllocError) => self.made = Err(Fault::Memory),
+                Err(fault) => self.made = Err(fault.into()),
+            },
+            Err(_) => {
+                if !fits(constraint, self.limits) {
+                    self.made = Err(Fault::Overflow);
+                }
             }
         }
     }
 
-    // Adds the forms of a constraint that fits: that of its side "at least", and for an equality
-    // then that of its side "at most".
+    // Adds the forms of a constraint: that of its side "at least", and for an equality then that of
+    // its side "at most".
     #[inline(always)]
-    fn add_sides(&mut self, constraint: &Linear) -> Result<(), AllocError>
-        requires { Fits (largest self.old.limits) constraint.now }
+    fn add_sides(&mut self, constraint: &Linear) -> Result<(), NormalFault>
         ensures limits { self.new.limits ≡ self.old.limits }
         ensures made { self.new.made ≡ self.old.made }
+        ensures overflow { (result ≡ Err NormalFault.Overflow) ↔ (largest self.old.limits <
+            magnitude constraint.now.terms + unsigned_abs constraint.now.degree) }
         ensures names { OnOk result (self.new.names ≡ with_names self.old.names
             (names_of constraint.now.terms)) }
         ensures forms { OnOk result ((added : List Form) × AreFormsOf self.new.names
@@ -96,12 +99,13 @@ impl FormsSoFar {
         }
     }
 
-    // Adds the form of one side of a constraint that fits.
+    // Adds the form of one side of a constraint.
     #[inline(always)]
-    fn add_side(&mut self, constraint: &Linear, side: Side) -> Result<(), AllocError>
-        requires { Fits (largest self.old.limits) constraint.now }
+    fn add_side(&mut self, constraint: &Linear, side: Side) -> Result<(), NormalFault>
         ensures limits { self.new.limits ≡ self.old.limits }
         ensures made { self.new.made ≡ self.old.made }
+        ensures overflow { (result ≡ Err NormalFault.Overflow) ↔ (largest self.old.limits <
+            magnitude constraint.now.terms + unsigned_abs constraint.now.degree) }
         ensures names { OnOk result (self.new.names ≡ with_names self.old.names
             (names_of constraint.now.terms)) }
         ensures named { OnOk result (HasNames self.new.names (names_of constraint.now.terms)) }
@@ -109,13 +113,8 @@ impl FormsSoFar {
             ((side, constraint.now) ∷ []) (added ∷ []) ×
             (self.new.forms.items ≡ self.old.forms.items ++ added ∷ [])) }
     {
-        match Normal::from_linear(self.alloc, &mut self.names, constraint, side, self.limits) {
-            Ok(form) => {
-                self.forms.push(form)?;
-                Ok(())
-            }
-            Err(NormalFault::Memory) => Err(AllocError),
-            Err(NormalFault::Overflow) => unreachable!(),
-        }
+        let form = Normal::from_linear(self.alloc, &mut self.names, constraint, side, self.limits)?;
+        self.forms.push(form)?;
+        Ok(())
     }
 }

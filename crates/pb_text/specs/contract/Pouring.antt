@@ -1,12 +1,12 @@
 -- What is poured from a source into a feeder.
 use Rattle.pb_text.specs.contract.{Feeding.StandsAt, Feeding.spans_in, Feeding.place_of, Source.Lost}
-use Rattle.pb_text.specs.declared.{feeder.Feeder.Feeder, machine.Machine.Ghosts, place.Spanned.Spanned}
-use Rattle.std.specs.Prelude.{◌≡◌, ◌+◌, ◌<◌, ℕ, List, ◌++◌, length, Option, Some, None, Result, Ok, Err}
+use Rattle.pb_text.specs.declared.{feeder.Feeder.Feeder, machine.Machine.Ghosts, place.Spanned.Spanned, place.Stop.Stop}
+use Rattle.std.specs.Prelude.{◌≡◌, ◌+◌, ◌<◌, ℕ, List, ◌++◌, length, Option, Some, Result, Ok, Err}
 
--- the event that a call returned, if any
-abbrev pub brought : {E F : Type 0} → Result (Option (Spanned E)) F → Option (Spanned E)
-brought (Ok event) = event
-brought (Err e) = None
+-- what a call returned, with the event that it brought
+abbrev pub drawn : {A E : Type 0} → Result A Stop → Option (Spanned E) → Result (Option (Spanned E)) Stop
+drawn (Ok x) event = Ok event
+drawn (Err s) event = Err s
 
 -- The feeder was given these bytes, which were removed from the source and which its calls have given. If an event came,
 -- it ends with the last of them. Otherwise no event ends in them.

@@ -19,8 +19,8 @@ impl<M: Machine> Feeder<M> {
         ensures { TakesPrefix self.old piece.now result self.new }
     {
         let skipped = self.skip_line_feed(piece);
-        let mut used: usize = 0;
-        let event = self.feed_statement(&piece[skipped..], &mut used);
+        let mut event = None;
+        let used = self.feed_statement(&piece[skipped..], &mut event);
         Fed {
             used: skipped + used,
             event,
@@ -41,54 +41,53 @@ impl<M: Machine> Feeder<M> {
         if self.try_continue(b'\n') { 1 } else { 0 }
     }
 
-    /// Takes a whole statement, or otherwise what is fast to take of one. It returns the event that
-    /// ends there, if any, and sets `used` to the number of bytes taken. An event that is returned
-    /// alone is moved less often.
+    /// Takes a whole statement, or otherwise what is fast to take of one. It puts the event that
+    /// ends there, if any, into `event`, which is `None` before, and returns how many bytes it took.
     pub(crate) fn feed_statement(
         &mut self,
         piece: &[u8],
-        used: &mut usize,
-    ) -> Option<Spanned<M::Event>>
+        event: &mut Option<Spanned<M::Event>>,
+    ) -> usize
         requires unfinished { is_complete self.old ≡ false }
         requires running { halt_of self.old ≡ None }
         requires state { IsState M.automaton (state_of self.old) }
-        ensures { TakesPrefix self.old piece.now (record { used = used.new; event = result })
+        requires none { event.old ≡ None }
+        ensures { TakesPrefix self.old piece.now (record { used = result; event = event.new })
             self.new }
     {
         if self.first.is_some() {
-            return self.feed_part(piece, used);
+            return self.feed_part(piece, event);
         }
         let first = self.place;
         let room = (end_at(self.longest, Some(first)) - first.offset) as usize;
         let prefix = &piece[..piece.len().min(room)];
-        let Some((last, event)) = self.machine.take_statement(prefix) else {
-            return self.feed_part(piece, used);
+        let Some((last, taken)) = self.machine.take_statement(prefix) else {
+            return self.feed_part(piece, event);
         };
         let past = first.past(&prefix[..last]).after(prefix[last]);
         self.place = past;
-        *used = last + 1;
-        Some(Spanned { event, first, past })
+        *event = Some(Spanned {
+            event: taken,
+            first,
+            past,
+        });
+        last + 1
     }
 
     /// Takes a prefix of a piece in parts, at most through the end of a statement, in the same way.
-    fn feed_part(&mut self, piece: &[u8], used: &mut usize) -> Option<Spanned<M::Event>>
+    fn feed_part(&mut self, piece: &[u8], event: &mut Option<Spanned<M::Event>>) -> usize
         requires unfinished { is_complete self.old ≡ false }
         requires running { halt_of self.old ≡ None }
         requires state { IsState M.automaton (state_of self.old) }
-        ensures { TakesPrefix self.old piece.now (record { used = used.new; event = result })
+        requires none { event.old ≡ None }
+        ensures { TakesPrefix self.old piece.now (record { used = result; event = event.new })
             self.new }
     {
         let fast = self.feed_fast(piece);
-        *used = fast;
         if fast == piece.len() {
-            return None;
+            return fast;
         }
-        match self.try_finish(piece[fast]) {
-            Some(event) => {
-                *used = fast + 1;
-                Some(event)
-            }
-            None => None,
-        }
+        *event = self.try_finish(piece[fast]);
+        if event.is_some() { fast + 1 } else { fast }
     }
 }

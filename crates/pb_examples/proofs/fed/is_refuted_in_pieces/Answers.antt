@@ -11,15 +11,15 @@ if_ok : (r : Result Bool CheckFault) (P Q : Bool → Type 0) → ((answer : Bool
 if_ok (Ok answer) P Q step held = step answer held
 if_ok (Err e) P Q step held = tt
 
-pub is_unsat-requires : goal.is_unsat-requires
-is_unsat-requires c = c.new-checker.ensures.running
+pub is_unsat-answer-requires : goal.is_unsat-answer-requires
+is_unsat-answer-requires c = c.new-checker.ensures.running
 
 -- The checker began with the replay.
 pub returns-clause-exact : goal.returns-clause-exact
 returns-clause-exact c =
     if_ok _ _ (ReportsUnsat c.args.replay (joined c.args.pieces.now))
     (λ answer found. (found.0, (λ first at. found.2 c.args.replay.limits c.args.replay.problem first (c.new-checker.ensures.stands first at)), found.1))
-    c.is_unsat.ensures
+    c.is_unsat-answer.ensures
 
 pub returns-clause-unsat : goal.returns-clause-unsat
 returns-clause-unsat c e =

@@ -2,11 +2,11 @@
 use Rattle.{pb_normal.proofs.lemmas.names.Loaded.are_named, pb_normal.proofs.lemmas.names.Loaded.forms_more, pb_normal.proofs.lemmas.names.Loaded.forms_then}
 use Rattle.pb_opb.specs.declared.OpbEvent.{OpbEvent, TheVariants.Comment, TheVariants.Constraint, TheVariants.Header, TheVariants.Objective}
 use Rattle.pb_opb.specs.meaning.Values.{constraints_in, last_or, objectives_in}
-use Rattle.pb_replay.proofs.Common.{ℕ, ◌++◌, ◌∙◌, ◌∷◌, ◌≡◌, ◌≤◌, ◌⊎◌, [], ap, append-nil, arith, Contains, Contains-append_left, Contains-push, Contains-push_cases}
+use Rattle.pb_replay.proofs.Common.{ℕ, ◌+◌, ◌++◌, ◌<◌, ◌∙◌, ◌∷◌, ◌≡◌, ◌≤◌, ◌⊎◌, [], ap, append-nil, arith, Contains, Contains-append_left, Contains-push, Contains-push_cases}
 use Rattle.pb_replay.proofs.Common.{distinct, Err, Fault, Fits, IfOk, FitsAll, Form, HasNames, HasNames-append, in_turn, inl, inr, Instance, Linear, List, IfOk, Memory}
 use Rattle.pb_replay.proofs.Common.{None, objective_of, Ok, Opened, Option, Overflow, prefix, Problem, problem_of, refl, Result, Running, Side, sides_in, Some, subst}
-use Rattle.pb_replay.proofs.Common.{sym, Term, with_names, with_sides, AreDistinct, AreFormsOf, constraint_names, largest, magnitude, names_in, names_of}
-use Rattle.pb_replay.specs.{contract.Loading.NamesInOrder, contract.Loading.names_at, contract.Loading.names_on, contract.ReplayModel.IsFirst, contract.ReplayModel.IsLoaded}
+use Rattle.pb_replay.proofs.Common.{◌↔◌, cases_lt, NormalFault, unsigned_abs, sym, Term, with_names, with_sides, AreDistinct, AreFormsOf, constraint_names, largest, magnitude, names_in, names_of}
+use Rattle.pb_replay.specs.{contract.Faults.fault_of, contract.Loading.NamesInOrder, contract.Loading.names_at, contract.Loading.names_on, contract.ReplayModel.IsFirst, contract.ReplayModel.IsLoaded}
 use Rattle.pb_replay.specs.{declared.loading.forms.FormsSoFar.FormsSoFar, engine.Loading.AllFit, engine.Loading.AreMade, engine.Loading.IsStored, engine.Loading.Made, engine.Loading.MadeAs}
 use Rattle.std.proofs.lemmas.Grind.{flat_map-append}
 
@@ -61,6 +61,15 @@ unmade-more (Ok u) seen more cs c f not made fits = absurd (not refl)
 unmade-more (Err Memory) seen more cs c f not made fits = fit-more (largest f.limits) cs c made fits
 unmade-more (Err Overflow) seen more cs c f not made fits = λ all. made (fit-before (largest f.limits) cs c all)
 unmade-more (Err e) seen more cs c f not made fits = absurd made
+
+-- one more constraint, whose forms could not be made
+pub unmade-now : {A : Type 0} (r : Result A NormalFault) (e : NormalFault) (seen : List (List ℕ)) (cs : List Linear) (c : Linear) (f : FormsSoFar) (limit : ℕ) → r ≡ Err e
+    → largest f.limits ≡ limit → (r ≡ Err NormalFault.Overflow) ↔ (limit < magnitude c.terms + unsigned_abs c.degree) → AllFit limit cs → MadeAs (Err (fault_of e)) seen (cs ++ c ∷ []) f
+unmade-now r NormalFault.Memory seen cs c f limit is same over all = rw same (fit-more limit cs c all (unfit-not r is over))
+  where
+    unfit-not : {A : Type 0} {n m : ℕ} (r : Result A NormalFault) → r ≡ Err NormalFault.Memory → (r ≡ Err NormalFault.Overflow) ↔ (n < m) → m ≤ n
+    unfit-not {n} {m} r is over = grind (arith, over.1, cases_lt n m)
+unmade-now r NormalFault.Overflow seen cs c f limit is same over all = λ fit. omega (arith, over.0 is, fit-last limit cs c (rw same at fit))
 
 -- ---- the forms of constraints, after other names have appeared too
 

@@ -10,6 +10,13 @@ use Rattle.pb_text.proofs.lemmas.feeder.Reported.{nothing_fed, step}
 use Rattle.pb_text.proofs.lemmas.text.Short.{place_after-snoc, end_limit, place_after-offset, AreShort-append, AreShort-grown}
 use Rattle.pb_text.specs.{engine.Prefixes.TakesPrefix, meaning.Spelling.place_after}
 
+pub none_of : {A : Type 0} (o : Option A) → is_some o ≡ false → o ≡ None
+none_of o h = grind arith
+
+pub some_of : {A : Type 0} (o : Option A) → is_some o ≡ true → (x : A) × (o ≡ Some x)
+some_of None h = absurd (false≢true h)
+some_of (Some x) h = (x, refl)
+
 module _ {S E : Type 0} (m : Automaton S E) (longest : ℕ) (start : S) where
   pub stands_new : IsState m start → m.begun start ≡ false → 0 < longest → Stands m longest start [] [] start (record { line = 1; column = 1; offset = 0 }) None None
   unfolding place_after

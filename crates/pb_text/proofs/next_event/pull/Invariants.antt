@@ -2,8 +2,8 @@ use Rattle.pb_text.proofs.Common.{◌+◌, ◌-◌, ◌^◌, ◌≡◌, ◌≤�
 use Rattle.pb_text.proofs.next_event.pull.Given as goal
 
 -- the feeder was fed the input followed by the bytes taken from the source
-abbrev pub invariant-loop-event : goal.invariant-loop-event
-invariant-loop-event g l = record {
+abbrev pub invariant-loop-stop : goal.invariant-loop-stop
+invariant-loop-stop g l = record {
   running : l.feeder.stop ≡ None;
   unfinished : g.M.Machine.automaton.done l.feeder.machine ≡ false;
   state : IsState g.M.Machine.automaton l.feeder.machine;
@@ -12,5 +12,5 @@ invariant-loop-event g l = record {
   drawn : Draws l.fn.feeder (g.S.Source.left l.fn.source) (g.S.Source.history l.fn.source) (Ok None) l.feeder (g.S.Source.left l.source) (g.S.Source.history l.source);
 }
 
-abbrev pub decreases-loop-event : goal.decreases-loop-event
-decreases-loop-event g l = 2 ^ 40 + 1 - l.feeder.place.offset
+abbrev pub decreases-loop-stop : goal.decreases-loop-stop
+decreases-loop-stop g l = 2 ^ 40 + 1 - l.feeder.place.offset

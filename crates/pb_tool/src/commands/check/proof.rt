@@ -34,14 +34,18 @@ pub(crate) fn check_proof<S: Source, V: Watch>(
     ensures faults { S.faults input.new ≡ faults_of_proof result (S.faults input.old) }
 {
     let mut checker = Checker::begin(alloc, replay, longest);
-    let verdict = match run_checker(alloc, &mut checker, input, watch) {
-        Ok(verdict) => verdict,
-        Err(fault) => return Err(fault),
-    };
-    if watch.is_last() {
+    let shown = run_checker(alloc, &mut checker, input, watch);
+    release(checker, shown.is_ok() && watch.is_last());
+    shown
+}
+
+/// Drops a checker, or leaves its memory to the system if nothing comes after it.
+fn release(checker: Checker, is_last: bool) {
+    if is_last {
         let _checker = ManuallyDrop::new(checker);
+    } else {
+        drop(checker);
     }
-    Ok(verdict)
 }
 
 /// What the proof of a source shows, by a checker that was fed nothing yet.

@@ -3,5 +3,5 @@ use Rattle.pb_text.proofs.feeder.Feeder.feed_prefix.Goals as goal
 
 pub returns : goal.returns
 returns g c =
-    let skipped = c.skip_line_feed-skipped in let fed = c.feed_statement-event in
-    prefix_more c.args.self.now skipped.new.self fed.new.self c.args.piece.now skipped.result fed.new.used fed.result skipped.ensures fed.ensures
+    let skipped = c.skip_line_feed-skipped in let fed = c.feed_statement-used in
+    prefix_more c.args.self.now skipped.new.self fed.new.self c.args.piece.now skipped.result fed.result fed.new.event skipped.ensures fed.ensures

@@ -1,12 +1,9 @@
 use Rattle.pb_text.proofs.Common.{ℕ, ◌++◌, ◌+◌, ◌-◌, ◌<◌, ◌^◌, ◌∙◌, ◌∷◌, ◌≡◌, ◌≤◌, [], ap, arith, false, get_or, length, length-append, length-take}
-use Rattle.pb_text.proofs.Common.{length-take-le, List, min, None, Option, Some, subst, sym, take, true, take-take, take_more, is_some, begins, IsState, Stands}
+use Rattle.pb_text.proofs.Common.{length-take-le, List, min, None, Option, Some, subst, sym, take, true, take-take, take_more, begins, IsState, Stands}
 use Rattle.pb_text.proofs.Common.{StandsAt, Feeder, Ghosts, Place, Spanned, end_of, byte_limit, place_next, place_past}
-use Rattle.pb_text.{proofs.lemmas.feeder.Steps.running, specs.contract.Automaton.TakesStatement}
+use Rattle.pb_text.{proofs.lemmas.feeder.Steps.none_of, proofs.lemmas.feeder.Steps.running, specs.contract.Automaton.TakesStatement}
 use Rattle.pb_text.proofs.lemmas.machine.Running.{place_fits, past_more, stands_whole, first_of, span}
 use Rattle.pb_text.proofs.feeder.Feeder.feed_statement.Goals as goal
-
-none_of : {A : Type 0} (o : Option A) → is_some o ≡ false → o ≡ None
-none_of o h = grind arith
 
 past_of : {E : Type 0} (n m : Spanned E) → ◌≡◌ {A = Option (Spanned E)} (Some n) (Some m) → m.past ≡ n.past
 past_of n m h = let same : n ≡ m = cc h in ap (λ (x : Spanned _). x.past) (sym same)
@@ -54,7 +51,7 @@ module _ {M E : Type 0} {g : Ghosts M E} (f : Feeder M E g) (piece : List ℕ) (
 
 pub after-past-requires : goal.after-past-requires
 after-past-requires g c =
-    let fits = last_fits c.args.self.now c.args.piece.now c.min.result c.in-Some.last c.in-Some.event c.take_statement.new.self (none_of _ (sym c.is_some.ensures ∙ c.if-is_some.false)) (rw c.end_at.ensures at c.min.ensures) c.in-Some.ensures.statement c.past.result c.past.ensures in
+    let fits = last_fits c.args.self.now c.args.piece.now c.min.result c.in-Some.last c.in-Some.taken c.take_statement.new.self (none_of _ (sym c.is_some.ensures ∙ c.if-is_some.false)) (rw c.end_at.ensures at c.min.ensures) c.in-Some.ensures.statement c.past.result c.past.ensures in
     record { line = fits.0; column = fits.1; offset = fits.2 }
 
 pub invariant_of-self-2 : goal.invariant_of-self-2
@@ -62,7 +59,7 @@ invariant_of-self-2 g c =
     let f = c.args.self.now in
     let b = get_or (take c.min.result c.args.piece.now) c.in-Some.last 0 in
     let is = c.after-past.ensures ∙ ap (λ (p : Place). place_next p b) c.past.ensures in
-    let q = next_fits f c.args.piece.now c.min.result c.in-Some.last c.in-Some.event c.take_statement.new.self (none_of f.first (sym c.is_some.ensures ∙ c.if-is_some.false)) (rw c.end_at.ensures at c.min.ensures) c.in-Some.ensures.statement c.after-past.result is in
+    let q = next_fits f c.args.piece.now c.min.result c.in-Some.last c.in-Some.taken c.take_statement.new.self (none_of f.first (sym c.is_some.ensures ∙ c.if-is_some.false)) (rw c.end_at.ensures at c.min.ensures) c.in-Some.ensures.statement c.after-past.result is in
     record { some = f.some; end_is = f.end_is; offset_in_range = q.0; line_in_range = q.1; column_in_range = q.2 }
 
 pub returns : goal.returns
@@ -74,9 +71,9 @@ returns g c =
     let taken = c.in-Some.ensures.statement in
     let is : c.after-past.result ≡ place_next (place_past f.place (take last (take n piece))) (get_or (take n piece) last 0) = c.after-past.ensures ∙ ap (λ (p : Place). place_next p (get_or (take n piece) last 0)) c.past.ensures in
     record {
-      bound = (within f piece n last c.in-Some.event new none least taken).0;
-      stands = λ longest start input spans h. (h.0, rw (c.requires.running, none) (stands f piece n last c.in-Some.event new none least taken h c.requires.running c.requires.unfinished c.in-Some.ensures.state c.after-past.result is));
-      offset = (next_fits f piece n last c.in-Some.event new none least taken c.after-past.result is).3;
+      bound = (within f piece n last c.in-Some.taken new none least taken).0;
+      stands = λ longest start input spans h. (h.0, rw (c.requires.running, none) (stands f piece n last c.in-Some.taken new none least taken h c.requires.running c.requires.unfinished c.in-Some.ensures.state c.after-past.result is));
+      offset = (next_fits f piece n last c.in-Some.taken new none least taken c.after-past.result is).3;
       some = λ event h. omega arith;
       past = λ event h. past_of _ event h;
       running = c.requires.running;

@@ -5,9 +5,9 @@ use Rattle.pb_text.proofs.over.OverSource.pour.Goals as goal
 
 pub returns-in-Ok-clause-pours : goal.returns-in-Ok-clause-pours
 returns-in-Ok-clause-pours g c =
-    let o = c.args.self.now in let shown = c.in-Ok.bytes.now in let skipped = c.skip_line_feed-skipped in let fed = c.feed_statement-event in
-    let used = skipped.result + fed.new.used in
-    let all = prefix_more c.args.feeder.now skipped.new.self fed.new.self shown skipped.result fed.new.used fed.result skipped.ensures fed.ensures in
+    let o = c.args.self.now in let shown = c.in-Ok.bytes.now in let skipped = c.skip_line_feed-skipped in let fed = c.feed_statement-used in
+    let used = skipped.result + fed.result in
+    let all = prefix_more c.args.feeder.now skipped.new.self fed.new.self shown skipped.result fed.result fed.new.event skipped.ensures fed.ensures in
     let rested = c.fill_buf.follows.lender-at-none in
     let before = g.T.Read.remaining o.inner in let after = g.T.Read.remaining c.consume.new.self in
     let filled = subst (FillKeeps _ (g.T.Read.remaining rested) (g.T.BufRead.consumable_len rested)) c.in-Ok.is c.fill_buf.follows.holds-at-none in
@@ -25,4 +25,4 @@ returns-in-Ok-clause-pours g c =
 pub returns-in-Err-clause-pours : goal.returns-in-Err-clause-pours
 returns-in-Err-clause-pours g c =
     let o = c.args.self.now in
-    pours_none _ _ (lost_reported (g.T.Read.remaining o.inner) (g.T.BufRead.consumable_len o.inner) o.shown _ _ (lost_kept _ _ c.fill_buf.follows.holds-at-none.0))
+    rw c.requires.none (pours_none _ _ (lost_reported (g.T.Read.remaining o.inner) (g.T.BufRead.consumable_len o.inner) o.shown _ _ (lost_kept _ _ c.fill_buf.follows.holds-at-none.0)))
