@@ -1,6 +1,6 @@
 use Rattle.{pb_text.specs.meaning.Reading.byte_limit, std.specs.List.flat_map}
 use Rattle.pb_tool.specs.{contract.Pieces.ChecksAt, contract.Pieces.MayGoOn, contract.Pieces.place_in, declared.commands.check.checker.CheckFault.CheckFault}
-use Rattle.std.proofs.Common.{arith, ◌≡◌, ◌∙◌, ℕ, ◌+◌, ◌<◌, List, [], ◌∷◌, ◌++◌, None, Option, true, Bor, get_or, length, take, ap, refl, sym, subst}
+use Rattle.std.proofs.Common.{arith, ◌≡◌, ◌∙◌, ℕ, ◌+◌, ◌<◌, List, [], ◌∷◌, ◌++◌, None, Option, Bor, get_or, length, take, ap, refl, sym, subst}
 use Rattle.std.proofs.lemmas.{Grind.flat_map-append, List.append-nil, List.take_all, List.take_more}
 use Rattle.pb_examples.proofs.fed.is_unsat.Goals as goal
 
