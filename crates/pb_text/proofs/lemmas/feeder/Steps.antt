@@ -10,6 +10,7 @@ use Rattle.pb_text.proofs.lemmas.feeder.Reported.{nothing_fed, step}
 use Rattle.pb_text.proofs.lemmas.text.Short.{place_after-snoc, end_limit, place_after-offset, AreShort-append, AreShort-grown}
 use Rattle.pb_text.specs.{engine.Prefixes.TakesPrefix, meaning.Spelling.place_after}
 
+-- an option whose test is known
 pub none_of : {A : Type 0} (o : Option A) → is_some o ≡ false → o ≡ None
 none_of o h = grind arith
 
